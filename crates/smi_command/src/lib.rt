@@ -1,0 +1,2 @@
+//! A holder's side of a grant.
+#![tactic(auto)]

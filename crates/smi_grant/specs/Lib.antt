@@ -1,0 +1,5 @@
+pub mod Command
+pub mod Holder
+pub mod Keeper
+pub mod Rank
+pub mod Record

@@ -1,0 +1,2 @@
+//! Datagrams and their bytes.
+#![tactic(auto)]

@@ -1,0 +1,2 @@
+//! The tree file and its tables.
+#![tactic(auto)]
