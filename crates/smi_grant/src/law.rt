@@ -18,5 +18,4 @@ pub fn ranks_rise()
         r.phase ≡ Phase.Settled → RanksBelow r (started r busy x) }
     ensures settled { (r : Standing) (x : ℕ) →
         r.phase ≡ Phase.Busy → RanksBelow r (settled r x) }
-{
-}
+{}

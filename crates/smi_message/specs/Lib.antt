@@ -1,0 +1,5 @@
+pub mod Bad
+pub mod Kinds
+pub mod Layout
+pub mod Message
+pub mod Spelling

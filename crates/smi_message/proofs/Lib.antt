@@ -1,0 +1,4 @@
+pub mod Back
+pub mod Bytes
+pub mod Again
+pub mod Laws

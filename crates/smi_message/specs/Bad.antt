@@ -1,0 +1,12 @@
+-- The numbers of the tests that bytes can fail.
+use Rattle.std.specs.Prelude.{ℕ}
+use Rattle.smi_message.specs.declared.bad.Bad.{Bad}
+use Rattle.smi_message.specs.declared.bad.Bad.TheVariants as bad
+
+abbrev pub code_of : Bad → ℕ
+code_of bad.Length = 1
+code_of bad.Magic = 2
+code_of bad.Layout = 3
+code_of bad.Kind = 4
+code_of bad.Range = 5
+code_of bad.Unused = 6

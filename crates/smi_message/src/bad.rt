@@ -1,0 +1,28 @@
+/// Why bytes are no datagram: the first test that they fail, in this order.
+#[derive(Clone, Copy, Debug, PartialEq, Eq)]
+pub enum Bad {
+    /// They are not 44 bytes.
+    Length = 1,
+    /// They do not begin with `SM`.
+    Magic,
+    /// The layout is neither 1 nor 2.
+    Layout,
+    /// There is no such kind of datagram, or none in this layout.
+    Kind,
+    /// A field that the kind uses is out of range, or the fields of a told record are no record.
+    Range,
+    /// A field that the kind does not use is not zero.
+    Unused,
+}
+
+impl Bad {
+    ghost use Rattle.std.specs.Prelude.{◌≡◌};
+    ghost use Rattle.smi_message.specs.Bad.{code_of};
+
+    /// The number of the test, 1 to 6.
+    pub fn code(self) -> u16
+        ensures { result ≡ code_of self }
+    {
+        u16::from(self as u8)
+    }
+}

@@ -1,0 +1,48 @@
+use smi_grant::{Command, Holder, Record, Version};
+use std::marker::Model;
+
+/// What a datagram says. The first five are about a domain, the last three about an object.
+#[derive(Clone, Copy, Debug, PartialEq, Eq)]
+pub enum Body {
+    /// How does the domain stand?
+    Ask(u16),
+    /// The holder takes the domain, which it last saw free at this epoch.
+    Take(u16, Holder, u64),
+    /// The holder lets go of its grant of this epoch.
+    Drop(u16, Holder, u64),
+    /// The holder's command of this number, under its grant of this epoch.
+    Run(u16, Holder, u64, u32, Command),
+    /// So the domain stands.
+    Tell(u16, Record),
+    /// The sender watches the object, since its boot of this number.
+    Watch(u16, u32),
+    /// To the watcher since that boot: the object is in this state.
+    State(u16, u32, Version, u16),
+    /// The sender, in its boot of this number, does not watch the object.
+    Unwatch(u16, u32),
+}
+
+/// A datagram from one station to another.
+///
+/// Every value is in range: stations are 1 to 128, tree numbers 1 to 65,535, domains 1 to 128,
+/// objects 1 to 640, boots 1 to 4,000,000,000; a holder that takes, drops or commands is an operator
+/// or a domain. (docs/FORMATS.md, "Datagrams".)
+#[derive(Clone, Copy, Debug, PartialEq, Eq)]
+pub struct Datagram {
+    pub from: u16,
+    pub to: u16,
+    pub tree: u16,
+    pub body: Body,
+}
+
+impl Model for Datagram {
+    ghost use Rattle.smi_message.specs.Message.{Message, IsMessage};
+
+    ghost Value = { Message };
+
+    ghost view = { λ d. record { from = d.from; to = d.to; tree = d.tree; body = d.body } };
+
+    ghost invariant = { λ d. IsMessage (record { from = d.from; to = d.to; tree = d.tree; body = d.body }) };
+
+    ghost inverse = { λ m. record { from = m.from; to = m.to; tree = m.tree; body = m.body } };
+}
