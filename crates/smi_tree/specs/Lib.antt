@@ -1,0 +1,4 @@
+pub mod Text
+pub mod Name
+pub mod Number
+pub mod Padded

@@ -1,0 +1,99 @@
+//! Names, and lists of names that are found by name and by number.
+
+use crate::number::is_digit;
+use std::marker::Model;
+
+/// The most bytes of a name.
+const MOST_BYTES: usize = 16;
+
+/// A name: 1 to 16 bytes of `A` to `Z`, `0` to `9` and `_`, the first a letter.
+///
+/// It is kept in place, filled up with zeros.
+#[derive(Clone, Copy, Debug, PartialEq, Eq, Hash)]
+pub(crate) struct Name {
+    bytes: [u8; MOST_BYTES],
+    /// How many of them are the name's.
+    used: u8,
+}
+
+impl Model for Name {
+    ghost use Rattle.std.specs.Prelude.{ℕ, ◌-◌, List, ◌++◌, length, take, replicate};
+
+    ghost Value = { List ℕ };
+
+    ghost view = { λ n. take n.used n.bytes };
+
+    ghost use Rattle.smi_tree.specs.Padded.{IsPadded, padded, unpadded};
+
+    ghost invariant = { λ n. IsPadded n.bytes n.used };
+
+    ghost inverse = { padded };
+
+    ghost inverse_ok = { unpadded };
+}
+
+impl Name {
+    ghost use Rattle.std.specs.Prelude.{◌≡◌};
+    ghost use Rattle.smi_tree.specs.Name.{name_of};
+
+    /// The name that a word is, where it is one.
+    pub(crate) fn read(word: &[u8]) -> Option<Name>
+        ensures { result ≡ name_of word.now }
+    {
+        if !is_name(word) {
+            return None;
+        }
+        let mut bytes = [0; MOST_BYTES];
+        bytes[..word.len()].copy_from_slice(word);
+        Some(Name {
+            bytes,
+            used: word.len() as u8,
+        })
+    }
+
+    /// The bytes of the name.
+    pub(crate) fn text(&self) -> &[u8]
+        ensures { result.now ≡ self.now }
+    {
+        let (text, _) = self.bytes.split_at(usize::from(self.used));
+        text
+    }
+}
+
+ghost use Rattle.std.specs.Prelude.{◌≡◌};
+ghost use Rattle.std.specs.List.{list_all};
+ghost use Rattle.smi_tree.specs.Name.{is_name, is_name_byte, is_letter, begins_with_letter};
+
+/// Whether a word is well formed as a name.
+fn is_name(word: &[u8]) -> bool
+    ensures { result ≡ is_name word.now }
+{
+    word.len() <= MOST_BYTES && begins_with_letter(word) && has_name_bytes_alone(word)
+}
+
+fn begins_with_letter(word: &[u8]) -> bool
+    ensures { result ≡ begins_with_letter word.now }
+{
+    match word {
+        [first, ..] => is_letter(*first),
+        [] => false,
+    }
+}
+
+fn has_name_bytes_alone(word: &[u8]) -> bool
+    ensures { result ≡ list_all is_name_byte word.now }
+{
+    word.iter().all(|byte| is_name_byte(*byte))
+}
+
+fn is_name_byte(byte: u8) -> bool
+    ensures { result ≡ is_name_byte byte }
+{
+    is_letter(byte) || is_digit(byte) || byte == b'_'
+}
+
+fn is_letter(byte: u8) -> bool
+    ensures { result ≡ is_letter byte }
+{
+    b'A' <= byte && byte <= b'Z'
+}
