@@ -1,0 +1,5 @@
+pub mod Hearing
+pub mod Link
+pub mod Order
+pub mod Pending
+pub mod Settlements

@@ -1,0 +1,3 @@
+pub mod HeardCommands
+pub mod Runs
+pub mod Stored
