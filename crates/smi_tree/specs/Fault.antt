@@ -1,0 +1,30 @@
+-- What may be wrong with a line, and steps of which each may find a fault.
+use Rattle.std.specs.Prelude.{ℕ, ◌≡◌, Result, Ok, Err}
+use Rattle.smi_tree.specs.declared.fault.Fault.{Fault}
+use Rattle.smi_tree.specs.declared.fault.Fault.TheVariants.{UnknownWord, WordCount, Malformed, Twice, UnknownName, OverLimit, TreeLine, BadAddress, OtherKind, LineTooLong, FileTooLong, Incomplete}
+
+-- the number that stands for a fault
+abbrev pub fault_number : Fault → ℕ
+fault_number UnknownWord = 1
+fault_number WordCount = 2
+fault_number Malformed = 3
+fault_number Twice = 4
+fault_number UnknownName = 5
+fault_number OverLimit = 6
+fault_number TreeLine = 7
+fault_number BadAddress = 8
+fault_number OtherKind = 9
+fault_number LineTooLong = 10
+fault_number FileTooLong = 11
+fault_number Incomplete = 12
+
+-- the next step, unless there was a fault
+infixl 10 ◌>>=◌
+abbrev pub ◌>>=◌ : {A B : Type 0} → Result A Fault → (A → Result B Fault) → Result B Fault
+(Ok x) >>= next = next x
+(Err fault) >>= next = Err fault
+
+-- What a function returned, seen by view, is what reading gives.
+abbrev pub Gives : {X Y : Type 0} → (X → Y) → Result X Fault → Result Y Fault → Type 0
+Gives view (Ok x) reading = reading ≡ Ok (view x)
+Gives view (Err fault) reading = reading ≡ Err fault

@@ -1,0 +1,341 @@
+//! What one line of a tree file declares.
+
+use crate::fault::Fault;
+use crate::name::Name;
+use crate::number::{Address, number_within};
+use crate::text::first_word;
+
+/// The word that a line begins with.
+#[derive(Clone, Copy, Debug, PartialEq, Eq)]
+pub(crate) enum Keyword {
+    Tree,
+    State,
+    Action,
+    Station,
+    Operator,
+    DeviceClass,
+    Move,
+    UnitClass,
+    Accept,
+    Any,
+    All,
+    Domain,
+    Device,
+}
+
+/// What a class is for.
+#[derive(Clone, Copy, Debug, PartialEq, Eq)]
+pub enum ClassKind {
+    Device,
+    Unit,
+}
+
+/// How many members a rule asks to be in its state.
+#[derive(Clone, Copy, Debug, PartialEq, Eq)]
+pub enum Quantifier {
+    /// Some member.
+    Any,
+    /// Every member, of which there is at least one.
+    All,
+}
+
+/// What one line declares, with its names as they are written.
+#[derive(Clone, Copy, Debug)]
+pub(crate) enum Declaration {
+    Tree(u16),
+    State(Name),
+    Action(Name),
+    Station {
+        name: Name,
+        address: Address,
+    },
+    Operator {
+        name: Name,
+        station: Name,
+    },
+    Class {
+        kind: ClassKind,
+        name: Name,
+        first: Name,
+    },
+    Move {
+        class: Name,
+        from: Name,
+        action: Name,
+        to: Name,
+    },
+    Accept {
+        class: Name,
+        action: Name,
+    },
+    Rule {
+        quantifier: Quantifier,
+        class: Name,
+        state: Name,
+        target: Name,
+    },
+    Domain {
+        name: Name,
+        station: Name,
+        class: Name,
+        parent: Option<Name>,
+    },
+    Device {
+        name: Name,
+        domain: Name,
+        class: Name,
+    },
+}
+
+ghost use Rattle.std.specs.Prelude.{◌≡◌};
+ghost use Rattle.smi_tree.specs.Fault.{Gives};
+ghost use Rattle.smi_tree.specs.Text.{words};
+ghost use Rattle.smi_tree.specs.Declaration.{
+  one,
+  two,
+  three,
+  four,
+  name,
+  one_name,
+  two_names,
+  three_names,
+  four_names,
+  tree_line,
+  station_line,
+  parent,
+  domain_line,
+  class_line,
+  rule_line,
+};
+
+/// The one word of a text.
+fn one(text: &[u8]) -> Result<&[u8], Fault>
+    ensures { Gives (λ word. word.now) result (one (words text.now)) }
+{
+    let Some((word, rest)) = first_word(text) else {
+        return Err(Fault::WordCount);
+    };
+    match first_word(rest) {
+        None => Ok(word),
+        Some(_) => Err(Fault::WordCount),
+    }
+}
+
+fn two(text: &[u8]) -> Result<(&[u8], &[u8]), Fault>
+    ensures { Gives (λ words. (words.0.now, words.1.now)) result (two (words text.now)) }
+{
+    let Some((first, rest)) = first_word(text) else {
+        return Err(Fault::WordCount);
+    };
+    let second = one(rest)?;
+    Ok((first, second))
+}
+
+fn three(text: &[u8]) -> Result<(&[u8], &[u8], &[u8]), Fault>
+    ensures { Gives (λ words. (words.0.now, words.1.now, words.2.now)) result (three (words text.now)) }
+{
+    let Some((first, rest)) = first_word(text) else {
+        return Err(Fault::WordCount);
+    };
+    let (second, third) = two(rest)?;
+    Ok((first, second, third))
+}
+
+fn four(text: &[u8]) -> Result<(&[u8], &[u8], &[u8], &[u8]), Fault>
+    ensures { Gives (λ words. (words.0.now, words.1.now, words.2.now, words.3.now)) result (four (words text.now)) }
+{
+    let Some((first, rest)) = first_word(text) else {
+        return Err(Fault::WordCount);
+    };
+    let (second, third, fourth) = three(rest)?;
+    Ok((first, second, third, fourth))
+}
+
+impl Keyword {
+    ghost use Rattle.std.specs.Prelude.{◌≡◌};
+    ghost use Rattle.smi_tree.specs.Declaration.{keyword_of};
+
+    pub(crate) fn read(word: &[u8]) -> Option<Keyword>
+        ensures { result ≡ keyword_of word.now }
+    {
+        match word {
+            b"tree" => Some(Keyword::Tree),
+            b"state" => Some(Keyword::State),
+            b"action" => Some(Keyword::Action),
+            b"station" => Some(Keyword::Station),
+            b"operator" => Some(Keyword::Operator),
+            b"devclass" => Some(Keyword::DeviceClass),
+            b"move" => Some(Keyword::Move),
+            b"unitclass" => Some(Keyword::UnitClass),
+            b"accept" => Some(Keyword::Accept),
+            b"any" => Some(Keyword::Any),
+            b"all" => Some(Keyword::All),
+            b"domain" => Some(Keyword::Domain),
+            b"device" => Some(Keyword::Device),
+            _ => None,
+        }
+    }
+}
+
+fn name(word: &[u8]) -> Result<Name, Fault>
+    ensures { result ≡ name word.now }
+{
+    Name::read(word).ok_or(Fault::Malformed)
+}
+
+#[tactic(auto, unfolding(crate::specs::Declaration::one_name))]
+fn one_name(text: &[u8]) -> Result<Name, Fault>
+    ensures { result ≡ one_name (words text.now) }
+{
+    let word = one(text)?;
+    name(word)
+}
+
+#[tactic(auto, unfolding(crate::specs::Declaration::two_names))]
+fn two_names(text: &[u8]) -> Result<(Name, Name), Fault>
+    ensures { result ≡ two_names (words text.now) }
+{
+    let (first, second) = two(text)?;
+    let first = name(first)?;
+    let second = name(second)?;
+    Ok((first, second))
+}
+
+#[tactic(auto, unfolding(crate::specs::Declaration::three_names))]
+fn three_names(text: &[u8]) -> Result<(Name, Name, Name), Fault>
+    ensures { result ≡ three_names (words text.now) }
+{
+    let (first, second, third) = three(text)?;
+    let first = name(first)?;
+    let second = name(second)?;
+    let third = name(third)?;
+    Ok((first, second, third))
+}
+
+#[tactic(auto, unfolding(crate::specs::Declaration::four_names))]
+fn four_names(text: &[u8]) -> Result<(Name, Name, Name, Name), Fault>
+    ensures { result ≡ four_names (words text.now) }
+{
+    let (first, second, third, fourth) = four(text)?;
+    let first = name(first)?;
+    let second = name(second)?;
+    let third = name(third)?;
+    let fourth = name(fourth)?;
+    Ok((first, second, third, fourth))
+}
+
+#[tactic(auto, unfolding(crate::specs::Declaration::tree_line))]
+fn tree_line(text: &[u8]) -> Result<Declaration, Fault>
+    ensures { result ≡ tree_line (words text.now) }
+{
+    let word = one(text)?;
+    let number = number_within(1, 65_535, word).ok_or(Fault::Malformed)?;
+    Ok(Declaration::Tree(number as u16))
+}
+
+#[tactic(auto, unfolding(crate::specs::Declaration::station_line))]
+fn station_line(text: &[u8]) -> Result<Declaration, Fault>
+    ensures { result ≡ station_line (words text.now) }
+{
+    let (own, address) = two(text)?;
+    let name = name(own)?;
+    let address = Address::read(address).ok_or(Fault::BadAddress)?;
+    Ok(Declaration::Station { name, address })
+}
+
+/// The parent that a word names, none where it is a dash.
+#[tactic(auto, unfolding(crate::specs::Declaration::parent))]
+fn parent(word: &[u8]) -> Result<Option<Name>, Fault>
+    ensures { result ≡ parent word.now }
+{
+    match word {
+        b"-" => Ok(None),
+        _ => Ok(Some(name(word)?)),
+    }
+}
+
+#[tactic(auto, unfolding(crate::specs::Declaration::domain_line))]
+fn domain_line(text: &[u8]) -> Result<Declaration, Fault>
+    ensures { result ≡ domain_line (words text.now) }
+{
+    let (own, station, class, above) = four(text)?;
+    let own = name(own)?;
+    let station = name(station)?;
+    let class = name(class)?;
+    let parent = parent(above)?;
+    Ok(Declaration::Domain {
+        name: own,
+        station,
+        class,
+        parent,
+    })
+}
+
+fn class_line(kind: ClassKind, text: &[u8]) -> Result<Declaration, Fault>
+    ensures { result ≡ class_line kind (words text.now) }
+{
+    let (name, first) = two_names(text)?;
+    Ok(Declaration::Class { kind, name, first })
+}
+
+fn rule_line(quantifier: Quantifier, text: &[u8]) -> Result<Declaration, Fault>
+    ensures { result ≡ rule_line quantifier (words text.now) }
+{
+    let (class, state, target) = three_names(text)?;
+    Ok(Declaration::Rule {
+        quantifier,
+        class,
+        state,
+        target,
+    })
+}
+
+impl Declaration {
+    ghost use Rattle.std.specs.Prelude.{◌≡◌};
+    ghost use Rattle.smi_tree.specs.Text.{words};
+    ghost use Rattle.smi_tree.specs.Declaration.{declaration_of};
+
+    /// What the words behind a keyword declare.
+    ///
+    /// The count of words is tested first, and then each word from left to right.
+    pub(crate) fn read(keyword: Keyword, text: &[u8]) -> Result<Declaration, Fault>
+        ensures { result ≡ declaration_of keyword (words text.now) }
+    {
+        match keyword {
+            Keyword::Tree => tree_line(text),
+            Keyword::State => Ok(Declaration::State(one_name(text)?)),
+            Keyword::Action => Ok(Declaration::Action(one_name(text)?)),
+            Keyword::Station => station_line(text),
+            Keyword::Operator => {
+                let (name, station) = two_names(text)?;
+                Ok(Declaration::Operator { name, station })
+            }
+            Keyword::DeviceClass => class_line(ClassKind::Device, text),
+            Keyword::Move => {
+                let (class, from, action, to) = four_names(text)?;
+                Ok(Declaration::Move {
+                    class,
+                    from,
+                    action,
+                    to,
+                })
+            }
+            Keyword::UnitClass => class_line(ClassKind::Unit, text),
+            Keyword::Accept => {
+                let (class, action) = two_names(text)?;
+                Ok(Declaration::Accept { class, action })
+            }
+            Keyword::Any => rule_line(Quantifier::Any, text),
+            Keyword::All => rule_line(Quantifier::All, text),
+            Keyword::Domain => domain_line(text),
+            Keyword::Device => {
+                let (name, domain, class) = three_names(text)?;
+                Ok(Declaration::Device {
+                    name,
+                    domain,
+                    class,
+                })
+            }
+        }
+    }
+}

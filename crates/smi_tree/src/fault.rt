@@ -1,0 +1,55 @@
+//! What may be wrong with a tree file.
+
+/// What is wrong with a line, or with the file.
+#[derive(Clone, Copy, Debug, PartialEq, Eq)]
+pub enum Fault {
+    /// The first word of the line is none that a line may begin with.
+    UnknownWord,
+    /// The line has too few words, or too many.
+    WordCount,
+    /// A name or a number is not well formed, or a number is out of its range.
+    Malformed,
+    /// A name is declared twice, or a move or an accepted action of a class is.
+    Twice,
+    /// A name is not declared above as what the line wants there.
+    UnknownName,
+    /// There is no room for one more.
+    OverLimit,
+    /// The first line is no `tree` line, or a later one is.
+    TreeLine,
+    /// The address of a station is not well formed.
+    BadAddress,
+    /// A device class where a unit class belongs, or the other way round.
+    OtherKind,
+    /// The line has more than 200 bytes.
+    LineTooLong,
+    /// The file has more than 256 KiB.
+    FileTooLong,
+    /// A station, operator, state, action or domain is wanting.
+    Incomplete,
+}
+
+impl Fault {
+    ghost use Rattle.std.specs.Prelude.{◌≡◌};
+    ghost use Rattle.smi_tree.specs.Fault.{fault_number};
+
+    /// The number that stands for the fault.
+    pub fn number(self) -> u16
+        ensures { result ≡ fault_number self }
+    {
+        match self {
+            Fault::UnknownWord => 1,
+            Fault::WordCount => 2,
+            Fault::Malformed => 3,
+            Fault::Twice => 4,
+            Fault::UnknownName => 5,
+            Fault::OverLimit => 6,
+            Fault::TreeLine => 7,
+            Fault::BadAddress => 8,
+            Fault::OtherKind => 9,
+            Fault::LineTooLong => 10,
+            Fault::FileTooLong => 11,
+            Fault::Incomplete => 12,
+        }
+    }
+}
