@@ -2,6 +2,8 @@
 use Rattle.std.specs.Prelude.{ℕ, ◌≡◌, Result, Ok, Err}
 use Rattle.smi_tree.specs.declared.fault.Fault.{Fault}
 use Rattle.smi_tree.specs.declared.fault.Fault.TheVariants.{UnknownWord, WordCount, Malformed, Twice, UnknownName, OverLimit, TreeLine, BadAddress, OtherKind, LineTooLong, FileTooLong, Incomplete}
+use Rattle.smi_tree.specs.declared.fault.Refusal.{Refusal}
+use Rattle.smi_tree.specs.declared.fault.Refusal.TheVariants.{Memory, Faulty}
 
 -- the number that stands for a fault
 abbrev pub fault_number : Fault → ℕ
@@ -28,3 +30,9 @@ abbrev pub ◌>>=◌ : {A B : Type 0} → Result A Fault → (A → Result B Fau
 abbrev pub Gives : {X Y : Type 0} → (X → Y) → Result X Fault → Result Y Fault → Type 0
 Gives view (Ok x) reading = reading ≡ Ok (view x)
 Gives view (Err fault) reading = reading ≡ Err fault
+
+-- What a step left of a value is what it says of itself, unless memory ran out.
+abbrev pub Becomes : {X Y : Type 0} → X → Result Y Refusal → Result X Fault → Type 0
+Becomes new (Ok done) said = said ≡ Ok new
+Becomes new (Err Memory) said = Unit {0}
+Becomes new (Err (Faulty fault)) said = said ≡ Err fault

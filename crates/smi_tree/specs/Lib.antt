@@ -4,3 +4,6 @@ pub mod Number
 pub mod Padded
 pub mod Fault
 pub mod Declaration
+pub mod ClassTable
+pub mod Hierarchy
+pub mod Additions

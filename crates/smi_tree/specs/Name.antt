@@ -1,7 +1,9 @@
 -- Names, and their numbers in a list of names.
-use Rattle.std.specs.Prelude.{ℕ, ◌==◌, ◌||◌, ◌&&◌, nat_le, Bool, false, List, [], ◌∷◌, length, Option, Some, None, if◌then◌else◌}
+use Rattle.std.specs.Prelude.{ℕ, ◌==◌, ◌||◌, ◌&&◌, nat_le, Bool, false, List, [], ◌∷◌, length, Option, Some, None, if◌then◌else◌, is_some, Result, Ok, Err, nat_lt, ◌++◌}
 use Rattle.std.specs.List.{list_all, position_from}
 use Rattle.std.specs.Str.{bytes_eq}
+use Rattle.smi_tree.specs.declared.fault.Fault.{Fault}
+use Rattle.smi_tree.specs.declared.fault.Fault.TheVariants.{Twice, OverLimit}
 
 abbrev pub is_letter : ℕ → Bool
 is_letter b = nat_le 65 b && nat_le b 90
@@ -26,3 +28,12 @@ name_of word = if is_name word then Some word else None
 -- the number of a name: its place in the list of names, from 1
 abbrev pub number_of : List (List ℕ) → List ℕ → Option ℕ
 number_of names name = position_from (bytes_eq name) 1 names
+
+abbrev pub is_declared : List (List ℕ) → List ℕ → Bool
+is_declared names name = is_some (number_of names name)
+
+-- the names with one more: no name twice, and no more names than the limit
+abbrev pub added : ℕ → List (List ℕ) → List ℕ → Result (List (List ℕ)) Fault
+added limit names name =
+    if is_declared names name then Err Twice
+    else (if nat_lt (length names) limit then Ok (names ++ name ∷ []) else Err OverLimit)

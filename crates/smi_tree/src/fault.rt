@@ -1,5 +1,10 @@
 //! What may be wrong with a tree file.
 
+ghost use Rattle.std.specs.Prelude.{◌≡◌};
+ghost use Rattle.smi_tree.specs.declared.fault.Refusal.TheVariants.{Memory, Faulty};
+
+use std::alloc::{AllocError, AllocFailed};
+
 /// What is wrong with a line, or with the file.
 #[derive(Clone, Copy, Debug, PartialEq, Eq)]
 pub enum Fault {
@@ -51,5 +56,36 @@ impl Fault {
             Fault::FileTooLong => 11,
             Fault::Incomplete => 12,
         }
+    }
+}
+
+/// Why a line was not taken.
+#[derive(Debug, Drop)]
+pub(crate) enum Refusal {
+    Faulty(Fault),
+    Memory,
+}
+
+impl From<Fault> for Refusal {
+    ghost from_gives = { λ fault refusal. refusal ≡ Faulty fault };
+
+    fn from(fault: Fault) -> Refusal {
+        Refusal::Faulty(fault)
+    }
+}
+
+impl From<AllocError> for Refusal {
+    ghost from_gives = { λ _ refusal. refusal ≡ Memory };
+
+    fn from(_refused: AllocError) -> Refusal {
+        Refusal::Memory
+    }
+}
+
+impl<T: Drop> From<AllocFailed<T>> for Refusal {
+    ghost from_gives = { λ _ refusal. refusal ≡ Memory };
+
+    fn from(_refused: AllocFailed<T>) -> Refusal {
+        Refusal::Memory
     }
 }

@@ -4,5 +4,7 @@
 mod declaration;
 mod fault;
 mod name;
+mod names;
 mod number;
+mod row;
 mod text;

@@ -1,0 +1,1 @@
+-- What each declaration adds to a hierarchy.

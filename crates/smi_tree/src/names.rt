@@ -1,0 +1,75 @@
+//! Lists of names, found by name and by number.
+
+ghost use Rattle.std.specs.Prelude.{ℕ, ◌≡◌, ◌≤◌, ◌<◌, length, slice_get, Some, IfSome};
+ghost use Rattle.std.specs.Str.{bytes_eq};
+ghost use Rattle.smi_tree.specs.Fault.{Becomes};
+ghost use Rattle.smi_tree.specs.Name.{number_of};
+
+use crate::fault::{Fault, Refusal};
+use crate::name::Name;
+use std::alloc::Global;
+use std::marker::Model;
+
+/// Names, numbered from 1 in the order in which they came.
+#[derive(Debug, Drop)]
+pub(crate) struct Names {
+    names: Vec<Name>,
+}
+
+impl Model for Names {
+    ghost use Rattle.std.specs.Prelude.{ℕ, ◌<◌, ◌^◌, List, length};
+
+    ghost Value = { List (List ℕ) };
+
+    ghost view = { λ n. n.names.items };
+
+    ghost invariant = { λ n. length n.names.items < 2 ^ 16 };
+}
+
+impl Names {
+    ghost use Rattle.std.specs.Prelude.{ℕ, ◌≡◌, ◌≤◌, ◌<◌, ◌^◌, [], length};
+    ghost use Rattle.smi_tree.specs.Fault.{Becomes};
+    ghost use Rattle.smi_tree.specs.Name.{number_of, added};
+
+    pub(crate) fn new(alloc: Global) -> Names
+        ensures { result ≡ [] }
+    {
+        Names {
+            names: Vec::new(alloc),
+        }
+    }
+
+    pub(crate) fn len(&self) -> usize
+        ensures len { result ≡ length self.now }
+        ensures small { result < 2 ^ 16 }
+    {
+        self.names.len()
+    }
+
+    /// The number of a name, where it is there.
+    pub(crate) fn number(&self, name: &Name) -> Option<u16>
+        ensures { result ≡ number_of self.now name.now }
+    {
+        for (place, other) in self.names.iter().enumerate() {
+            if name.text() == other.text() {
+                return Some(place as u16 + 1);
+            }
+        }
+        None
+    }
+
+    /// Puts a name at the end, where it is new and there is room for one more.
+    pub(crate) fn add(&mut self, name: Name, limit: usize) -> Result<(), Refusal>
+        requires { limit < 2 ^ 16 }
+        ensures { Becomes self.new result (added limit self.old name) }
+    {
+        if self.number(&name).is_some() {
+            return Err(Refusal::Faulty(Fault::Twice));
+        }
+        if self.names.len() >= limit {
+            return Err(Refusal::Faulty(Fault::OverLimit));
+        }
+        self.names.push(name)?;
+        Ok(())
+    }
+}

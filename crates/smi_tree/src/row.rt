@@ -1,0 +1,96 @@
+//! What the numbers of a hierarchy stand for.
+
+use crate::declaration::{ClassKind, Quantifier};
+use std::alloc::{AllocError, Global};
+use std::marker::Model;
+
+/// A rule of a unit class: where its members are in `state` as it asks, the unit is in `target`.
+#[derive(Clone, Copy, Debug, PartialEq, Eq)]
+pub struct Rule {
+    pub quantifier: Quantifier,
+    pub state: u16,
+    pub target: u16,
+}
+
+/// A row of a device class: by this action a device goes from one state to another.
+#[derive(Clone, Copy, Debug, PartialEq, Eq)]
+pub struct Move {
+    pub class: u16,
+    pub from: u16,
+    pub action: u16,
+    pub to: u16,
+}
+
+/// A domain: the station that keeps it, its unit's class, and the domain above it.
+#[derive(Clone, Copy, Debug, PartialEq, Eq)]
+pub struct Domain {
+    pub station: u16,
+    pub class: u16,
+    pub parent: Option<u16>,
+}
+
+/// A device: the domain that it lies in, and its class.
+#[derive(Clone, Copy, Debug, PartialEq, Eq)]
+pub struct Device {
+    pub domain: u16,
+    pub class: u16,
+}
+
+/// What a class says of its objects, all but the moves.
+#[derive(Debug, Drop)]
+pub(crate) struct Class {
+    pub(crate) kind: ClassKind,
+    pub(crate) first: u16,
+    pub(crate) accepted: Vec<u16>,
+    pub(crate) rules: Vec<Rule>,
+}
+
+impl Model for Class {
+    ghost use Rattle.smi_tree.specs.ClassTable.{ClassTable};
+
+    ghost Value = { ClassTable };
+
+    ghost view = { λ c. record { kind = c.kind; first = c.first; accepted = c.accepted.items; rules = c.rules.items } };
+}
+
+impl Class {
+    ghost use Rattle.std.specs.Prelude.{◌≡◌, [], ◌∷◌, ◌++◌, OnOk};
+    ghost use Rattle.smi_tree.specs.ClassTable.{ClassTable, class_table};
+
+    pub(crate) fn new(alloc: Global, kind: ClassKind, first: u16) -> Class
+        ensures { result ≡ class_table kind first }
+    {
+        Class {
+            kind,
+            first,
+            accepted: Vec::new(alloc),
+            rules: Vec::new(alloc),
+        }
+    }
+
+    pub(crate) fn accept(&mut self, action: u16) -> Result<(), AllocError>
+        ensures { OnOk result (self.new ≡ record self.old { accepted = self.old.accepted ++ action ∷ [] }) }
+    {
+        self.accepted.push(action)?;
+        Ok(())
+    }
+
+    pub(crate) fn rule(&mut self, rule: Rule) -> Result<(), AllocError>
+        ensures { OnOk result (self.new ≡ record self.old { rules = self.old.rules ++ rule ∷ [] }) }
+    {
+        self.rules.push(rule)?;
+        Ok(())
+    }
+}
+
+ghost use Rattle.std.specs.Prelude.{◌≡◌, ◌≤◌, ◌<◌, length, option_copied, OnSome};
+ghost use Rattle.smi_tree.specs.Hierarchy.{entry};
+
+/// The row of a number, from 1.
+pub(crate) fn entry<T>(rows: &[T], number: u16) -> Option<&T>
+    ensures row { option_copied result ≡ entry rows.now number }
+    ensures within { OnSome result ((0 < number) × (number ≤ length rows.now)) }
+{
+    let place = usize::from(number).checked_sub(1)?;
+    rows.get(place)
+}
