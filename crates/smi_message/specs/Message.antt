@@ -4,7 +4,7 @@ use Rattle.smi_grant.specs.declared.Holder.{Holder}
 use Rattle.smi_grant.specs.declared.Version.{Version}
 use Rattle.smi_grant.specs.Holder as holder
 use Rattle.smi_grant.specs.Command as command
-use Rattle.smi_grant.specs.Record.{is_record, is_outcome, last_epoch, last_number}
+use Rattle.smi_grant.specs.Record.{Standing, is_record, is_outcome, last_epoch, last_number}
 use Rattle.smi_message.specs.declared.datagram.Body.{Body}
 use Rattle.smi_message.specs.declared.datagram.Body.TheVariants as body
 
@@ -66,3 +66,7 @@ is_addressed from to tree = is_between 1 128 from && (is_between 1 128 to && is_
 -- the same as a test
 abbrev pub is_message : Message → Bool
 is_message m = is_addressed m.from m.to m.tree && is_body m.body
+
+-- how a domain stands, told by one station to another
+abbrev pub tell : ℕ → ℕ → ℕ → ℕ → Standing → Message
+tell from to tree d r = record { from = from; to = to; tree = tree; body = body.Tell d r }

@@ -15,10 +15,12 @@ mod datagram;
 mod fields;
 mod kinds;
 mod layout;
+mod refusal;
 
 pub use bad::Bad;
 pub use codec::{decode, encode};
 pub use datagram::{Body, Datagram};
+pub use refusal::Refusal;
 
 #[cfg(test)]
 mod tests;

@@ -1,0 +1,4 @@
+pub mod Tellable
+pub mod Pieces
+pub mod Going
+pub mod Written

@@ -1,0 +1,39 @@
+//! `smi`: the program of the control hierarchy.
+//!
+//! [`answer::answer`] is the keeper of one domain over a reader and a writer, and carries what is
+//! proved of the program today: what is written is what the keeper's rules say of the datagrams read.
+//! `program` reads the command line and makes the buffers, and `main` has the runtime.
+#![tactic(auto)]
+
+mod answer;
+mod keeper;
+mod line;
+mod program;
+
+use program::{no_memory, program};
+use std::process::ExitCode;
+use std::{env, io};
+
+fn main(rt: HostRuntime) -> ExitCode {
+    let mut faults = rt.stderr();
+    let status = match words_of(&rt) {
+        Ok(words) => program(
+            rt.alloc(),
+            words.as_slice(),
+            rt.reader(),
+            io::writer(&rt),
+            &mut faults,
+        ),
+        Err(_) => no_memory(&mut faults),
+    };
+    ExitCode::from(status.code())
+}
+
+/// The words of the command line, of which only want of memory can deprive us.
+fn words_of(rt: &HostRuntime) -> io::Result<Vec<String>> {
+    let mut words = Vec::new(rt.alloc());
+    for word in env::args(rt)? {
+        words.push(word)?;
+    }
+    Ok(words)
+}
