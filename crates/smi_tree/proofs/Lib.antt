@@ -1,2 +1,3 @@
 pub mod Cutting
 pub mod NameLemmas
+pub mod HierarchyLemmas

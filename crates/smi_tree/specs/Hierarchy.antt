@@ -1,9 +1,7 @@
 -- What a tree file declares: names by number, and what each number stands for.
-use Rattle.std.specs.Prelude.{ℕ, suc, zero, ◌-◌, ◌==◌, ◌&&◌, Bool, false, List, [], ◌∷◌, length, find, count_by, slice_get, Option, Some, None, option_and_then, if◌then◌else◌}
+use Rattle.std.specs.Prelude.{ℕ, ◌≡◌, ◌<◌, ◌≤◌, suc, zero, ◌-◌, ◌==◌, ◌&&◌, Bool, false, List, [], ◌∷◌, length, find, slice_get, Option, Some, None, option_and_then, if◌then◌else◌}
 use Rattle.std.specs.Option.{option_map_or}
 use Rattle.smi_tree.specs.declared.number.Address.{Address}
-use Rattle.smi_tree.specs.declared.declaration.ClassKind.{ClassKind}
-use Rattle.smi_tree.specs.declared.row.Rule.{Rule}
 use Rattle.smi_tree.specs.declared.row.Move.{Move}
 use Rattle.smi_tree.specs.declared.row.Domain.{Domain}
 use Rattle.smi_tree.specs.declared.row.Device.{Device}
@@ -29,6 +27,12 @@ pub record Hierarchy : Type 0 where
 -- the row of a number
 abbrev pub entry : {X : Type 0} → List X → ℕ → Option X
 entry rows number = if number == 0 then None else slice_get rows (number - 1)
+
+-- the row of a number, as an index takes it
+pub record IsEntry {X : Type 0} (rows : List X) (number : ℕ) (row : X) : Type 0 where
+  pub positive : 0 < number
+  pub within : number ≤ length rows
+  pub read : slice_get rows (number - 1) ≡ Some row
 
 -- the domain above a domain
 abbrev pub parent_in : List Domain → ℕ → Option ℕ
@@ -56,3 +60,22 @@ is_move_at class state action move = move.class == class && (move.from == state 
 -- where a class moves to from a state by an action, if there is a row
 abbrev pub move_in : List Move → ℕ → ℕ → ℕ → Option Move
 move_in moves class state action = find (is_move_at class state action) moves
+
+-- a hierarchy of which nothing is declared yet, not even its number
+abbrev pub undeclared : Hierarchy
+undeclared = record {
+  number = 0;
+  state_names = [];
+  action_names = [];
+  station_names = [];
+  addresses = [];
+  operator_names = [];
+  homes = [];
+  class_names = [];
+  classes = [];
+  moves = [];
+  domain_names = [];
+  domains = [];
+  device_names = [];
+  devices = [];
+}

@@ -2,9 +2,11 @@
 #![tactic(auto)]
 
 mod declaration;
+mod declare;
 mod fault;
 mod name;
 mod names;
 mod number;
 mod row;
+mod tables;
 mod text;

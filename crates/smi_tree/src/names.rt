@@ -7,7 +7,7 @@ ghost use Rattle.smi_tree.specs.Name.{number_of};
 
 use crate::fault::{Fault, Refusal};
 use crate::name::Name;
-use std::alloc::Global;
+use std::alloc::{AllocError, Global};
 use std::marker::Model;
 
 /// Names, numbered from 1 in the order in which they came.
@@ -27,7 +27,7 @@ impl Model for Names {
 }
 
 impl Names {
-    ghost use Rattle.std.specs.Prelude.{ℕ, ◌≡◌, ◌≤◌, ◌<◌, ◌^◌, [], length};
+    ghost use Rattle.std.specs.Prelude.{ℕ, ◌≡◌, ◌+◌, ◌<◌, ◌^◌, [], ◌∷◌, ◌++◌, length, OnOk};
     ghost use Rattle.smi_tree.specs.Fault.{Becomes};
     ghost use Rattle.smi_tree.specs.Name.{number_of, added};
 
@@ -69,6 +69,15 @@ impl Names {
         if self.names.len() >= limit {
             return Err(Refusal::Faulty(Fault::OverLimit));
         }
+        self.push(name)?;
+        Ok(())
+    }
+
+    /// Puts a name at the end.
+    pub(crate) fn push(&mut self, name: Name) -> Result<(), AllocError>
+        requires { length self.old + 1 < 2 ^ 16 }
+        ensures { OnOk result (self.new ≡ self.old ++ name ∷ []) }
+    {
         self.names.push(name)?;
         Ok(())
     }

@@ -54,8 +54,9 @@ impl Model for Class {
 }
 
 impl Class {
-    ghost use Rattle.std.specs.Prelude.{◌≡◌, [], ◌∷◌, ◌++◌, OnOk};
-    ghost use Rattle.smi_tree.specs.ClassTable.{ClassTable, class_table};
+    ghost use Rattle.std.specs.Prelude.{◌≡◌, ◌==◌, [], ◌∷◌, ◌++◌, length, OnOk};
+    ghost use Rattle.std.specs.List.{list_any};
+    ghost use Rattle.smi_tree.specs.ClassTable.{ClassTable, class_table, is_kind};
 
     pub(crate) fn new(alloc: Global, kind: ClassKind, first: u16) -> Class
         ensures { result ≡ class_table kind first }
@@ -68,6 +69,24 @@ impl Class {
         }
     }
 
+    pub(crate) fn is_kind(&self, kind: ClassKind) -> bool
+        ensures { result ≡ is_kind self.now.kind kind }
+    {
+        self.kind == kind
+    }
+
+    pub(crate) fn accepts(&self, action: u16) -> bool
+        ensures { result ≡ list_any (λ other. other == action) self.now.accepted }
+    {
+        self.accepted.iter().any(|other| *other == action)
+    }
+
+    pub(crate) fn rule_count(&self) -> usize
+        ensures { result ≡ length self.now.rules }
+    {
+        self.rules.len()
+    }
+
     pub(crate) fn accept(&mut self, action: u16) -> Result<(), AllocError>
         ensures { OnOk result (self.new ≡ record self.old { accepted = self.old.accepted ++ action ∷ [] }) }
     {
@@ -75,7 +94,7 @@ impl Class {
         Ok(())
     }
 
-    pub(crate) fn rule(&mut self, rule: Rule) -> Result<(), AllocError>
+    pub(crate) fn add_rule(&mut self, rule: Rule) -> Result<(), AllocError>
         ensures { OnOk result (self.new ≡ record self.old { rules = self.old.rules ++ rule ∷ [] }) }
     {
         self.rules.push(rule)?;
@@ -83,13 +102,13 @@ impl Class {
     }
 }
 
-ghost use Rattle.std.specs.Prelude.{◌≡◌, ◌≤◌, ◌<◌, length, option_copied, OnSome};
-ghost use Rattle.smi_tree.specs.Hierarchy.{entry};
+ghost use Rattle.std.specs.Prelude.{◌≡◌, option_copied, IfSome};
+ghost use Rattle.smi_tree.specs.Hierarchy.{entry, IsEntry};
 
 /// The row of a number, from 1.
 pub(crate) fn entry<T>(rows: &[T], number: u16) -> Option<&T>
     ensures row { option_copied result ≡ entry rows.now number }
-    ensures within { OnSome result ((0 < number) × (number ≤ length rows.now)) }
+    ensures within { IfSome result (λ row. IsEntry rows.now number row.now) }
 {
     let place = usize::from(number).checked_sub(1)?;
     rows.get(place)

@@ -1,7 +1,6 @@
 use Rattle.std.proofs.Common.{◌≡◌, ◌+◌, drop}
 use Rattle.std.specs.List.{position_from}
 use Rattle.std.specs.Str.{bytes_eq}
-use Rattle.smi_tree.specs.Name.{number_of}
 use Rattle.smi_tree.proofs.names.Names.number.Given as goal
 
 abbrev pub invariant-loop-place : goal.invariant-loop-place

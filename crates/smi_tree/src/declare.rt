@@ -1,0 +1,402 @@
+//! What each declaration adds to the tables: unknown names are found first, then a second declaration, then a class
+//! of the other kind, and a limit last.
+
+ghost use Rattle.std.specs.Prelude.{◌≡◌, ◌==◌, ◌+◌, ◌<◌, length, count_by, is_some};
+ghost use Rattle.smi_tree.specs.Hierarchy.{is_child_of, is_device_of, move_in, parent_in, ancestors, depth_in};
+ghost use Rattle.smi_tree.specs.Additions.{known};
+
+use crate::declaration::{ClassKind, Declaration, Quantifier};
+use crate::fault::{Fault, Refusal};
+use crate::name::Name;
+use crate::names::Names;
+use crate::number::Address;
+use crate::row::{Class, Device, Domain, Move, Rule, entry};
+use crate::tables::Tables;
+use std::alloc::Global;
+
+const MOST_STATES: usize = 64;
+
+const MOST_ACTIONS: usize = 64;
+
+const MOST_STATIONS: usize = 128;
+
+const MOST_OPERATORS: usize = 32;
+
+const MOST_OPERATORS_OF_A_STATION: usize = 8;
+
+const MOST_CLASSES: usize = 32;
+
+const MOST_RULES_OF_A_CLASS: usize = 32;
+
+const MOST_DOMAINS: usize = 128;
+
+const MOST_CHILDREN: usize = 16;
+/// A root lies at the first.
+const MOST_LEVELS: usize = 8;
+
+const MOST_DEVICES: usize = 512;
+
+const MOST_DEVICES_OF_A_DOMAIN: usize = 16;
+
+/// The number of a name that has to stand above.
+fn known(names: &Names, name: Name) -> Result<u16, Fault>
+    ensures { result ≡ known names.now name }
+{
+    names.number(&name).ok_or(Fault::UnknownName)
+}
+
+fn count_of(homes: &[u16], home: u16) -> usize
+    ensures { result ≡ count_by (λ other. other == home) homes.now }
+{
+    homes.iter().filter(|other| **other == home).count()
+}
+
+fn count_of_children(domains: &[Domain], parent: u16) -> usize
+    ensures { result ≡ count_by (is_child_of parent) domains.now }
+{
+    domains
+        .iter()
+        .filter(|row| is_child_of(parent, row))
+        .count()
+}
+
+fn is_child_of(parent: u16, row: &Domain) -> bool
+    ensures { result ≡ is_child_of parent row.now }
+{
+    match row.parent {
+        Some(above) => above == parent,
+        None => false,
+    }
+}
+
+fn count_of_devices(devices: &[Device], domain: u16) -> usize
+    ensures { result ≡ count_by (is_device_of domain) devices.now }
+{
+    devices.iter().filter(|row| row.domain == domain).count()
+}
+
+/// The domain above a domain.
+pub(crate) fn parent_in(domains: &[Domain], domain: u16) -> Option<u16>
+    ensures { result ≡ parent_in domains.now domain }
+{
+    match entry(domains, domain) {
+        Some(row) => row.parent,
+        None => None,
+    }
+}
+
+/// How deep a domain lies, a root at 1.
+fn depth_in(domains: &[Domain], domain: u16) -> usize
+    ensures { result ≡ depth_in domains.now domain }
+{
+    let mut at = domain;
+    for above in 0..MOST_LEVELS {
+        match parent_in(domains, at) {
+            Some(parent) => at = parent,
+            None => return above + 1,
+        }
+    }
+    MOST_LEVELS + 1
+}
+
+/// Whether a class has a row for this state and action.
+fn has_move(moves: &[Move], class: u16, state: u16, action: u16) -> bool
+    ensures { result ≡ is_some (move_in moves.now class state action) }
+{
+    for row in moves {
+        if row.class == class && row.from == state && row.action == action {
+            return true;
+        }
+    }
+    false
+}
+
+impl Tables {
+    ghost use Rattle.std.specs.Prelude.{◌≡◌, ◌<◌, ◌≤◌, length, IfOk};
+    ghost use Rattle.smi_tree.specs.Fault.{Becomes, Gives};
+    ghost use Rattle.smi_tree.specs.Hierarchy.{IsEntry};
+    ghost use Rattle.smi_tree.specs.Additions.{
+      known_class,
+      known_parent,
+      is_taken,
+      has_room,
+      with_state,
+      with_action,
+      with_station,
+      with_operator,
+      with_class,
+      with_move,
+      with_accepted,
+      with_rule,
+      with_domain,
+      with_device,
+      with_declaration,
+    };
+
+    /// Adds what a line declares.
+    pub(crate) fn declare(&mut self, alloc: Global, declaration: Declaration) -> Result<(), Refusal>
+        ensures { Becomes self.new result (with_declaration self.old declaration) }
+    {
+        match declaration {
+            Declaration::Tree(number) => {
+                self.number = number;
+                Ok(())
+            }
+            Declaration::State(name) => self.add_state(name),
+            Declaration::Action(name) => self.add_action(name),
+            Declaration::Station { name, address } => self.add_station(name, address),
+            Declaration::Operator { name, station } => self.add_operator(name, station),
+            Declaration::Class { kind, name, first } => self.add_class(alloc, kind, name, first),
+            Declaration::Move {
+                class,
+                from,
+                action,
+                to,
+            } => self.add_move(class, from, action, to),
+            Declaration::Accept { class, action } => self.accept(class, action),
+            Declaration::Rule {
+                quantifier,
+                class,
+                state,
+                target,
+            } => self.add_rule(quantifier, class, state, target),
+            Declaration::Domain {
+                name,
+                station,
+                class,
+                parent,
+            } => self.add_domain(name, station, class, parent),
+            Declaration::Device {
+                name,
+                domain,
+                class,
+            } => self.add_device(name, domain, class),
+        }
+    }
+
+    /// Whether a domain, a device or an operator has this name.
+    fn is_taken(&self, name: Name) -> bool
+        ensures { result ≡ is_taken self.now name }
+    {
+        self.operator_names.number(&name).is_some()
+            || self.domain_names.number(&name).is_some()
+            || self.device_names.number(&name).is_some()
+    }
+
+    #[tactic(auto, unfolding(crate::specs::Additions::with_state))]
+    fn add_state(&mut self, name: Name) -> Result<(), Refusal>
+        ensures { Becomes self.new result (with_state self.old name) }
+    {
+        self.state_names.add(name, MOST_STATES)
+    }
+
+    #[tactic(auto, unfolding(crate::specs::Additions::with_action))]
+    fn add_action(&mut self, name: Name) -> Result<(), Refusal>
+        ensures { Becomes self.new result (with_action self.old name) }
+    {
+        self.action_names.add(name, MOST_ACTIONS)
+    }
+
+    #[tactic(auto, unfolding(crate::specs::Additions::with_station))]
+    fn add_station(&mut self, name: Name, address: Address) -> Result<(), Refusal>
+        ensures { Becomes self.new result (with_station self.old name address) }
+    {
+        self.station_names.add(name, MOST_STATIONS)?;
+        self.addresses.push(address)?;
+        Ok(())
+    }
+
+    #[tactic(auto, unfolding(crate::specs::Additions::with_operator))]
+    fn add_operator(&mut self, name: Name, station: Name) -> Result<(), Refusal>
+        ensures { Becomes self.new result (with_operator self.old name station) }
+    {
+        let home = known(&self.station_names, station)?;
+        if self.is_taken(name) {
+            return Err(Refusal::Faulty(Fault::Twice));
+        }
+        if self.operator_names.len() >= MOST_OPERATORS
+            || count_of(&self.homes, home) >= MOST_OPERATORS_OF_A_STATION
+        {
+            return Err(Refusal::Faulty(Fault::OverLimit));
+        }
+        self.operator_names.push(name)?;
+        self.homes.push(home)?;
+        Ok(())
+    }
+
+    #[tactic(auto, unfolding(crate::specs::Additions::with_class))]
+    fn add_class(
+        &mut self,
+        alloc: Global,
+        kind: ClassKind,
+        name: Name,
+        first: Name,
+    ) -> Result<(), Refusal>
+        ensures { Becomes self.new result (with_class self.old kind name first) }
+    {
+        let first = known(&self.state_names, first)?;
+        self.class_names.add(name, MOST_CLASSES)?;
+        self.classes.push(Class::new(alloc, kind, first))?;
+        Ok(())
+    }
+
+    /// The number and the table of a class that has to stand above.
+    #[tactic(auto, unfolding(crate::specs::Additions::known_class))]
+    fn known_class(&self, name: Name) -> Result<(u16, &Class), Fault>
+        ensures found { Gives (λ found. (found.0, found.1.now)) result (known_class self.now name) }
+        ensures row { IfOk result (λ found. IsEntry self.now.classes found.0 found.1.now) }
+    {
+        let class = known(&self.class_names, name)?;
+        let table = entry(&self.classes, class).ok_or(Fault::UnknownName)?;
+        Ok((class, table))
+    }
+
+    #[tactic(auto, unfolding(crate::specs::Additions::with_move))]
+    fn add_move(&mut self, class: Name, from: Name, action: Name, to: Name) -> Result<(), Refusal>
+        ensures { Becomes self.new result (with_move self.old class from action to) }
+    {
+        let (class, table) = self.known_class(class)?;
+        let kind = table.kind;
+        let from = known(&self.state_names, from)?;
+        let action = known(&self.action_names, action)?;
+        let to = known(&self.state_names, to)?;
+        if has_move(&self.moves, class, from, action) {
+            return Err(Refusal::Faulty(Fault::Twice));
+        }
+        if kind != ClassKind::Device {
+            return Err(Refusal::Faulty(Fault::OtherKind));
+        }
+        self.moves.push(Move {
+            class,
+            from,
+            action,
+            to,
+        })?;
+        Ok(())
+    }
+
+    #[tactic(auto, unfolding(crate::specs::Additions::with_accepted))]
+    fn accept(&mut self, class: Name, action: Name) -> Result<(), Refusal>
+        ensures { Becomes self.new result (with_accepted self.old class action) }
+    {
+        let (class, table) = self.known_class(class)?;
+        let action = known(&self.action_names, action)?;
+        if table.accepts(action) {
+            return Err(Refusal::Faulty(Fault::Twice));
+        }
+        if !table.is_kind(ClassKind::Unit) {
+            return Err(Refusal::Faulty(Fault::OtherKind));
+        }
+        let table = &mut self.classes[usize::from(class) - 1];
+        table.accept(action)?;
+        Ok(())
+    }
+
+    #[tactic(auto, unfolding(crate::specs::Additions::with_rule))]
+    fn add_rule(
+        &mut self,
+        quantifier: Quantifier,
+        class: Name,
+        state: Name,
+        target: Name,
+    ) -> Result<(), Refusal>
+        ensures { Becomes self.new result (with_rule self.old quantifier class state target) }
+    {
+        let (class, table) = self.known_class(class)?;
+        let state = known(&self.state_names, state)?;
+        let target = known(&self.state_names, target)?;
+        if !table.is_kind(ClassKind::Unit) {
+            return Err(Refusal::Faulty(Fault::OtherKind));
+        }
+        if table.rule_count() >= MOST_RULES_OF_A_CLASS {
+            return Err(Refusal::Faulty(Fault::OverLimit));
+        }
+        let table = &mut self.classes[usize::from(class) - 1];
+        table.add_rule(Rule {
+            quantifier,
+            state,
+            target,
+        })?;
+        Ok(())
+    }
+
+    /// The number of a parent that has to stand above, where there is one.
+    #[tactic(auto, unfolding(crate::specs::Additions::known_parent))]
+    fn known_parent(&self, parent: Option<Name>) -> Result<Option<u16>, Fault>
+        ensures { result ≡ known_parent self.now parent }
+    {
+        match parent {
+            Some(name) => Ok(Some(known(&self.domain_names, name)?)),
+            None => Ok(None),
+        }
+    }
+
+    /// Whether a parent has room for one more child.
+    #[tactic(auto, unfolding(crate::specs::Additions::has_room))]
+    fn has_room(&self, parent: Option<u16>) -> bool
+        ensures { result ≡ has_room self.now parent }
+    {
+        match parent {
+            Some(parent) => {
+                count_of_children(&self.domains, parent) < MOST_CHILDREN
+                    && depth_in(&self.domains, parent) < MOST_LEVELS
+            }
+            None => true,
+        }
+    }
+
+    #[tactic(auto, unfolding(crate::specs::Additions::with_domain))]
+    fn add_domain(
+        &mut self,
+        name: Name,
+        station: Name,
+        class: Name,
+        parent: Option<Name>,
+    ) -> Result<(), Refusal>
+        ensures { Becomes self.new result (with_domain self.old name station class parent) }
+    {
+        let station = known(&self.station_names, station)?;
+        let (class, table) = self.known_class(class)?;
+        let kind = table.kind;
+        let parent = self.known_parent(parent)?;
+        if self.is_taken(name) {
+            return Err(Refusal::Faulty(Fault::Twice));
+        }
+        if kind != ClassKind::Unit {
+            return Err(Refusal::Faulty(Fault::OtherKind));
+        }
+        if self.domain_names.len() >= MOST_DOMAINS || !self.has_room(parent) {
+            return Err(Refusal::Faulty(Fault::OverLimit));
+        }
+        self.domain_names.push(name)?;
+        self.domains.push(Domain {
+            station,
+            class,
+            parent,
+        })?;
+        Ok(())
+    }
+
+    #[tactic(auto, unfolding(crate::specs::Additions::with_device))]
+    fn add_device(&mut self, name: Name, domain: Name, class: Name) -> Result<(), Refusal>
+        ensures { Becomes self.new result (with_device self.old name domain class) }
+    {
+        let domain = known(&self.domain_names, domain)?;
+        let (class, table) = self.known_class(class)?;
+        let kind = table.kind;
+        if self.is_taken(name) {
+            return Err(Refusal::Faulty(Fault::Twice));
+        }
+        if kind != ClassKind::Device {
+            return Err(Refusal::Faulty(Fault::OtherKind));
+        }
+        if self.device_names.len() >= MOST_DEVICES
+            || count_of_devices(&self.devices, domain) >= MOST_DEVICES_OF_A_DOMAIN
+        {
+            return Err(Refusal::Faulty(Fault::OverLimit));
+        }
+        self.device_names.push(name)?;
+        self.devices.push(Device { domain, class })?;
+        Ok(())
+    }
+}
