@@ -1,3 +1,15 @@
+pub mod Asked
+pub mod Epochs
+pub mod Facts
+pub mod Heard
 pub mod HeardCommands
+pub mod Holders
+pub mod Keeper
+pub mod Lawful
+pub mod LinkSteps
+pub mod Logs
+pub mod OneLinkKept
+pub mod Orders
 pub mod Runs
 pub mod Stored
+pub mod Waiting

@@ -12,6 +12,7 @@
 #![tactic(auto)]
 
 mod hearing;
+pub mod law;
 mod link;
 mod order;
 mod pending;

@@ -1,0 +1,58 @@
+//! What holds of every link, and of a link and the keeper's record, whatever becomes of the
+//! datagrams between them.
+
+ghost use Rattle.std.specs.Prelude.{ℕ, List, Ok, IsErr, false, ◌≡◌, ◌≤◌, ◌⊎◌};
+ghost use Rattle.smi_grant.specs.declared.command.Command.{Command};
+ghost use Rattle.smi_grant.specs.declared.holder.Holder.{Holder};
+ghost use Rattle.smi_grant.specs.Holder.{is_free};
+ghost use Rattle.smi_grant.specs.Record.{Standing, IsRecord, last_epoch};
+ghost use Rattle.smi_command.specs.declared.link.Link.{Link};
+ghost use Rattle.smi_command.specs.declared.link.Due.{Due};
+ghost use Rattle.smi_command.specs.Hearing.{told_link};
+ghost use Rattle.smi_command.specs.KnownGrant.{KnownGrant, InStep, IsSpent, Waits};
+ghost use Rattle.smi_command.specs.Link.{known};
+ghost use Rattle.smi_command.specs.OneLink.{Event, reached, Asks, Among, RunsInOrder, RanAsIssued};
+ghost use Rattle.smi_command.specs.Order.{take_begun, command_issued, drop_begun};
+
+use crate::{Due, Link};
+
+/// A link that asks for its domain takes no order, so it leaves `Taking` by what it is told alone.
+pub fn taking_ends_by_hearing()
+    ensures no_take { (s : ℕ) → IsErr (take_begun (Link.Taking s)) }
+    ensures no_command { (s : ℕ) (c : Command) → IsErr (command_issued (Link.Taking s) c) }
+    ensures no_drop { (s : ℕ) → IsErr (drop_begun (Link.Taking s)) }
+{}
+
+/// The epoch that a link knows of never falls: an order leaves it, and what is told never lowers it.
+/// It stays within the epochs that a domain can have.
+pub fn known_epoch_never_falls()
+    ensures taken { (l m : Link) → take_begun l ≡ Ok m → known m ≡ known l }
+    ensures commanded { (l : Link) (c : Command) (m : Link) →
+        command_issued l c ≡ Ok m → known m ≡ known l }
+    ensures dropped { (l m : Link) → drop_begun l ≡ Ok m → known m ≡ known l }
+    ensures told { (l : Link) (me : Holder) (r : Standing) →
+        known l ≤ last_epoch → known l ≤ known (told_link l me r) }
+    ensures within { (l : Link) (me : Holder) (r : Standing) →
+        IsRecord r → known l ≤ last_epoch → known (told_link l me r) ≤ last_epoch }
+{}
+
+/// The law of one link. Wherever a list of events leads that one holder, the keeper, the network
+/// and strangers make, the link and the record know of one another, the numbers of pending commands
+/// are in step with the record, every run is numbered in its turn and is the one command that was
+/// issued under its number, and every `RUN` that was ever sent is spent or still pending.
+pub fn one_link_and_its_keeper()
+    ensures known { (me : Holder) (events : List Event) → is_free me ≡ false →
+        KnownGrant (reached me events).kept me (reached me events).link }
+    ensures in_step { (me : Holder) (events : List Event) (e n : ℕ) (p : List Command) →
+        is_free me ≡ false → (reached me events).link ≡ Link.Held e n p →
+        InStep (reached me events).kept n p }
+    ensures in_order { (me : Holder) (events : List Event) → is_free me ≡ false →
+        RunsInOrder (reached me events).ran }
+    ensures as_issued { (me : Holder) (events : List Event) → is_free me ≡ false →
+        RanAsIssued me (reached me events).issued (reached me events).ran }
+    ensures sent { (me : Holder) (events : List Event) (e n : ℕ) (c : Command) →
+        is_free me ≡ false → Among (Asks me (Due.Run e n c)) (reached me events).sent →
+        IsSpent (reached me events).kept e n ⊎ Waits (reached me events).link e n c }
+    ensures lawful { (me : Holder) (events : List Event) → is_free me ≡ false →
+        IsRecord (reached me events).kept }
+{}
