@@ -1,3 +1,4 @@
 pub mod Cutting
 pub mod NameLemmas
 pub mod HierarchyLemmas
+pub mod Lines

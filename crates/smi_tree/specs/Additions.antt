@@ -3,6 +3,8 @@
 use Rattle.std.specs.Prelude.{ℕ, ◌-◌, ◌==◌, ◌&&◌, ◌||◌, nat_lt, Bool, true, List, [], ◌∷◌, ◌++◌, length, count_by, is_some, slice_set, ok_or, Option, Some, None, Result, Ok, Err, if◌then◌else◌}
 use Rattle.std.specs.List.{list_any}
 use Rattle.smi_tree.specs.Fault.{◌>>=◌}
+use Rattle.smi_tree.specs.Declaration.{declaration_of}
+use Rattle.smi_tree.specs.declared.declaration.Keyword.{Keyword}
 use Rattle.smi_tree.specs.Name.{number_of, is_declared, added}
 use Rattle.smi_tree.specs.ClassTable.{ClassTable, class_table, is_kind}
 use Rattle.smi_tree.specs.Hierarchy.{Hierarchy, entry, depth_in, is_child_of, is_device_of, move_in}
@@ -144,3 +146,9 @@ with_declaration h (declares.Accept class action) = with_accepted h class action
 with_declaration h (declares.Rule which class state target) = with_rule h which class state target
 with_declaration h (declares.Domain name station class parent) = with_domain h name station class parent
 with_declaration h (declares.Device name domain class) = with_device h name domain class
+
+-- the hierarchy with what the words behind a keyword declare
+abbrev pub with_words_of : Hierarchy → Keyword → List (List ℕ) → Result Hierarchy Fault
+with_words_of h keyword words = do
+  declaration ← declaration_of keyword words
+  with_declaration h declaration

@@ -7,3 +7,4 @@ pub mod Declaration
 pub mod ClassTable
 pub mod Hierarchy
 pub mod Additions
+pub mod File

@@ -5,7 +5,7 @@ ghost use Rattle.std.specs.Prelude.{◌≡◌, ◌==◌, ◌+◌, ◌<◌, lengt
 ghost use Rattle.smi_tree.specs.Hierarchy.{is_child_of, is_device_of, move_in, parent_in, ancestors, depth_in};
 ghost use Rattle.smi_tree.specs.Additions.{known};
 
-use crate::declaration::{ClassKind, Declaration, Quantifier};
+use crate::declaration::{ClassKind, Declaration, Keyword, Quantifier};
 use crate::fault::{Fault, Refusal};
 use crate::name::Name;
 use crate::names::Names;
@@ -114,6 +114,7 @@ fn has_move(moves: &[Move], class: u16, state: u16, action: u16) -> bool
 impl Tables {
     ghost use Rattle.std.specs.Prelude.{◌≡◌, ◌<◌, ◌≤◌, length, IfOk};
     ghost use Rattle.smi_tree.specs.Fault.{Becomes, Gives};
+    ghost use Rattle.smi_tree.specs.Text.{words};
     ghost use Rattle.smi_tree.specs.Hierarchy.{IsEntry};
     ghost use Rattle.smi_tree.specs.Additions.{
       known_class,
@@ -131,13 +132,28 @@ impl Tables {
       with_domain,
       with_device,
       with_declaration,
+      with_words_of,
     };
 
-    /// Adds what a line declares.
-    pub(crate) fn declare(&mut self, alloc: Global, declaration: Declaration) -> Result<(), Refusal>
-        ensures { Becomes self.new result (with_declaration self.old declaration) }
+    /// Adds what the words behind a keyword declare.
+    pub(crate) fn read_words(
+        &mut self,
+        alloc: Global,
+        keyword: Keyword,
+        text: &[u8],
+    ) -> Result<(), Refusal>
+        ensures { Becomes self.new result (with_words_of self.old keyword (words text.now)) }
     {
-        match declaration {
+        match Declaration::read(keyword, text) {
+            Ok(declaration) => self.declare(alloc, &declaration),
+            Err(fault) => Err(Refusal::Faulty(fault)),
+        }
+    }
+
+    fn declare(&mut self, alloc: Global, declaration: &Declaration) -> Result<(), Refusal>
+        ensures { Becomes self.new result (with_declaration self.old declaration.now) }
+    {
+        match *declaration {
             Declaration::Tree(number) => {
                 self.number = number;
                 Ok(())

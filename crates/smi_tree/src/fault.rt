@@ -89,3 +89,39 @@ impl<T: Drop> From<AllocFailed<T>> for Refusal {
         Refusal::Memory
     }
 }
+
+/// Why a tree file was not read.
+#[derive(Clone, Copy, Debug, PartialEq, Eq)]
+pub enum TreeFault {
+    /// The line of this number, counting all lines from 1, has the [fault](Fault::number) of the second. Line 0 is
+    /// the file itself.
+    Line(u64, u16),
+    /// Memory ran out.
+    Memory,
+}
+
+impl From<AllocError> for TreeFault {
+    ghost use Rattle.std.specs.Prelude.{◌≡◌};
+    ghost use Rattle.smi_tree.specs.declared.fault.TreeFault.TheVariants as tree_fault;
+
+    ghost from_gives = { λ _ fault. fault ≡ tree_fault.Memory };
+
+    fn from(_refused: AllocError) -> TreeFault {
+        TreeFault::Memory
+    }
+}
+
+impl Refusal {
+    ghost use Rattle.std.specs.Prelude.{◌≡◌};
+    ghost use Rattle.smi_tree.specs.File.{refused_at};
+
+    /// The refusal of the line of this number.
+    pub(crate) fn at_line(self, number: u64) -> TreeFault
+        ensures { result ≡ refused_at number self }
+    {
+        match self {
+            Refusal::Faulty(fault) => TreeFault::Line(number, fault.number()),
+            Refusal::Memory => TreeFault::Memory,
+        }
+    }
+}

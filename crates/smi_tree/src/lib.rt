@@ -7,6 +7,7 @@ mod fault;
 mod name;
 mod names;
 mod number;
+mod read;
 mod row;
 mod tables;
 mod text;

@@ -1,0 +1,111 @@
+//! From the bytes of a tree file to its tables, line by line.
+
+ghost use Rattle.std.specs.Prelude.{◌≡◌, ◌==◌, ◌<◌, ◌≤◌, ◌^◌, length, IfOk};
+ghost use Rattle.std.specs.Str.Lines.{lines};
+ghost use Rattle.smi_tree.specs.Hierarchy.{undeclared};
+ghost use Rattle.smi_tree.specs.File.{is_comment, is_tree, has_one, with_lines, Reads};
+
+use crate::declaration::Keyword;
+use crate::fault::{Fault, Refusal, TreeFault};
+use crate::names::Names;
+use crate::tables::Tables;
+use crate::text::{first_line, first_word};
+use std::alloc::Global;
+
+/// The most bytes of a line, without its line feed and the carriage return before it.
+const MOST_BYTES_OF_A_LINE: usize = 200;
+
+fn is_comment(word: &[u8]) -> bool
+    ensures { result ≡ is_comment word.now }
+{
+    match word {
+        [first, ..] => *first == b'#',
+        [] => false,
+    }
+}
+
+fn is_tree(word: &[u8]) -> bool
+    ensures { result ≡ is_tree word.now }
+{
+    word == b"tree".as_slice()
+}
+
+fn has_one(names: &Names) -> bool
+    ensures { result ≡ has_one names.now }
+{
+    names.len() > 0
+}
+
+impl Tables {
+    ghost use Rattle.std.specs.Prelude.{◌≡◌};
+    ghost use Rattle.smi_tree.specs.Fault.{Becomes};
+    ghost use Rattle.smi_tree.specs.File.{is_begun, is_out_of_place, is_complete, with_line, with_words};
+
+    /// Whether the `tree` line has come.
+    fn is_begun(&self) -> bool
+        ensures { result ≡ is_begun self.now }
+    {
+        self.number != 0
+    }
+
+    /// The `tree` line is the first, and there is no second.
+    fn is_out_of_place(&self, word: &[u8]) -> bool
+        ensures { result ≡ is_out_of_place self.now word.now }
+    {
+        if self.is_begun() {
+            is_tree(word)
+        } else {
+            !is_tree(word)
+        }
+    }
+
+    /// Whether there is one of each kind that every tree has.
+    pub(crate) fn is_complete(&self) -> bool
+        ensures { result ≡ is_complete self.now }
+    {
+        has_one(&self.station_names)
+            && has_one(&self.operator_names)
+            && has_one(&self.state_names)
+            && has_one(&self.action_names)
+            && has_one(&self.domain_names)
+    }
+
+    /// Adds what a line declares.
+    #[tactic(auto, unfolding(crate::specs::File::with_line, crate::specs::File::with_words))]
+    fn read_line(&mut self, alloc: Global, line: &[u8]) -> Result<(), Refusal>
+        ensures { Becomes self.new result (with_line self.old line.now) }
+    {
+        if line.len() > MOST_BYTES_OF_A_LINE {
+            return Err(Refusal::Faulty(Fault::LineTooLong));
+        }
+        let Some((word, rest)) = first_word(line) else {
+            return Ok(());
+        };
+        if is_comment(word) {
+            return Ok(());
+        }
+        if self.is_out_of_place(word) {
+            return Err(Refusal::Faulty(Fault::TreeLine));
+        }
+        let keyword = Keyword::read(word).ok_or(Fault::UnknownWord)?;
+        self.read_words(alloc, keyword, rest)
+    }
+}
+
+/// What the lines of a file declare.
+pub(crate) fn read_lines(alloc: Global, bytes: &[u8]) -> Result<Tables, TreeFault>
+    ensures { Reads result (with_lines 1 undeclared (lines bytes.now)) }
+{
+    let mut tables = Tables::new(alloc);
+    let mut rest = bytes;
+    let mut number = 0;
+    while let Some(cut) = first_line(rest) {
+        let (line, after) = cut;
+        number += 1;
+        if let Err(refusal) = tables.read_line(alloc, line) {
+            return Err(refusal.at_line(number));
+        }
+        rest = after;
+    }
+    Ok(tables)
+}
