@@ -8,3 +8,4 @@ pub mod ClassTable
 pub mod Hierarchy
 pub mod Additions
 pub mod File
+pub mod Rules

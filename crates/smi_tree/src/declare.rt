@@ -42,7 +42,7 @@ const MOST_DEVICES_OF_A_DOMAIN: usize = 16;
 fn known(names: &Names, name: Name) -> Result<u16, Fault>
     ensures { result ≡ known names.now name }
 {
-    names.number(&name).ok_or(Fault::UnknownName)
+    names.number(name.text()).ok_or(Fault::UnknownName)
 }
 
 fn count_of(homes: &[u16], home: u16) -> usize
@@ -97,18 +97,6 @@ fn depth_in(domains: &[Domain], domain: u16) -> usize
         }
     }
     MOST_LEVELS + 1
-}
-
-/// Whether a class has a row for this state and action.
-fn has_move(moves: &[Move], class: u16, state: u16, action: u16) -> bool
-    ensures { result ≡ is_some (move_in moves.now class state action) }
-{
-    for row in moves {
-        if row.class == class && row.from == state && row.action == action {
-            return true;
-        }
-    }
-    false
 }
 
 impl Tables {
@@ -194,9 +182,9 @@ impl Tables {
     fn is_taken(&self, name: Name) -> bool
         ensures { result ≡ is_taken self.now name }
     {
-        self.operator_names.number(&name).is_some()
-            || self.domain_names.number(&name).is_some()
-            || self.device_names.number(&name).is_some()
+        self.operator_names.number(name.text()).is_some()
+            || self.domain_names.number(name.text()).is_some()
+            || self.device_names.number(name.text()).is_some()
     }
 
     #[tactic(auto, unfolding(crate::specs::Additions::with_state))]
@@ -276,7 +264,7 @@ impl Tables {
         let from = known(&self.state_names, from)?;
         let action = known(&self.action_names, action)?;
         let to = known(&self.state_names, to)?;
-        if has_move(&self.moves, class, from, action) {
+        if self.moves.find(class, from, action).is_some() {
             return Err(Refusal::Faulty(Fault::Twice));
         }
         if kind != ClassKind::Device {

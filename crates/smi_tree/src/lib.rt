@@ -4,10 +4,12 @@
 mod declaration;
 mod declare;
 mod fault;
+mod moves;
 mod name;
 mod names;
 mod number;
 mod read;
 mod row;
+mod rule;
 mod tables;
 mod text;

@@ -27,9 +27,10 @@ impl Model for Names {
 }
 
 impl Names {
-    ghost use Rattle.std.specs.Prelude.{ℕ, ◌≡◌, ◌+◌, ◌<◌, ◌^◌, [], ◌∷◌, ◌++◌, length, OnOk};
+    ghost use Rattle.std.specs.Prelude.{ℕ, ◌≡◌, ◌+◌, ◌<◌, ◌≤◌, ◌^◌, [], ◌∷◌, ◌++◌, length, OnOk};
     ghost use Rattle.smi_tree.specs.Fault.{Becomes};
     ghost use Rattle.smi_tree.specs.Name.{number_of, added};
+    ghost use Rattle.smi_tree.specs.Hierarchy.{entry};
 
     pub(crate) fn new(alloc: Global) -> Names
         ensures { result ≡ [] }
@@ -47,15 +48,24 @@ impl Names {
     }
 
     /// The number of a name, where it is there.
-    pub(crate) fn number(&self, name: &Name) -> Option<u16>
+    pub(crate) fn number(&self, name: &[u8]) -> Option<u16>
         ensures { result ≡ number_of self.now name.now }
     {
         for (place, other) in self.names.iter().enumerate() {
-            if name.text() == other.text() {
+            if name == other.text() {
                 return Some(place as u16 + 1);
             }
         }
         None
+    }
+
+    /// The name of a number.
+    pub(crate) fn name(&self, number: u16) -> &[u8]
+        requires positive { 0 < number }
+        requires within { number ≤ length self.now }
+        ensures { Some result.now ≡ entry self.now number }
+    {
+        self.names[usize::from(number) - 1].text()
     }
 
     /// Puts a name at the end, where it is new and there is room for one more.
@@ -63,7 +73,7 @@ impl Names {
         requires { limit < 2 ^ 16 }
         ensures { Becomes self.new result (added limit self.old name) }
     {
-        if self.number(&name).is_some() {
+        if self.number(name.text()).is_some() {
             return Err(Refusal::Faulty(Fault::Twice));
         }
         if self.names.len() >= limit {

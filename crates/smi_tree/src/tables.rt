@@ -1,18 +1,11 @@
 //! A hierarchy while its lines are read.
 
-ghost use Rattle.std.specs.Prelude.{◌≡◌};
-
-use crate::declaration::{ClassKind, Declaration, Quantifier};
-use crate::fault::{Fault, Refusal};
-use crate::name::Name;
+use crate::moves::Moves;
 use crate::names::Names;
 use crate::number::Address;
-use crate::row::{Class, Device, Domain, Move, Rule, entry};
+use crate::row::{Class, Device, Domain};
 use std::alloc::Global;
 use std::marker::Model;
-
-/// The most levels of domains.
-const MOST_LEVELS: usize = 8;
 
 /// What the lines so far declare.
 #[derive(Debug, Drop)]
@@ -28,7 +21,7 @@ pub(crate) struct Tables {
     pub(crate) homes: Vec<u16>,
     pub(crate) class_names: Names,
     pub(crate) classes: Vec<Class>,
-    pub(crate) moves: Vec<Move>,
+    pub(crate) moves: Moves,
     pub(crate) domain_names: Names,
     pub(crate) domains: Vec<Domain>,
     pub(crate) device_names: Names,
@@ -50,7 +43,7 @@ impl Model for Tables {
       homes = t.homes.items;
       class_names = t.class_names;
       classes = t.classes.items;
-      moves = t.moves.items;
+      moves = t.moves;
       domain_names = t.domain_names;
       domains = t.domains.items;
       device_names = t.device_names;
@@ -76,7 +69,7 @@ impl Tables {
             homes: Vec::new(alloc),
             class_names: Names::new(alloc),
             classes: Vec::new(alloc),
-            moves: Vec::new(alloc),
+            moves: Moves::new(alloc),
             domain_names: Names::new(alloc),
             domains: Vec::new(alloc),
             device_names: Names::new(alloc),
