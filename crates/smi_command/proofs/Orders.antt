@@ -7,7 +7,7 @@ use Rattle.smi_grant.specs.declared.holder.Holder.{Holder}
 use Rattle.smi_grant.specs.Record.{Standing, last_number}
 use Rattle.smi_command.specs.declared.link.Link.{Link}
 use Rattle.smi_command.specs.declared.link.Link.TheVariants.{Out, Taking, Held, Dropping}
-use Rattle.smi_command.specs.declared.order.Refusal.TheVariants.{Pending, NumbersSpent}
+use Rattle.smi_command.specs.declared.order.Refusal.TheVariants.{CommandPending, NumbersSpent}
 use Rattle.smi_command.specs.Order.{refused, take_begun, command_issued, drop_begun}
 use Rattle.smi_command.specs.Pending.{most_pending}
 use Rattle.smi_command.proofs.Facts.{LinkOk}
@@ -39,7 +39,7 @@ pub record Issues (l : Link) (c : Command) (m : Link) : Type 0 where
   pub room : length pending < most_pending
   pub left : number < last_number
 
-issued_where : (full spent : Bool) (l m : Link) → (if full then refused Pending else (if spent then refused NumbersSpent else Ok l)) ≡ Ok m → (full ≡ false) × (spent ≡ false) × (m ≡ l)
+issued_where : (full spent : Bool) (l m : Link) → (if full then refused CommandPending else (if spent then refused NumbersSpent else Ok l)) ≡ Ok m → (full ≡ false) × (spent ≡ false) × (m ≡ l)
 issued_where true spent l m is = absurd cc
 issued_where false true l m is = absurd cc
 issued_where false false l m is = (refl, refl, cc)

@@ -38,7 +38,7 @@ pub fn told(link: &Link, me: Holder, heard: &Record) -> (Link, LinkHeard)
             number,
             pending,
         } if heard.epoch == epoch => held_told(epoch, number, &pending, heard),
-        Link::Dropping(epoch) if heard.epoch > epoch => { (Link::Out(heard.epoch), settled(DONE)) }
+        Link::Dropping(epoch) if heard.epoch > epoch => (Link::Out(heard.epoch), settled(DONE)),
         unchanged => (unchanged, LinkHeard::Unchanged),
     }
 }

@@ -10,7 +10,7 @@ pub enum Refusal {
     /// The domain is not held.
     NotHeld,
     /// Too many commands are pending: any for a drop, eight for a further command.
-    Pending,
+    CommandPending,
     /// A take is for a domain that is neither held nor asked for.
     NotOut,
     /// The last number of the grant is used.
@@ -24,7 +24,7 @@ impl Refusal {
     {
         match self {
             Refusal::NotHeld => 21,
-            Refusal::Pending => 22,
+            Refusal::CommandPending => 22,
             Refusal::NotOut => 23,
             Refusal::NumbersSpent => 24,
         }
@@ -56,7 +56,7 @@ pub fn issue(link: &Link, command: Command) -> Result<Link, u16>
         return Err(Refusal::NotHeld.code());
     };
     if pending.is_full() {
-        return Err(Refusal::Pending.code());
+        return Err(Refusal::CommandPending.code());
     }
     if number >= LAST_NUMBER {
         return Err(Refusal::NumbersSpent.code());
@@ -76,7 +76,7 @@ pub fn begin_drop(link: &Link) -> Result<Link, u16>
 {
     match link {
         Link::Held { epoch, pending, .. } if pending.is_empty() => Ok(Link::Dropping(*epoch)),
-        Link::Held { .. } => Err(Refusal::Pending.code()),
+        Link::Held { .. } => Err(Refusal::CommandPending.code()),
         _ => Err(Refusal::NotHeld.code()),
     }
 }
