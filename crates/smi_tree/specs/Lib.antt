@@ -9,3 +9,5 @@ pub mod Hierarchy
 pub mod Additions
 pub mod File
 pub mod Rules
+pub mod Lookups
+pub mod Grouped

@@ -60,7 +60,7 @@ fn count_of_children(domains: &[Domain], parent: u16) -> usize
         .count()
 }
 
-fn is_child_of(parent: u16, row: &Domain) -> bool
+pub(crate) fn is_child_of(parent: u16, row: &Domain) -> bool
     ensures { result ≡ is_child_of parent row.now }
 {
     match row.parent {

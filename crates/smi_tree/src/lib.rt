@@ -4,6 +4,7 @@
 mod declaration;
 mod declare;
 mod fault;
+mod groups;
 mod moves;
 mod name;
 mod names;
