@@ -9,6 +9,8 @@ mod answer;
 mod keeper;
 mod line;
 mod program;
+#[cfg(test)]
+mod tests;
 
 use program::{no_memory, program};
 use std::process::ExitCode;

@@ -1,0 +1,29 @@
+# smi: the program of the control hierarchy. `make run` and `make test` are all that a fresh clone needs.
+
+SOURCES := crates.txt $(shell find crates -path '*/out' -prune -o -type f \( -name '*.rt' -o -name '*.antt' \) -print)
+
+.PHONY: smi run test cases bench
+
+# The program, proved and built, at bin/smi.
+smi: bin/smi
+
+bin/smi: $(SOURCES)
+	cd crates/smi && rt run -- answer < /dev/null > /dev/null
+	mkdir -p bin
+	cp crates/smi/out/smi bin/smi
+
+# The main job on a real input: each datagram and its answer, in hexadecimal beside what they say.
+run: bin/smi
+	python3 tools/show.py bin/smi examples/one-domain.datagrams
+
+# The whole gate: every proof, edit and test from nothing, and then the command lines.
+test:
+	rt ci
+	$(MAKE) --no-print-directory cases
+
+# The command lines alone. The last line is 'N passed, M failed'.
+cases: bin/smi
+	python3 tests/command_lines.py bin/smi
+
+bench: bin/smi
+	sh tests/bench.sh bin/smi
