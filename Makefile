@@ -26,4 +26,4 @@ cases: bin/smi
 	python3 tests/command_lines.py bin/smi
 
 bench: bin/smi
-	sh tests/bench.sh bin/smi
+	python3 tests/bench.py bin/smi
