@@ -1,5 +1,6 @@
 pub mod Asked
 pub mod Epochs
+pub mod Example
 pub mod Facts
 pub mod Heard
 pub mod HeardCommands

@@ -57,7 +57,7 @@ impl Pending {
     pub fn is_empty(&self) -> bool
         ensures { IsTrue result ↔ (self.now ≡ []) }
     {
-        self.count == 0
+        self.len() == 0
     }
 
     /// Whether no further command may be issued.
@@ -65,7 +65,7 @@ impl Pending {
         ensures full { IsTrue result ↔ (length self.now ≡ most_pending) }
         ensures within { length self.now ≤ most_pending }
     {
-        self.count == MOST_PENDING
+        self.len() == MOST_PENDING
     }
 
     /// The command at place `i`, the oldest at 0.
