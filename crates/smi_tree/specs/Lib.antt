@@ -11,3 +11,4 @@ pub mod File
 pub mod Rules
 pub mod Lookups
 pub mod Grouped
+pub mod Lawful
