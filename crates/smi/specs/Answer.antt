@@ -33,3 +33,11 @@ IsDone (Refused k c) = Unit {0}
 IsDone ReadFault = ⊥
 IsDone WriteFault = ⊥
 IsDone Memory = ⊥
+
+-- where the flush fails, what was answered counts as not written; a fault that came before it stays
+abbrev pub first_fault : Answered → Answered
+first_fault Ended = WriteFault
+first_fault (Refused k c) = WriteFault
+first_fault ReadFault = ReadFault
+first_fault WriteFault = WriteFault
+first_fault Memory = Memory

@@ -3,7 +3,7 @@
 ghost use Rattle.std.specs.Prelude.{◌≡◌, ◌≤◌, ◌++◌, List, ℕ, OnOk, IfSome, take};
 ghost use Rattle.std.specs.Io.KnownBytes.{Appends};
 ghost use Rattle.smi_grant.specs.Record.{fresh};
-ghost use Rattle.smi.specs.Answer.{IsDone, answers, ending, pieces};
+ghost use Rattle.smi.specs.Answer.{IsDone, answers, ending, first_fault, pieces};
 
 use crate::keeper::Keeper;
 use std::io::{ErrorKind, Read, Write};
@@ -129,7 +129,8 @@ pub fn answer<R: Read, W: Write>(reader: &mut R, writer: &mut W) -> Answered
 
 /// What is told where the flush failed: the first fault.
 fn unflushed(answered: Answered) -> Answered
-    ensures { IsDone result → ⊥ }
+    ensures first { result ≡ first_fault answered }
+    ensures not_done { IsDone result → ⊥ }
 {
     match answered {
         Answered::Ended | Answered::Refused(..) => Answered::WriteFault,
