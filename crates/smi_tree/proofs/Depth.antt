@@ -32,7 +32,7 @@ entry-past rows (suc k) past = entry-suc rows k ∙ slice_get_past rows k (omega
 abbrev above_of : Option Domain → Option ℕ
 above_of r = option_and_then (λ row. row.parent) r
 
-option-cases : (r : Option ℕ) → (r ≡ None) ⊎ ((n : ℕ) × (r ≡ Some n))
+pub option-cases : (r : Option ℕ) → (r ≡ None) ⊎ ((n : ℕ) × (r ≡ Some n))
 option-cases None = inl refl
 option-cases (Some n) = inr (n, refl)
 

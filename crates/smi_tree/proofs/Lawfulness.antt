@@ -94,14 +94,17 @@ position_from-between p from found (name ∷ names) h = elim (either (p name)) [
       (omega (arith, later.0), omega (arith, later.1)))
 ]
 
+pub number_of-between : (names : List (List ℕ)) (name : List ℕ) (n : ℕ) → number_of names name ≡ Some n → IsBetween 1 (length names) n
+number_of-between names name n h =
+    let found = position_from-between (bytes_eq name) 1 n names h in
+    record { least = found.0; most = omega (arith, found.1) }
+
 known_number : (r : Option ℕ) (n : ℕ) → ok_or r faults.UnknownName ≡ Ok n → r ≡ Some n
 known_number (Some m) n h = let e : m ≡ n = cc in ap Some e
 known_number None n h = cc
 
 pub known-between : (names : List (List ℕ)) (name : List ℕ) (n : ℕ) → known names name ≡ Ok n → IsBetween 1 (length names) n
-known-between names name n h =
-    let found = position_from-between (bytes_eq name) 1 n names (known_number (number_of names name) n h) in
-    record { least = found.0; most = omega (arith, found.1) }
+known-between names name n h = number_of-between names name n (known_number (number_of names name) n h)
 
 -- limits that grow
 pub between-more : (low high more n : ℕ) → high ≤ more → IsBetween low high n → IsBetween low more n

@@ -6,3 +6,5 @@ pub mod Lawfulness
 pub mod Depth
 pub mod Kept
 pub mod TreeLemmas
+pub mod Ended
+pub mod Ways

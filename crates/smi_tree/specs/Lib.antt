@@ -12,3 +12,4 @@ pub mod Rules
 pub mod Lookups
 pub mod Grouped
 pub mod Lawful
+pub mod Indexed

@@ -8,6 +8,24 @@ use Rattle.smi_tree.specs.ClassTable.{ClassTable}
 use Rattle.smi_tree.specs.Hierarchy.{Hierarchy, entry, parent_in, ancestors, is_child_of, is_device_of, move_in}
 use Rattle.smi_tree.specs.declared.row.Domain.{Domain}
 
+abbrev pub state_count : Hierarchy → ℕ
+state_count h = length h.state_names
+
+abbrev pub action_count : Hierarchy → ℕ
+action_count h = length h.action_names
+
+abbrev pub station_count : Hierarchy → ℕ
+station_count h = length h.station_names
+
+abbrev pub operator_count : Hierarchy → ℕ
+operator_count h = length h.operator_names
+
+abbrev pub domain_count : Hierarchy → ℕ
+domain_count h = length h.domain_names
+
+abbrev pub device_count : Hierarchy → ℕ
+device_count h = length h.device_names
+
 -- the numbers of the rows that pass a test, the first row having this number
 abbrev pub numbers_from : {X : Type 0} → (X → Bool) → ℕ → List X → List ℕ
 numbers_from test number [] = []
@@ -51,12 +69,12 @@ child_towards h domain target = towards 8 h.domains domain target
 
 -- an object is a unit, numbered as its domain, or a device, numbered behind all domains
 abbrev pub object_named : Hierarchy → List ℕ → Option ℕ
-object_named h name = option_or (number_of h.domain_names name) (option_map (λ device. length h.domain_names + device) (number_of h.device_names name))
+object_named h name = option_or (number_of h.domain_names name) (option_map (λ device. domain_count h + device) (number_of h.device_names name))
 
 abbrev pub object_name : Hierarchy → ℕ → Option (List ℕ)
 object_name h object =
-    if nat_le object (length h.domain_names) then entry h.domain_names object
-    else entry h.device_names (object - length h.domain_names)
+    if nat_le object (domain_count h) then entry h.domain_names object
+    else entry h.device_names (object - domain_count h)
 
 abbrev pub class_of_domain : Hierarchy → ℕ → Option ClassTable
 class_of_domain h domain = option_and_then (λ row. entry h.classes row.class) (entry h.domains domain)
@@ -68,7 +86,7 @@ class_of_device h device = option_and_then (λ row. entry h.classes row.class) (
 abbrev pub first_state : Hierarchy → ℕ → Option ℕ
 first_state h object =
     option_map (λ table. table.first)
-    (if nat_le object (length h.domain_names) then class_of_domain h object else class_of_device h (object - length h.domain_names))
+    (if nat_le object (domain_count h) then class_of_domain h object else class_of_device h (object - domain_count h))
 
 -- where a class goes from a state by an action: where it has no row, it stays
 abbrev pub moved_by : Hierarchy → ℕ → ℕ → ℕ → ℕ

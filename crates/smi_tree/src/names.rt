@@ -27,7 +27,8 @@ impl Model for Names {
 }
 
 impl Names {
-    ghost use Rattle.std.specs.Prelude.{ℕ, ◌≡◌, ◌+◌, ◌<◌, ◌≤◌, ◌^◌, [], ◌∷◌, ◌++◌, length, OnOk};
+    ghost use Rattle.std.specs.Prelude.{ℕ, ◌≡◌, ◌+◌, ◌<◌, ◌≤◌, ◌^◌, [], ◌∷◌, ◌++◌, length, IfSome, OnOk};
+    ghost use Rattle.smi_tree.specs.Lawful.{IsBetween};
     ghost use Rattle.smi_tree.specs.Fault.{Becomes};
     ghost use Rattle.smi_tree.specs.Name.{number_of, added};
     ghost use Rattle.smi_tree.specs.Hierarchy.{entry};
@@ -49,7 +50,8 @@ impl Names {
 
     /// The number of a name, where it is there.
     pub(crate) fn number(&self, name: &[u8]) -> Option<u16>
-        ensures { result ≡ number_of self.now name.now }
+        ensures place { result ≡ number_of self.now name.now }
+        ensures within { IfSome result (IsBetween 1 (length self.now)) }
     {
         for (place, other) in self.names.iter().enumerate() {
             if name == other.text() {

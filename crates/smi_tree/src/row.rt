@@ -1,6 +1,7 @@
 //! What the numbers of a hierarchy stand for.
 
 use crate::declaration::{ClassKind, Quantifier};
+use crate::rule::state_by;
 use std::alloc::{AllocError, Global};
 use std::marker::Model;
 
@@ -57,6 +58,7 @@ impl Class {
     ghost use Rattle.std.specs.Prelude.{◌≡◌, ◌==◌, [], ◌∷◌, ◌++◌, length, OnOk};
     ghost use Rattle.std.specs.List.{list_any};
     ghost use Rattle.smi_tree.specs.ClassTable.{ClassTable, class_table, is_kind};
+    ghost use Rattle.smi_tree.specs.Rules.{state_by};
 
     pub(crate) fn new(alloc: Global, kind: ClassKind, first: u16) -> Class
         ensures { result ≡ class_table kind first }
@@ -85,6 +87,19 @@ impl Class {
         ensures { result ≡ length self.now.rules }
     {
         self.rules.len()
+    }
+
+    pub(crate) fn first_state(&self) -> u16
+        ensures { result ≡ self.now.first }
+    {
+        self.first
+    }
+
+    /// The target of the first rule that holds over the members' states, else the old state.
+    pub(crate) fn state_by(&self, old: u16, members: &[u16]) -> u16
+        ensures { result ≡ state_by self.now.rules old members.now }
+    {
+        state_by(&self.rules, old, members)
     }
 
     pub(crate) fn accept(&mut self, action: u16) -> Result<(), AllocError>

@@ -1,0 +1,286 @@
+//! A tree, and what it says of its names and numbers.
+
+use crate::fault::{Fault, TreeFault};
+use crate::groups::grouped;
+use crate::read::read_lines;
+use crate::tables::Tables;
+use std::alloc::{AllocError, Global};
+use std::marker::Model;
+
+/// The most bytes of a tree file.
+const MOST_BYTES: usize = 256 * 1024;
+
+/// A hierarchy of domains, as a tree file declares it.
+///
+/// Stations, operators, states, actions, domains and devices are numbered from 1 by their lines. An object is a unit,
+/// numbered as its domain, or a device, numbered behind all domains. Every tree is lawful: it has a number from 1 and
+/// at least one station, operator, state, action and domain, it keeps every limit of docs/FORMATS.md ("The tree
+/// file"), and each number in it is one that is there.
+#[derive(Debug, Drop)]
+pub struct Tree {
+    pub(crate) tables: Tables,
+    /// The children of each domain, by number.
+    pub(crate) children: Vec<Vec<u16>>,
+    /// The devices of each domain, by number.
+    pub(crate) devices: Vec<Vec<u16>>,
+    /// The operators of each station, by number.
+    pub(crate) operators: Vec<Vec<u16>>,
+}
+
+impl Model for Tree {
+    ghost use Rattle.smi_tree.specs.Hierarchy.{Hierarchy};
+
+    ghost Value = { Hierarchy };
+
+    ghost use Rattle.smi_tree.specs.Indexed.{IsIndexed};
+
+    ghost view = { λ t. t.tables };
+
+    ghost invariant = { λ t. IsIndexed t.tables t.children.items t.devices.items t.operators.items };
+}
+
+impl Tree {
+    ghost use Rattle.std.specs.Prelude.{◌≡◌, ◌+◌, ◌≤◌, IfOk, IfSome, Some};
+    ghost use Rattle.smi_tree.specs.Name.{number_of};
+    ghost use Rattle.smi_tree.specs.Lawful.{IsBetween, IsTree};
+    ghost use Rattle.smi_tree.specs.Hierarchy.{entry};
+    ghost use Rattle.smi_tree.specs.File.{tree_of, Reads};
+    ghost use Rattle.smi_tree.specs.Lookups.{
+      state_count,
+      action_count,
+      station_count,
+      operator_count,
+      domain_count,
+      device_count,
+      object_named,
+      object_name,
+    };
+
+    /// The tree that a file declares, or the first of its faulty lines with its first fault.
+    ///
+    /// Want of memory is answered where a growth was refused, and nowhere else.
+    #[tactic(auto, unfolding(crate::specs::File::tree_of))]
+    pub fn read(alloc: Global, bytes: &[u8]) -> Result<Tree, TreeFault>
+        ensures exact { Reads result (tree_of bytes.now) }
+        ensures lawful { IfOk result IsTree }
+    {
+        if bytes.len() > MOST_BYTES {
+            return Err(TreeFault::Line(0, Fault::FileTooLong.number()));
+        }
+        let tables = read_lines(alloc, bytes)?;
+        if !tables.is_complete() {
+            return Err(TreeFault::Line(0, Fault::Incomplete.number()));
+        }
+        Ok(Tree::new(alloc, tables)?)
+    }
+
+    fn new(alloc: Global, tables: Tables) -> Result<Tree, AllocError>
+        requires { IsTree tables }
+        ensures { IfOk result (λ tree. tree ≡ tables) }
+    {
+        let domains = tables.domains.len() as u16;
+        let stations = tables.addresses.len() as u16;
+        let children = grouped(alloc, domains, &tables.domains)?;
+        let devices = grouped(alloc, domains, &tables.devices)?;
+        let operators = grouped(alloc, stations, &tables.homes)?;
+        Ok(Tree {
+            tables,
+            children,
+            devices,
+            operators,
+        })
+    }
+
+    /// The number of the tree, 1 to 65,535.
+    pub fn number(&self) -> u16
+        ensures value { result ≡ self.now.number }
+        ensures tree { IsTree self.now }
+    {
+        self.tables.number
+    }
+
+    /// How many states there are, 1 at least.
+    pub fn state_count(&self) -> u16
+        ensures value { result ≡ state_count self.now }
+        ensures tree { IsTree self.now }
+    {
+        self.tables.state_names.len() as u16
+    }
+
+    /// How many actions there are, 1 at least.
+    pub fn action_count(&self) -> u16
+        ensures value { result ≡ action_count self.now }
+        ensures tree { IsTree self.now }
+    {
+        self.tables.action_names.len() as u16
+    }
+
+    /// How many stations there are, 1 at least.
+    pub fn station_count(&self) -> u16
+        ensures value { result ≡ station_count self.now }
+        ensures tree { IsTree self.now }
+    {
+        self.tables.station_names.len() as u16
+    }
+
+    /// How many operators there are, 1 at least.
+    pub fn operator_count(&self) -> u16
+        ensures value { result ≡ operator_count self.now }
+        ensures tree { IsTree self.now }
+    {
+        self.tables.operator_names.len() as u16
+    }
+
+    /// How many domains there are, 1 at least.
+    pub fn domain_count(&self) -> u16
+        ensures value { result ≡ domain_count self.now }
+        ensures tree { IsTree self.now }
+    {
+        self.tables.domain_names.len() as u16
+    }
+
+    /// How many devices there are.
+    pub fn device_count(&self) -> u16
+        ensures value { result ≡ device_count self.now }
+        ensures tree { IsTree self.now }
+    {
+        self.tables.device_names.len() as u16
+    }
+
+    /// How many units and devices there are.
+    pub fn object_count(&self) -> u16
+        ensures { result ≡ domain_count self.now + device_count self.now }
+    {
+        self.domain_count() + self.device_count()
+    }
+
+    /// The name of a state.
+    pub fn state_name(&self, state: u16) -> &[u8]
+        requires least { 1 ≤ state }
+        requires most { state ≤ state_count self.now }
+        ensures { entry self.now.state_names state ≡ Some result.now }
+    {
+        self.tables.state_names.name(state)
+    }
+
+    /// The name of an action.
+    pub fn action_name(&self, action: u16) -> &[u8]
+        requires least { 1 ≤ action }
+        requires most { action ≤ action_count self.now }
+        ensures { entry self.now.action_names action ≡ Some result.now }
+    {
+        self.tables.action_names.name(action)
+    }
+
+    /// The name of a station.
+    pub fn station_name(&self, station: u16) -> &[u8]
+        requires least { 1 ≤ station }
+        requires most { station ≤ station_count self.now }
+        ensures { entry self.now.station_names station ≡ Some result.now }
+    {
+        self.tables.station_names.name(station)
+    }
+
+    /// The name of an operator.
+    pub fn operator_name(&self, operator: u16) -> &[u8]
+        requires least { 1 ≤ operator }
+        requires most { operator ≤ operator_count self.now }
+        ensures { entry self.now.operator_names operator ≡ Some result.now }
+    {
+        self.tables.operator_names.name(operator)
+    }
+
+    /// The name of a domain.
+    pub fn domain_name(&self, domain: u16) -> &[u8]
+        requires least { 1 ≤ domain }
+        requires most { domain ≤ domain_count self.now }
+        ensures { entry self.now.domain_names domain ≡ Some result.now }
+    {
+        self.tables.domain_names.name(domain)
+    }
+
+    /// The name of a device.
+    pub fn device_name(&self, device: u16) -> &[u8]
+        requires least { 1 ≤ device }
+        requires most { device ≤ device_count self.now }
+        ensures { entry self.now.device_names device ≡ Some result.now }
+    {
+        self.tables.device_names.name(device)
+    }
+
+    /// The name of a unit or a device.
+    pub fn object_name(&self, object: u16) -> &[u8]
+        requires least { 1 ≤ object }
+        requires most { object ≤ domain_count self.now + device_count self.now }
+        ensures { object_name self.now object ≡ Some result.now }
+    {
+        let domains = self.domain_count();
+        if object <= domains {
+            self.domain_name(object)
+        } else {
+            self.device_name(object - domains)
+        }
+    }
+
+    /// The number of a state by its name.
+    pub fn state_named(&self, name: &[u8]) -> Option<u16>
+        ensures number { result ≡ number_of self.now.state_names name.now }
+        ensures within { IfSome result (IsBetween 1 (state_count self.now)) }
+    {
+        self.tables.state_names.number(name)
+    }
+
+    /// The number of an action by its name.
+    pub fn action_named(&self, name: &[u8]) -> Option<u16>
+        ensures number { result ≡ number_of self.now.action_names name.now }
+        ensures within { IfSome result (IsBetween 1 (action_count self.now)) }
+    {
+        self.tables.action_names.number(name)
+    }
+
+    /// The number of a station by its name.
+    pub fn station_named(&self, name: &[u8]) -> Option<u16>
+        ensures number { result ≡ number_of self.now.station_names name.now }
+        ensures within { IfSome result (IsBetween 1 (station_count self.now)) }
+    {
+        self.tables.station_names.number(name)
+    }
+
+    /// The number of an operator by its name.
+    pub fn operator_named(&self, name: &[u8]) -> Option<u16>
+        ensures number { result ≡ number_of self.now.operator_names name.now }
+        ensures within { IfSome result (IsBetween 1 (operator_count self.now)) }
+    {
+        self.tables.operator_names.number(name)
+    }
+
+    /// The number of a domain by its name.
+    pub fn domain_named(&self, name: &[u8]) -> Option<u16>
+        ensures number { result ≡ number_of self.now.domain_names name.now }
+        ensures within { IfSome result (IsBetween 1 (domain_count self.now)) }
+    {
+        self.tables.domain_names.number(name)
+    }
+
+    /// The number of a device by its name.
+    pub fn device_named(&self, name: &[u8]) -> Option<u16>
+        ensures number { result ≡ number_of self.now.device_names name.now }
+        ensures within { IfSome result (IsBetween 1 (device_count self.now)) }
+    {
+        self.tables.device_names.number(name)
+    }
+
+    /// The number of a unit or a device by its name.
+    pub fn object_named(&self, name: &[u8]) -> Option<u16>
+        ensures number { result ≡ object_named self.now name.now }
+        ensures within { IfSome result (IsBetween 1 (domain_count self.now + device_count self.now)) }
+    {
+        match self.domain_named(name) {
+            Some(domain) => Some(domain),
+            None => match self.device_named(name) {
+                Some(device) => Some(self.domain_count() + device),
+                None => None,
+            },
+        }
+    }
+}
