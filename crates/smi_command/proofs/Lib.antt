@@ -11,6 +11,6 @@ pub mod LinkSteps
 pub mod Logs
 pub mod OneLinkKept
 pub mod Orders
-pub mod Runs
+pub mod SettledRuns
 pub mod Stored
 pub mod Waiting

@@ -8,7 +8,7 @@
 //! A command stays pending until its holder hears that it settled, and up to eight of one grant may
 //! be [`Pending`]. The layer above may rely on this: whatever is lost, repeated or reordered, what
 //! is sent again is what was due; a link leaves `Taking` only by what it is told; and its link and
-//! the keeper's record know of one another as the module `law` says.
+//! the keeper's record know of one another as [`law::one_link_and_its_keeper`] says.
 #![tactic(auto)]
 
 mod hearing;

@@ -54,6 +54,7 @@ impl Pending {
         self.count
     }
 
+    /// Whether no command is pending.
     pub fn is_empty(&self) -> bool
         ensures { IsTrue result ↔ (self.now ≡ []) }
     {
@@ -79,6 +80,13 @@ impl Pending {
         } else {
             None
         }
+    }
+
+    /// The commands, oldest first.
+    pub fn as_slice(&self) -> &[Command]
+        ensures { result.now ≡ self.now }
+    {
+        &self.commands[..self.count]
     }
 
     /// The number before the oldest command's, where the newest has the number `newest`.

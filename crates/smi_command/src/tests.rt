@@ -236,6 +236,7 @@ fn what_is_due(rt: HostRuntime) {
     assert_eq!(rt; pending.len(), 2);
     assert!(rt; !pending.is_empty() && !pending.is_full() && Pending::new().is_empty());
     assert_eq!(rt; pending.get(1), Some(START));
+    assert_eq!(rt; pending.as_slice(), [CONFIGURE, START].as_slice());
     assert_eq!(rt; pending.get(2), None);
     assert_eq!(rt; pending.base(7), 5);
     assert_eq!(rt; pending.base(1), 0);

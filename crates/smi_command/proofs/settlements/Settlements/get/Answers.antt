@@ -2,7 +2,7 @@ use Rattle.std.proofs.Common.{Some, ◌≡◌, ◌+◌, ◌∙◌, ap, arith}
 use Rattle.std.specs.Prelude.{◌==◌, if◌then◌else◌}
 use Rattle.std.proofs.lemmas.Bool.Decides.{nat_tests}
 use Rattle.smi_command.specs.Settlements.{settlement, unseen}
-use Rattle.smi_command.proofs.Runs.{none_past, one_within}
+use Rattle.smi_command.proofs.SettledRuns.{none_past, one_within}
 use Rattle.smi_command.proofs.settlements.Settlements.get.Goals as goal
 
 pub returns-then-i-self : goal.returns-then-i-self

@@ -1,4 +1,4 @@
-use Rattle.smi_command.proofs.Runs.{count_seen}
+use Rattle.smi_command.proofs.SettledRuns.{count_seen}
 use Rattle.smi_command.proofs.settlements.Settlements.len.Goals as goal
 
 pub returns-clause-value : goal.returns-clause-value

@@ -1,5 +1,5 @@
 use Rattle.std.proofs.Common.{rules}
-use Rattle.smi_command.proofs.Runs.{same_runs}
+use Rattle.smi_command.proofs.SettledRuns.{same_runs}
 use Rattle.smi_command.proofs.settlements.SettlementsPartialEq.eq.Goals as goal
 
 pub returns : goal.returns
