@@ -1,5 +1,6 @@
 pub mod Asked
 pub mod Epochs
+pub mod EndedNumbers
 pub mod Example
 pub mod Facts
 pub mod Heard

@@ -33,6 +33,10 @@ pub record InStep (r : Standing) (number : ℕ) (pending : List Command) : Type 
 abbrev pub IsSpent : Standing → ℕ → ℕ → Type 0
 IsSpent r e n = (e < r.epoch) ⊎ ((e ≡ r.epoch) × (n ≤ r.last))
 
+-- the record shows that the command of this number of its grant has ended
+abbrev pub ShowsEnd : Standing → ℕ → Type 0
+ShowsEnd r n = (n < r.last) ⊎ ((n ≡ r.last) × (r.phase ≡ Settled))
+
 -- the command of a number is pending on the link
 pub record Waits (l : Link) (e n : ℕ) (c : Command) : Type 0 where
   pub newest : ℕ

@@ -1,18 +1,19 @@
 //! What holds of every link, and of a link and the keeper's record, whatever becomes of the
 //! datagrams between them.
 
-ghost use Rattle.std.specs.Prelude.{ℕ, List, Ok, IsErr, false, ◌≡◌, ◌≤◌, ◌⊎◌};
+ghost use Rattle.std.specs.Prelude.{ℕ, List, Ok, Some, IsErr, false, drop, length, slice_get, ◌≡◌, ◌<◌, ◌≤◌, ◌+◌, ◌⊎◌, ◌↔◌};
 ghost use Rattle.smi_grant.specs.declared.command.Command.{Command};
 ghost use Rattle.smi_grant.specs.declared.holder.Holder.{Holder};
 ghost use Rattle.smi_grant.specs.Holder.{is_free};
 ghost use Rattle.smi_grant.specs.Record.{Standing, IsRecord, last_epoch};
 ghost use Rattle.smi_command.specs.declared.link.Link.{Link};
 ghost use Rattle.smi_command.specs.declared.link.Due.{Due};
-ghost use Rattle.smi_command.specs.Hearing.{told_link};
-ghost use Rattle.smi_command.specs.KnownGrant.{KnownGrant, InStep, IsSpent, Waits};
+ghost use Rattle.smi_command.specs.Hearing.{told_link, settled_count, settlement_in, settlements};
+ghost use Rattle.smi_command.specs.KnownGrant.{KnownGrant, InStep, IsSpent, ShowsEnd, Waits};
 ghost use Rattle.smi_command.specs.Link.{known};
 ghost use Rattle.smi_command.specs.OneLink.{Event, reached, Asks, Among, RunsInOrder, RanAsIssued};
 ghost use Rattle.smi_command.specs.Order.{take_begun, command_issued, drop_begun};
+ghost use Rattle.smi_command.specs.Pending.{base_of};
 
 use crate::{Due, Link};
 
@@ -21,6 +22,19 @@ pub fn taking_ends_by_hearing()
     ensures no_take { (s : ℕ) → IsErr (take_begun (Link.Taking s)) }
     ensures no_command { (s : ℕ) (c : Command) → IsErr (command_issued (Link.Taking s) c) }
     ensures no_drop { (s : ℕ) → IsErr (drop_begun (Link.Taking s)) }
+{}
+
+/// What a told record settles, number by number: a pending command settles exactly where the record
+/// shows that it has ended, the last one with the record's outcome and those below it unseen. The
+/// others stay, in their order.
+pub fn commands_settle_by_number()
+    ensures settles { (n i : ℕ) (p : List Command) (r : Standing) → i < length p →
+        (i < settled_count n p r) ↔ ShowsEnd r (base_of n p + 1 + i) }
+    ensures code { (n i : ℕ) (p : List Command) (r : Standing) → i < settled_count n p r →
+        slice_get (settlements n p r) i
+        ≡ Some (settlement_in r (base_of n p + 1 + i)) }
+    ensures stays { (n i : ℕ) (p : List Command) (r : Standing) →
+        slice_get (drop (settled_count n p r) p) i ≡ slice_get p (settled_count n p r + i) }
 {}
 
 /// The epoch that a link knows of never falls: an order leaves it, and what is told never lowers it.

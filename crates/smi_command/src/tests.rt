@@ -1,4 +1,7 @@
-use crate::law::{known_epoch_never_falls, one_link_and_its_keeper, taking_ends_by_hearing};
+use crate::law::{
+    commands_settle_by_number, known_epoch_never_falls, one_link_and_its_keeper,
+    taking_ends_by_hearing,
+};
 use crate::{
     Due, Link, LinkHeard, MOST_PENDING, Pending, Refusal, Settlement, UNSEEN, begin_drop,
     begin_take, due, issue, told,
@@ -243,6 +246,7 @@ fn what_is_due(rt: HostRuntime) {
     assert_eq!(rt; pending.without_oldest(1), only(START));
     assert_eq!(rt; LAST_NUMBER, 1_000_000);
     taking_ends_by_hearing();
+    commands_settle_by_number();
     known_epoch_never_falls();
     one_link_and_its_keeper();
 }
