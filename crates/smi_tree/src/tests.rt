@@ -28,66 +28,106 @@ fn fault_behind(alloc: Global, line: &[u8]) -> Result<(u64, u16), TreeFault> {
     fault_of(alloc, &bytes)
 }
 
+fn has_the_counts(tree: &Tree) -> bool {
+    tree.number() == 17
+        && (tree.state_count(), tree.action_count()) == (4, 3)
+        && (tree.station_count(), tree.operator_count()) == (2, 2)
+        && (
+            tree.domain_count(),
+            tree.device_count(),
+            tree.object_count(),
+        ) == (2, 1, 3)
+}
+
+fn finds_the_names(tree: &Tree) -> bool {
+    tree.state_named(b"ERROR") == Some(4)
+        && tree.action_named(b"START") == Some(2)
+        && tree.station_named(b"B") == Some(2)
+        && tree.operator_named(b"ANN") == Some(1)
+        && tree.domain_named(b"DCS") == Some(1)
+        && tree.device_named(b"HV") == Some(1)
+        && tree.object_named(b"HV") == Some(3)
+        && tree.object_named(b"ANN").is_none()
+}
+
+fn has_the_names(tree: &Tree) -> bool {
+    if tree.state_count() < 2 || tree.action_count() < 3 || tree.station_count() < 2 {
+        return false;
+    }
+    tree.state_name(2) == b"READY".as_slice()
+        && tree.action_name(3) == b"STOP".as_slice()
+        && tree.station_name(1) == b"A".as_slice()
+}
+
+fn has_the_names_of_objects(tree: &Tree) -> bool {
+    if tree.operator_count() < 2 || tree.domain_count() < 2 || tree.device_count() < 1 {
+        return false;
+    }
+    tree.operator_name(2) == b"BOB".as_slice()
+        && tree.domain_name(2) == b"TPC".as_slice()
+        && tree.device_name(1) == b"HV".as_slice()
+        && tree.object_name(3) == b"HV".as_slice()
+}
+
+fn has_the_stations(tree: &Tree) -> bool {
+    if tree.station_count() < 2 || tree.operator_count() < 2 {
+        return false;
+    }
+    let lower = Address {
+        host: [127, 0, 0, 1],
+        port: 9002,
+    };
+    tree.address(2) == lower && tree.operators(1) == [1].as_slice() && tree.operator_station(2) == 2
+}
+
+fn has_the_domains(tree: &Tree) -> bool {
+    if tree.domain_count() < 2 || tree.device_count() < 1 {
+        return false;
+    }
+    let lower = Domain {
+        station: 2,
+        class: 2,
+        parent: Some(1),
+    };
+    let device = Device {
+        domain: 2,
+        class: 1,
+    };
+    tree.domain(2) == lower
+        && tree.children(1) == [2].as_slice()
+        && tree.devices(2) == [1].as_slice()
+        && tree.device(1) == device
+}
+
+fn has_the_ways(tree: &Tree) -> bool {
+    tree.parent(1).is_none()
+        && tree.is_below(2, 1)
+        && !tree.is_below(1, 1)
+        && !tree.is_below(1, 2)
+        && tree.child_towards(1, 2) == Some(2)
+}
+
+fn has_the_classes(tree: &Tree) -> bool {
+    tree.accepts(2, 1)
+        && !tree.accepts(2, 3)
+        && tree.first_state(3) == Some(1)
+        && tree.moved(1, 1, 1) == 2
+        && tree.moved(1, 2, 2) == 3
+        && tree.moved(1, 2, 1) == 2
+        && tree.moved(1, 3, 3) == 3
+}
+
 #[test]
 fn the_worked_file(rt: HostRuntime) -> Result<(), Fail> {
     let tree = Tree::read(rt.alloc(), WORKED)?;
-    assert_eq!(rt; tree.number(), 17);
-    assert_eq!(rt; tree.state_count(), 4);
-    assert_eq!(rt; tree.action_count(), 3);
-    assert_eq!(rt; tree.station_count(), 2);
-    assert_eq!(rt; tree.operator_count(), 2);
-    assert_eq!(rt; tree.domain_count(), 2);
-    assert_eq!(rt; tree.device_count(), 1);
-    assert_eq!(rt; tree.object_count(), 3);
-    assert_eq!(rt; tree.state_name(2), b"READY".as_slice());
-    assert_eq!(rt; tree.action_name(3), b"STOP".as_slice());
-    assert_eq!(rt; tree.station_name(1), b"A".as_slice());
-    assert_eq!(rt; tree.operator_name(2), b"BOB".as_slice());
-    assert_eq!(rt; tree.domain_name(2), b"TPC".as_slice());
-    assert_eq!(rt; tree.device_name(1), b"HV".as_slice());
-    assert_eq!(rt; tree.object_name(3), b"HV".as_slice());
-    assert_eq!(rt; tree.state_named(b"ERROR"), Some(4));
-    assert_eq!(rt; tree.action_named(b"START"), Some(2));
-    assert_eq!(rt; tree.station_named(b"B"), Some(2));
-    assert_eq!(rt; tree.operator_named(b"ANN"), Some(1));
-    assert_eq!(rt; tree.domain_named(b"DCS"), Some(1));
-    assert_eq!(rt; tree.device_named(b"HV"), Some(1));
-    assert_eq!(rt; tree.object_named(b"HV"), Some(3));
-    assert_eq!(rt; tree.object_named(b"ANN"), None);
-    assert_eq!(rt;
-        tree.address(2),
-        Address {
-            host: [127, 0, 0, 1],
-            port: 9002
-        }
-    );
-    assert_eq!(rt; tree.operators(1), [1].as_slice());
-    assert_eq!(rt; tree.operator_station(2), 2);
-    assert_eq!(rt;
-        tree.domain(2),
-        Domain {
-            station: 2,
-            class: 2,
-            parent: Some(1)
-        }
-    );
-    assert_eq!(rt; tree.parent(1), None);
-    assert_eq!(rt; tree.children(1), [2].as_slice());
-    assert_eq!(rt; tree.devices(2), [1].as_slice());
-    assert!(rt; tree.is_below(2, 1) && !tree.is_below(1, 1) && !tree.is_below(1, 2));
-    assert_eq!(rt; tree.child_towards(1, 2), Some(2));
-    assert_eq!(rt;
-        tree.device(1),
-        Device {
-            domain: 2,
-            class: 1
-        }
-    );
-    assert!(rt; tree.accepts(2, 1) && !tree.accepts(2, 3));
-    assert_eq!(rt; tree.first_state(3), Some(1));
-    for (state, action, new) in [(1, 1, 2), (2, 2, 3), (2, 1, 2), (3, 3, 3)] {
-        assert_eq!(rt; tree.moved(1, state, action), new);
-    }
+    assert!(rt; has_the_counts(&tree));
+    assert!(rt; finds_the_names(&tree));
+    assert!(rt; has_the_names(&tree));
+    assert!(rt; has_the_names_of_objects(&tree));
+    assert!(rt; has_the_stations(&tree));
+    assert!(rt; has_the_domains(&tree));
+    assert!(rt; has_the_ways(&tree));
+    assert!(rt; has_the_classes(&tree));
     Ok(())
 }
 
