@@ -5,19 +5,23 @@ usage: command_lines.py SMI
 A case begins with `case NAME`. `args` are the words of the command line, `in` and `out` bytes in
 hexadecimal, in which `N*BB` is N times a byte; several lines of one kind follow one another. `from
 directory` reads the standard input from a directory, `to full` writes to a device that has no room.
-`err` is a line on standard error, `status` the exit status.
+`err` is a line on standard error, `status` the exit status. The words TREE and NOWHERE in `args` stand
+for the path of the worked tree file and for a path where there is none.
 
 After the table, a take is tried with each other value of each byte and in each length, against the
-layout in layout.py. The last line is 'N passed, M failed'.
+layout in layout.py, and each tree file of trees.py. The last line is 'N passed, M failed'.
 """
 
 import os
 import subprocess
 import sys
+import tempfile
 
 import layout
+import trees
 
 HERE = os.path.dirname(os.path.abspath(__file__))
+PATHS = {"TREE": os.path.join(HERE, "..", "examples", "worked.tree"), "NOWHERE": os.path.join(HERE, "no-such-file")}
 
 
 def bytes_of(text):
@@ -40,7 +44,7 @@ def read_cases(path):
             elif key in ("in", "out"):
                 cases[-1][key] += bytes_of(text)
             elif key == "args":
-                cases[-1]["args"] = text.split()
+                cases[-1]["args"] = [PATHS.get(word, word) for word in text.split()]
             elif key == "err":
                 cases[-1]["err"] += text + "\n"
             elif key == "status":
@@ -105,13 +109,23 @@ def variant_case(name, data):
     return case
 
 
+def tree_cases(folder):
+    """What `smi check` says of each tree file."""
+    for place, (name, data, out, err, status) in enumerate(trees.all_trees()):
+        path = os.path.join(folder, str(place))
+        with open(path, "wb") as file:
+            file.write(data)
+        yield {"name": "tree: " + name, "args": ["check", path], "in": b"", "out": out.encode(), "err": err, "status": status}
+
+
 def main():
     program = os.path.abspath(sys.argv[1])
     cases = read_cases(os.path.join(HERE, "command-lines.txt"))
-    passed = sum(holds(program, case) for case in cases)
-    tried = [variant_case(name, data) for name, data in variants(cases[0]["in"])]
-    passed += sum(holds(program, case) for case in tried)
-    failed = len(cases) + len(tried) - passed
+    cases += [variant_case(name, data) for name, data in variants(cases[0]["in"])]
+    with tempfile.TemporaryDirectory() as folder:
+        cases += tree_cases(folder)
+        passed = sum(holds(program, case) for case in cases)
+    failed = len(cases) - passed
     print("%d passed, %d failed" % (passed, failed))
     sys.exit(1 if failed else 0)
 

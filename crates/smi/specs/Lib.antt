@@ -1,3 +1,4 @@
 pub mod Answer
 pub mod Keeper
+pub mod Status
 pub mod Tellable

@@ -1,14 +1,16 @@
 //! The command line.
 
 use clap::error::ErrorKind;
-use clap::{Command, Error};
+use clap::{Arg, Command, Error};
 use std::alloc::Global;
 
 /// What the command line asks for.
 #[derive(Clone, Copy, Debug, PartialEq, Eq)]
-pub enum Line {
+pub enum Line<'a> {
     /// Answer the datagrams of the standard input.
     Answer,
+    /// Check the tree file of this path.
+    Check(&'a str),
     /// The words are none of the forms: so are `help` and `--help`.
     Wrong,
     /// There was no memory to read the words.
@@ -16,7 +18,7 @@ pub enum Line {
 }
 
 /// What the words of a command line ask for, the program's own name first.
-pub fn line_of(alloc: Global, words: &[String]) -> Line {
+pub fn line_of(alloc: Global, words: &[String]) -> Line<'_> {
     match parsed(alloc, words) {
         Ok(line) => line,
         Err(e) if e.kind() == ErrorKind::OutOfMemory => Line::NoMemory,
@@ -24,11 +26,16 @@ pub fn line_of(alloc: Global, words: &[String]) -> Line {
     }
 }
 
-fn parsed(alloc: Global, words: &[String]) -> Result<Line, Error> {
-    let command = Command::new(alloc, "smi").subcommand(Command::new(alloc, "answer"))?;
+fn parsed<'a>(alloc: Global, words: &'a [String]) -> Result<Line<'a>, Error> {
+    let answer = Command::new(alloc, "answer");
+    let check = Command::new(alloc, "check").arg(Arg::new(alloc, "TREE").required(true))?;
+    let command = Command::new(alloc, "smi")
+        .subcommand(answer)?
+        .subcommand(check)?;
     let matches = command.try_get_matches_from(words)?;
-    match matches.subcommand_name() {
-        Some("answer") => Ok(Line::Answer),
+    match matches.subcommand() {
+        Some(("answer", _)) => Ok(Line::Answer),
+        Some(("check", given)) => Ok(given.get_str("TREE").map_or(Line::Wrong, Line::Check)),
         _ => Ok(Line::Wrong),
     }
 }

@@ -1,18 +1,21 @@
 //! `smi`: the program of the control hierarchy.
 //!
-//! [`answer::answer`] is the keeper of one domain over a reader and a writer, and carries what is
-//! proved of the program today: what is written is what the keeper's rules say of the datagrams read.
-//! `program` reads the command line and makes the buffers, and `main` has the runtime.
+//! [`answer::answer`] is the keeper of one domain over a reader and a writer: what is written is what
+//! the keeper's rules say of the datagrams read. [`check::check`] tells what a tree file declares.
+//! `program` reads the command line, opens files and makes the buffers, and `main` has the runtime.
 #![tactic(auto)]
 
 mod answer;
+mod check;
 mod keeper;
 mod line;
 mod program;
+mod status;
 #[cfg(test)]
 mod tests;
 
-use program::{no_memory, program};
+use program::program;
+use status::no_memory;
 use std::process::ExitCode;
 use std::{env, io};
 
@@ -20,15 +23,15 @@ fn main(rt: HostRuntime) -> ExitCode {
     let mut faults = rt.stderr();
     let status = match words_of(&rt) {
         Ok(words) => program(
-            rt.alloc(),
+            &rt,
             words.as_slice(),
             rt.reader(),
             io::writer(&rt),
             &mut faults,
         ),
-        Err(_) => no_memory(&mut faults),
+        Err(_) => no_memory(&mut faults).code(),
     };
-    ExitCode::from(status.code())
+    ExitCode::from(status)
 }
 
 /// The words of the command line, of which only want of memory can deprive us.

@@ -1,46 +1,35 @@
-//! The commands, over any input and outputs.
+//! The commands, over any files, input and outputs.
 
 use crate::answer::{Answered, answer};
+use crate::check::check;
 use crate::line::{Line, line_of};
+use crate::status::{Status, no_memory, read_fault, write_fault, wrong_line};
 use std::alloc::Global;
-use std::io::{BufReader, BufWriter, Read, Write};
+use std::fs;
+use std::io::{self, BufReader, BufWriter, ErrorKind, Read, Write};
+use std::rt::Files;
 
 /// How much is read and written at once, in bytes.
 const BLOCK: usize = 64 * 1024;
 
-/// How a command ended; its number is the program's exit status.
-#[derive(Clone, Copy, Debug, PartialEq, Eq)]
-pub enum Status {
-    Done,
-    /// An input is refused.
-    Refused,
-    /// The command line is none of the forms.
-    WrongLine,
-    /// A read or a write failed.
-    Fault,
-    NoMemory,
-}
+/// How much of a tree file is read, in bytes: one more than the most that it may have.
+const MOST_TREE_BYTES: u64 = 256 * 1024 + 1;
 
-impl Status {
-    /// The exit status, 0 to 4.
-    pub fn code(self) -> u8 {
-        self as u8
-    }
-}
-
-/// Does what the words of the command line ask for, and says how it ended. What is amiss is told in
-/// one line on `faults`.
-pub fn program<R: Read + Drop, W: Write + Drop, F: Write>(
-    alloc: Global,
+/// Does what the words of the command line ask for, and answers the exit status. What is amiss is
+/// told in one line on `faults`.
+pub fn program<H: Files + AllocGlobal, R: Read + Drop, W: Write + Drop, F: Write>(
+    host: &H,
     words: &[String],
     reader: R,
     writer: W,
     faults: &mut F,
-) -> Status {
+) -> u8 {
+    let alloc = host.alloc();
     match line_of(alloc, words) {
-        Line::Answer => told(answer_in_blocks(alloc, reader, writer), faults),
-        Line::Wrong => wrong_line(faults),
-        Line::NoMemory => no_memory(faults),
+        Line::Answer => told(answer_in_blocks(alloc, reader, writer), faults).code(),
+        Line::Check(path) => check_file(host, path, writer, faults),
+        Line::Wrong => wrong_line(faults).code(),
+        Line::NoMemory => no_memory(faults).code(),
     }
 }
 
@@ -65,25 +54,35 @@ fn told<F: Write>(answered: Answered, faults: &mut F) -> Status {
             let _ = writeln!(faults, "datagram {place} refused {refusal}");
             Status::Refused
         }
-        Answered::ReadFault => {
-            let _ = writeln!(faults, "read fault");
-            Status::Fault
-        }
-        Answered::WriteFault => {
-            let _ = writeln!(faults, "write fault");
-            Status::Fault
-        }
+        Answered::ReadFault => read_fault(faults),
+        Answered::WriteFault => write_fault(faults),
         Answered::Memory => no_memory(faults),
     }
 }
 
-fn wrong_line<F: Write>(faults: &mut F) -> Status {
-    let _ = writeln!(faults, "wrong line");
-    Status::WrongLine
+fn check_file<H: Files + AllocGlobal, W: Write + Drop, F: Write>(
+    host: &H,
+    path: &str,
+    writer: W,
+    faults: &mut F,
+) -> u8 {
+    let alloc = host.alloc();
+    let bytes = match tree_bytes(host, path) {
+        Ok(bytes) => bytes,
+        Err(e) if e.kind() == ErrorKind::OutOfMemory => return no_memory(faults).code(),
+        Err(_) => return read_fault(faults).code(),
+    };
+    match BufWriter::new(alloc, writer) {
+        Ok(mut writer) => check(alloc, bytes.as_slice(), &mut writer, faults),
+        Err(_) => no_memory(faults).code(),
+    }
 }
 
-/// Tells that there was no memory.
-pub fn no_memory<F: Write>(faults: &mut F) -> Status {
-    let _ = writeln!(faults, "no memory");
-    Status::NoMemory
+/// The bytes of a tree file, or as many as show that it is too long.
+fn tree_bytes<H: Files + AllocGlobal>(host: &H, path: &str) -> io::Result<Vec<u8>> {
+    let mut bytes = Vec::new(host.alloc());
+    fs::open(host, path)?
+        .take(MOST_TREE_BYTES)
+        .read_to_end(&mut bytes)?;
+    Ok(bytes)
 }

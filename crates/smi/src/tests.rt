@@ -1,5 +1,7 @@
 use crate::answer::{Answered, answer};
-use crate::program::{Status, program};
+use crate::check::check;
+use crate::program::program;
+use crate::status::Status;
 use std::alloc::Global;
 use std::cmp::min;
 use std::io::{self, ErrorKind, Read, Write};
@@ -224,19 +226,53 @@ fn command_lines(rt: HostRuntime) -> Result<(), Fail> {
         ("smi", Status::WrongLine, 2, "wrong line\n"),
         ("smi help", Status::WrongLine, 2, "wrong line\n"),
         ("smi answer --help", Status::WrongLine, 2, "wrong line\n"),
+        ("smi check", Status::WrongLine, 2, "wrong line\n"),
+        ("smi check no-such-file", Status::Fault, 3, "read fault\n"),
     ];
     for (line, status, code, text) in table {
         let words = words(rt.alloc(), line)?;
         let mut faults = Vec::new(rt.alloc());
         let ended = program(
-            rt.alloc(),
+            &rt,
             words.as_slice(),
             TAKE.as_slice(),
             Vec::new(rt.alloc()),
             &mut faults,
         );
-        assert_eq!(rt; (ended, ended.code()), (status, code));
+        assert_eq!(rt; (ended, status.code()), (code, code));
         assert_eq!(rt; faults.as_slice(), text.as_bytes());
+    }
+    Ok(())
+}
+
+#[test]
+fn checks(rt: HostRuntime) -> Result<(), Fail> {
+    let small = "tree 7\nstate S\naction A\nstation W 1.2.3.4:5\noperator O W\nunitclass U S\n";
+    let mut whole = String::from_str(rt.alloc(), small)?;
+    whole.push_str("domain D W U -\n")?;
+    let table = [
+        (
+            whole.as_str(),
+            100,
+            0,
+            "tree 7 stations 1 operators 1 domains 1 devices 0\n",
+            "",
+        ),
+        (small, 100, 1, "", "tree line 0 fault 12\n"),
+        ("state S\n", 100, 1, "", "tree line 1 fault 7\n"),
+        (whole.as_str(), 10, 3, "tree 7 sta", "write fault\n"),
+    ];
+    for (text, room, code, told, fault) in table {
+        let mut writer = Narrow {
+            written: Vec::new(rt.alloc()),
+            room,
+            flushes: true,
+        };
+        let mut faults = Vec::new(rt.alloc());
+        let ended = check(rt.alloc(), text.as_bytes(), &mut writer, &mut faults);
+        assert_eq!(rt; ended, code);
+        assert_eq!(rt; writer.written.as_slice(), told.as_bytes());
+        assert_eq!(rt; faults.as_slice(), fault.as_bytes());
     }
     Ok(())
 }

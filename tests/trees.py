@@ -1,0 +1,151 @@
+"""Tree files and what `smi check` says of them, written down from docs/FORMATS.md, "The tree file"."""
+
+WORKED = """tree 17
+state OFF
+state READY
+state RUNNING
+state ERROR
+action CONFIGURE
+action START
+action STOP
+station A 127.0.0.1:9001
+station B 127.0.0.1:9002
+operator ANN A
+operator BOB B
+devclass DEV OFF
+move DEV OFF CONFIGURE READY
+move DEV READY START RUNNING
+unitclass UNIT OFF
+accept UNIT CONFIGURE
+accept UNIT START
+any UNIT ERROR ERROR
+all UNIT RUNNING RUNNING
+all UNIT READY READY
+all UNIT OFF OFF
+domain DCS A UNIT -
+domain TPC B UNIT DCS
+device HV TPC DEV
+"""
+
+HEAD = ["tree 17", "state S1", "action A1", "station W 1.2.3.4:5", "operator O1 W", "devclass DEV S1", "unitclass UNIT S1"]
+ROOT = "domain D1 W UNIT -"
+
+
+def numbered(form, first, last):
+    """One line for each number."""
+    return [form % n for n in range(first, last + 1)]
+
+
+def accepted(name, lines, counts):
+    text = lines if isinstance(lines, str) else "\n".join(lines) + "\n"
+    words = "tree %d stations %d operators %d domains %d devices %d\n" % counts
+    return name, text.encode("latin-1"), words, "", 0
+
+
+def refused(name, lines, line, fault):
+    text = lines if isinstance(lines, str) else "\n".join(lines) + "\n"
+    return name, text.encode("latin-1"), "", "tree line %d fault %d\n" % (line, fault), 1
+
+
+def with_line(number, text):
+    """The worked file with another line at that place."""
+    lines = WORKED.splitlines()
+    lines[number - 1] = text
+    return lines
+
+
+def after_head(*lines):
+    return HEAD + [ROOT] + list(lines)
+
+
+def worked():
+    yield accepted("the worked file", WORKED, (17, 2, 2, 2, 1))
+    yield refused("without its first line", WORKED.split("\n", 1)[1], 1, 7)
+    yield refused("a device of an unknown domain", with_line(25, "device HV TPX DEV"), 25, 5)
+    yield accepted("carriage returns", WORKED.replace("\n", "\r\n"), (17, 2, 2, 2, 1))
+    yield accepted("no last line feed", WORKED[:-1], (17, 2, 2, 2, 1))
+    yield accepted("blank lines and comments", WORKED.replace("state OFF", "# states\n\n \t \nstate\tOFF  "), (17, 2, 2, 2, 1))
+    yield accepted("zeros before numbers", WORKED.replace("tree 17", "tree 0000000017").replace("127.0.0.1:9001", "127.00.000.01:0009001"), (17, 2, 2, 2, 1))
+    yield accepted("a device and a domain with the names of a state and a station",
+                   WORKED.replace("device HV", "device OFF").replace("domain DCS A UNIT -", "domain A A UNIT -").replace("UNIT DCS", "UNIT A"), (17, 2, 2, 2, 1))
+
+
+def faults():
+    for fault, line in [(1, "stat X"), (2, "state"), (2, "state X Y"), (3, "state x"), (3, "state 1X"), (3, "state X-Y"),
+                        (3, "state ABCDEFGHIJKLMNOPQ"), (7, "tree 17"), (7, "tree"), (10, "state " + 195 * "X"),
+                        (10, "# " + 199 * "x"), (10, 201 * " "), (3, "state X\x0b"), (1, "\x0b"), (3, "state X\r\r"), (3, "state \xc4")]:
+        yield refused("a second line: %r" % line[:20], with_line(2, line), 2, fault)
+    for fault, line in [(7, "tree 0"), (7, "state OFF")]:
+        yield refused("a first line: %s" % line, with_line(1, line), 1, 3 if line == "tree 0" else fault)
+    for text, fault in [("tree 65536", 3), ("tree -1", 3), ("tree +1", 3), ("tree 00000000017", 3), ("tree", 2), ("tree 1 2", 2)]:
+        yield refused("a first line: %s" % text, with_line(1, text), 1, fault)
+    for address in ["1.2.3.4", "1.2.3:4", "256.1.1.1:1", "1.1.1.1:0", "1.1.1.1:65536", "1.1.1.1.1:1", "a.1.1.1:1", "1.1.1.1:1:1", "-"]:
+        yield refused("an address: %s" % address, with_line(9, "station A %s" % address), 9, 8)
+    yield refused("a state twice", with_line(3, "state OFF"), 3, 4)
+    yield refused("an operator of an unknown station", with_line(11, "operator ANN C"), 11, 5)
+    yield refused("an operator twice", with_line(12, "operator ANN B"), 12, 4)
+    yield refused("a class with an unknown state", with_line(13, "devclass DEV ON"), 13, 5)
+    yield refused("a unit class with the name of a device class", with_line(16, "unitclass DEV OFF"), 16, 4)
+    yield refused("a move twice", with_line(15, "move DEV OFF CONFIGURE RUNNING"), 15, 4)
+    yield refused("a move of a unit class", WORKED.replace("accept UNIT START", "move UNIT OFF START OFF").splitlines(), 18, 9)
+    yield refused("an action of a device class", with_line(17, "accept DEV CONFIGURE"), 17, 9)
+    yield refused("an action twice", with_line(18, "accept UNIT CONFIGURE"), 18, 4)
+    yield refused("a rule of a device class", with_line(19, "any DEV ERROR ERROR"), 19, 9)
+    yield refused("a domain of a device class", with_line(23, "domain DCS A DEV -"), 23, 9)
+    yield refused("a device of a unit class", with_line(25, "device HV TPC UNIT"), 25, 9)
+    yield refused("a parent further down", with_line(23, "domain DCS A UNIT TPC"), 23, 5)
+    yield refused("a device with the name of an operator", with_line(25, "device ANN TPC DEV"), 25, 4)
+    yield refused("a domain with the name of an operator", with_line(24, "domain BOB B UNIT DCS"), 24, 4)
+    yield refused("a device in an operator", with_line(25, "device HV ANN DEV"), 25, 5)
+    yield refused("a small letter before an address", with_line(9, "station a x"), 9, 3)
+    yield refused("an address before an unknown name", with_line(9, "station A x"), 9, 8)
+    yield refused("nothing", "", 0, 12)
+    yield refused("a tree line alone", "tree 1\n", 0, 12)
+    yield refused("no domain", HEAD, 0, 12)
+    yield refused("no station", ["tree 1", "state S", "action A"], 0, 12)
+    yield refused("a carriage return that ends the file", WORKED[:-1] + "\r", 25, 3)
+
+
+def limits():
+    root = 8
+    yield accepted("64 states", after_head(*numbered("state S%d", 2, 64)), (17, 1, 1, 1, 0))
+    yield refused("65 states", ["tree 1"] + numbered("state S%d", 1, 65), 66, 6)
+    yield accepted("64 actions", after_head(*numbered("action A%d", 2, 64)), (17, 1, 1, 1, 0))
+    yield refused("65 actions", after_head(*numbered("action A%d", 2, 65)), root + 64, 6)
+    yield accepted("128 stations", after_head(*numbered("station W%d 1.1.1.1:1", 2, 128)), (17, 128, 1, 1, 0))
+    yield refused("129 stations", after_head(*numbered("station W%d 1.1.1.1:1", 2, 129)), root + 128, 6)
+    yield accepted("8 operators of a station", after_head(*numbered("operator O%d W", 2, 8)), (17, 1, 8, 1, 0))
+    yield refused("9 operators of a station", after_head(*numbered("operator O%d W", 2, 9)), root + 8, 6)
+    stations = numbered("station W%d 1.1.1.1:1", 1, 4)
+    yield accepted("32 operators", after_head(*stations, *["operator P%d W%d" % (n, n % 4 + 1) for n in range(31)]), (17, 5, 32, 1, 0))
+    yield refused("33 operators", after_head(*stations, *["operator P%d W%d" % (n, n % 4 + 1) for n in range(32)]), root + 4 + 32, 6)
+    yield accepted("32 classes", after_head(*numbered("devclass C%d S1", 3, 32)), (17, 1, 1, 1, 0))
+    yield refused("33 classes", after_head(*numbered("unitclass C%d S1", 3, 33)), root + 31, 6)
+    yield accepted("32 rules", after_head(*["any UNIT S1 S1"] * 32), (17, 1, 1, 1, 0))
+    yield refused("33 rules", after_head(*["all UNIT S1 S1"] * 33), root + 33, 6)
+    yield accepted("16 children", after_head(*numbered("domain D%d W UNIT D1", 2, 17)), (17, 1, 1, 17, 0))
+    yield refused("17 children", after_head(*numbered("domain D%d W UNIT D1", 2, 18)), root + 17, 6)
+    yield accepted("16 devices of a domain", after_head(*numbered("device V%d D1 DEV", 1, 16)), (17, 1, 1, 1, 16))
+    yield refused("17 devices of a domain", after_head(*numbered("device V%d D1 DEV", 1, 17)), root + 17, 6)
+    yield accepted("8 deep", after_head(*["domain D%d W UNIT D%d" % (n, n - 1) for n in range(2, 9)]), (17, 1, 1, 8, 0))
+    yield refused("9 deep", after_head(*["domain D%d W UNIT D%d" % (n, n - 1) for n in range(2, 10)]), root + 8, 6)
+    yield accepted("128 domains", after_head(*numbered("domain D%d W UNIT -", 2, 128)), (17, 1, 1, 128, 0))
+    yield refused("129 domains", after_head(*numbered("domain D%d W UNIT -", 2, 129)), root + 128, 6)
+    domains = numbered("domain D%d W UNIT -", 2, 33)
+    yield accepted("512 devices", after_head(*domains, *["device V%d D%d DEV" % (n, n % 33 + 1) for n in range(512)]), (17, 1, 1, 33, 512))
+    yield refused("513 devices", after_head(*domains, *["device V%d D%d DEV" % (n, n % 33 + 1) for n in range(513)]), root + 32 + 513, 6)
+    room = 262_144 - len(WORKED)
+    filler = "#" + 98 * "x" + "\n"
+    exact = WORKED + (room // 100) * filler + (room % 100) * " "
+    yield accepted("262,144 bytes", exact, (17, 2, 2, 2, 1))
+    yield refused("262,145 bytes", exact + " ", 0, 11)
+    yield accepted("a name of sixteen", WORKED.replace("HV", "ABCDEFGHIJKLMNO_"), (17, 2, 2, 2, 1))
+    yield accepted("a comment of 200 bytes", WORKED + "#" + 199 * "x" + "\r\n", (17, 2, 2, 2, 1))
+    yield refused("a comment of 201 bytes", WORKED + "#" + 200 * "x" + "\r\n", 26, 10)
+
+
+def all_trees():
+    """Each tree file: its name, its bytes, standard output, standard error and status."""
+    yield from worked()
+    yield from faults()
+    yield from limits()
