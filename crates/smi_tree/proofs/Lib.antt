@@ -8,3 +8,4 @@ pub mod Kept
 pub mod TreeLemmas
 pub mod Ended
 pub mod Ways
+pub mod MoveLemmas

@@ -13,3 +13,4 @@ pub mod Lookups
 pub mod Grouped
 pub mod Lawful
 pub mod Indexed
+pub mod MoveIndex

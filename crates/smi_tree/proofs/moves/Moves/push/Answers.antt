@@ -1,0 +1,10 @@
+use Rattle.std.proofs.Common.{◌≡◌, None}
+use Rattle.smi_tree.specs.Hierarchy.{move_in}
+use Rattle.smi_tree.proofs.MoveLemmas.{IsMoveIndex-push}
+use Rattle.smi_tree.proofs.moves.Moves.push.Goals as goal
+
+pub invariant_of-self-in_default : goal.invariant_of-self-in_default
+invariant_of-self-in_default c =
+    let row = c.args.row in
+    let absent : move_in c.self.inside.rows.items row.class row.from row.action ≡ None = rw c.self.view_is c.requires in
+    rw c.in_ok-push.ensures.items (IsMoveIndex-push c.self.inside.rows.items row c.self.inside.index c.insert.new.self c.self.invariant absent c.in_default.ensures.updates.0)
