@@ -25,5 +25,10 @@ test:
 cases: bin/smi
 	python3 tests/command_lines.py bin/smi
 
-bench: bin/smi
-	python3 tests/bench.py bin/smi
+bench: bin/smi bin/smi_bench
+	python3 tests/bench.py bin/smi bin/smi_bench
+
+bin/smi_bench: $(SOURCES)
+	cd crates/smi_bench && rt run < /dev/null
+	mkdir -p bin
+	cp crates/smi_bench/out/smi_bench bin/smi_bench

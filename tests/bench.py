@@ -1,6 +1,6 @@
 """How fast the program works, beside a plain measure of the same data in the same run.
 
-usage: bench.py SMI
+usage: bench.py SMI SMI_BENCH
 """
 
 import os
@@ -52,8 +52,45 @@ def peak_kib(program, path):
     return peak
 
 
+def tree_lines():
+    """The lines of a tree at its limits, as many moves as one likes at the end."""
+    yield "tree 1"
+    for count, form in [(64, "state S%d"), (64, "action A%d"), (128, "station W%d 10.0.0.1:9000")]:
+        yield from (form % n for n in range(1, count + 1))
+    yield from ("operator O%d W%d" % (n, n) for n in range(1, 33))
+    yield "unitclass UNIT S1"
+    yield from ("devclass D%d S1" % n for n in range(1, 32))
+    yield from ("accept UNIT A%d" % n for n in range(1, 65))
+    yield from ("domain N%d W%d UNIT -" % (n, n) for n in range(1, 129))
+    yield from ("device V%d N%d D%d" % (n, n % 128 + 1, n % 31 + 1) for n in range(1, 513))
+    for device in range(1, 32):
+        for state in range(1, 65):
+            yield from ("move D%d S%d A%d S%d" % (device, state, n, (state + n) % 64 + 1) for n in range(1, 65))
+
+
+def write_tree(path, size):
+    """A tree file of at most that many bytes."""
+    text = ""
+    for line in tree_lines():
+        if len(text) + len(line) >= size:
+            break
+        text += line + "\n"
+    with open(path, "w", encoding="ascii") as file:
+        file.write(text)
+
+
+def trees(bench, folder):
+    """How long a long and a short tree file take to read, beside a plain loop over the same bytes."""
+    for size, rounds in [(256 * 1024, 100), (64 * 1024, 400)]:
+        path = os.path.join(folder, "tree")
+        write_tree(path, size)
+        lines = [subprocess.run([bench, path, str(rounds)], stdout=subprocess.PIPE, stderr=subprocess.DEVNULL, check=True).stdout.decode()
+                 for _ in range(ROUNDS)]
+        print("tree: " + min(lines, key=lambda line: int(line.split()[3])).strip())
+
+
 def main():
-    program = os.path.abspath(sys.argv[1])
+    program, bench = map(os.path.abspath, sys.argv[1:])
     with tempfile.TemporaryDirectory() as folder:
         path = os.path.join(folder, "grants")
         count = write_grants(path)
@@ -63,6 +100,7 @@ def main():
             plain.append(seconds("cat %s | cat | cat > /dev/null" % path))
         print("answer: %d datagrams, %.0f a second; through cat alone %.0f; ratio %.2f; %d KiB at most"
               % (count, count / min(answer), count / min(plain), min(plain) / min(answer), peak_kib(program, path)))
+        trees(bench, folder)
 
 
 main()
