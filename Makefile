@@ -16,9 +16,12 @@ bin/smi: $(SOURCES)
 run: bin/smi
 	python3 tools/show.py bin/smi examples/one-domain.datagrams
 
-# The whole gate: every proof, edit and test from nothing, and then the command lines.
+# The whole gate: every proof, edit and test from nothing, and then the command lines, on the program
+# that the gate has just built where it left one.
 test:
 	rt ci
+	@if [ -x crates/smi/out/smi ] && [ -z "$$(find $(SOURCES) -newer crates/smi/out/smi)" ]; then \
+		mkdir -p bin && cp crates/smi/out/smi bin/smi; fi
 	$(MAKE) --no-print-directory cases
 
 # The command lines alone. The last line is 'N passed, M failed'.
