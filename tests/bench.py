@@ -1,5 +1,7 @@
 """How fast the program works, beside a plain measure of the same data in the same run.
 
+Each figure is the best of five rounds, of the program and of the plain measure alike.
+
 usage: bench.py SMI SMI_BENCH
 """
 
@@ -98,6 +100,7 @@ def main():
         for _ in range(ROUNDS):
             answer.append(seconds("cat %s | %s answer | cat > /dev/null" % (path, program)))
             plain.append(seconds("cat %s | cat | cat > /dev/null" % path))
+        print("best of %d rounds each" % ROUNDS)
         print("answer: %d datagrams, %.0f a second; through cat alone %.0f; ratio %.2f; %d KiB at most"
               % (count, count / min(answer), count / min(plain), min(plain) / min(answer), peak_kib(program, path)))
         trees(bench, folder)
