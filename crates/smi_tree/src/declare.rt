@@ -42,7 +42,7 @@ const MOST_DEVICES_OF_A_DOMAIN: usize = 16;
 fn known(names: &Names, name: Name) -> Result<u16, Fault>
     ensures { result ≡ known names.now name }
 {
-    names.number(name.text()).ok_or(Fault::UnknownName)
+    names.find(&name).ok_or(Fault::UnknownName)
 }
 
 fn count_of(homes: &[u16], home: u16) -> usize
@@ -182,9 +182,9 @@ impl Tables {
     fn is_taken(&self, name: Name) -> bool
         ensures { result ≡ is_taken self.now name }
     {
-        self.operator_names.number(name.text()).is_some()
-            || self.domain_names.number(name.text()).is_some()
-            || self.device_names.number(name.text()).is_some()
+        self.operator_names.find(&name).is_some()
+            || self.domain_names.find(&name).is_some()
+            || self.device_names.find(&name).is_some()
     }
 
     #[tactic(auto, unfolding(crate::specs::Additions::with_state))]

@@ -1,6 +1,13 @@
 //! Names, and lists of names that are found by name and by number.
 
+ghost use Rattle.std.specs.Prelude.{nat_eq, [], ◌∷◌, ◌<◌};
+ghost use Rattle.std.specs.Cmp.{partial_equiv_from_equiv};
+ghost use Rattle.std.specs.Cmp.Lexicographic.{pointwise, nat_list_eq_equiv};
+ghost use Rattle.std.specs.Cmp.Rules.{hashing};
+ghost use Rattle.std.proofs.Common.{rules};
+
 use crate::number::is_digit;
+use std::hash::{Hash, Hasher};
 use std::marker::Model;
 
 /// The most bytes of a name.
@@ -9,7 +16,7 @@ const MOST_BYTES: usize = 16;
 /// A name: 1 to 16 bytes of `A` to `Z`, `0` to `9` and `_`, the first a letter.
 ///
 /// It is kept in place, filled up with zeros.
-#[derive(Clone, Copy, Debug, PartialEq, Eq, Hash)]
+#[derive(Clone, Copy, Debug)]
 pub(crate) struct Name {
     bytes: [u8; MOST_BYTES],
     /// How many of them are the name's.
@@ -32,28 +39,64 @@ impl Model for Name {
     ghost inverse_ok = { unpadded };
 }
 
+impl PartialEq for Name {
+    ghost eq = { pointwise nat_eq };
+
+    ghost laws = { partial_equiv_from_equiv nat_list_eq_equiv };
+
+    fn eq(&self, other: &Name) -> bool {
+        self.text() == other.text()
+    }
+}
+
+impl Eq for Name {
+    ghost laws = { nat_list_eq_equiv };
+}
+
+impl Hash for Name {
+    ghost hash_input = { λ n. n ∷ [] };
+
+    ghost respects_eq = { Prim.search (hashing, rules) };
+
+    fn hash<H: Hasher>(&self, state: &mut H) {
+        state.write(self.text());
+    }
+}
+
 impl Name {
-    ghost use Rattle.std.specs.Prelude.{◌≡◌};
+    ghost use Rattle.std.specs.Prelude.{◌≡◌, ◌≤◌, length, IfSome, MatchOption};
     ghost use Rattle.smi_tree.specs.Name.{name_of};
 
     /// The name that a word is, where it is one.
     pub(crate) fn read(word: &[u8]) -> Option<Name>
         ensures { result ≡ name_of word.now }
     {
-        if !is_name(word) {
+        if is_name(word) {
+            Name::of(word)
+        } else {
+            None
+        }
+    }
+
+    /// Any text that is no longer than a name.
+    pub(crate) fn of(text: &[u8]) -> Option<Name>
+        ensures { MatchOption result (16 < length text.now) (λ name. (name ≡ text.now) × (length text.now ≤ 16)) }
+    {
+        if text.len() > MOST_BYTES {
             return None;
         }
         let mut bytes = [0; MOST_BYTES];
-        bytes[..word.len()].copy_from_slice(word);
+        bytes[..text.len()].copy_from_slice(text);
         Some(Name {
             bytes,
-            used: word.len() as u8,
+            used: text.len() as u8,
         })
     }
 
     /// The bytes of the name.
     pub(crate) fn text(&self) -> &[u8]
-        ensures { result.now ≡ self.now }
+        ensures text { result.now ≡ self.now }
+        ensures short { length result.now ≤ 16 }
     {
         let (text, _) = self.bytes.split_at(usize::from(self.used));
         text
