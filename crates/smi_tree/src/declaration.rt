@@ -109,6 +109,7 @@ ghost use Rattle.smi_tree.specs.Declaration.{
 };
 
 /// The one word of a text.
+#[inline(always)]
 fn one(text: &[u8]) -> Result<&[u8], Fault>
     ensures { Gives (λ word. word.now) result (one (words text.now)) }
 {
@@ -121,6 +122,7 @@ fn one(text: &[u8]) -> Result<&[u8], Fault>
     }
 }
 
+#[inline(always)]
 fn two(text: &[u8]) -> Result<(&[u8], &[u8]), Fault>
     ensures { Gives (λ words. (words.0.now, words.1.now)) result (two (words text.now)) }
 {
@@ -131,6 +133,7 @@ fn two(text: &[u8]) -> Result<(&[u8], &[u8]), Fault>
     Ok((first, second))
 }
 
+#[inline(always)]
 fn three(text: &[u8]) -> Result<(&[u8], &[u8], &[u8]), Fault>
     ensures { Gives (λ words. (words.0.now, words.1.now, words.2.now)) result (three (words text.now)) }
 {
@@ -141,6 +144,7 @@ fn three(text: &[u8]) -> Result<(&[u8], &[u8], &[u8]), Fault>
     Ok((first, second, third))
 }
 
+#[inline(always)]
 fn four(text: &[u8]) -> Result<(&[u8], &[u8], &[u8], &[u8]), Fault>
     ensures { Gives (λ words. (words.0.now, words.1.now, words.2.now, words.3.now)) result (four (words text.now)) }
 {
@@ -177,12 +181,14 @@ impl Keyword {
     }
 }
 
+#[inline(always)]
 fn name(word: &[u8]) -> Result<Name, Fault>
     ensures { result ≡ name word.now }
 {
     Name::read(word).ok_or(Fault::Malformed)
 }
 
+#[inline(always)]
 #[tactic(auto, unfolding(crate::specs::Declaration::one_name))]
 fn one_name(text: &[u8]) -> Result<Name, Fault>
     ensures { result ≡ one_name (words text.now) }
@@ -191,6 +197,7 @@ fn one_name(text: &[u8]) -> Result<Name, Fault>
     name(word)
 }
 
+#[inline(always)]
 #[tactic(auto, unfolding(crate::specs::Declaration::two_names))]
 fn two_names(text: &[u8]) -> Result<(Name, Name), Fault>
     ensures { result ≡ two_names (words text.now) }
@@ -201,6 +208,7 @@ fn two_names(text: &[u8]) -> Result<(Name, Name), Fault>
     Ok((first, second))
 }
 
+#[inline(always)]
 #[tactic(auto, unfolding(crate::specs::Declaration::three_names))]
 fn three_names(text: &[u8]) -> Result<(Name, Name, Name), Fault>
     ensures { result ≡ three_names (words text.now) }
@@ -212,6 +220,7 @@ fn three_names(text: &[u8]) -> Result<(Name, Name, Name), Fault>
     Ok((first, second, third))
 }
 
+#[inline(always)]
 #[tactic(auto, unfolding(crate::specs::Declaration::four_names))]
 fn four_names(text: &[u8]) -> Result<(Name, Name, Name, Name), Fault>
     ensures { result ≡ four_names (words text.now) }

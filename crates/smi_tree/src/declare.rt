@@ -39,10 +39,11 @@ const MOST_DEVICES: usize = 512;
 const MOST_DEVICES_OF_A_DOMAIN: usize = 16;
 
 /// The number of a name that has to stand above.
-fn known(names: &Names, name: Name) -> Result<u16, Fault>
-    ensures { result ≡ known names.now name }
+#[inline(always)]
+fn known(names: &Names, name: &Name) -> Result<u16, Fault>
+    ensures { result ≡ known names.now name.now }
 {
-    names.find(&name).ok_or(Fault::UnknownName)
+    names.find(name).ok_or(Fault::UnknownName)
 }
 
 fn count_of(homes: &[u16], home: u16) -> usize
@@ -214,7 +215,7 @@ impl Tables {
     fn add_operator(&mut self, name: Name, station: Name) -> Result<(), Refusal>
         ensures { Becomes self.new result (with_operator self.old name station) }
     {
-        let home = known(&self.station_names, station)?;
+        let home = known(&self.station_names, &station)?;
         if self.is_taken(name) {
             return Err(Refusal::Faulty(Fault::Twice));
         }
@@ -238,7 +239,7 @@ impl Tables {
     ) -> Result<(), Refusal>
         ensures { Becomes self.new result (with_class self.old kind name first) }
     {
-        let first = known(&self.state_names, first)?;
+        let first = known(&self.state_names, &first)?;
         self.class_names.add(name, MOST_CLASSES)?;
         self.classes.push(Class::new(alloc, kind, first))?;
         Ok(())
@@ -250,7 +251,7 @@ impl Tables {
         ensures found { Gives (λ found. (found.0, found.1.now)) result (known_class self.now name) }
         ensures row { IfOk result (λ found. IsEntry self.now.classes found.0 found.1.now) }
     {
-        let class = known(&self.class_names, name)?;
+        let class = known(&self.class_names, &name)?;
         let table = entry(&self.classes, class).ok_or(Fault::UnknownName)?;
         Ok((class, table))
     }
@@ -261,9 +262,9 @@ impl Tables {
     {
         let (class, table) = self.known_class(class)?;
         let kind = table.kind;
-        let from = known(&self.state_names, from)?;
-        let action = known(&self.action_names, action)?;
-        let to = known(&self.state_names, to)?;
+        let from = known(&self.state_names, &from)?;
+        let action = known(&self.action_names, &action)?;
+        let to = known(&self.state_names, &to)?;
         if self.moves.find(class, from, action).is_some() {
             return Err(Refusal::Faulty(Fault::Twice));
         }
@@ -284,7 +285,7 @@ impl Tables {
         ensures { Becomes self.new result (with_accepted self.old class action) }
     {
         let (class, table) = self.known_class(class)?;
-        let action = known(&self.action_names, action)?;
+        let action = known(&self.action_names, &action)?;
         if table.accepts(action) {
             return Err(Refusal::Faulty(Fault::Twice));
         }
@@ -307,8 +308,8 @@ impl Tables {
         ensures { Becomes self.new result (with_rule self.old quantifier class state target) }
     {
         let (class, table) = self.known_class(class)?;
-        let state = known(&self.state_names, state)?;
-        let target = known(&self.state_names, target)?;
+        let state = known(&self.state_names, &state)?;
+        let target = known(&self.state_names, &target)?;
         if !table.is_kind(ClassKind::Unit) {
             return Err(Refusal::Faulty(Fault::OtherKind));
         }
@@ -330,7 +331,7 @@ impl Tables {
         ensures { result ≡ known_parent self.now parent }
     {
         match parent {
-            Some(name) => Ok(Some(known(&self.domain_names, name)?)),
+            Some(name) => Ok(Some(known(&self.domain_names, &name)?)),
             None => Ok(None),
         }
     }
@@ -359,7 +360,7 @@ impl Tables {
     ) -> Result<(), Refusal>
         ensures { Becomes self.new result (with_domain self.old name station class parent) }
     {
-        let station = known(&self.station_names, station)?;
+        let station = known(&self.station_names, &station)?;
         let (class, table) = self.known_class(class)?;
         let kind = table.kind;
         let parent = self.known_parent(parent)?;
@@ -385,7 +386,7 @@ impl Tables {
     fn add_device(&mut self, name: Name, domain: Name, class: Name) -> Result<(), Refusal>
         ensures { Becomes self.new result (with_device self.old name domain class) }
     {
-        let domain = known(&self.domain_names, domain)?;
+        let domain = known(&self.domain_names, &domain)?;
         let (class, table) = self.known_class(class)?;
         let kind = table.kind;
         if self.is_taken(name) {

@@ -20,7 +20,7 @@ const MOST_BYTES: usize = 16;
 pub(crate) struct Name {
     bytes: [u8; MOST_BYTES],
     /// How many of them are the name's.
-    used: u8,
+    used: usize,
 }
 
 impl Model for Name {
@@ -68,6 +68,7 @@ impl Name {
     ghost use Rattle.smi_tree.specs.Name.{name_of};
 
     /// The name that a word is, where it is one.
+    #[inline(always)]
     pub(crate) fn read(word: &[u8]) -> Option<Name>
         ensures { result ≡ name_of word.now }
     {
@@ -79,6 +80,7 @@ impl Name {
     }
 
     /// Any text that is no longer than a name.
+    #[inline(always)]
     pub(crate) fn of(text: &[u8]) -> Option<Name>
         ensures { MatchOption result (16 < length text.now) (λ name. (name ≡ text.now) × (length text.now ≤ 16)) }
     {
@@ -89,16 +91,17 @@ impl Name {
         bytes[..text.len()].copy_from_slice(text);
         Some(Name {
             bytes,
-            used: text.len() as u8,
+            used: text.len(),
         })
     }
 
     /// The bytes of the name.
+    #[inline(always)]
     pub(crate) fn text(&self) -> &[u8]
         ensures text { result.now ≡ self.now }
         ensures short { length result.now ≤ 16 }
     {
-        let (text, _) = self.bytes.split_at(usize::from(self.used));
+        let (text, _) = self.bytes.split_at(self.used);
         text
     }
 }
