@@ -1,5 +1,4 @@
 pub mod Cutting
-pub mod NameLemmas
 pub mod HierarchyLemmas
 pub mod Lines
 pub mod Lawfulness

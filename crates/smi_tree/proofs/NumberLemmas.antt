@@ -1,7 +1,7 @@
 -- The numbers of names: where a name stands, and what one more changes.
 use Rattle.std.proofs.Common.{◌≡◌, ℕ, ◌+◌, ◌≤◌, ◌<◌, ◌^◌, Bool, true, false, cond, List, [], ◌∷◌, ◌++◌, length, Option, Some, None, refl, ap, ◌∙◌, sym, arith, IfSome}
 use Rattle.std.specs.Option.{option_or}
-use Rattle.std.specs.List.{position_from, AllByRecursion}
+use Rattle.std.specs.List.{position_from}
 use Rattle.std.specs.Str.{bytes_eq}
 use Rattle.std.specs.HashMap.{get, HashMap}
 use Rattle.std.specs.declared.hash.FoldHasher.{FoldHasher}
@@ -12,18 +12,7 @@ use Rattle.smi_tree.proofs.MoveLemmas.{or-none}
 use Rattle.smi_tree.proofs.Lawfulness.{number_of-between}
 use Rattle.smi_tree.specs.Lawful.{IsBetween}
 use Rattle.smi_tree.specs.Name.{number_of}
-use Rattle.smi_tree.specs.NameIndex.{IsNameIndex, IsShort}
-
--- no text that is longer than every name is one of them
-pub number_of-long : (names : List (List ℕ)) (text : List ℕ) (first : ℕ) → AllByRecursion IsShort names → 16 < length text →
-    position_from (bytes_eq text) first names ≡ None
-number_of-long [] text first short long = refl
-number_of-long (name ∷ names) text first short long = go (bytes_eq text name) refl (number_of-long names text (first + 1) short.1 long)
-  where
-    go : (b : Bool) → bytes_eq text name ≡ b → position_from (bytes_eq text) (first + 1) names ≡ None →
-        cond b (Some first) (position_from (bytes_eq text) (first + 1) names) ≡ None
-    go true is later = absurd (let same = ap length ((bytes_eq-Decides text name).0 is) in let most = short.0 in omega (arith, same, most, long))
-    go false is later = later
+use Rattle.smi_tree.specs.NameIndex.{IsNameIndex}
 
 -- the place of the last of some
 position_from-more : {X : Type 0} (p : X → Bool) (first : ℕ) (xs : List X) (x : X) →
@@ -38,10 +27,6 @@ position_from-more p first (y ∷ ys) x = go (p y) (position_from-more p (first 
     go true later = refl
     go false later = later
         ∙ ap (λ (n : ℕ). option_or (position_from p (first + 1) ys) (cond (p x) (Some n) None)) (omega arith)
-
-short-more : (names : List (List ℕ)) (name : List ℕ) → AllByRecursion IsShort names → IsShort name → AllByRecursion IsShort (names ++ name ∷ [])
-short-more [] name short one = (one , tt)
-short-more (first ∷ names) name short one = (short.0 , short-more names name short.1 one)
 
 one-more : (names : List (List ℕ)) (name text : List ℕ) → number_of names name ≡ None →
     cond (bytes_eq name text) (Some (length (names ++ name ∷ []))) (number_of names text) ≡ number_of (names ++ name ∷ []) text
@@ -63,12 +48,11 @@ one-more names name text absent = go (bytes_eq name text) refl ∙ sym (position
         other false not = sym (or-none (number_of names text))
 
 pub IsNameIndex-push : (names : List (List ℕ)) (name : List ℕ) (old new : HashMap (List ℕ) ℕ (BuildHasherDefault FoldHasher)) →
-    IsNameIndex names old → number_of names name ≡ None → length names + 1 < 2 ^ 16 → length name ≤ 16 →
+    IsNameIndex names old → number_of names name ≡ None → length names + 1 < 2 ^ 16 →
     ((q : List ℕ) → get bytes_eq new q ≡ cond (bytes_eq name q) (Some (length (names ++ name ∷ []))) (get bytes_eq old q)) →
     IsNameIndex (names ++ name ∷ []) new
-IsNameIndex-push names name old new h absent few short updates = record {
+IsNameIndex-push names name old new h absent few updates = record {
   few = (let more = length-append names (name ∷ []) in omega (arith, more, few));
-  short = short-more names name h.short short;
   found = λ text.
       updates text
       ∙ ap (cond (bytes_eq name text) (Some (length (names ++ name ∷ [])))) (h.found text)

@@ -1,7 +1,6 @@
 pub mod Text
 pub mod Name
 pub mod Number
-pub mod Padded
 pub mod Fault
 pub mod Declaration
 pub mod ClassTable

@@ -43,7 +43,7 @@ const MOST_DEVICES_OF_A_DOMAIN: usize = 16;
 fn known(names: &Names, name: &Name) -> Result<u16, Fault>
     ensures { result ≡ known names.now name.now }
 {
-    names.find(name).ok_or(Fault::UnknownName)
+    names.number(name).ok_or(Fault::UnknownName)
 }
 
 fn count_of(homes: &[u16], home: u16) -> usize
@@ -139,19 +139,19 @@ impl Tables {
         }
     }
 
-    fn declare(&mut self, alloc: Global, declaration: &Declaration) -> Result<(), Refusal>
+    fn declare(&mut self, alloc: Global, declaration: &Declaration<'_>) -> Result<(), Refusal>
         ensures { Becomes self.new result (with_declaration self.old declaration.now) }
     {
-        match *declaration {
+        match declaration {
             Declaration::Tree(number) => {
-                self.number = number;
+                self.number = *number;
                 Ok(())
             }
             Declaration::State(name) => self.add_state(name),
             Declaration::Action(name) => self.add_action(name),
-            Declaration::Station { name, address } => self.add_station(name, address),
+            Declaration::Station { name, address } => self.add_station(name, *address),
             Declaration::Operator { name, station } => self.add_operator(name, station),
-            Declaration::Class { kind, name, first } => self.add_class(alloc, kind, name, first),
+            Declaration::Class { kind, name, first } => self.add_class(alloc, *kind, name, first),
             Declaration::Move {
                 class,
                 from,
@@ -164,7 +164,7 @@ impl Tables {
                 class,
                 state,
                 target,
-            } => self.add_rule(quantifier, class, state, target),
+            } => self.add_rule(*quantifier, class, state, target),
             Declaration::Domain {
                 name,
                 station,
@@ -180,31 +180,31 @@ impl Tables {
     }
 
     /// Whether a domain, a device or an operator has this name.
-    fn is_taken(&self, name: Name) -> bool
-        ensures { result ≡ is_taken self.now name }
+    fn is_taken(&self, name: &Name) -> bool
+        ensures { result ≡ is_taken self.now name.now }
     {
-        self.operator_names.find(&name).is_some()
-            || self.domain_names.find(&name).is_some()
-            || self.device_names.find(&name).is_some()
+        self.operator_names.number(name).is_some()
+            || self.domain_names.number(name).is_some()
+            || self.device_names.number(name).is_some()
     }
 
     #[tactic(auto, unfolding(crate::specs::Additions::with_state))]
-    fn add_state(&mut self, name: Name) -> Result<(), Refusal>
-        ensures { Becomes self.new result (with_state self.old name) }
+    fn add_state(&mut self, name: &Name) -> Result<(), Refusal>
+        ensures { Becomes self.new result (with_state self.old name.now) }
     {
         self.state_names.add(name, MOST_STATES)
     }
 
     #[tactic(auto, unfolding(crate::specs::Additions::with_action))]
-    fn add_action(&mut self, name: Name) -> Result<(), Refusal>
-        ensures { Becomes self.new result (with_action self.old name) }
+    fn add_action(&mut self, name: &Name) -> Result<(), Refusal>
+        ensures { Becomes self.new result (with_action self.old name.now) }
     {
         self.action_names.add(name, MOST_ACTIONS)
     }
 
     #[tactic(auto, unfolding(crate::specs::Additions::with_station))]
-    fn add_station(&mut self, name: Name, address: Address) -> Result<(), Refusal>
-        ensures { Becomes self.new result (with_station self.old name address) }
+    fn add_station(&mut self, name: &Name, address: Address) -> Result<(), Refusal>
+        ensures { Becomes self.new result (with_station self.old name.now address) }
     {
         self.station_names.add(name, MOST_STATIONS)?;
         self.addresses.push(address)?;
@@ -212,10 +212,10 @@ impl Tables {
     }
 
     #[tactic(auto, unfolding(crate::specs::Additions::with_operator))]
-    fn add_operator(&mut self, name: Name, station: Name) -> Result<(), Refusal>
-        ensures { Becomes self.new result (with_operator self.old name station) }
+    fn add_operator(&mut self, name: &Name, station: &Name) -> Result<(), Refusal>
+        ensures { Becomes self.new result (with_operator self.old name.now station.now) }
     {
-        let home = known(&self.station_names, &station)?;
+        let home = known(&self.station_names, station)?;
         if self.is_taken(name) {
             return Err(Refusal::Faulty(Fault::Twice));
         }
@@ -234,12 +234,12 @@ impl Tables {
         &mut self,
         alloc: Global,
         kind: ClassKind,
-        name: Name,
-        first: Name,
+        name: &Name,
+        first: &Name,
     ) -> Result<(), Refusal>
-        ensures { Becomes self.new result (with_class self.old kind name first) }
+        ensures { Becomes self.new result (with_class self.old kind name.now first.now) }
     {
-        let first = known(&self.state_names, &first)?;
+        let first = known(&self.state_names, first)?;
         self.class_names.add(name, MOST_CLASSES)?;
         self.classes.push(Class::new(alloc, kind, first))?;
         Ok(())
@@ -247,24 +247,24 @@ impl Tables {
 
     /// The number and the table of a class that has to stand above.
     #[tactic(auto, unfolding(crate::specs::Additions::known_class))]
-    fn known_class(&self, name: Name) -> Result<(u16, &Class), Fault>
-        ensures found { Gives (λ found. (found.0, found.1.now)) result (known_class self.now name) }
+    fn known_class(&self, name: &Name) -> Result<(u16, &Class), Fault>
+        ensures found { Gives (λ found. (found.0, found.1.now)) result (known_class self.now name.now) }
         ensures row { IfOk result (λ found. IsEntry self.now.classes found.0 found.1.now) }
     {
-        let class = known(&self.class_names, &name)?;
+        let class = known(&self.class_names, name)?;
         let table = entry(&self.classes, class).ok_or(Fault::UnknownName)?;
         Ok((class, table))
     }
 
     #[tactic(auto, unfolding(crate::specs::Additions::with_move))]
-    fn add_move(&mut self, class: Name, from: Name, action: Name, to: Name) -> Result<(), Refusal>
-        ensures { Becomes self.new result (with_move self.old class from action to) }
+    fn add_move(&mut self, class: &Name, from: &Name, action: &Name, to: &Name) -> Result<(), Refusal>
+        ensures { Becomes self.new result (with_move self.old class.now from.now action.now to.now) }
     {
         let (class, table) = self.known_class(class)?;
         let kind = table.kind;
-        let from = known(&self.state_names, &from)?;
-        let action = known(&self.action_names, &action)?;
-        let to = known(&self.state_names, &to)?;
+        let from = known(&self.state_names, from)?;
+        let action = known(&self.action_names, action)?;
+        let to = known(&self.state_names, to)?;
         if self.moves.find(class, from, action).is_some() {
             return Err(Refusal::Faulty(Fault::Twice));
         }
@@ -281,11 +281,11 @@ impl Tables {
     }
 
     #[tactic(auto, unfolding(crate::specs::Additions::with_accepted))]
-    fn accept(&mut self, class: Name, action: Name) -> Result<(), Refusal>
-        ensures { Becomes self.new result (with_accepted self.old class action) }
+    fn accept(&mut self, class: &Name, action: &Name) -> Result<(), Refusal>
+        ensures { Becomes self.new result (with_accepted self.old class.now action.now) }
     {
         let (class, table) = self.known_class(class)?;
-        let action = known(&self.action_names, &action)?;
+        let action = known(&self.action_names, action)?;
         if table.accepts(action) {
             return Err(Refusal::Faulty(Fault::Twice));
         }
@@ -301,15 +301,15 @@ impl Tables {
     fn add_rule(
         &mut self,
         quantifier: Quantifier,
-        class: Name,
-        state: Name,
-        target: Name,
+        class: &Name,
+        state: &Name,
+        target: &Name,
     ) -> Result<(), Refusal>
-        ensures { Becomes self.new result (with_rule self.old quantifier class state target) }
+        ensures { Becomes self.new result (with_rule self.old quantifier class.now state.now target.now) }
     {
         let (class, table) = self.known_class(class)?;
-        let state = known(&self.state_names, &state)?;
-        let target = known(&self.state_names, &target)?;
+        let state = known(&self.state_names, state)?;
+        let target = known(&self.state_names, target)?;
         if !table.is_kind(ClassKind::Unit) {
             return Err(Refusal::Faulty(Fault::OtherKind));
         }
@@ -327,11 +327,11 @@ impl Tables {
 
     /// The number of a parent that has to stand above, where there is one.
     #[tactic(auto, unfolding(crate::specs::Additions::known_parent))]
-    fn known_parent(&self, parent: Option<Name>) -> Result<Option<u16>, Fault>
-        ensures { result ≡ known_parent self.now parent }
+    fn known_parent(&self, parent: &Option<Name>) -> Result<Option<u16>, Fault>
+        ensures { result ≡ known_parent self.now parent.now }
     {
         match parent {
-            Some(name) => Ok(Some(known(&self.domain_names, &name)?)),
+            Some(name) => Ok(Some(known(&self.domain_names, name)?)),
             None => Ok(None),
         }
     }
@@ -353,14 +353,14 @@ impl Tables {
     #[tactic(auto, unfolding(crate::specs::Additions::with_domain))]
     fn add_domain(
         &mut self,
-        name: Name,
-        station: Name,
-        class: Name,
-        parent: Option<Name>,
+        name: &Name,
+        station: &Name,
+        class: &Name,
+        parent: &Option<Name>,
     ) -> Result<(), Refusal>
-        ensures { Becomes self.new result (with_domain self.old name station class parent) }
+        ensures { Becomes self.new result (with_domain self.old name.now station.now class.now parent.now) }
     {
-        let station = known(&self.station_names, &station)?;
+        let station = known(&self.station_names, station)?;
         let (class, table) = self.known_class(class)?;
         let kind = table.kind;
         let parent = self.known_parent(parent)?;
@@ -383,10 +383,10 @@ impl Tables {
     }
 
     #[tactic(auto, unfolding(crate::specs::Additions::with_device))]
-    fn add_device(&mut self, name: Name, domain: Name, class: Name) -> Result<(), Refusal>
-        ensures { Becomes self.new result (with_device self.old name domain class) }
+    fn add_device(&mut self, name: &Name, domain: &Name, class: &Name) -> Result<(), Refusal>
+        ensures { Becomes self.new result (with_device self.old name.now domain.now class.now) }
     {
-        let domain = known(&self.domain_names, &domain)?;
+        let domain = known(&self.domain_names, domain)?;
         let (class, table) = self.known_class(class)?;
         let kind = table.kind;
         if self.is_taken(name) {

@@ -6,7 +6,7 @@ ghost use Rattle.smi_tree.specs.Fault.{Becomes};
 ghost use Rattle.smi_tree.specs.Name.{number_of};
 
 use crate::fault::{Fault, Refusal};
-use crate::name::Name;
+use crate::name::{Name, NameBuf};
 use std::alloc::{AllocError, Global};
 use std::collections::HashMap;
 use std::marker::Model;
@@ -14,8 +14,8 @@ use std::marker::Model;
 /// Names, numbered from 1 in the order in which they came, each there once.
 #[derive(Debug, Drop)]
 pub(crate) struct Names {
-    names: Vec<Name>,
-    numbers: HashMap<Name, u16>,
+    names: Vec<NameBuf>,
+    numbers: HashMap<NameBuf, u16>,
 }
 
 impl Model for Names {
@@ -54,23 +54,11 @@ impl Names {
     }
 
     /// The number of a name, where it is there.
-    pub(crate) fn find(&self, name: &Name) -> Option<u16>
+    pub(crate) fn number(&self, name: &Name) -> Option<u16>
         ensures place { result ≡ number_of self.now name.now }
         ensures within { IfSome result (IsBetween 1 (length self.now)) }
     {
         self.numbers.get(name).copied()
-    }
-
-    /// The number of a text, where it is one of the names.
-    pub(crate) fn number(&self, text: &[u8]) -> Option<u16>
-        ensures place { result ≡ number_of self.now text.now }
-        ensures within { IfSome result (IsBetween 1 (length self.now)) }
-    {
-        let numbers = &self.numbers;
-        match Name::of(text) {
-            Some(name) => numbers.get(&name).copied(),
-            None => None,
-        }
     }
 
     /// The name of a number.
@@ -83,11 +71,11 @@ impl Names {
     }
 
     /// Puts a name at the end, where it is new and there is room for one more.
-    pub(crate) fn add(&mut self, name: Name, limit: usize) -> Result<(), Refusal>
+    pub(crate) fn add(&mut self, name: &Name, limit: usize) -> Result<(), Refusal>
         requires { limit < 2 ^ 16 }
-        ensures { Becomes self.new result (added limit self.old name) }
+        ensures { Becomes self.new result (added limit self.old name.now) }
     {
-        if self.find(&name).is_some() {
+        if self.number(name).is_some() {
             return Err(Refusal::Faulty(Fault::Twice));
         }
         if self.names.len() >= limit {
@@ -98,16 +86,17 @@ impl Names {
     }
 
     /// Puts a new name at the end.
-    pub(crate) fn push(&mut self, name: Name) -> Result<(), AllocError>
+    pub(crate) fn push(&mut self, name: &Name) -> Result<(), AllocError>
         requires few { length self.old + 1 < 2 ^ 16 }
-        requires absent { number_of self.old name ≡ None }
-        ensures { OnOk result (self.new ≡ self.old ++ name ∷ []) }
+        requires absent { number_of self.old name.now ≡ None }
+        ensures { OnOk result (self.new ≡ self.old ++ name.now ∷ []) }
     {
-        // A name is short: the index relies on it.
-        let _ = name.text();
-        self.names.push(name)?;
+        let alloc = *self.names.allocator();
+        let key = name.to_owned(alloc)?;
+        let kept = name.to_owned(alloc)?;
+        self.names.push(kept)?;
         let number = self.names.len() as u16;
-        if let Err(refused) = self.numbers.insert(name, number) {
+        if let Err(refused) = self.numbers.insert(key, number) {
             self.names.pop();
             return Err(refused.into());
         }
