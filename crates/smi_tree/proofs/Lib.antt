@@ -9,3 +9,4 @@ pub mod Ended
 pub mod Ways
 pub mod MoveLemmas
 pub mod NumberLemmas
+pub mod ActionLemmas

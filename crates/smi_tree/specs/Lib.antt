@@ -14,3 +14,4 @@ pub mod Lawful
 pub mod Indexed
 pub mod MoveIndex
 pub mod NameIndex
+pub mod ActionIndex

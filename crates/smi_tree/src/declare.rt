@@ -257,7 +257,13 @@ impl Tables {
     }
 
     #[tactic(auto, unfolding(crate::specs::Additions::with_move))]
-    fn add_move(&mut self, class: &Name, from: &Name, action: &Name, to: &Name) -> Result<(), Refusal>
+    fn add_move(
+        &mut self,
+        class: &Name,
+        from: &Name,
+        action: &Name,
+        to: &Name,
+    ) -> Result<(), Refusal>
         ensures { Becomes self.new result (with_move self.old class.now from.now action.now to.now) }
     {
         let (class, table) = self.known_class(class)?;
