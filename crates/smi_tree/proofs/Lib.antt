@@ -10,3 +10,4 @@ pub mod Ways
 pub mod MoveLemmas
 pub mod NumberLemmas
 pub mod ActionLemmas
+pub mod NamedLemmas

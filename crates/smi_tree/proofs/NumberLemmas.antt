@@ -15,7 +15,7 @@ use Rattle.smi_tree.specs.Name.{number_of}
 use Rattle.smi_tree.specs.NameIndex.{IsNameIndex}
 
 -- the place of the last of some
-position_from-more : {X : Type 0} (p : X → Bool) (first : ℕ) (xs : List X) (x : X) →
+pub position_from-more : {X : Type 0} (p : X → Bool) (first : ℕ) (xs : List X) (x : X) →
     position_from p first (xs ++ x ∷ []) ≡ option_or (position_from p first xs) (cond (p x) (Some (first + length xs)) None)
 position_from-more p first [] x = ap (λ (n : ℕ). cond (p x) (Some n) None) (omega arith)
 position_from-more p first (y ∷ ys) x = go (p y) (position_from-more p (first + 1) ys x)

@@ -10,6 +10,7 @@ pub mod File
 pub mod Rules
 pub mod Lookups
 pub mod Grouped
+pub mod Named
 pub mod Lawful
 pub mod Indexed
 pub mod MoveIndex
