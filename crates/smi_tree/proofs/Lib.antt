@@ -11,3 +11,4 @@ pub mod MoveLemmas
 pub mod NumberLemmas
 pub mod ActionLemmas
 pub mod NamedLemmas
+pub mod FileLemmas

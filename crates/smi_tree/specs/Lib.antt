@@ -7,6 +7,7 @@ pub mod ClassTable
 pub mod Hierarchy
 pub mod Additions
 pub mod File
+pub mod TreeFile
 pub mod Rules
 pub mod Lookups
 pub mod Grouped

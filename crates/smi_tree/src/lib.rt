@@ -15,6 +15,7 @@ mod declaration;
 mod declare;
 mod fault;
 mod groups;
+pub mod law;
 mod lookup;
 mod moves;
 mod name;
