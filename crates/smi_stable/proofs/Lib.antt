@@ -1,2 +1,4 @@
 pub mod Appended
 pub mod Cutting
+pub mod Again
+pub mod Laws

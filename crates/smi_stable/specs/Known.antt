@@ -8,14 +8,13 @@ use Rattle.smi_grant.specs.declared.Holder.{Holder}
 use Rattle.smi_grant.specs.declared.Holder.TheVariants.{Free, Operator, Domain}
 use Rattle.smi_command.specs.declared.Link.{Link}
 use Rattle.smi_command.specs.declared.Link.TheVariants.{Out, Taking, Held, Dropping}
-use Rattle.smi_tree.specs.Hierarchy.{Hierarchy, entry}
+use Rattle.smi_tree.specs.Hierarchy.{Hierarchy}
 use Rattle.smi_tree.specs.Lookups.{action_count, station_count, operator_count, domain_count, parent_of, station_of, operator_station_of}
 use Rattle.smi_stable.specs.declared.key.Key.{Key}
 use Rattle.smi_stable.specs.declared.row.StoredLink.{StoredLink}
 use Rattle.smi_stable.specs.declared.row.Row.{Row}
 use Rattle.smi_stable.specs.declared.row.Row.TheVariants as row
 use Rattle.smi_stable.specs.Ranges.{is_between}
-use Rattle.smi_stable.specs.Stored.{KeptDomain}
 
 abbrev pub is_number : Option ℕ → ℕ → Bool
 is_number o n = option_map_or (λ m. m == n) o false

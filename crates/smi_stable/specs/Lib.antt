@@ -6,3 +6,4 @@ pub mod Ranges
 pub mod Reading
 pub mod Schema
 pub mod Stored
+pub mod Written

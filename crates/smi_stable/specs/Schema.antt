@@ -1,5 +1,5 @@
 -- The schemas of rows, and what the rows of each can say.
-use Rattle.std.specs.Prelude.{ℕ, ◌==◌, ◌&&◌, nat_le, nat_lt, Bool, true, false, if◌then◌else◌, Option, Some, None}
+use Rattle.std.specs.Prelude.{ℕ, ◌==◌, ◌&&◌, nat_le, Bool, true, false, if◌then◌else◌, Option, Some, None}
 use Rattle.smi_stable.specs.declared.key.RowKind.{RowKind}
 use Rattle.smi_stable.specs.declared.key.RowKind.TheVariants as kind
 use Rattle.smi_stable.specs.declared.schema.Schema.{Schema}

@@ -23,3 +23,4 @@ pub use key::{Key, RowKind};
 pub use layout::write_boot;
 pub use mode::Mode;
 pub use row::{DomainRow, OperatorRow, Row, StoredLink};
+pub use schema::Schema;

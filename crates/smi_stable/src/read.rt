@@ -24,29 +24,49 @@ const DOMAIN_FRONT: usize = 24;
 const OPERATOR_FRONT: usize = 4;
 
 impl Row {
-    ghost use Rattle.smi_stable.specs.Reading.{Reads, row_of};
+    ghost use Rattle.std.specs.Prelude.{◌≡◌, IfOk, Ok, Err, false};
+    ghost use Rattle.smi_stable.specs.declared.row.Row.{Row as Said};
+    ghost use Rattle.smi_stable.specs.Fault.{fault_number};
+    ghost use Rattle.smi_stable.specs.Known.{is_known};
+    ghost use Rattle.smi_stable.specs.Reading.{Reads, row_of, refused};
+    ghost use Rattle.smi_stable.specs.Written.{IsWritten, IsRow};
 
     /// What the row of this key says at a station of the tree, or the first test that it fails.
     ///
     /// Rows of the newest schema of their kind are read and those of all before it, each to the value
     /// that was written. Want of memory is answered where a growth was refused, and nowhere else.
     pub fn read(alloc: Global, tree: &Tree, key: Key, bytes: &[u8]) -> Result<Row, RowFault>
+        // What is read was written so, and the tree has what it names.
+        ensures found { IfOk result (λ row. IsRow tree.now key bytes.now row) }
+        // What was written so is read, where the tree has what it names.
+        ensures only { (row : Said) → IsRow tree.now key bytes.now row → Reads result (Ok row) }
+        // It is unknown where it was written so, and the tree lacks something that it names.
+        ensures unknown { (row : Said) → IsWritten key bytes.now row → is_known tree.now key row ≡ false → Reads result (refused Fault.Unknown) }
+        // It is out of range only where it is written as no row is.
+        ensures out_of_range { result ≡ refused Fault.Range → (row : Said) → IsWritten key bytes.now row → ⊥ }
+        // The first test that fails.
         ensures exact { Reads result (row_of tree.now key bytes.now) }
     {
-        let kind = key.kind().ok_or(Fault::Unknown)?;
-        if bytes.is_empty() {
-            return Err(RowFault::from(Fault::Length));
-        }
-        let schema = Schema::of(kind, bytes[0]).ok_or(Fault::Schema)?;
-        if !has_length(schema, bytes) {
-            return Err(RowFault::from(Fault::Length));
-        }
-        let row = said_at(alloc, schema, bytes)?;
-        if !is_known(tree, key, &row) {
-            return Err(RowFault::from(Fault::Unknown));
-        }
-        Ok(row)
+        tested(alloc, tree, key, bytes)
     }
+}
+
+fn tested(alloc: Global, tree: &Tree, key: Key, bytes: &[u8]) -> Result<Row, RowFault>
+    ensures { spec.Reads result (spec.row_of tree.now key bytes.now) }
+{
+    let kind = key.kind().ok_or(Fault::Unknown)?;
+    if bytes.is_empty() {
+        return Err(RowFault::from(Fault::Length));
+    }
+    let schema = Schema::of(kind, bytes[0]).ok_or(Fault::Schema)?;
+    if !has_length(schema, bytes) {
+        return Err(RowFault::from(Fault::Length));
+    }
+    let row = said_at(alloc, schema, bytes)?;
+    if !is_known(tree, key, &row) {
+        return Err(RowFault::from(Fault::Unknown));
+    }
+    Ok(row)
 }
 
 /// Whether the row has the length that it says.

@@ -2,10 +2,10 @@ use crate::key::RowKind;
 
 /// How a row is written. Later schemas of a kind can say more.
 #[derive(Clone, Copy, Debug, PartialEq, Eq)]
-pub(crate) struct Schema {
-    pub(crate) kind: RowKind,
+pub struct Schema {
+    pub kind: RowKind,
     /// The first byte of the row.
-    pub(crate) number: u8,
+    pub number: u8,
 }
 
 impl RowKind {
@@ -28,7 +28,7 @@ impl Schema {
     ghost use Rattle.smi_stable.specs.Schema.{schema_of, has_modes, last_verb, most_pending_in};
 
     /// The schema of this number, where there is one.
-    pub(crate) fn of(kind: RowKind, number: u8) -> Option<Schema>
+    pub fn of(kind: RowKind, number: u8) -> Option<Schema>
         ensures { result ≡ schema_of kind number }
     {
         if 1 <= number && number <= kind.newest_schema() {
@@ -39,21 +39,21 @@ impl Schema {
     }
 
     /// Whether links have modes other than included.
-    pub(crate) fn has_modes(self) -> bool
+    pub fn has_modes(self) -> bool
         ensures { result ≡ has_modes self }
     {
         self.kind == RowKind::Domain && self.number == 2
     }
 
     /// The greatest verb of a command.
-    pub(crate) fn last_verb(self) -> u16
+    pub fn last_verb(self) -> u16
         ensures { result ≡ last_verb self }
     {
         if self.number == 1 { 3 } else { 5 }
     }
 
     /// How many commands of a link may be pending.
-    pub(crate) fn most_pending(self) -> usize
+    pub fn most_pending(self) -> usize
         ensures { result ≡ most_pending_in self }
     {
         if self.number == 3 { 8 } else { 1 }

@@ -1,5 +1,4 @@
-use Rattle.std.proofs.Common.{◌≡◌, ◌∷◌, [], ◌+◌, ◌≤◌, length, refl, ap, sym, ◌∙◌, arith, length-append}
-use Rattle.smi_stable.specs.Reading.{size_at}
+use Rattle.std.proofs.Common.{◌∷◌, [], length, refl, ap, sym, ◌∙◌, arith, length-append}
 use Rattle.smi_stable.proofs.Cutting.{cut-whole, cut-rest, one-link, no-link}
 use Rattle.smi_stable.proofs.read.links_at.Goals as goal
 
