@@ -17,6 +17,7 @@ mod ranges;
 mod read;
 mod row;
 mod schema;
+mod tally;
 
 pub use fault::{Fault, RowFault};
 pub use key::{Key, RowKind};
@@ -24,3 +25,4 @@ pub use layout::write_boot;
 pub use mode::Mode;
 pub use row::{DomainRow, OperatorRow, Row, StoredLink};
 pub use schema::Schema;
+pub use tally::Tally;
