@@ -3,6 +3,7 @@ pub mod Key
 pub mod Known
 pub mod Layout
 pub mod Listed
+pub mod Planned
 pub mod Ranges
 pub mod Reading
 pub mod Schema

@@ -120,6 +120,8 @@ impl Stable for MemoryStable {
 
     ghost saves = { λ s. s.saves };
 
+    ghost rests = { λ _ _ _ _ may. may };
+
     fn save(&mut self, key: Key, bytes: &[u8]) -> Result<(), StoreFault> {
         match self.put_row(key, bytes) {
             Ok(()) => Ok(()),

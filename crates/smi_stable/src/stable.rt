@@ -57,9 +57,8 @@ pub trait Stable {
         ensures saved { is_honest self.new → OnOk result (is_open self.new × IsSame (rows self.new) (with_row key bytes.now (rows self.old))) }
         ensures kept { is_honest self.new → IfNotSaved result (is_open self.old → is_open self.new × IsSame (rows self.new) (rows self.old)) }
         ensures unsure { is_honest self.new → is_open self.new → IfUnsure result (IsSame (rows self.new) (rows self.old) ⊎ IsSame (rows self.new) (with_row key bytes.now (rows self.old))) }
-        // A stop now leaves the rows as before or as saved, and in doubt only after `Unsure`.
+        // A stop now leaves the rows as before or as saved.
         ensures crash { is_honest self.new → is_open self.old → (r : Rows) → may_find self.new r → IsSame r (rows self.old) ⊎ IsSame r (with_row key bytes.now (rows self.old)) }
-        ensures durable { is_honest self.new → IfSure result (is_open self.old → (r : Rows) → may_find self.new r → IsSame r (rows self.new)) }
         ensures honest { is_honest self.new → is_honest self.old }
         ensures saves { saves self.new ≡ saves self.old + 1 }
         ensures failures { failures self.old ≤ failures self.new }
@@ -75,4 +74,7 @@ pub trait Stable {
         ensures saves { saves self.new ≡ saves self.old }
         ensures failures { failures self.old ≤ failures self.new }
         ensures cause { IfFailed result (failures self.old < failures self.new) };
+
+    // While the store is honest and open, a stop leaves its rows.
+    ghost rests: { (store : Self) → is_honest store → is_open store → (r : Rows) → may_find store r → IsSame r (rows store) };
 }
