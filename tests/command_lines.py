@@ -9,7 +9,8 @@ directory` reads the standard input from a directory, `to full` writes to a devi
 for the path of the worked tree file and for a path where there is none.
 
 After the table, a take is tried with each other value of each byte and in each length, against the
-layout in layout.py, and each tree file of trees.py. The last line is 'N passed, M failed'.
+layout in layout.py, each tree file of trees.py is checked, and each growth of some runs is refused in
+turn (growths.py). The last line is 'N passed, M failed'.
 """
 
 import os
@@ -17,6 +18,7 @@ import subprocess
 import sys
 import tempfile
 
+import growths
 import layout
 import trees
 
@@ -124,8 +126,13 @@ def main():
     cases += [variant_case(name, data) for name, data in variants(cases[0]["in"])]
     with tempfile.TemporaryDirectory() as folder:
         cases += tree_cases(folder)
-        passed = sum(holds(program, case) for case in cases)
-    failed = len(cases) - passed
+        done = [holds(program, case) for case in cases]
+        for name, held in growths.refused_cases(program, folder):
+            done.append(held)
+            if not held:
+                print("FAILED " + name)
+    passed = sum(done)
+    failed = len(done) - passed
     print("%d passed, %d failed" % (passed, failed))
     sys.exit(1 if failed else 0)
 

@@ -144,8 +144,46 @@ def limits():
     yield refused("a comment of 201 bytes", WORKED + "#" + 200 * "x" + "\r\n", 26, 10)
 
 
+def pairs():
+    """Lines with two faults: the one that is tested first is answered."""
+    begun = ["tree 1", "state S", "state T", "action A", "station P 10.0.0.1:1", "operator O P", "devclass D S", "move D S A T",
+             "unitclass U S", "accept U A", "domain M P U -"]
+    behind = len(begun) + 1
+    long = 200 * " "
+    for first, second, line in [
+            (10, 7, "tree 2"), (10, 1, "stat"), (10, 2, "state"), (10, 3, "state x"), (10, 8, "station Q 1.2.3:4"),
+            (10, 5, "operator N Q"), (10, 4, "state S"), (10, 9, "accept D A")]:
+        yield refused("%d before %d" % (first, second), begun + [line + long], behind, first)
+    for first, second, line in [
+            (7, 2, "tree 2 3"), (7, 3, "tree x"), (2, 3, "state x y"), (2, 8, "station Q 1.2.3:4 Z"), (2, 5, "operator N Q Z"),
+            (2, 4, "state S S"), (2, 9, "accept D A A"), (3, 8, "station q 1.2.3:4"), (3, 5, "operator N q"), (3, 5, "operator n Q"),
+            (3, 4, "device O M d"), (3, 9, "move U S A t"), (8, 4, "station P 1.2.3:4"), (5, 4, "operator O Q"),
+            (5, 4, "move D S A X"), (5, 4, "domain M Q U -"), (5, 4, "domain M P U X"), (5, 9, "move U S A X"), (5, 9, "any D X T"),
+            (5, 9, "domain N P D X"), (5, 9, "device N X U"), (4, 9, "device O M U"), (4, 9, "domain O P D -")]:
+        yield refused("%d before %d: %s" % (first, second, line), begun + [line], behind, first)
+    for first, second, line in [(7, 1, "stat"), (7, 2, "state"), (7, 3, "state x"), (7, 8, "station Q 1.2.3:4"), (7, 5, "operator N Q")]:
+        yield refused("a first line, %d before %d" % (first, second), [line], 1, first)
+    states = begun + numbered("state S%d", 3, 64)
+    domains = begun + numbered("domain M%d P U -", 2, 128)
+    devices = begun + numbered("device V%d M D", 1, 16)
+    operators = begun + numbered("operator O%d P", 2, 8)
+    rules = begun + ["any U S T"] * 32
+    for full, first, line in [
+            (states, 10, "state X" + long), (states, 7, "tree 2"), (states, 2, "state X Y"), (states, 3, "state x"), (states, 4, "state S"),
+            (domains, 5, "domain N P U X"), (domains, 4, "domain M P U -"), (domains, 9, "domain N P D -"),
+            (devices, 5, "device N M X"), (devices, 4, "device O M D"), (devices, 9, "device N M U"),
+            (operators, 5, "operator N Q"), (operators, 4, "operator M P"), (rules, 5, "all U S X"), (rules, 3, "all U S x")]:
+        yield refused("%d before 6: %s" % (first, line[:20]), full + [line], len(full) + 1, first)
+    for full, line in [(states, "state X"), (domains, "domain N P U -"), (devices, "device N M D"), (operators, "operator N P"), (rules, "all U S T")]:
+        yield refused("6: %s" % line, full + [line], len(full) + 1, 6)
+    stations = begun + numbered("station P%d 1.1.1.1:1", 2, 128)
+    yield refused("8 before 6", stations + ["station Q 1.2.3:4"], len(stations) + 1, 8)
+    yield refused("11 before 7", "stat\n" + 2622 * (99 * "x" + "\n"), 0, 11)
+
+
 def all_trees():
     """Each tree file: its name, its bytes, standard output, standard error and status."""
     yield from worked()
     yield from faults()
     yield from limits()
+    yield from pairs()

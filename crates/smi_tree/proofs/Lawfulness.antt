@@ -36,6 +36,10 @@ pub Always-unless : {Y : Type 0} (P : Y → Type 0) (b : Bool) (fault : Fault) (
 Always-unless P true fault r h = tt
 Always-unless P false fault r h = h refl
 
+pub Always-or : {X : Type 0} (P : X → Type 0) (b : Bool) (x : X) (r : Result X Fault) → P x → Always P r → Always P (cond b (Ok x) r)
+Always-or P true x r now later = now
+Always-or P false x r now later = later
+
 pub Always-where : {Y : Type 0} (P : Y → Type 0) (b : Bool) (fault : Fault) (r : Result Y Fault) →
     (b ≡ true → Always P r) → Always P (cond b r (Err fault))
 Always-where P true fault r h = h refl
@@ -63,6 +67,10 @@ slice_get-old : {X : Type 0} (rows : List X) (row other : X) (k : ℕ) → slice
 slice_get-old [] row other k h = cc
 slice_get-old (x ∷ rows) row other zero h = h
 slice_get-old (x ∷ rows) row other (suc k) h = slice_get-old rows row other k h
+
+pub no-entry : {X : Type 0} (n : ℕ) (row : X) → entry [] n ≡ Some row → ⊥
+no-entry zero row is = cc
+no-entry {X} (suc k) row is = let none : slice_get {X = X} [] k ≡ Some row = sym (entry-suc [] k) ∙ is in cc
 
 pub entry-push : {X : Type 0} (rows : List X) (row other : X) (n : ℕ) → entry (rows ++ row ∷ []) n ≡ Some other →
     (entry rows n ≡ Some other) ⊎ ((n ≡ length rows + 1) × (other ≡ row))

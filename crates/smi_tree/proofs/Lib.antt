@@ -1,5 +1,4 @@
 pub mod Cutting
-pub mod NameLemmas
 pub mod HierarchyLemmas
 pub mod Lines
 pub mod Lawfulness
@@ -9,3 +8,6 @@ pub mod TreeLemmas
 pub mod Ended
 pub mod Ways
 pub mod MoveLemmas
+pub mod NumberLemmas
+pub mod ActionLemmas
+pub mod NamedLemmas

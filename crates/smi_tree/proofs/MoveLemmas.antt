@@ -11,7 +11,7 @@ use Rattle.smi_tree.specs.Hierarchy.{move_in, is_move_at}
 use Rattle.smi_tree.specs.MoveIndex.{IsMoveIndex, same_key}
 use Rattle.smi_tree.specs.declared.row.Move.{Move}
 
-or-none : {X : Type 0} (r : Option X) → option_or r None ≡ r
+pub or-none : {X : Type 0} (r : Option X) → option_or r None ≡ r
 or-none (Some x) = refl
 or-none None = refl
 

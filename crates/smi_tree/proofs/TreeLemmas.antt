@@ -2,7 +2,7 @@
 use Rattle.std.proofs.Common.{◌≡◌, ℕ, suc, zero, ◌+◌, ◌≤◌, Bool, true, false, not, cond, List, [], ◌∷◌, length, Some, None, Result, Ok, Err, refl, ap, ◌∙◌, sym, subst, ◌⊎◌, inl, inr, arith}
 use Rattle.std.proofs.lemmas.Bool.Decides.{nat_tests}
 use Rattle.std.specs.Prelude.{◌==◌, nat_le, nat_lt, ok_or, option_and_then, slice_get, ◌&&◌}
-use Rattle.smi_tree.proofs.Lawfulness.{Always, Always-then, Always-unless, entry-suc}
+use Rattle.smi_tree.proofs.Lawfulness.{Always, Always-then, Always-unless, Always-or, entry-suc, no-entry}
 use Rattle.smi_tree.proofs.Kept.{always-at, known-some, both-left, both-right, lawful-state, lawful-action, lawful-station, lawful-operator, lawful-class, lawful-move, lawful-accepted, lawful-rule, lawful-domain, lawful-device}
 use Rattle.smi_tree.specs.Text.{words}
 use Rattle.smi_tree.specs.Number.{number_within, is_number, decimal}
@@ -12,6 +12,8 @@ use Rattle.smi_tree.proofs.HierarchyLemmas.{ancestors-none}
 use Rattle.smi_tree.specs.Hierarchy.{Hierarchy, undeclared, entry, parent_in}
 use Rattle.smi_tree.specs.declared.row.Domain.{Domain}
 use Rattle.smi_tree.specs.Additions.{with_declaration, with_words_of}
+use Rattle.smi_tree.specs.Named.{IsNamed}
+use Rattle.smi_tree.proofs.NamedLemmas.{named-line, named-undeclared}
 use Rattle.smi_tree.specs.Lawful.{IsBetween, IsLawful, IsTree}
 use Rattle.smi_tree.specs.File.{is_comment, is_tree, is_begun, is_out_of_place, with_words, with_line, with_lines, go_on, has_one, is_complete}
 use Rattle.smi_tree.specs.declared.fault.Fault.{Fault}
@@ -165,10 +167,6 @@ in-place h word placed = go (is_begun h) (is_tree word) refl placed
     go false true is placed = inr refl
     go false false is placed = cc
 
-Always-or : {X : Type 0} (P : X → Type 0) (b : Bool) (x : X) (r : Result X Fault) → P x → Always P r → Always P (cond b (Ok x) r)
-Always-or P true x r now later = now
-Always-or P false x r now later = later
-
 tree-keyword : (word : List ℕ) (k : Keyword) → is_tree word ≡ true → keyword_of word ≡ Some k → k ≡ keyword.Tree
 tree-keyword word k tree is = let first : Some keyword.Tree ≡ Some k = rw tree at is in cc
 
@@ -192,20 +190,18 @@ abbrev AlwaysRead : (Hierarchy → Type 0) → Result Hierarchy TreeFault → Ty
 AlwaysRead P (Ok h) = P h
 AlwaysRead P (Err fault) = Unit {0}
 
-lawful-lines : (ls : List (List ℕ)) (number : ℕ) (h : Hierarchy) → IsLawful h → AlwaysRead IsLawful (with_lines number h ls)
+-- what each line keeps, all lines keep
+kept-lines : (P : Hierarchy → Type 0) → ((h : Hierarchy) (line : List ℕ) → P h → Always P (with_line h line)) →
+    (ls : List (List ℕ)) (number : ℕ) (h : Hierarchy) → P h → AlwaysRead P (with_lines number h ls)
 unfolding with_lines
-lawful-lines [] number h old = old
-lawful-lines (line ∷ more) number h old = go (with_line h line) (lawful-line h line old) (λ next. lawful-lines more (number + 1) next)
+kept-lines P step [] number h old = old
+kept-lines P step (line ∷ more) number h old = go (with_line h line) (step h line old) (λ next. kept-lines P step more (number + 1) next)
   where
-    go : (r : Result Hierarchy Fault) → Always IsLawful r →
-        ((next : Hierarchy) → IsLawful next → AlwaysRead IsLawful (with_lines (number + 1) next more)) →
-        AlwaysRead IsLawful (go_on number (λ next. with_lines (number + 1) next more) r)
+    go : (r : Result Hierarchy Fault) → Always P r →
+        ((next : Hierarchy) → P next → AlwaysRead P (with_lines (number + 1) next more)) →
+        AlwaysRead P (go_on number (λ next. with_lines (number + 1) next more) r)
     go (Ok next) fits later = later next fits
     go (Err fault) fits later = tt
-
-no-entry : {X : Type 0} (n : ℕ) (row : X) → entry [] n ≡ Some row → ⊥
-no-entry zero row is = cc
-no-entry {X} (suc k) row is = let none : slice_get {X = X} [] k ≡ Some row = sym (entry-suc [] k) ∙ is in cc
 
 no-parent : (domain : ℕ) → parent_in [] domain ≡ None
 no-parent zero = refl
@@ -236,8 +232,8 @@ one-of : {X : Type 0} (xs : List X) → has_one xs ≡ true → 1 ≤ length xs
 one-of [] h = cc
 one-of (x ∷ xs) h = omega arith
 
-complete : (h : Hierarchy) → IsLawful h → is_complete h ≡ true → IsTree h
-complete h old all =
+complete : (h : Hierarchy) → IsLawful h → IsNamed h → is_complete h ≡ true → IsTree h
+complete h old named all =
     let not_stations = both-right (has_one h.station_names) (has_one h.operator_names && (has_one h.state_names && (has_one h.action_names && has_one h.domain_names))) all in
     let not_operators = both-right (has_one h.operator_names) (has_one h.state_names && (has_one h.action_names && has_one h.domain_names)) not_stations in
     let not_states = both-right (has_one h.state_names) (has_one h.action_names && has_one h.domain_names) not_operators in
@@ -250,12 +246,15 @@ complete h old all =
       stations = stations;
       operators = one-of h.operator_names (both-left (has_one h.operator_names) (has_one h.state_names && (has_one h.action_names && has_one h.domain_names)) not_stations);
       domains = one-of h.domain_names (both-right (has_one h.action_names) (has_one h.domain_names) not_states);
+      names = named;
     }
 
 -- what is read, once it is complete, is a tree
 pub IsTree-read : (ls : List (List ℕ)) (h : Hierarchy) → with_lines 1 undeclared ls ≡ Ok h → is_complete h ≡ true → IsTree h
-IsTree-read ls h is all = complete h (read (with_lines 1 undeclared ls) (lawful-lines ls 1 undeclared lawful-undeclared) is) all
+IsTree-read ls h is all = complete h
+    (read IsLawful (with_lines 1 undeclared ls) (kept-lines IsLawful lawful-line ls 1 undeclared lawful-undeclared) is)
+    (read IsNamed (with_lines 1 undeclared ls) (kept-lines IsNamed named-line ls 1 undeclared named-undeclared) is) all
   where
-    read : (r : Result Hierarchy TreeFault) → AlwaysRead IsLawful r → r ≡ Ok h → IsLawful h
-    read (Ok other) fits same = let e : other ≡ h = cc in subst IsLawful e fits
-    read (Err fault) fits same = cc
+    read : (P : Hierarchy → Type 0) (r : Result Hierarchy TreeFault) → AlwaysRead P r → r ≡ Ok h → P h
+    read P (Ok other) fits same = let e : other ≡ h = cc in subst P e fits
+    read P (Err fault) fits same = cc

@@ -3,6 +3,7 @@ use Rattle.std.specs.Prelude.{ℕ, ◌≡◌, ◌<◌, ◌≤◌, ◌==◌, List
 use Rattle.std.specs.List.{AllByRecursion}
 use Rattle.smi_tree.specs.ClassTable.{ClassTable}
 use Rattle.smi_tree.specs.Hierarchy.{Hierarchy, entry, is_child_of, is_device_of, depth_in}
+use Rattle.smi_tree.specs.Named.{IsNamed}
 use Rattle.smi_tree.specs.declared.declaration.ClassKind.{ClassKind}
 use Rattle.smi_tree.specs.declared.declaration.ClassKind.TheVariants as kind
 use Rattle.smi_tree.specs.declared.row.Rule.{Rule}
@@ -86,7 +87,7 @@ pub record IsLawful (h : Hierarchy) : Type 0 where
   pub domains : AreDomains (length h.station_names) h.classes h.domain_names h.domains
   pub devices : AreDevices (length h.domain_names) h.classes h.device_names h.devices
 
--- a tree: it has its number, and one of each kind at least
+-- a tree: it has its number, one of each kind at least, and no name twice
 pub record IsTree (h : Hierarchy) : Type 0 where
   pub lawful : IsLawful h
   pub number : 1 ≤ h.number
@@ -95,3 +96,4 @@ pub record IsTree (h : Hierarchy) : Type 0 where
   pub stations : 1 ≤ length h.station_names
   pub operators : 1 ≤ length h.operator_names
   pub domains : 1 ≤ length h.domain_names
+  pub names : IsNamed h

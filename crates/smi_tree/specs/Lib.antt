@@ -1,7 +1,6 @@
 pub mod Text
 pub mod Name
 pub mod Number
-pub mod Padded
 pub mod Fault
 pub mod Declaration
 pub mod ClassTable
@@ -11,6 +10,9 @@ pub mod File
 pub mod Rules
 pub mod Lookups
 pub mod Grouped
+pub mod Named
 pub mod Lawful
 pub mod Indexed
 pub mod MoveIndex
+pub mod NameIndex
+pub mod ActionIndex

@@ -40,50 +40,50 @@ pub enum Quantifier {
 }
 
 /// What one line declares, with its names as they are written.
-#[derive(Clone, Copy, Debug)]
-pub(crate) enum Declaration {
+#[derive(Debug, Drop)]
+pub(crate) enum Declaration<'a> {
     Tree(u16),
-    State(Name),
-    Action(Name),
+    State(Name<'a>),
+    Action(Name<'a>),
     Station {
-        name: Name,
+        name: Name<'a>,
         address: Address,
     },
     Operator {
-        name: Name,
-        station: Name,
+        name: Name<'a>,
+        station: Name<'a>,
     },
     Class {
         kind: ClassKind,
-        name: Name,
-        first: Name,
+        name: Name<'a>,
+        first: Name<'a>,
     },
     Move {
-        class: Name,
-        from: Name,
-        action: Name,
-        to: Name,
+        class: Name<'a>,
+        from: Name<'a>,
+        action: Name<'a>,
+        to: Name<'a>,
     },
     Accept {
-        class: Name,
-        action: Name,
+        class: Name<'a>,
+        action: Name<'a>,
     },
     Rule {
         quantifier: Quantifier,
-        class: Name,
-        state: Name,
-        target: Name,
+        class: Name<'a>,
+        state: Name<'a>,
+        target: Name<'a>,
     },
     Domain {
-        name: Name,
-        station: Name,
-        class: Name,
-        parent: Option<Name>,
+        name: Name<'a>,
+        station: Name<'a>,
+        class: Name<'a>,
+        parent: Option<Name<'a>>,
     },
     Device {
-        name: Name,
-        domain: Name,
-        class: Name,
+        name: Name<'a>,
+        domain: Name<'a>,
+        class: Name<'a>,
     },
 }
 
@@ -109,6 +109,7 @@ ghost use Rattle.smi_tree.specs.Declaration.{
 };
 
 /// The one word of a text.
+#[inline(always)]
 fn one(text: &[u8]) -> Result<&[u8], Fault>
     ensures { Gives (λ word. word.now) result (one (words text.now)) }
 {
@@ -121,6 +122,7 @@ fn one(text: &[u8]) -> Result<&[u8], Fault>
     }
 }
 
+#[inline(always)]
 fn two(text: &[u8]) -> Result<(&[u8], &[u8]), Fault>
     ensures { Gives (λ words. (words.0.now, words.1.now)) result (two (words text.now)) }
 {
@@ -131,6 +133,7 @@ fn two(text: &[u8]) -> Result<(&[u8], &[u8]), Fault>
     Ok((first, second))
 }
 
+#[inline(always)]
 fn three(text: &[u8]) -> Result<(&[u8], &[u8], &[u8]), Fault>
     ensures { Gives (λ words. (words.0.now, words.1.now, words.2.now)) result (three (words text.now)) }
 {
@@ -141,6 +144,7 @@ fn three(text: &[u8]) -> Result<(&[u8], &[u8], &[u8]), Fault>
     Ok((first, second, third))
 }
 
+#[inline(always)]
 fn four(text: &[u8]) -> Result<(&[u8], &[u8], &[u8], &[u8]), Fault>
     ensures { Gives (λ words. (words.0.now, words.1.now, words.2.now, words.3.now)) result (four (words text.now)) }
 {
@@ -177,22 +181,25 @@ impl Keyword {
     }
 }
 
-fn name(word: &[u8]) -> Result<Name, Fault>
+#[inline(always)]
+fn name(word: &[u8]) -> Result<Name<'_>, Fault>
     ensures { result ≡ name word.now }
 {
     Name::read(word).ok_or(Fault::Malformed)
 }
 
+#[inline(always)]
 #[tactic(auto, unfolding(crate::specs::Declaration::one_name))]
-fn one_name(text: &[u8]) -> Result<Name, Fault>
+fn one_name(text: &[u8]) -> Result<Name<'_>, Fault>
     ensures { result ≡ one_name (words text.now) }
 {
     let word = one(text)?;
     name(word)
 }
 
+#[inline(always)]
 #[tactic(auto, unfolding(crate::specs::Declaration::two_names))]
-fn two_names(text: &[u8]) -> Result<(Name, Name), Fault>
+fn two_names(text: &[u8]) -> Result<(Name<'_>, Name<'_>), Fault>
     ensures { result ≡ two_names (words text.now) }
 {
     let (first, second) = two(text)?;
@@ -201,8 +208,9 @@ fn two_names(text: &[u8]) -> Result<(Name, Name), Fault>
     Ok((first, second))
 }
 
+#[inline(always)]
 #[tactic(auto, unfolding(crate::specs::Declaration::three_names))]
-fn three_names(text: &[u8]) -> Result<(Name, Name, Name), Fault>
+fn three_names(text: &[u8]) -> Result<(Name<'_>, Name<'_>, Name<'_>), Fault>
     ensures { result ≡ three_names (words text.now) }
 {
     let (first, second, third) = three(text)?;
@@ -212,8 +220,9 @@ fn three_names(text: &[u8]) -> Result<(Name, Name, Name), Fault>
     Ok((first, second, third))
 }
 
+#[inline(always)]
 #[tactic(auto, unfolding(crate::specs::Declaration::four_names))]
-fn four_names(text: &[u8]) -> Result<(Name, Name, Name, Name), Fault>
+fn four_names(text: &[u8]) -> Result<(Name<'_>, Name<'_>, Name<'_>, Name<'_>), Fault>
     ensures { result ≡ four_names (words text.now) }
 {
     let (first, second, third, fourth) = four(text)?;
@@ -225,7 +234,7 @@ fn four_names(text: &[u8]) -> Result<(Name, Name, Name, Name), Fault>
 }
 
 #[tactic(auto, unfolding(crate::specs::Declaration::tree_line))]
-fn tree_line(text: &[u8]) -> Result<Declaration, Fault>
+fn tree_line(text: &[u8]) -> Result<Declaration<'_>, Fault>
     ensures { result ≡ tree_line (words text.now) }
 {
     let word = one(text)?;
@@ -234,7 +243,7 @@ fn tree_line(text: &[u8]) -> Result<Declaration, Fault>
 }
 
 #[tactic(auto, unfolding(crate::specs::Declaration::station_line))]
-fn station_line(text: &[u8]) -> Result<Declaration, Fault>
+fn station_line(text: &[u8]) -> Result<Declaration<'_>, Fault>
     ensures { result ≡ station_line (words text.now) }
 {
     let (own, address) = two(text)?;
@@ -245,7 +254,7 @@ fn station_line(text: &[u8]) -> Result<Declaration, Fault>
 
 /// The parent that a word names, none where it is a dash.
 #[tactic(auto, unfolding(crate::specs::Declaration::parent))]
-fn parent(word: &[u8]) -> Result<Option<Name>, Fault>
+fn parent(word: &[u8]) -> Result<Option<Name<'_>>, Fault>
     ensures { result ≡ parent word.now }
 {
     match word {
@@ -255,7 +264,7 @@ fn parent(word: &[u8]) -> Result<Option<Name>, Fault>
 }
 
 #[tactic(auto, unfolding(crate::specs::Declaration::domain_line))]
-fn domain_line(text: &[u8]) -> Result<Declaration, Fault>
+fn domain_line(text: &[u8]) -> Result<Declaration<'_>, Fault>
     ensures { result ≡ domain_line (words text.now) }
 {
     let (own, station, class, above) = four(text)?;
@@ -271,14 +280,14 @@ fn domain_line(text: &[u8]) -> Result<Declaration, Fault>
     })
 }
 
-fn class_line(kind: ClassKind, text: &[u8]) -> Result<Declaration, Fault>
+fn class_line(kind: ClassKind, text: &[u8]) -> Result<Declaration<'_>, Fault>
     ensures { result ≡ class_line kind (words text.now) }
 {
     let (name, first) = two_names(text)?;
     Ok(Declaration::Class { kind, name, first })
 }
 
-fn rule_line(quantifier: Quantifier, text: &[u8]) -> Result<Declaration, Fault>
+fn rule_line(quantifier: Quantifier, text: &[u8]) -> Result<Declaration<'_>, Fault>
     ensures { result ≡ rule_line quantifier (words text.now) }
 {
     let (class, state, target) = three_names(text)?;
@@ -290,7 +299,7 @@ fn rule_line(quantifier: Quantifier, text: &[u8]) -> Result<Declaration, Fault>
     })
 }
 
-impl Declaration {
+impl<'a> Declaration<'a> {
     ghost use Rattle.std.specs.Prelude.{◌≡◌};
     ghost use Rattle.smi_tree.specs.Text.{words};
     ghost use Rattle.smi_tree.specs.Declaration.{declaration_of};
@@ -298,7 +307,7 @@ impl Declaration {
     /// What the words behind a keyword declare.
     ///
     /// The count of words is tested first, and then each word from left to right.
-    pub(crate) fn read(keyword: Keyword, text: &[u8]) -> Result<Declaration, Fault>
+    pub(crate) fn read(keyword: Keyword, text: &'a [u8]) -> Result<Declaration<'a>, Fault>
         ensures { result ≡ declaration_of keyword (words text.now) }
     {
         match keyword {

@@ -39,10 +39,11 @@ const MOST_DEVICES: usize = 512;
 const MOST_DEVICES_OF_A_DOMAIN: usize = 16;
 
 /// The number of a name that has to stand above.
-fn known(names: &Names, name: Name) -> Result<u16, Fault>
-    ensures { result ≡ known names.now name }
+#[inline(always)]
+fn known(names: &Names, name: &Name) -> Result<u16, Fault>
+    ensures { result ≡ known names.now name.now }
 {
-    names.number(name.text()).ok_or(Fault::UnknownName)
+    names.number(name).ok_or(Fault::UnknownName)
 }
 
 fn count_of(homes: &[u16], home: u16) -> usize
@@ -138,19 +139,19 @@ impl Tables {
         }
     }
 
-    fn declare(&mut self, alloc: Global, declaration: &Declaration) -> Result<(), Refusal>
+    fn declare(&mut self, alloc: Global, declaration: &Declaration<'_>) -> Result<(), Refusal>
         ensures { Becomes self.new result (with_declaration self.old declaration.now) }
     {
-        match *declaration {
+        match declaration {
             Declaration::Tree(number) => {
-                self.number = number;
+                self.number = *number;
                 Ok(())
             }
             Declaration::State(name) => self.add_state(name),
             Declaration::Action(name) => self.add_action(name),
-            Declaration::Station { name, address } => self.add_station(name, address),
+            Declaration::Station { name, address } => self.add_station(name, *address),
             Declaration::Operator { name, station } => self.add_operator(name, station),
-            Declaration::Class { kind, name, first } => self.add_class(alloc, kind, name, first),
+            Declaration::Class { kind, name, first } => self.add_class(alloc, *kind, name, first),
             Declaration::Move {
                 class,
                 from,
@@ -163,7 +164,7 @@ impl Tables {
                 class,
                 state,
                 target,
-            } => self.add_rule(quantifier, class, state, target),
+            } => self.add_rule(*quantifier, class, state, target),
             Declaration::Domain {
                 name,
                 station,
@@ -179,31 +180,31 @@ impl Tables {
     }
 
     /// Whether a domain, a device or an operator has this name.
-    fn is_taken(&self, name: Name) -> bool
-        ensures { result ≡ is_taken self.now name }
+    fn is_taken(&self, name: &Name) -> bool
+        ensures { result ≡ is_taken self.now name.now }
     {
-        self.operator_names.number(name.text()).is_some()
-            || self.domain_names.number(name.text()).is_some()
-            || self.device_names.number(name.text()).is_some()
+        self.operator_names.number(name).is_some()
+            || self.domain_names.number(name).is_some()
+            || self.device_names.number(name).is_some()
     }
 
     #[tactic(auto, unfolding(crate::specs::Additions::with_state))]
-    fn add_state(&mut self, name: Name) -> Result<(), Refusal>
-        ensures { Becomes self.new result (with_state self.old name) }
+    fn add_state(&mut self, name: &Name) -> Result<(), Refusal>
+        ensures { Becomes self.new result (with_state self.old name.now) }
     {
         self.state_names.add(name, MOST_STATES)
     }
 
     #[tactic(auto, unfolding(crate::specs::Additions::with_action))]
-    fn add_action(&mut self, name: Name) -> Result<(), Refusal>
-        ensures { Becomes self.new result (with_action self.old name) }
+    fn add_action(&mut self, name: &Name) -> Result<(), Refusal>
+        ensures { Becomes self.new result (with_action self.old name.now) }
     {
         self.action_names.add(name, MOST_ACTIONS)
     }
 
     #[tactic(auto, unfolding(crate::specs::Additions::with_station))]
-    fn add_station(&mut self, name: Name, address: Address) -> Result<(), Refusal>
-        ensures { Becomes self.new result (with_station self.old name address) }
+    fn add_station(&mut self, name: &Name, address: Address) -> Result<(), Refusal>
+        ensures { Becomes self.new result (with_station self.old name.now address) }
     {
         self.station_names.add(name, MOST_STATIONS)?;
         self.addresses.push(address)?;
@@ -211,8 +212,8 @@ impl Tables {
     }
 
     #[tactic(auto, unfolding(crate::specs::Additions::with_operator))]
-    fn add_operator(&mut self, name: Name, station: Name) -> Result<(), Refusal>
-        ensures { Becomes self.new result (with_operator self.old name station) }
+    fn add_operator(&mut self, name: &Name, station: &Name) -> Result<(), Refusal>
+        ensures { Becomes self.new result (with_operator self.old name.now station.now) }
     {
         let home = known(&self.station_names, station)?;
         if self.is_taken(name) {
@@ -233,10 +234,10 @@ impl Tables {
         &mut self,
         alloc: Global,
         kind: ClassKind,
-        name: Name,
-        first: Name,
+        name: &Name,
+        first: &Name,
     ) -> Result<(), Refusal>
-        ensures { Becomes self.new result (with_class self.old kind name first) }
+        ensures { Becomes self.new result (with_class self.old kind name.now first.now) }
     {
         let first = known(&self.state_names, first)?;
         self.class_names.add(name, MOST_CLASSES)?;
@@ -246,8 +247,8 @@ impl Tables {
 
     /// The number and the table of a class that has to stand above.
     #[tactic(auto, unfolding(crate::specs::Additions::known_class))]
-    fn known_class(&self, name: Name) -> Result<(u16, &Class), Fault>
-        ensures found { Gives (λ found. (found.0, found.1.now)) result (known_class self.now name) }
+    fn known_class(&self, name: &Name) -> Result<(u16, &Class), Fault>
+        ensures found { Gives (λ found. (found.0, found.1.now)) result (known_class self.now name.now) }
         ensures row { IfOk result (λ found. IsEntry self.now.classes found.0 found.1.now) }
     {
         let class = known(&self.class_names, name)?;
@@ -256,8 +257,14 @@ impl Tables {
     }
 
     #[tactic(auto, unfolding(crate::specs::Additions::with_move))]
-    fn add_move(&mut self, class: Name, from: Name, action: Name, to: Name) -> Result<(), Refusal>
-        ensures { Becomes self.new result (with_move self.old class from action to) }
+    fn add_move(
+        &mut self,
+        class: &Name,
+        from: &Name,
+        action: &Name,
+        to: &Name,
+    ) -> Result<(), Refusal>
+        ensures { Becomes self.new result (with_move self.old class.now from.now action.now to.now) }
     {
         let (class, table) = self.known_class(class)?;
         let kind = table.kind;
@@ -280,8 +287,8 @@ impl Tables {
     }
 
     #[tactic(auto, unfolding(crate::specs::Additions::with_accepted))]
-    fn accept(&mut self, class: Name, action: Name) -> Result<(), Refusal>
-        ensures { Becomes self.new result (with_accepted self.old class action) }
+    fn accept(&mut self, class: &Name, action: &Name) -> Result<(), Refusal>
+        ensures { Becomes self.new result (with_accepted self.old class.now action.now) }
     {
         let (class, table) = self.known_class(class)?;
         let action = known(&self.action_names, action)?;
@@ -300,11 +307,11 @@ impl Tables {
     fn add_rule(
         &mut self,
         quantifier: Quantifier,
-        class: Name,
-        state: Name,
-        target: Name,
+        class: &Name,
+        state: &Name,
+        target: &Name,
     ) -> Result<(), Refusal>
-        ensures { Becomes self.new result (with_rule self.old quantifier class state target) }
+        ensures { Becomes self.new result (with_rule self.old quantifier class.now state.now target.now) }
     {
         let (class, table) = self.known_class(class)?;
         let state = known(&self.state_names, state)?;
@@ -326,8 +333,8 @@ impl Tables {
 
     /// The number of a parent that has to stand above, where there is one.
     #[tactic(auto, unfolding(crate::specs::Additions::known_parent))]
-    fn known_parent(&self, parent: Option<Name>) -> Result<Option<u16>, Fault>
-        ensures { result ≡ known_parent self.now parent }
+    fn known_parent(&self, parent: &Option<Name>) -> Result<Option<u16>, Fault>
+        ensures { result ≡ known_parent self.now parent.now }
     {
         match parent {
             Some(name) => Ok(Some(known(&self.domain_names, name)?)),
@@ -352,12 +359,12 @@ impl Tables {
     #[tactic(auto, unfolding(crate::specs::Additions::with_domain))]
     fn add_domain(
         &mut self,
-        name: Name,
-        station: Name,
-        class: Name,
-        parent: Option<Name>,
+        name: &Name,
+        station: &Name,
+        class: &Name,
+        parent: &Option<Name>,
     ) -> Result<(), Refusal>
-        ensures { Becomes self.new result (with_domain self.old name station class parent) }
+        ensures { Becomes self.new result (with_domain self.old name.now station.now class.now parent.now) }
     {
         let station = known(&self.station_names, station)?;
         let (class, table) = self.known_class(class)?;
@@ -382,8 +389,8 @@ impl Tables {
     }
 
     #[tactic(auto, unfolding(crate::specs::Additions::with_device))]
-    fn add_device(&mut self, name: Name, domain: Name, class: Name) -> Result<(), Refusal>
-        ensures { Becomes self.new result (with_device self.old name domain class) }
+    fn add_device(&mut self, name: &Name, domain: &Name, class: &Name) -> Result<(), Refusal>
+        ensures { Becomes self.new result (with_device self.old name.now domain.now class.now) }
     {
         let domain = known(&self.domain_names, domain)?;
         let (class, table) = self.known_class(class)?;

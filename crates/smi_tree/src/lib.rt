@@ -10,6 +10,7 @@
 //! target of the first rule that holds over its members.
 #![tactic(auto)]
 
+mod actions;
 mod declaration;
 mod declare;
 mod fault;

@@ -1,62 +1,151 @@
-//! Names, and lists of names that are found by name and by number.
+//! Names: as they are read, and as they are kept.
+
+ghost use Rattle.std.specs.Prelude.{nat_eq, [], ◌∷◌};
+ghost use Rattle.std.specs.Str.{bytes_eq};
+ghost use Rattle.std.specs.Cmp.{partial_equiv_from_equiv};
+ghost use Rattle.std.specs.Cmp.Lexicographic.{nat_list_eq_equiv};
+ghost use Rattle.std.specs.Cmp.Rules.{hashing};
+ghost use Rattle.std.proofs.Common.{rules};
 
 use crate::number::is_digit;
+use std::alloc::{AllocError, Global};
+use std::collections::hash_map::Equivalent;
+use std::hash::{Hash, Hasher};
 use std::marker::Model;
 
 /// The most bytes of a name.
 const MOST_BYTES: usize = 16;
 
-/// A name: 1 to 16 bytes of `A` to `Z`, `0` to `9` and `_`, the first a letter.
-///
-/// It is kept in place, filled up with zeros.
-#[derive(Clone, Copy, Debug, PartialEq, Eq, Hash)]
-pub(crate) struct Name {
-    bytes: [u8; MOST_BYTES],
-    /// How many of them are the name's.
-    used: u8,
+/// A text that is looked up among names, or read as one.
+#[derive(Debug, Drop)]
+pub(crate) struct Name<'a> {
+    text: &'a [u8],
 }
 
-impl Model for Name {
-    ghost use Rattle.std.specs.Prelude.{ℕ, ◌-◌, List, ◌++◌, length, take, replicate};
+impl<'a> Model for Name<'a> {
+    ghost use Rattle.std.specs.Prelude.{ℕ, List};
 
     ghost Value = { List ℕ };
 
-    ghost view = { λ n. take n.used n.bytes };
-
-    ghost use Rattle.smi_tree.specs.Padded.{IsPadded, padded, unpadded};
-
-    ghost invariant = { λ n. IsPadded n.bytes n.used };
-
-    ghost inverse = { padded };
-
-    ghost inverse_ok = { unpadded };
+    ghost view = { λ n. n.text.now };
 }
 
-impl Name {
-    ghost use Rattle.std.specs.Prelude.{◌≡◌};
+/// A name that is kept.
+#[derive(Debug, Drop)]
+pub(crate) struct NameBuf {
+    text: Vec<u8>,
+}
+
+impl Model for NameBuf {
+    ghost use Rattle.std.specs.Prelude.{ℕ, List};
+
+    ghost Value = { List ℕ };
+
+    ghost view = { λ n. n.text.items };
+}
+
+impl<'a> PartialEq for Name<'a> {
+    ghost eq = { bytes_eq };
+
+    ghost laws = { partial_equiv_from_equiv nat_list_eq_equiv };
+
+    fn eq(&self, other: &Name<'a>) -> bool {
+        self.text == other.text
+    }
+}
+
+impl<'a> Eq for Name<'a> {
+    ghost laws = { nat_list_eq_equiv };
+}
+
+impl<'a> Hash for Name<'a> {
+    ghost hash_input = { λ n. n ∷ [] };
+
+    ghost respects_eq = { Prim.search (hashing, rules) };
+
+    fn hash<H: Hasher>(&self, state: &mut H) {
+        state.write(self.text);
+    }
+}
+
+impl PartialEq for NameBuf {
+    ghost eq = { bytes_eq };
+
+    ghost laws = { partial_equiv_from_equiv nat_list_eq_equiv };
+
+    fn eq(&self, other: &NameBuf) -> bool {
+        self.text() == other.text()
+    }
+}
+
+impl Eq for NameBuf {
+    ghost laws = { nat_list_eq_equiv };
+}
+
+impl Hash for NameBuf {
+    ghost hash_input = { λ n. n ∷ [] };
+
+    ghost respects_eq = { Prim.search (hashing, rules) };
+
+    fn hash<H: Hasher>(&self, state: &mut H) {
+        state.write(self.text());
+    }
+}
+
+impl<'a, 'b> Equivalent<NameBuf> for &'b Name<'a> {
+    ghost equivalent = { λ name. bytes_eq name.now };
+
+    ghost respects_hash = { Prim.search (hashing, rules) };
+
+    ghost respects_eq = { λ name. nat_list_eq_equiv.congr name.now };
+
+    fn equivalent(&self, key: &NameBuf) -> bool {
+        self.text == key.text()
+    }
+}
+
+impl<'a> Name<'a> {
+    ghost use Rattle.std.specs.Prelude.{◌≡◌, IfOk};
     ghost use Rattle.smi_tree.specs.Name.{name_of};
 
-    /// The name that a word is, where it is one.
-    pub(crate) fn read(word: &[u8]) -> Option<Name>
-        ensures { result ≡ name_of word.now }
+    /// Any text.
+    pub(crate) fn of(text: &'a [u8]) -> Name<'a>
+        ensures { result ≡ text.now }
     {
-        if !is_name(word) {
-            return None;
-        }
-        let mut bytes = [0; MOST_BYTES];
-        bytes[..word.len()].copy_from_slice(word);
-        Some(Name {
-            bytes,
-            used: word.len() as u8,
-        })
+        Name { text }
     }
 
+    /// The name that a word is, where it is one: 1 to 16 bytes of `A` to `Z`, `0` to `9` and `_`, the first a letter.
+    #[inline(always)]
+    pub(crate) fn read(word: &'a [u8]) -> Option<Name<'a>>
+        ensures { result ≡ name_of word.now }
+    {
+        if is_name(word) {
+            Some(Name::of(word))
+        } else {
+            None
+        }
+    }
+
+    /// The same name, to be kept.
+    pub(crate) fn to_owned(&self, alloc: Global) -> Result<NameBuf, AllocError>
+        ensures { IfOk result (λ kept. kept ≡ self.now) }
+    {
+        Ok(NameBuf {
+            text: self.text.to_vec(alloc)?,
+        })
+    }
+}
+
+impl NameBuf {
+    ghost use Rattle.std.specs.Prelude.{◌≡◌};
+
     /// The bytes of the name.
+    #[inline(always)]
     pub(crate) fn text(&self) -> &[u8]
         ensures { result.now ≡ self.now }
     {
-        let (text, _) = self.bytes.split_at(usize::from(self.used));
-        text
+        self.text.as_slice()
     }
 }
 

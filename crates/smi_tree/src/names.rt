@@ -6,28 +6,32 @@ ghost use Rattle.smi_tree.specs.Fault.{Becomes};
 ghost use Rattle.smi_tree.specs.Name.{number_of};
 
 use crate::fault::{Fault, Refusal};
-use crate::name::Name;
+use crate::name::{Name, NameBuf};
 use std::alloc::{AllocError, Global};
+use std::collections::HashMap;
 use std::marker::Model;
 
-/// Names, numbered from 1 in the order in which they came.
+/// Names, numbered from 1 in the order in which they came, each there once.
 #[derive(Debug, Drop)]
 pub(crate) struct Names {
-    names: Vec<Name>,
+    names: Vec<NameBuf>,
+    numbers: HashMap<NameBuf, u16>,
 }
 
 impl Model for Names {
-    ghost use Rattle.std.specs.Prelude.{ℕ, ◌<◌, ◌^◌, List, length};
+    ghost use Rattle.std.specs.Prelude.{ℕ, List};
 
     ghost Value = { List (List ℕ) };
 
     ghost view = { λ n. n.names.items };
 
-    ghost invariant = { λ n. length n.names.items < 2 ^ 16 };
+    ghost use Rattle.smi_tree.specs.NameIndex.{IsNameIndex};
+
+    ghost invariant = { λ n. IsNameIndex n.names.items n.numbers };
 }
 
 impl Names {
-    ghost use Rattle.std.specs.Prelude.{ℕ, ◌≡◌, ◌+◌, ◌<◌, ◌≤◌, ◌^◌, [], ◌∷◌, ◌++◌, length, IfSome, OnOk};
+    ghost use Rattle.std.specs.Prelude.{ℕ, ◌≡◌, ◌+◌, ◌<◌, ◌≤◌, ◌^◌, [], ◌∷◌, ◌++◌, length, IfSome, OnOk, None};
     ghost use Rattle.smi_tree.specs.Lawful.{IsBetween};
     ghost use Rattle.smi_tree.specs.Fault.{Becomes};
     ghost use Rattle.smi_tree.specs.Name.{number_of, added};
@@ -38,6 +42,7 @@ impl Names {
     {
         Names {
             names: Vec::new(alloc),
+            numbers: HashMap::new(alloc),
         }
     }
 
@@ -49,16 +54,11 @@ impl Names {
     }
 
     /// The number of a name, where it is there.
-    pub(crate) fn number(&self, name: &[u8]) -> Option<u16>
+    pub(crate) fn number(&self, name: &Name) -> Option<u16>
         ensures place { result ≡ number_of self.now name.now }
         ensures within { IfSome result (IsBetween 1 (length self.now)) }
     {
-        for (place, other) in self.names.iter().enumerate() {
-            if name == other.text() {
-                return Some(place as u16 + 1);
-            }
-        }
-        None
+        self.numbers.get(name).copied()
     }
 
     /// The name of a number.
@@ -71,11 +71,11 @@ impl Names {
     }
 
     /// Puts a name at the end, where it is new and there is room for one more.
-    pub(crate) fn add(&mut self, name: Name, limit: usize) -> Result<(), Refusal>
+    pub(crate) fn add(&mut self, name: &Name, limit: usize) -> Result<(), Refusal>
         requires { limit < 2 ^ 16 }
-        ensures { Becomes self.new result (added limit self.old name) }
+        ensures { Becomes self.new result (added limit self.old name.now) }
     {
-        if self.number(name.text()).is_some() {
+        if self.number(name).is_some() {
             return Err(Refusal::Faulty(Fault::Twice));
         }
         if self.names.len() >= limit {
@@ -85,12 +85,21 @@ impl Names {
         Ok(())
     }
 
-    /// Puts a name at the end.
-    pub(crate) fn push(&mut self, name: Name) -> Result<(), AllocError>
-        requires { length self.old + 1 < 2 ^ 16 }
-        ensures { OnOk result (self.new ≡ self.old ++ name ∷ []) }
+    /// Puts a new name at the end.
+    pub(crate) fn push(&mut self, name: &Name) -> Result<(), AllocError>
+        requires few { length self.old + 1 < 2 ^ 16 }
+        requires absent { number_of self.old name.now ≡ None }
+        ensures { OnOk result (self.new ≡ self.old ++ name.now ∷ []) }
     {
-        self.names.push(name)?;
+        let alloc = *self.names.allocator();
+        let key = name.to_owned(alloc)?;
+        let kept = name.to_owned(alloc)?;
+        self.names.push(kept)?;
+        let number = self.names.len() as u16;
+        if let Err(refused) = self.numbers.insert(key, number) {
+            self.names.pop();
+            return Err(refused.into());
+        }
         Ok(())
     }
 }

@@ -1,5 +1,6 @@
 //! What the numbers of a hierarchy stand for.
 
+use crate::actions::Actions;
 use crate::declaration::{ClassKind, Quantifier};
 use crate::rule::state_by;
 use std::alloc::{AllocError, Global};
@@ -42,7 +43,7 @@ pub struct Device {
 pub(crate) struct Class {
     pub(crate) kind: ClassKind,
     pub(crate) first: u16,
-    pub(crate) accepted: Vec<u16>,
+    pub(crate) accepted: Actions,
     pub(crate) rules: Vec<Rule>,
 }
 
@@ -51,7 +52,7 @@ impl Model for Class {
 
     ghost Value = { ClassTable };
 
-    ghost view = { λ c. record { kind = c.kind; first = c.first; accepted = c.accepted.items; rules = c.rules.items } };
+    ghost view = { λ c. record { kind = c.kind; first = c.first; accepted = c.accepted; rules = c.rules.items } };
 }
 
 impl Class {
@@ -66,7 +67,7 @@ impl Class {
         Class {
             kind,
             first,
-            accepted: Vec::new(alloc),
+            accepted: Actions::new(alloc),
             rules: Vec::new(alloc),
         }
     }
@@ -80,7 +81,7 @@ impl Class {
     pub(crate) fn accepts(&self, action: u16) -> bool
         ensures { result ≡ list_any (λ other. other == action) self.now.accepted }
     {
-        self.accepted.iter().any(|other| *other == action)
+        self.accepted.contains(action)
     }
 
     pub(crate) fn rule_count(&self) -> usize

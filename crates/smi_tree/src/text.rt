@@ -19,6 +19,7 @@ impl Mark {
     ghost use Rattle.std.specs.Prelude.{◌≡◌};
     ghost use Rattle.smi_tree.specs.Text.{cuts};
 
+    #[inline(always)]
     fn is_at(self, byte: u8) -> bool
         ensures { result ≡ cuts self byte }
     {
@@ -32,6 +33,7 @@ impl Mark {
 }
 
 /// How many bytes stand before the first mark of a text, all where there is none.
+#[inline(always)]
 pub(crate) fn length_before(text: &[u8], mark: Mark) -> usize
     ensures place { result ≡ position_or_len (cuts mark) text.now }
     ensures within { result ≤ length text.now }
@@ -75,6 +77,7 @@ fn without_return(line: &[u8]) -> &[u8]
 }
 
 /// The first word of a line, and what follows it.
+#[inline(always)]
 pub(crate) fn first_word(line: &[u8]) -> Option<(&[u8], &[u8])>
     ensures { MatchOption result (words line.now ≡ []) (λ cut. words line.now ≡ cut.0.now ∷ words cut.1.now) }
 {

@@ -2,6 +2,7 @@
 
 use crate::fault::{Fault, TreeFault};
 use crate::groups::grouped;
+use crate::name::Name;
 use crate::read::read_lines;
 use crate::tables::Tables;
 use std::alloc::{AllocError, Global};
@@ -227,7 +228,7 @@ impl Tree {
         ensures number { result ≡ number_of self.now.state_names name.now }
         ensures within { IfSome result (IsBetween 1 (state_count self.now)) }
     {
-        self.tables.state_names.number(name)
+        self.tables.state_names.number(&Name::of(name))
     }
 
     /// The number of an action by its name.
@@ -235,7 +236,7 @@ impl Tree {
         ensures number { result ≡ number_of self.now.action_names name.now }
         ensures within { IfSome result (IsBetween 1 (action_count self.now)) }
     {
-        self.tables.action_names.number(name)
+        self.tables.action_names.number(&Name::of(name))
     }
 
     /// The number of a station by its name.
@@ -243,7 +244,7 @@ impl Tree {
         ensures number { result ≡ number_of self.now.station_names name.now }
         ensures within { IfSome result (IsBetween 1 (station_count self.now)) }
     {
-        self.tables.station_names.number(name)
+        self.tables.station_names.number(&Name::of(name))
     }
 
     /// The number of an operator by its name.
@@ -251,7 +252,7 @@ impl Tree {
         ensures number { result ≡ number_of self.now.operator_names name.now }
         ensures within { IfSome result (IsBetween 1 (operator_count self.now)) }
     {
-        self.tables.operator_names.number(name)
+        self.tables.operator_names.number(&Name::of(name))
     }
 
     /// The number of a domain by its name.
@@ -259,7 +260,7 @@ impl Tree {
         ensures number { result ≡ number_of self.now.domain_names name.now }
         ensures within { IfSome result (IsBetween 1 (domain_count self.now)) }
     {
-        self.tables.domain_names.number(name)
+        self.tables.domain_names.number(&Name::of(name))
     }
 
     /// The number of a device by its name.
@@ -267,7 +268,7 @@ impl Tree {
         ensures number { result ≡ number_of self.now.device_names name.now }
         ensures within { IfSome result (IsBetween 1 (device_count self.now)) }
     {
-        self.tables.device_names.number(name)
+        self.tables.device_names.number(&Name::of(name))
     }
 
     /// The number of a unit or a device by its name.

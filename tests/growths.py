@@ -1,0 +1,47 @@
+"""Each growth of a run refused in turn: the program says so and ends with status 4."""
+
+import os
+import subprocess
+
+HERE = os.path.dirname(os.path.abspath(__file__))
+EXAMPLES = os.path.join(HERE, "..", "examples")
+
+# The command's words, and the file of its standard input.
+RUNS = [
+    (["check", os.path.join(EXAMPLES, "worked.tree")], os.devnull),
+    (["check", os.path.join(EXAMPLES, "detector.tree")], os.devnull),
+    (["answer"], os.path.join(EXAMPLES, "one-domain.datagrams")),
+]
+MOST_GROWTHS = 100_000
+
+
+def library(folder):
+    """The library that refuses a growth."""
+    path = os.path.join(folder, "refuse.so")
+    subprocess.run(["cc", "-shared", "-fPIC", "-O1", "-o", path, os.path.join(HERE, "refuse.c")], check=True)
+    return path
+
+
+def run(program, words, source, settings):
+    with open(source, "rb") as file:
+        done = subprocess.run([program] + words, stdin=file, stdout=subprocess.PIPE, stderr=subprocess.PIPE,
+                              env=dict(os.environ, **settings), check=False)
+    return done.stdout, done.stderr, done.returncode
+
+
+def refused_cases(program, folder):
+    """Of each run and each of its growths: a name, and whether the program did as it should.
+
+    A run whose growth is refused writes no more than a part of what the whole run writes, says `no memory` and has
+    status 4. The first growth that no longer comes leaves a whole run.
+    """
+    refusing = library(folder)
+    for words, source in RUNS:
+        whole = run(program, words, source, {})
+        name = " ".join([words[0]] + [os.path.basename(word) for word in words[1:]])
+        for growth in range(1, MOST_GROWTHS):
+            out, err, status = run(program, words, source, {"LD_PRELOAD": refusing, "REFUSE": str(growth)})
+            if (out, err, status) == whole:
+                yield "%s: %d growths" % (name, growth - 1), growth > 1 and status == 0
+                break
+            yield "%s: growth %d" % (name, growth), (whole[0].startswith(out), err, status) == (True, b"no memory\n", 4)
