@@ -1,0 +1,28 @@
+-- What any link shows of its datagrams.
+use Rattle.std.specs.Prelude.{ℕ, ◌≡◌, ◌≤◌, ◌++◌, ◌∷◌, [], List, take, Option, Some, IfSome, Result, Ok, Err}
+use Rattle.smi_link.specs.declared.link.Reception.{Reception}
+use Rattle.smi_link.specs.declared.link.Reception.TheVariants.{Received, Nothing, Fault}
+
+-- the most bytes that a call of `receive` gives: one more than a datagram has
+abbrev pub most_bytes : ℕ
+most_bytes = 45
+
+-- a list grows by one where it is told
+abbrev pub Grows : {X : Type 0} → Option (List X) → Option (List X) → X → Type 0
+Grows old new x = IfSome old (λ xs. new ≡ Some (xs ++ x ∷ []))
+
+-- what was received grows by just what is given as received
+abbrev pub Receives : Option (List (List ℕ)) → Option (List (List ℕ)) → List ℕ → Reception → Type 0
+Receives old new buffer (Received n) = (n ≤ most_bytes) × Grows old new (take n buffer)
+Receives old new buffer Nothing = new ≡ old
+Receives old new buffer Fault = new ≡ old
+
+abbrev pub IsFault : Reception → Type 0
+IsFault (Received n) = ⊥
+IsFault Nothing = ⊥
+IsFault Fault = Unit {0}
+
+-- what was handed on grows by just what is taken
+abbrev pub Sends : {E : Type 0} → Option (List (ℕ × List ℕ)) → Option (List (ℕ × List ℕ)) → ℕ → List ℕ → Result (Unit {0}) E → Type 0
+Sends old new station datagram (Ok u) = Grows old new (station, datagram)
+Sends old new station datagram (Err e) = new ≡ old

@@ -1,0 +1,58 @@
+//! What a link is to whoever sends and receives over it.
+
+ghost use Rattle.std.specs.Prelude.{ℕ, List, Option, ◌≡◌, ◌≤◌, ◌<◌, OnErr};
+ghost use Rattle.smi_link.specs.Link.{Receives, Sends, IsFault};
+
+/// How many bytes a datagram has (docs/FORMATS.md, "Datagrams").
+pub const DATAGRAM_BYTES: usize = 44;
+
+/// How many bytes a call of [`DatagramLink::receive`] has room for: one more than a datagram has, so that
+/// a longer one is seen to be too long.
+pub const MOST_BYTES: usize = 45;
+
+/// What a call of [`DatagramLink::receive`] gives.
+#[derive(Clone, Copy, Debug, PartialEq, Eq)]
+pub enum Reception {
+    /// A whole datagram of so many bytes, or the first 45 bytes of a longer one.
+    Received(usize),
+    /// Nothing has come.
+    Nothing,
+    /// The link failed.
+    Fault,
+}
+
+/// A datagram could not be sent.
+#[derive(Clone, Copy, Debug, PartialEq, Eq)]
+pub struct LinkFault;
+
+/// A way to other stations, which may lose, repeat and reorder datagrams but never cuts or joins them.
+///
+/// Contracts see three things of a link. *Received* is the list of all that `receive` gave as received,
+/// and *handed* the list of the stations and datagrams for which `send` answered `Ok`; a link that does
+/// not tell its datagrams has none of the two. *Failures* is a count that has no last value: a fault
+/// comes only where it rose in that call.
+pub trait DatagramLink {
+    ghost received: { Self → Option (List (List ℕ)) };
+
+    ghost handed: { Self → Option (List (ℕ × List ℕ)) };
+
+    ghost failures: { Self → ℕ };
+
+    /// The next datagram, in the front of the buffer.
+    ///
+    /// After `Nothing` and `Fault` the rest of the buffer says nothing, and no datagram was taken.
+    fn receive(&mut self, buffer: &mut [u8; 45]) -> Reception
+        ensures received { Receives (received self.old) (received self.new) buffer.new result }
+        ensures handed { handed self.new ≡ handed self.old }
+        ensures counts { failures self.old ≤ failures self.new }
+        ensures fault { IsFault result → failures self.old < failures self.new };
+
+    /// Hands a datagram on to a station.
+    ///
+    /// That it was handed on does not say that it arrives. After a fault it is as if it had been lost.
+    fn send(&mut self, station: u16, datagram: &[u8; 44]) -> Result<(), LinkFault>
+        ensures handed { Sends (handed self.old) (handed self.new) station datagram.now result }
+        ensures received { received self.new ≡ received self.old }
+        ensures counts { failures self.old ≤ failures self.new }
+        ensures fault { OnErr result (failures self.old < failures self.new) };
+}

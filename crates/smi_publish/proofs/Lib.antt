@@ -1,0 +1,4 @@
+pub mod Acting
+pub mod Conditions
+pub mod DeviceNumbers
+pub mod FirstConditions

@@ -1,0 +1,24 @@
+//! The states and versions of a station's objects.
+//!
+//! A [`Publisher`] is made when a station starts: every unit and device that the station keeps is in
+//! its class's first state, at sequence 0 of the station's boot. After that an object changes in three
+//! ways: a device is told its state ([`Publisher::report`]), the devices of a domain move by an action
+//! ([`Publisher::run_action`]), and a unit follows the states of its members
+//! ([`Publisher::evaluate`]). What a step shows anew is gathered in [`Changes`].
+//!
+//! The layer above may rely on this: objects move by the tables of the tree and in no other way
+//! (docs/PROTOCOL.md, "States and versions"); a changed state adds 1 to the object's sequence and an
+//! unchanged one nothing; nothing is shown but what has changed; and only the making of a `Publisher`
+//! takes memory.
+#![tactic(auto)]
+
+mod changes;
+mod condition;
+mod opening;
+mod publisher;
+
+pub use changes::{Changes, MOST_CHANGES};
+pub use publisher::{LAST_SEQUENCE, Publisher};
+
+#[cfg(test)]
+mod tests;

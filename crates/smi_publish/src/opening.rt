@@ -1,0 +1,35 @@
+//! The condition of an object at its station's start.
+
+ghost use Rattle.std.specs.Prelude.{◌≡◌, ◌+◌, ◌≤◌, Some};
+ghost use Rattle.smi_tree.specs.Lookups.{domain_count, device_count};
+ghost use Rattle.smi_publish.specs.Publishing.{keeper_of, first_condition};
+
+use crate::condition::Condition;
+use smi_tree::Tree;
+
+/// The station that keeps an object.
+fn keeper_of(tree: &Tree, object: u16) -> u16
+    requires least { 1 ≤ object }
+    requires most { object ≤ domain_count tree.now + device_count tree.now }
+    ensures { keeper_of tree.now object ≡ Some result }
+{
+    let domains = tree.domain_count();
+    if object <= domains {
+        return tree.domain(object).station;
+    }
+    let device = tree.device(object - domains);
+    tree.domain(device.domain).station
+}
+
+/// The condition of an object at the start of a station, none where another one keeps it.
+pub(crate) fn first_condition(tree: &Tree, station: u16, object: u16) -> Option<Condition>
+    requires least { 1 ≤ object }
+    requires most { object ≤ domain_count tree.now + device_count tree.now }
+    ensures { result ≡ first_condition tree.now station object }
+{
+    if keeper_of(tree, object) != station {
+        return None;
+    }
+    let state = tree.first_state(object)?;
+    Some(Condition { state, sequence: 0 })
+}

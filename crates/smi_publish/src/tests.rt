@@ -1,0 +1,63 @@
+//! What the objects of the worked tree show.
+
+use crate::{Changes, Publisher};
+use smi_grant::{Shown, Version};
+use smi_tree::{Tree, TreeFault};
+use std::alloc::{AllocError, Global};
+use std::test::Fail;
+
+/// Two stations, a domain on each, one below the other, and a device in the lower one. Actions are 1
+/// `CONFIGURE`, 2 `START`, 3 `STOP`; states are 1 `OFF`, 2 `READY`, 3 `RUNNING`, 4 `ERROR`; objects are
+/// 1 `DCS`, 2 `TPC`, 3 `HV`.
+const WORKED: &[u8] =
+    b"tree 17\nstate OFF\nstate READY\nstate RUNNING\nstate ERROR\naction CONFIGURE\naction START\naction STOP\nstation A 127.0.0.1:9001\nstation B 127.0.0.1:9002\noperator ANN A\noperator BOB B\ndevclass DEV OFF\nmove DEV OFF CONFIGURE READY\nmove DEV READY START RUNNING\nunitclass UNIT OFF\naccept UNIT CONFIGURE\naccept UNIT START\nany UNIT ERROR ERROR\nall UNIT RUNNING RUNNING\nall UNIT READY READY\nall UNIT OFF OFF\ndomain DCS A UNIT -\ndomain TPC B UNIT DCS\ndevice HV TPC DEV\n";
+
+fn shown(object: u16, boot: u32, sequence: u32, state: u16) -> Shown {
+    Shown {
+        object,
+        version: Version { boot, sequence },
+        state,
+    }
+}
+
+#[test]
+fn configured_and_evaluated(rt: HostRuntime) -> Result<(), Fail> {
+    let tree = Tree::read(rt.alloc(), WORKED)?;
+    let mut publisher = Publisher::new(rt.alloc(), &tree, 2, 1)?;
+    assert!(rt; tree.domain_count() == 2);
+    assert_eq!(rt; publisher.current(1), None);
+    assert_eq!(rt; publisher.current(2), Some(shown(2, 1, 0, 1)));
+    assert_eq!(rt; publisher.current(3), Some(shown(3, 1, 0, 1)));
+    let mut changes = publisher.run_action(&tree, 2, 1);
+    assert!(rt; changes.as_slice() == [shown(3, 1, 1, 2)].as_slice());
+    assert!(rt; publisher.has_room(2));
+    let unit = publisher.evaluate(&tree, 2, &[2]);
+    assert_eq!(rt; unit, Some(shown(2, 1, 1, 2)));
+    changes.push(shown(2, 1, 1, 2));
+    assert_eq!(rt; changes.len(), 2);
+    assert!(rt; publisher.has_room(2));
+    assert_eq!(rt; publisher.evaluate(&tree, 2, &[2]), None);
+    assert!(rt; publisher.has_room(3));
+    assert_eq!(rt; publisher.report(3, 4), Some(shown(3, 1, 2, 4)));
+    assert!(rt; publisher.has_room(3));
+    assert_eq!(rt; publisher.report(3, 4), None);
+    assert_eq!(rt; publisher.current(3), Some(shown(3, 1, 2, 4)));
+    Ok(())
+}
+
+#[test]
+fn a_unit_whose_child_is_not_shown(rt: HostRuntime) -> Result<(), Fail> {
+    let tree = Tree::read(rt.alloc(), WORKED)?;
+    let mut publisher = Publisher::new(rt.alloc(), &tree, 1, 2)?;
+    assert!(rt; tree.domain_count() == 2);
+    assert!(rt; publisher.run_action(&tree, 1, 1).is_empty());
+    assert!(rt; publisher.has_room(1));
+    assert_eq!(rt; publisher.evaluate(&tree, 1, &[0]), None);
+    assert!(rt; publisher.has_room(1));
+    assert_eq!(rt; publisher.evaluate(&tree, 1, &[2]), Some(shown(1, 2, 1, 2)));
+    assert!(rt; publisher.has_room(3));
+    assert_eq!(rt; publisher.report(3, 2), None);
+    assert_eq!(rt; publisher.current(3), None);
+    assert!(rt; Changes::new().is_empty());
+    Ok(())
+}

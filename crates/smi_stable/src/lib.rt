@@ -1,0 +1,36 @@
+//! What a station keeps when it stops: its stable rows.
+//!
+//! A row has a [`Key`] and bytes. A station has a row for its boot, one for each of its domains and
+//! one for each of its operators; [`Row`] is what the bytes say, [`Row::read`] reads them, and
+//! [`write_boot`], [`DomainRow::write`] and [`OperatorRow::write`] write them. What is read is what
+//! was written: other bytes are refused, each by the first test that they fail.
+#![tactic(auto)]
+
+mod bytes;
+mod fault;
+mod key;
+mod known;
+mod layout;
+mod memory;
+mod mode;
+mod places;
+mod planned;
+mod ranges;
+mod read;
+mod row;
+mod saved;
+mod schema;
+mod stable;
+mod tally;
+
+pub use fault::{Fault, RowFault};
+pub use key::{Key, RowKind};
+pub use layout::write_boot;
+pub use memory::MemoryStable;
+pub use mode::Mode;
+pub use planned::{Plan, PlannedStable};
+pub use row::{DomainRow, OperatorRow, Row, StoredLink};
+pub use saved::SavedRow;
+pub use schema::Schema;
+pub use stable::{Stable, StoreFault};
+pub use tally::Tally;

@@ -1,0 +1,142 @@
+//! A store whose saves fail as planned.
+
+ghost use Rattle.std.specs.Prelude.{◌≡◌, ◌+◌};
+ghost use Rattle.smi_stable.specs.Planned.{due_of, left_of};
+
+use crate::key::Key;
+use crate::saved::SavedRow;
+use crate::stable::{Stable, StoreFault};
+use crate::tally::Tally;
+
+/// How a save fails.
+#[derive(Clone, Copy, Debug, PartialEq, Eq)]
+pub enum Plan {
+    /// As `Device`: the row is as before.
+    Device,
+    /// As `Unsure`, before the row was saved.
+    Before,
+    /// As `Unsure`, after the row was saved.
+    After,
+}
+
+/// A save that is planned to fail.
+#[derive(Clone, Copy, Debug, PartialEq, Eq)]
+pub struct Planned {
+    /// Which save from now, from 1.
+    pub nth: u64,
+    pub plan: Plan,
+}
+
+/// A store over a store, of whose saves one may be planned to fail.
+#[derive(Drop)]
+pub struct PlannedStable<S> {
+    store: S,
+    planned: Option<Planned>,
+    saves: Tally,
+    struck: Tally,
+}
+
+/// The plan that strikes now, and what is planned from then on.
+fn strikes(planned: &mut Option<Planned>) -> Option<Plan>
+    ensures due { result ≡ due_of planned.old }
+    ensures left { planned.new ≡ left_of planned.old }
+{
+    let Planned { nth, plan } = (*planned)?;
+    if nth == 1 {
+        *planned = None;
+        return Some(plan);
+    }
+    *planned = Some(Planned {
+        nth: nth.saturating_sub(1),
+        plan,
+    });
+    None
+}
+
+impl<S> PlannedStable<S> {
+    ghost use Rattle.std.specs.Prelude.{◌≡◌, ◌≤◌, None, Some};
+    ghost use Rattle.smi_stable.specs.Planned.{planned};
+
+    /// The store of these rows, with nothing planned.
+    pub fn new(store: S) -> PlannedStable<S>
+        ensures store { result.store ≡ store }
+        ensures planned { result.planned ≡ None }
+    {
+        PlannedStable {
+            store,
+            planned: None,
+            saves: Tally::zero(),
+            struck: Tally::zero(),
+        }
+    }
+
+    /// The `nth` save from now, from 1, fails so. An earlier plan is given up.
+    pub fn plan(&mut self, nth: u64, plan: Plan)
+        requires { 1 ≤ nth }
+        ensures planned { self.new.planned ≡ Some (planned nth plan) }
+        ensures store { self.new.store ≡ self.old.store }
+    {
+        self.planned = Some(Planned { nth, plan });
+    }
+
+    /// No save is planned to fail.
+    pub fn unplan(&mut self)
+        ensures planned { self.new.planned ≡ None }
+        ensures store { self.new.store ≡ self.old.store }
+    {
+        self.planned = None;
+    }
+
+    /// The store below.
+    pub fn into_inner(self) -> S
+        ensures { result ≡ self.store }
+    {
+        let PlannedStable {
+            store,
+            planned: _,
+            saves: _,
+            struck: _,
+        } = self;
+        store
+    }
+}
+
+impl<S: Stable> Stable for PlannedStable<S> {
+    ghost rows = { λ p. S.rows p.store };
+
+    ghost may_find = { λ p. S.may_find p.store };
+
+    ghost is_honest = { λ p. S.is_honest p.store };
+
+    ghost is_open = { λ p. S.is_open p.store };
+
+    ghost failures = { λ p. S.failures p.store + p.struck.count };
+
+    ghost saves = { λ p. p.saves.count };
+
+    ghost rests = { λ p. S.rests p.store };
+
+    fn save(&mut self, key: Key, bytes: &[u8]) -> Result<(), StoreFault> {
+        self.saves.raise();
+        match strikes(&mut self.planned) {
+            None => self.store.save(key, bytes),
+            Some(Plan::Device) => {
+                self.struck.raise();
+                Err(StoreFault::Device)
+            }
+            Some(Plan::Before) => {
+                self.struck.raise();
+                Err(StoreFault::Unsure)
+            }
+            Some(Plan::After) => {
+                self.store.save(key, bytes)?;
+                self.struck.raise();
+                Err(StoreFault::Unsure)
+            }
+        }
+    }
+
+    fn load(&mut self) -> Result<Vec<SavedRow>, StoreFault> {
+        self.store.load()
+    }
+}
