@@ -13,12 +13,10 @@
 mod frame;
 mod link;
 mod memory;
-mod tally;
 mod udp;
 
 pub use link::{DATAGRAM_BYTES, DatagramLink, LinkFault, MOST_BYTES, Reception};
 pub use memory::MemoryLink;
-pub use tally::Tally;
 pub use udp::UdpLink;
 
 #[cfg(test)]

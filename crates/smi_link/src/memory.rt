@@ -1,6 +1,6 @@
 use crate::frame::{Coming, Frame, Sent};
 use crate::link::{DatagramLink, LinkFault, Reception};
-use crate::tally::Tally;
+use smi_tally::Tally;
 use std::alloc::{AllocError, Global};
 use std::marker::Model;
 

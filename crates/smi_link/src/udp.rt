@@ -1,5 +1,5 @@
 use crate::link::{DatagramLink, LinkFault, Reception};
-use crate::tally::Tally;
+use smi_tally::Tally;
 use std::io;
 use std::io::ErrorKind;
 use std::net::{Net, SocketAddr, UdpSocket};

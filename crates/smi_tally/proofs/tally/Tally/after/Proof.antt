@@ -1,6 +1,6 @@
 -- A tally has no bytes, so its count is what the clause says.
 use mathlib.Core.Path.{refl, sym, subst}
-use Prim.Native.Nat.{ℕ}
+use Prim.Native.Nat.{ℕ, ◌+◌}
 use mathlib.Core.List.{List, [], ◌∷◌, ◌++◌}
 use seplogic.Ra.Ura.{Ura}
 use mir.Val.{Val, vptr, vstruct, vcons, vnil}
@@ -29,15 +29,15 @@ use denote.Triple.Entry.{on_entry, alive}
 use denote.Triple.Spec.{Meets, triple_of}
 use denote.Triple.Table.{entered}
 use denote.Triple.Walked.{says, Stays, stay_dropped, walk_of, ends_at, Goes-dropped, walk_Meets}
-use denote.Builtin.{u8}
-use Rattle.smi_link.specs.contracts.tally.Tally.beside.{ended, clauses}
-use Rattle.smi_link.specs.contracts.tally.Tally.beside.Key.{name as #self}
-use Rattle.smi_link.proofs.tally.Tally.beside.Statement as stated
-use Rattle.smi_link.proofs.tally.Tally.beside.Code as code
+use Rattle.smi_tally.specs.contracts.tally.Tally.{the_row}
+use Rattle.smi_tally.specs.contracts.tally.Tally.after.{ended, clauses}
+use Rattle.smi_tally.specs.contracts.tally.Tally.after.Key.{name as #self}
+use Rattle.smi_tally.proofs.tally.Tally.after.Statement as stated
+use Rattle.smi_tally.proofs.tally.Tally.after.Code as code
 
 -- the reference stays as it was passed
 abbrev stayed : Stays ended.signature.params ended.kept
-stayed = (stay_dropped (RefOf (0 ∷ []) tt (plain (λ _. u8)) (λ _. tt)) yes, tt)
+stayed = (stay_dropped (RefOf (0 ∷ []) tt (plain (λ _. the_row)) (λ _. tt)) yes, tt)
 
 module _ {M : Type 1} {𝓤 : Ura M} (𝓛 : Logic 𝓤) (at_mem : Memory → SProp 𝓤) (run : Routine → Fun 𝓤) where
   open 𝓛 use {H}
@@ -61,7 +61,7 @@ module _ {M : Type 1} {𝓤 : Ura M} (𝓛 : Logic 𝓤) (at_mem : Memory → SP
     walks : Goes (vptr block offset ∷ [])
     walks =
         let v : Val = vstruct (vcons (vstruct vnil) vnil) in
-        let r : denote.Triple.Entry.Res ended.signature z.0.0 = record { marker = record {}; count = 0 } in
+        let r : denote.Triple.Entry.Res ended.signature z.0.0 = record { marker = record {}; count = z.0.3.0.now.count + 1 } in
         let made : Fml = (type_at ended.signature.result z.0.0).own_val r (v ∷ []) in
         qed 𝓛 ((raw (alive 𝓛 ended.signature z.0.0 z.0.1) ⊛ ‵ (owns (types_at ended.signature.params z.0.0) z.0.3 (vptr block offset ∷ [], tt))) ∷ raw ((held z.0.0 z.0.3).requires z.1) ∷ []) ∵ split ! $ keep ! (0 ∷ []) $
         enter ! C Λ code.function (vptr block offset ∷ []) _ $ alloc_all ! (λ l. pass_all ! refl ((tt, tt), tt) $
@@ -73,7 +73,7 @@ module _ {M : Type 1} {𝓤 : Ura M} (𝓛 : Logic 𝓤) (at_mem : Memory → SP
 
   meets : (𝓣 : Tables 𝓤 H) → Meets 𝓛 ended.signature (WpFn 𝓤 H 𝓣.C 𝓣.Λ code.function) (closing 𝓛 ended held)
   meets 𝓣 =
-      walk_Meets 𝓛 ended stayed (Goes-dropped 𝓛 1 (RefOf (0 ∷ []) tt (plain (λ _. u8)) (λ _. tt)) yes (λ κs x f. refl), tt) held
+      walk_Meets 𝓛 ended stayed (Goes-dropped 𝓛 1 (RefOf (0 ∷ []) tt (plain (λ _. the_row)) (λ _. tt)) yes (λ κs x f. refl), tt) held
       (WpFn 𝓤 H 𝓣.C 𝓣.Λ code.function) (WpFn-mono 𝓤 H 𝓛.laws 𝓣 code.function)
       (λ z.
       let a = z.0.3 in
@@ -83,9 +83,9 @@ module _ {M : Type 1} {𝓤 : Ura M} (𝓛 : Logic 𝓤) (at_mem : Memory → SP
       fact_use 𝓤 (Are Rs (Ises Rs) a vss) (via 𝓤 (sem 𝓛 (owns Rs a vss)) (via 𝓤 entry (fst∗ 𝓤 entry ((held z.0.0 a).requires z.1)) (snd∗ 𝓤 (alive 𝓛 ended.signature z.0.0 z.0.1) (sem 𝓛 (owns Rs a vss)))) (owns_show 𝓛 Rs (Ises Rs) (showss 𝓛 Rs) a vss)) (λ are.
       subst (Goes 𝓣.C 𝓣.Λ z) (sym are.0.0) (walks 𝓣.C 𝓣.Λ z)))
 
-pub beside_spec : {M : Type 1} → stated.statement M
+pub after_spec : {M : Type 1} → stated.statement M
 unfolding tables_of
-beside_spec 𝓤 𝓛 𝓜 𝓡 wired =
+after_spec 𝓤 𝓛 𝓜 𝓡 wired =
     let 𝓣 : Tables 𝓤 𝓛.H = tables_of 𝓤 𝓛.H 𝓜 (tables 𝓤 𝓛.H 𝓜 𝓡 𝓡.env) in
     entered 𝓤 𝓛.H (triple_of 𝓛 ended.signature (closing 𝓛 ended (clauses 𝓛 𝓜.mem 𝓡.returns))) 𝓣.C 𝓣.Λ #self code.function (code.unfolded 𝓤 𝓛.H 𝓜 𝓡 wired)
     (meets 𝓛 𝓜.mem 𝓡.returns 𝓣)
