@@ -1,7 +1,7 @@
 ghost use Rattle.std.specs.Prelude.{◌≡◌, MatchOption, IfOk, OnOk, OnErr};
 ghost use Rattle.left_right.specs.Sides.{view};
 ghost use Rattle.smi_view.specs.Rule.{Covers};
-ghost use Rattle.smi_view.specs.Rows.{shown_at};
+ghost use Rattle.smi_view.specs.Rows.{last_row};
 ghost use Rattle.smi_view.specs.Board.{seen, told, sight_of};
 
 use crate::ends::{BoardReader, Glance};
@@ -14,7 +14,7 @@ use smi_grant::Shown;
 pub struct NoReading;
 
 fn read(reader: BoardReader, object: u16) -> (BoardReader, Option<Option<Shown>>)
-    ensures { MatchOption result.1 (view result.0.place ≡ view reader.place) (λ o. Covers (view result.0.place).seen (view reader.place) × ((view result.0.place).told ≡ (view reader.place).told) × (o ≡ shown_at object (view result.0.place).seen)) }
+    ensures { MatchOption result.1 (view result.0.place ≡ view reader.place) (λ o. Covers (view result.0.place).seen (view reader.place) × ((view result.0.place).told ≡ (view reader.place).told) × (o ≡ last_row object (view result.0.place).seen)) }
 {
     match reader.enter_as::<Looks>() {
         Ok(reading) => {
@@ -32,7 +32,7 @@ impl Glance {
     ///
     /// `NoReading` changes nothing.
     pub fn read(&mut self, object: u16) -> Result<Option<Shown>, NoReading>
-        ensures row { IfOk result (λ shown. shown ≡ shown_at object (seen self.new)) }
+        ensures row { IfOk result (λ shown. shown ≡ last_row object (seen self.new)) }
         ensures covers { OnOk result (Covers (seen self.new) (sight_of self.old)) }
         ensures told { OnOk result (told self.new ≡ told self.old) }
         ensures err { OnErr result (sight_of self.new ≡ sight_of self.old) }

@@ -1,7 +1,8 @@
 //! One copy of the board.
 
 ghost use Rattle.std.specs.Prelude.{◌≡◌, [], ◌∷◌, ◌++◌};
-ghost use Rattle.smi_view.specs.Rows.{entries_of, shown_at};
+ghost use Rattle.smi_view.specs.Entries.{entries_of};
+ghost use Rattle.smi_view.specs.Rows.{last_row};
 
 use left_right::Absorb;
 use smi_grant::Shown;
@@ -28,7 +29,7 @@ impl Sheet {
 
     /// The last row of an object.
     pub(crate) fn shown(&self, object: u16) -> Option<Shown>
-        ensures { result ≡ shown_at object self.now.rows.items }
+        ensures { result ≡ last_row object self.now.rows.items }
     {
         self.last.get(&object).copied()
     }

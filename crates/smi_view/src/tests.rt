@@ -2,7 +2,7 @@
 
 ghost use Rattle.std.specs.Prelude.{◌≡◌, IfOk, OnOk};
 ghost use Rattle.smi_view.specs.Rule.{Covers};
-ghost use Rattle.smi_view.specs.Rows.{shown_at};
+ghost use Rattle.smi_view.specs.Rows.{last_row};
 ghost use Rattle.smi_view.specs.Board.{seen, sight_of};
 
 use crate::{Acceptance, Glance, NoReading, View, open_board};
@@ -43,13 +43,13 @@ fn read_apart<R: Threads + Sync>(
     glance: Glance,
     object: u16,
 ) -> (Glance, Result<Option<Shown>, NoReading>)
-    ensures row { IfOk result.1 (λ shown. shown ≡ shown_at object (seen result.0)) }
+    ensures row { IfOk result.1 (λ shown. shown ≡ last_row object (seen result.0)) }
     ensures covers { OnOk result.1 (Covers (seen result.0) (sight_of glance)) }
 {
     let (found, _) = join(
         rt,
         move || -> (Glance, Result<Option<Shown>, NoReading>)
-            ensures row { IfOk result.1 (λ shown. shown ≡ shown_at object (seen result.0)) }
+            ensures row { IfOk result.1 (λ shown. shown ≡ last_row object (seen result.0)) }
             ensures covers { OnOk result.1 (Covers (seen result.0) (sight_of glance)) }
         {
             let mut glance = glance;
