@@ -38,7 +38,7 @@ impl<S: Alter> SqliteStable<S> {
     ghost use Rattle.std.specs.Prelude.{◌≡◌, IfOk};
     ghost use Rattle.sqlite.specs.State.{HasCleanDisk};
     ghost use Rattle.sqlite.specs.Held.{state};
-    ghost use Rattle.smi_stable.specs.SqlReady.{IsAdopted};
+    ghost use Rattle.smi_stable.specs.SqlReady.{IsAdopted, IsInUse};
 
     /// Takes over a connection, and makes the table where there is none.
     ///
@@ -46,6 +46,7 @@ impl<S: Alter> SqliteStable<S> {
     /// `Unsure` for all else, as a file with other tables, or a connection in a transaction.
     pub fn adopt(connection: Connection<S>) -> Result<SqliteStable<S>, (StoreFault, Connection<S>)>
         ensures adopted { IfOk result (λ s. HasCleanDisk (state S.Store s.held) → IsAdopted (state S.Store connection) (state S.Store s.held)) }
+        ensures open { IfOk result (λ s. HasCleanDisk (state S.Store s.held) → IsInUse (state S.Store s.held)) }
         ensures begun { IfOk result (λ s. s.begun ≡ s.held) }
     {
         let mut conn = with_table(connection)?;

@@ -36,7 +36,7 @@ pub use key::{Key, RowKind};
 pub use layout::write_boot;
 pub use memory::MemoryStable;
 pub use mode::Mode;
-pub use planned::{Plan, PlannedStable};
+pub use planned::{Plan, Planned, PlannedStable};
 pub use row::{DomainRow, OperatorRow, Row, StoredLink};
 pub use saved::SavedRow;
 pub use schema::Schema;
