@@ -1,6 +1,7 @@
 //! A store whose saves fail as planned.
 
-ghost use Rattle.std.specs.Prelude.{◌≡◌, ◌+◌};
+ghost use Rattle.std.specs.Prelude.{◌≡◌, ◌+◌, ◌<◌, ◌≤◌, ◌⊎◌, OnOk, IsErr, Some, Err};
+ghost use Rattle.smi_stable.specs.Store.{Rows, IsSame, IfNotSaved, IfUnsure, IfFailed, with_row};
 ghost use Rattle.smi_stable.specs.Planned.{due_of, left_of};
 
 use crate::key::Key;
@@ -30,10 +31,13 @@ pub struct Planned {
 /// A store over a store, of whose saves one may be planned to fail.
 #[derive(Drop)]
 pub struct PlannedStable<S> {
-    store: S,
-    planned: Option<Planned>,
-    saves: Tally,
-    struck: Tally,
+    pub store: S,
+    /// The save that is planned to fail, if any.
+    pub planned: Option<Planned>,
+    /// How often a save was asked for.
+    pub saves: Tally,
+    /// How often a plan struck.
+    pub struck: Tally,
 }
 
 /// The plan that strikes now, and what is planned from then on.
@@ -116,7 +120,21 @@ impl<S: Stable> Stable for PlannedStable<S> {
 
     ghost rests = { λ p. S.rests p.store };
 
-    fn save(&mut self, key: Key, bytes: &[u8]) -> Result<(), StoreFault> {
+    fn save(&mut self, key: Key, bytes: &[u8]) -> Result<(), StoreFault>
+        ensures saved { S.is_honest self.new.store → OnOk result (S.is_open self.new.store × IsSame (S.rows self.new.store) (with_row key bytes.now (S.rows self.old.store))) }
+        ensures kept { S.is_honest self.new.store → IfNotSaved result (S.is_open self.old.store → S.is_open self.new.store × IsSame (S.rows self.new.store) (S.rows self.old.store)) }
+        ensures unsure { S.is_honest self.new.store → S.is_open self.new.store → IfUnsure result (IsSame (S.rows self.new.store) (S.rows self.old.store) ⊎ IsSame (S.rows self.new.store) (with_row key bytes.now (S.rows self.old.store))) }
+        ensures crash { S.is_honest self.new.store → S.is_open self.old.store → (r : Rows) → S.may_find self.new.store r → IsSame r (S.rows self.old.store) ⊎ IsSame r (with_row key bytes.now (S.rows self.old.store)) }
+        ensures honest { S.is_honest self.new.store → S.is_honest self.old.store }
+        ensures saves { self.new.saves.count ≡ self.old.saves.count + 1 }
+        ensures failures { S.failures self.old.store + self.old.struck.count ≤ S.failures self.new.store + self.new.struck.count }
+        ensures cause { IfFailed result (S.failures self.old.store + self.old.struck.count < S.failures self.new.store + self.new.struck.count) }
+        // The plan strikes, and is spent.
+        ensures device { due_of self.old.planned ≡ Some Plan.Device → (result ≡ Err StoreFault.Device) × (self.new.store ≡ self.old.store) }
+        ensures before { due_of self.old.planned ≡ Some Plan.Before → (result ≡ Err StoreFault.Unsure) × (self.new.store ≡ self.old.store) }
+        ensures after { due_of self.old.planned ≡ Some Plan.After → IsErr result }
+        ensures left { self.new.planned ≡ left_of self.old.planned }
+    {
         self.saves.raise();
         match strikes(&mut self.planned) {
             None => self.store.save(key, bytes),
