@@ -3,3 +3,12 @@ pub mod Cutting
 pub mod Again
 pub mod Laws
 pub mod Keys
+pub mod SqlTexts
+pub mod SqlSaves
+pub mod SqlReplaced
+pub mod SqlKeeps
+pub mod SqlMakes
+pub mod SqlLoads
+pub mod SqlUnique
+pub mod SqlKeys
+pub mod SqlAdopts

@@ -8,5 +8,11 @@ pub mod Ranges
 pub mod Reading
 pub mod Schema
 pub mod Store
+pub mod SqlTable
+pub mod SqlRows
+pub mod SqlReady
+pub mod SqlListing
+pub mod SqlKept
+pub mod SqlShown
 pub mod Stored
 pub mod Written

@@ -6,13 +6,17 @@
 //! was written: other bytes are refused, each by the first test that they fail.
 #![tactic(auto)]
 
+mod adopting;
 mod bytes;
 mod fault;
 mod key;
 mod known;
+pub mod law;
 mod layout;
+mod listing;
 mod memory;
 mod mode;
+mod over_sqlite;
 mod places;
 mod planned;
 mod ranges;
@@ -20,7 +24,11 @@ mod read;
 mod row;
 mod saved;
 mod schema;
+mod schema_shape;
+mod shown;
+mod sqlite_stable;
 mod stable;
+mod statement;
 mod tally;
 
 pub use fault::{Fault, RowFault};
@@ -32,5 +40,6 @@ pub use planned::{Plan, PlannedStable};
 pub use row::{DomainRow, OperatorRow, Row, StoredLink};
 pub use saved::SavedRow;
 pub use schema::Schema;
+pub use sqlite_stable::SqliteStable;
 pub use stable::{Stable, StoreFault};
 pub use tally::Tally;

@@ -65,7 +65,7 @@ impl MemoryStable {
     }
 }
 
-fn is_before(a: Key, b: Key) -> bool
+pub(crate) fn is_before(a: Key, b: Key) -> bool
     ensures { result ≡ store.is_before a b }
 {
     a < b

@@ -68,8 +68,8 @@ pub trait Stable {
     fn load(&mut self) -> Result<Vec<SavedRow>, StoreFault>
         ensures loaded { is_honest self.new → is_open self.old → IfOk result (λ list. IsListing (rows self.old) list.items) }
         ensures open { is_honest self.new → is_open self.old → IfSure result (is_open self.new) }
-        ensures kept { is_honest self.new → is_open self.new → IsSame (rows self.new) (rows self.old) }
-        ensures crash { is_honest self.new → (r : Rows) → may_find self.new r → may_find self.old r }
+        ensures kept { is_honest self.new → is_open self.old → is_open self.new → IsSame (rows self.new) (rows self.old) }
+        ensures crash { is_honest self.new → is_open self.old → (r : Rows) → may_find self.new r → IsSame r (rows self.old) }
         ensures honest { is_honest self.new → is_honest self.old }
         ensures saves { saves self.new ≡ saves self.old }
         ensures failures { failures self.old ≤ failures self.new }

@@ -1,1 +1,4 @@
 pub mod Accepting
+pub mod Board
+pub mod Rows
+pub mod Rule

@@ -1,0 +1,10 @@
+use Rattle.std.proofs.Common.{refl}
+use Rattle.sqlite.specs.Held.{state}
+use Rattle.sqlite.specs.State.{HasCleanDisk}
+use Rattle.smi_stable.specs.SqlReady.{IsAdopted}
+use Rattle.smi_stable.proofs.SqlAdopts.{adopted-still, adopted-ready}
+use Rattle.smi_stable.proofs.sqlite_stable.SqliteStable.adopt.Goals as goal
+
+pub returns-clause-adopted : goal.returns-clause-adopted
+returns-clause-adopted g c clean =
+    adopted-still (state g.S.Store c.args.connection) (state g.S.Store c.in_ok-conn.conn) (state g.S.Store c.is_open.new.conn) (c.in_ok-conn.ensures (c.is_open.ensures.clean clean)) (c.if-not-is_open.ensures.unchanged clean refl)

@@ -1,0 +1,76 @@
+//! A connection is taken over, and given back.
+
+ghost use Rattle.std.specs.Prelude.{◌≡◌, IfOk, IsTrue};
+ghost use Rattle.sqlite.specs.State.{HasCleanDisk};
+ghost use Rattle.sqlite.specs.Held.{state};
+ghost use Rattle.smi_stable.specs.SqlReady.{IsReady, IsAdopted};
+ghost use Rattle.smi_stable.specs.SqlRows.{IsKeyed};
+
+use crate::schema_shape::{is_empty, is_stable};
+use crate::sqlite_stable::SqliteStable;
+use crate::stable::StoreFault;
+use crate::statement::{fault_of, is_open, make_table};
+use crate::tally::Tally;
+use core::snapshot::Snapshot;
+use sqlite::{Alter, Connection};
+
+/// The table of stable rows is there, and is made where there is none.
+fn with_table<S: Alter>(conn: Connection<S>) -> Result<Connection<S>, (StoreFault, Connection<S>)>
+    ensures { IfOk result (λ c. HasCleanDisk (state S.Store c) → IsAdopted (state S.Store conn) (state S.Store c)) }
+{
+    let mut conn = conn;
+    if !conn.is_autocommit() {
+        return Err((StoreFault::Unsure, conn));
+    }
+    if is_stable(conn.schema()) {
+        return Ok(conn);
+    }
+    if !is_empty(conn.schema()) {
+        return Err((StoreFault::Unsure, conn));
+    }
+    match make_table(&mut conn) {
+        Ok(_) => Ok(conn),
+        Err(error) => Err((fault_of(error), conn)),
+    }
+}
+
+impl<S: Alter> SqliteStable<S> {
+    ghost use Rattle.std.specs.Prelude.{◌≡◌, IfOk};
+    ghost use Rattle.sqlite.specs.State.{HasCleanDisk};
+    ghost use Rattle.sqlite.specs.Held.{state};
+    ghost use Rattle.smi_stable.specs.SqlReady.{IsAdopted};
+
+    /// Takes over a connection, and makes the table where there is none.
+    ///
+    /// A refusal gives the connection back: `Memory` where the database had no memory for it, and
+    /// `Unsure` for all else, as a file with other tables, or a connection in a transaction.
+    pub fn adopt(connection: Connection<S>) -> Result<SqliteStable<S>, (StoreFault, Connection<S>)>
+        ensures adopted { IfOk result (λ s. HasCleanDisk (state S.Store s.held) → IsAdopted (state S.Store connection) (state S.Store s.held)) }
+        ensures begun { IfOk result (λ s. s.begun ≡ s.held) }
+    {
+        let mut conn = with_table(connection)?;
+        if !is_open(&mut conn) {
+            return Err((StoreFault::Unsure, conn));
+        }
+        let begun = Snapshot::of(&conn);
+        Ok(SqliteStable {
+            conn,
+            begun,
+            saves: Tally::zero(),
+            failures: Tally::zero(),
+        })
+    }
+
+    /// Gives the connection up. It takes no memory.
+    pub fn release(self) -> Connection<S>
+        ensures { result ≡ self.held }
+    {
+        let SqliteStable {
+            conn,
+            begun: _,
+            saves: _,
+            failures: _,
+        } = self;
+        conn
+    }
+}
