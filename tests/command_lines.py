@@ -9,7 +9,7 @@ directory` reads the standard input from a directory, `to full` writes to a devi
 for the path of the worked tree file and for a path where there is none.
 
 After the table, a take is tried with each other value of each byte and in each length, against the
-layout in layout.py, each tree file of trees.py is checked, and each growth of some runs is refused in
+layout in layout.py, each tree file of trees.py is checked, each store of stores.py listed, and each growth of some runs is refused in
 turn (growths.py). The last line is 'N passed, M failed'.
 """
 
@@ -20,6 +20,7 @@ import tempfile
 
 import growths
 import layout
+import stores
 import trees
 
 HERE = os.path.dirname(os.path.abspath(__file__))
@@ -120,12 +121,19 @@ def tree_cases(folder):
         yield {"name": "tree: " + name, "args": ["check", path], "in": b"", "out": out.encode(), "err": err, "status": status}
 
 
+def store_cases(folder):
+    """What `smi rows` says of each store."""
+    for name, path, out, err, status in stores.all_stores(folder):
+        yield {"name": "store: " + name, "args": ["rows", path], "in": b"", "out": out.encode(), "err": err, "status": status}
+
+
 def main():
     program = os.path.abspath(sys.argv[1])
     cases = read_cases(os.path.join(HERE, "command-lines.txt"))
     cases += [variant_case(name, data) for name, data in variants(cases[0]["in"])]
     with tempfile.TemporaryDirectory() as folder:
         cases += tree_cases(folder)
+        cases += store_cases(folder)
         done = [holds(program, case) for case in cases]
         for name, held in growths.refused_cases(program, folder):
             done.append(held)

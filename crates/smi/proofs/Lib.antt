@@ -2,3 +2,4 @@ pub mod Tellable
 pub mod Pieces
 pub mod Going
 pub mod Written
+pub mod Lines

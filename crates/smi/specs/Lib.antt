@@ -1,4 +1,5 @@
 pub mod Answer
 pub mod Keeper
+pub mod Rows
 pub mod Status
 pub mod Tellable

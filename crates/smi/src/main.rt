@@ -1,7 +1,8 @@
 //! `smi`: the program of the control hierarchy.
 //!
 //! [`answer::answer`] is the keeper of one domain over a reader and a writer: what is written is what
-//! the keeper's rules say of the datagrams read. [`check::check`] tells what a tree file declares.
+//! the keeper's rules say of the datagrams read. [`check::check`] tells what a tree file declares, and
+//! [`rows::rows`] lists the stable rows of a store.
 //! `program` reads the command line, opens files and makes the buffers, and `main` has the runtime.
 #![tactic(auto)]
 
@@ -10,7 +11,9 @@ mod check;
 mod keeper;
 mod line;
 mod program;
+mod rows;
 mod status;
+mod store;
 #[cfg(test)]
 mod tests;
 

@@ -3,7 +3,9 @@
 use crate::answer::{Answered, answer};
 use crate::check::check;
 use crate::line::{Line, line_of};
-use crate::status::{Status, no_memory, read_fault, write_fault, wrong_line};
+use crate::rows::Listed;
+use crate::status::{Status, no_memory, read_fault, store_fault, write_fault, wrong_line};
+use crate::store::Stores;
 use std::alloc::Global;
 use std::fs;
 use std::io::{self, BufReader, BufWriter, ErrorKind, Read, Write};
@@ -17,7 +19,7 @@ const MOST_TREE_BYTES: u64 = 256 * 1024 + 1;
 
 /// Does what the words of the command line ask for, and answers the exit status. What is amiss is
 /// told in one line on `faults`.
-pub fn program<H: Files + AllocGlobal, R: Read + Drop, W: Write + Drop, F: Write>(
+pub fn program<H: Files + Stores + AllocGlobal, R: Read + Drop, W: Write + Drop, F: Write>(
     host: &H,
     words: &[String],
     reader: R,
@@ -28,6 +30,7 @@ pub fn program<H: Files + AllocGlobal, R: Read + Drop, W: Write + Drop, F: Write
     match line_of(alloc, words) {
         Line::Answer => told(answer_in_blocks(alloc, reader, writer), faults).code(),
         Line::Check(path) => check_file(host, path, writer, faults),
+        Line::Rows(path) => list_rows(host, path, writer, faults).code(),
         Line::Wrong => wrong_line(faults).code(),
         Line::NoMemory => no_memory(faults).code(),
     }
@@ -85,4 +88,21 @@ fn tree_bytes<H: Files + AllocGlobal>(host: &H, path: &str) -> io::Result<Vec<u8
         .take(MOST_TREE_BYTES)
         .read_to_end(&mut bytes)?;
     Ok(bytes)
+}
+
+fn list_rows<H: Stores + AllocGlobal, W: Write + Drop, F: Write>(
+    host: &H,
+    path: &str,
+    writer: W,
+    faults: &mut F,
+) -> Status {
+    let Ok(mut writer) = BufWriter::new(host.alloc(), writer) else {
+        return no_memory(faults);
+    };
+    match host.list(path, &mut writer) {
+        Listed::Done => Status::Done,
+        Listed::StoreFault => store_fault(faults),
+        Listed::WriteFault => write_fault(faults),
+        Listed::Memory => no_memory(faults),
+    }
 }

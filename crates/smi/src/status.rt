@@ -12,7 +12,7 @@ pub enum Status {
     Refused,
     /// The command line is none of the forms.
     WrongLine,
-    /// A read or a write failed.
+    /// A read or a write failed, or a store.
     Fault,
     NoMemory,
 }
@@ -50,6 +50,14 @@ pub fn write_fault<F: Write>(faults: &mut F) -> Status
     ensures { result ≡ Status.Fault }
 {
     let _ = writeln!(faults, "write fault");
+    Status::Fault
+}
+
+/// Tells that a store could not be opened or read.
+pub fn store_fault<F: Write>(faults: &mut F) -> Status
+    ensures { result ≡ Status.Fault }
+{
+    let _ = writeln!(faults, "store fault");
     Status::Fault
 }
 

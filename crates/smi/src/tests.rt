@@ -1,7 +1,9 @@
 use crate::answer::{Answered, answer};
 use crate::check::check;
 use crate::program::program;
+use crate::rows::{Listed, rows};
 use crate::status::Status;
+use smi_stable::{Key, MemoryStable, Stable};
 use std::alloc::Global;
 use std::cmp::min;
 use std::io::{self, ErrorKind, Read, Write};
@@ -228,6 +230,8 @@ fn command_lines(rt: HostRuntime) -> Result<(), Fail> {
         ("smi answer --help", Status::WrongLine, 2, "wrong line\n"),
         ("smi check", Status::WrongLine, 2, "wrong line\n"),
         ("smi check no-such-file", Status::Fault, 3, "read fault\n"),
+        ("smi rows", Status::WrongLine, 2, "wrong line\n"),
+        ("smi rows no-such-file", Status::Fault, 3, "store fault\n"),
     ];
     for (line, status, code, text) in table {
         let words = words(rt.alloc(), line)?;
@@ -273,6 +277,39 @@ fn checks(rt: HostRuntime) -> Result<(), Fail> {
         assert_eq!(rt; ended, code);
         assert_eq!(rt; writer.written.as_slice(), told.as_bytes());
         assert_eq!(rt; faults.as_slice(), fault.as_bytes());
+    }
+    Ok(())
+}
+
+#[test]
+fn lists_rows(rt: HostRuntime) -> Result<(), Fail> {
+    let key = |station, domain, operator| Key {
+        station,
+        domain,
+        operator,
+    };
+    let mut stable = MemoryStable::new(rt.alloc());
+    let taken: [u8; 24] = [
+        2, 1, 0, 2, 0, 0, 0, 0, 0, 0, 0, 1, 0, 0, 0, 0, 0, 0, 0, 0, 0, 0, 0, 0,
+    ];
+    let saved = stable.save(key(2, 0, 2), &[3, 0, 0, 0xAF]).is_ok()
+        && stable.save(key(1, 1, 0), &taken).is_ok()
+        && stable.save(key(1, 0, 0), &[2, 0, 0, 0, 0, 0, 0, 2]).is_ok();
+    assert!(rt; saved);
+    let told =
+        "1 0 0 0200000000000002\n1 1 0 020100020000000000000001000000000000000000000000\n2 0 2 030000af\n";
+    for (room, flushes, listed, text) in [
+        (200, true, Listed::Done, told),
+        (9, true, Listed::WriteFault, "1 0 0 020"),
+        (200, false, Listed::WriteFault, told),
+    ] {
+        let mut writer = Narrow {
+            written: Vec::new(rt.alloc()),
+            room,
+            flushes,
+        };
+        assert_eq!(rt; rows(&mut stable, &mut writer), listed);
+        assert_eq!(rt; writer.written.as_slice(), text.as_bytes());
     }
     Ok(())
 }
