@@ -10,7 +10,7 @@ use crate::schema_shape::{is_empty, is_stable};
 use crate::sqlite_stable::SqliteStable;
 use crate::stable::StoreFault;
 use crate::statement::{fault_of, is_open, make_table};
-use crate::tally::Tally;
+use smi_tally::Tally;
 use core::snapshot::Snapshot;
 use sqlite::{Alter, Connection};
 

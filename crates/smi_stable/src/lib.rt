@@ -29,7 +29,6 @@ mod shown;
 mod sqlite_stable;
 mod stable;
 mod statement;
-mod tally;
 
 pub use fault::{Fault, RowFault};
 pub use key::{Key, RowKind};
@@ -42,4 +41,4 @@ pub use saved::SavedRow;
 pub use schema::Schema;
 pub use sqlite_stable::SqliteStable;
 pub use stable::{Stable, StoreFault};
-pub use tally::Tally;
+pub use smi_tally::Tally;

@@ -8,7 +8,7 @@ ghost use Rattle.smi_stable.specs.Listed as listed;
 use crate::key::Key;
 use crate::saved::SavedRow;
 use crate::stable::{Stable, StoreFault};
-use crate::tally::Tally;
+use smi_tally::Tally;
 use std::alloc::{AllocError, Global};
 use std::marker::Model;
 

@@ -7,7 +7,7 @@ ghost use Rattle.smi_stable.specs.Planned.{due_of, left_of};
 use crate::key::Key;
 use crate::saved::SavedRow;
 use crate::stable::{Stable, StoreFault};
-use crate::tally::Tally;
+use smi_tally::Tally;
 
 /// How a save fails.
 #[derive(Clone, Copy, Debug, PartialEq, Eq)]

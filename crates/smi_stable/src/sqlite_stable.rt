@@ -1,4 +1,4 @@
-use crate::tally::Tally;
+use smi_tally::Tally;
 use core::snapshot::Snapshot;
 use sqlite::{Alter, Connection};
 use std::marker::Model;
