@@ -43,3 +43,6 @@ pub use schema::Schema;
 pub use sqlite_stable::SqliteStable;
 pub use stable::{Stable, StoreFault};
 pub use tally::Tally;
+
+#[cfg(test)]
+mod tests;
