@@ -10,8 +10,8 @@ use crate::schema_shape::{is_empty, is_stable};
 use crate::sqlite_stable::SqliteStable;
 use crate::stable::StoreFault;
 use crate::statement::{fault_of, is_open, make_table};
-use smi_tally::Tally;
 use core::snapshot::Snapshot;
+use smi_tally::Tally;
 use sqlite::{Alter, Connection};
 
 /// The table of stable rows is there, and is made where there is none.

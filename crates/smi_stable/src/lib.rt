@@ -39,6 +39,9 @@ pub use planned::{Plan, Planned, PlannedStable};
 pub use row::{DomainRow, OperatorRow, Row, StoredLink};
 pub use saved::SavedRow;
 pub use schema::Schema;
+pub use smi_tally::Tally;
 pub use sqlite_stable::SqliteStable;
 pub use stable::{Stable, StoreFault};
-pub use smi_tally::Tally;
+
+#[cfg(test)]
+mod tests;

@@ -1,5 +1,5 @@
-use smi_tally::Tally;
 use core::snapshot::Snapshot;
+use smi_tally::Tally;
 use sqlite::{Alter, Connection};
 use std::marker::Model;
 
