@@ -1,5 +1,5 @@
 -- Stations that exchange datagrams by hand, as the worked examples of docs/EXAMPLES.md have it.
-use Rattle.std.specs.Prelude.{ℕ, ◌-◌, Bool, true, false, if◌then◌else◌, List, [], ◌∷◌, ◌++◌, map, slice_get, Option, Some, None}
+use Rattle.std.specs.Prelude.{ℕ, ◌≡◌, ◌-◌, Bool, true, false, if◌then◌else◌, List, [], ◌∷◌, ◌++◌, map, slice_get, Option, Some, None}
 use Rattle.smi_message.specs.declared.Body.{Body}
 use Rattle.smi_message.specs.declared.Body.TheVariants as body
 use Rattle.smi_message.specs.Message.{Message}
@@ -20,8 +20,8 @@ use Rattle.smi_station.specs.declared.order.Answer.{Answer}
 -- comes to it by a datagram and started again.
 pub data Act : Type 0 where
   Deliver : ℕ → Act
-  Order_at : (station : ℕ) → (operator : ℕ) → Order → Act
-  Report_at : (station : ℕ) → (device : ℕ) → (state : ℕ) → Act
+  OrderAt : (station : ℕ) → (operator : ℕ) → Order → Act
+  ReportAt : (station : ℕ) → (device : ℕ) → (state : ℕ) → Act
   Tick : (station : ℕ) → Act
   Restart : (station : ℕ) → Act
   StopAfter : ℕ → Act
@@ -127,8 +127,8 @@ stops_after h p (Some m) = stops h p m.to (after h m.to (p.stations m.to) (Comes
 
 abbrev pub turn : Hierarchy → Play → Act → Turn
 turn h p (Deliver k) = delivers h p (slice_get p.sent (k - 1))
-turn h p (Order_at station o what) = steps h p station (Orders o what)
-turn h p (Report_at station device s) = steps h p station (Reports device s)
+turn h p (OrderAt station o what) = steps h p station (Orders o what)
+turn h p (ReportAt station device s) = steps h p station (Reports device s)
 turn h p (Tick station) = steps h p station Ticks
 turn h p (Restart station) = started h p station [] None (opened h station (p.stations station).grants)
 turn h p (StopAfter k) = stops_after h p (slice_get p.sent (k - 1))
@@ -148,3 +148,24 @@ played h acts = played_from h (beginning h) acts
 abbrev pub play_after : Hierarchy → Play → List Act → Play
 play_after h p [] = p
 play_after h p (act ∷ more) = play_after h (turn h p act).play more
+
+-- An example: what is done, line by line, and what is seen of it.
+pub record Line : Type 0 where
+  pub act : Act
+  pub shows : Seen
+
+abbrev pub line : Act → List Entry → List Sending → Line
+line act entries sendings = record { act = act; shows = seen entries sendings }
+
+abbrev pub acts_of : List Line → List Act
+acts_of lines = map (λ x. x.act) lines
+
+abbrev pub Plays : Hierarchy → List Line → Type 0
+Plays h lines = played h (acts_of lines) ≡ map (λ x. x.shows) lines
+
+-- what the last act of an example saves and answers
+abbrev pub play_of : Hierarchy → List Line → Play
+play_of h lines = play_after h (beginning h) (acts_of lines)
+
+abbrev pub saved_by : Hierarchy → List Line → Act → Option Saved
+saved_by h lines act = (turn h (play_of h lines) act).saved

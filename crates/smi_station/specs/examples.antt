@@ -1,2 +1,4 @@
+pub mod Commands
 pub mod Grants
+pub mod Words
 pub mod WorkedTree

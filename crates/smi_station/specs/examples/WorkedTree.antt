@@ -56,11 +56,11 @@ worked_tree = record {
   devices = record { domain = 2; class = 1 } ∷ [];
 }
 
-abbrev pub stationA : ℕ
-stationA = 1
+abbrev pub A : ℕ
+A = 1
 
-abbrev pub stationB : ℕ
-stationB = 2
+abbrev pub B : ℕ
+B = 2
 
 abbrev pub ANN : ℕ
 ANN = 1
