@@ -8,7 +8,7 @@ use Rattle.smi_stable.specs.Store.{Saved}
 use Rattle.smi_station.specs.Display.{Station}
 use Rattle.smi_station.specs.Grants.{put}
 use Rattle.smi_station.specs.Happening.{Happening, Comes, Orders, Reports, Ticks}
-use Rattle.smi_station.specs.Step.{Outcome, after}
+use Rattle.smi_station.specs.Step.{Out, nothing_out, Outcome, after}
 use Rattle.smi_station.specs.Opening.{first_opened, opened, opening_entries}
 use Rattle.smi_station.specs.declared.entry.Entry.{Entry}
 use Rattle.smi_station.specs.declared.order.Mark.{Mark}
@@ -85,21 +85,21 @@ pub record Seen : Type 0 where
 abbrev pub seen : List Entry → List Sending → Seen
 seen entries sendings = record { entries = entries; sendings = sendings }
 
--- what an act does, and what it shows
+-- what an act does, what it leaves in the trace, and what it hands out and saves
 pub record Turn : Type 0 where
   pub play : Play
   pub entries : List Entry
-  pub sent : List Message
+  pub out : Out
   pub saved : Option Saved
 
 abbrev pub still : Play → Turn
-still p = record { play = p; entries = []; sent = []; saved = None }
+still p = record { play = p; entries = []; out = nothing_out; saved = None }
 
 abbrev pub stepped : Play → ℕ → Outcome → Turn
 stepped p number o = record {
   play = record { stations = put p.stations number o.station; sent = p.sent ++ o.out.datagrams };
   entries = o.kept ++ o.after;
-  sent = o.out.datagrams;
+  out = o.out;
   saved = o.saved;
 }
 
@@ -107,7 +107,7 @@ abbrev pub started : Hierarchy → Play → ℕ → List Entry → Option Saved 
 started h p number kept saved s = record {
   play = record { stations = put p.stations number s; sent = p.sent };
   entries = kept ++ opening_entries h number s;
-  sent = [];
+  out = nothing_out;
   saved = saved;
 }
 
@@ -134,7 +134,7 @@ turn h p (Restart station) = started h p station [] None (opened h station (p.st
 turn h p (StopAfter k) = stops_after h p (slice_get p.sent (k - 1))
 
 abbrev pub seen_of : Turn → Seen
-seen_of t = seen t.entries (map sending_of t.sent)
+seen_of t = seen t.entries (map sending_of t.out.datagrams)
 
 -- what is seen of one act after the other
 abbrev pub played_from : Hierarchy → Play → List Act → List Seen
@@ -163,9 +163,6 @@ acts_of lines = map (λ x. x.act) lines
 abbrev pub Plays : Hierarchy → List Line → Type 0
 Plays h lines = played h (acts_of lines) ≡ map (λ x. x.shows) lines
 
--- what the last act of an example saves and answers
-abbrev pub play_of : Hierarchy → List Line → Play
-play_of h lines = play_after h (beginning h) (acts_of lines)
-
-abbrev pub saved_by : Hierarchy → List Line → Act → Option Saved
-saved_by h lines act = (turn h (play_of h lines) act).saved
+-- an act behind an example
+abbrev pub turn_after : Hierarchy → List Line → Act → Turn
+turn_after h lines act = turn h (play_after h (beginning h) (acts_of lines)) act

@@ -39,6 +39,9 @@ pub record Out : Type 0 where
   pub issued : Option Mark
   pub shown : Option Shown
 
+abbrev pub nothing_out : Out
+nothing_out = record { datagrams = []; answers = []; issued = None; shown = None }
+
 -- what a step is: the station afterwards, what it made of the event, the row that it saved, what it hands out,
 -- and what it leaves in the trace: by the save, and after it
 pub record Outcome : Type 0 where
@@ -62,7 +65,7 @@ refused s code answers = record {
   station = s;
   heard = Refused code;
   saved = None;
-  out = record { datagrams = []; answers = answers; issued = None; shown = None };
+  out = record nothing_out { answers = answers };
   kept = [];
   after = told_entries answers;
 }

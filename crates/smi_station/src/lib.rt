@@ -8,8 +8,10 @@
 mod entry;
 mod event;
 pub mod examples;
+pub mod limits;
 mod order;
 mod place;
+pub mod refusals;
 
 pub use entry::Entry;
 pub use event::{Event, Heard, StepFault};

@@ -129,21 +129,29 @@ ignored =
     ∷ line (Deliver 16) (showed A TPC 1 1 READY ∷ []) []
     ∷ []
 
+abbrev pub one_ordered : List Line
+one_ordered = taken ++ line (bob (Do TPC CONFIGURE)) (Ordered BOB TPC 1 1 (command.Do CONFIGURE) ∷ []) (sends RUN B B TPC ∷ []) ∷ []
+
 -- Both orders are given before the first is heard of.
 abbrev pub two_ordered : List Line
 two_ordered =
-    taken
-    ++ line (bob (Do TPC CONFIGURE)) (Ordered BOB TPC 1 1 (command.Do CONFIGURE) ∷ []) (sends RUN B B TPC ∷ [])
-    ∷ line (bob (Do TPC START)) (Ordered BOB TPC 1 2 (command.Do START) ∷ []) (sends RUN B B TPC ∷ [])
+    one_ordered
+    ++ line (bob (Do TPC START)) (Ordered BOB TPC 1 2 (command.Do START) ∷ []) (sends RUN B B TPC ∷ [])
     ∷ []
 
--- Two commands pending: they run in their order, and the outcome of the first was not seen.
-abbrev pub two_pending : List Line
-two_pending =
+-- They run in their order.
+abbrev pub both_run : List Line
+both_run =
     two_ordered
     ++ line (Deliver 4) [] (sends TELL B B TPC ∷ [])
     ∷ line (Deliver 3) TPC_configured (sends TELL B B TPC ∷ [])
     ∷ line (Deliver 4) (Ran TPC 1 2 (command.Do START) ∷ Settled TPC 1 2 0 ∷ passed HV 1 2 RUNNING ∷ passed TPC 1 2 RUNNING ∷ []) (sends TELL B B TPC ∷ [])
-    ∷ line (Deliver 7) (bob_told (Do TPC CONFIGURE) 8 ∷ bob_told (Do TPC START) 0 ∷ []) []
+    ∷ []
+
+-- Two commands pending: the outcome of the first was not seen.
+abbrev pub two_pending : List Line
+two_pending =
+    both_run
+    ++ line (Deliver 7) (bob_told (Do TPC CONFIGURE) 8 ∷ bob_told (Do TPC START) 0 ∷ []) []
     ∷ line (Deliver 6) [] []
     ∷ []

@@ -8,21 +8,29 @@ use Rattle.smi_station.specs.declared.entry.Entry.TheVariants.{Booted, Granted, 
 use Rattle.smi_station.specs.examples.WorkedTree.{A, B, ANN, BOB, DCS, TPC, OFF, STOP}
 use Rattle.smi_station.specs.examples.Words.{ann, bob, ann_told, bob_told, passed}
 
+abbrev pub asked_for_DCS : List Line
+asked_for_DCS = line (bob (Take DCS)) [] (sends TAKE B A DCS ∷ []) ∷ []
+
 -- Saved but not told: the keeper stops behind the save of a grant, and answers the take when it comes again.
 abbrev pub saved_but_not_told : List Line
 saved_but_not_told =
-    line (bob (Take DCS)) [] (sends TAKE B A DCS ∷ [])
-    ∷ line (StopAfter 1) (Granted DCS 1 (Operator BOB) ∷ Booted A 2 ∷ passed DCS 2 0 OFF ∷ []) []
+    asked_for_DCS
+    ++ line (StopAfter 1) (Granted DCS 1 (Operator BOB) ∷ Booted A 2 ∷ passed DCS 2 0 OFF ∷ []) []
     ∷ line (Deliver 1) [] (sends TELL A B DCS ∷ [])
     ∷ line (Deliver 2) (Learned (Operator BOB) DCS 1 ∷ bob_told (Take DCS) 0 ∷ []) []
+    ∷ []
+
+abbrev pub granted : List Line
+granted =
+    line (bob (Take TPC)) [] (sends TAKE B B TPC ∷ [])
+    ∷ line (Deliver 1) (Granted TPC 1 (Operator BOB) ∷ []) (sends TELL B B TPC ∷ [])
     ∷ []
 
 -- BOB takes TPC.
 abbrev pub taken : List Line
 taken =
-    line (bob (Take TPC)) [] (sends TAKE B B TPC ∷ [])
-    ∷ line (Deliver 1) (Granted TPC 1 (Operator BOB) ∷ []) (sends TELL B B TPC ∷ [])
-    ∷ line (Deliver 2) (Learned (Operator BOB) TPC 1 ∷ bob_told (Take TPC) 0 ∷ []) []
+    granted
+    ++ line (Deliver 2) (Learned (Operator BOB) TPC 1 ∷ bob_told (Take TPC) 0 ∷ []) []
     ∷ []
 
 -- Take and drop; and the old take comes once more.
