@@ -28,6 +28,7 @@ is_counted mode.Included = true
 is_counted mode.Manual = true
 is_counted mode.Ignored = false
 
+-- the two modes are one
 abbrev pub same_mode : Mode → Mode → Bool
 same_mode a b = mode_number a == mode_number b
 
@@ -37,6 +38,7 @@ pub data ChildChange : Type 0 where
   Relinked : Link → ChildChange
   ComesInto : Mode → ChildChange
 
+-- its link changes, or stays where it is refused, with this code
 abbrev pub relinked_or : ℕ → Result Link ℕ → ChildChange
 relinked_or code (Ok l) = Relinked l
 relinked_or code (Err refusal) = Stays code
@@ -70,11 +72,13 @@ child_change h d (Exclude t) x l m = targeted h t (Exclude t) x l m
 child_change h d (Manual t) x l m = targeted h t (Manual t) x l m
 child_change h d (Ignore t) x l m = targeted h t (Ignore t) x l m
 
+-- the same with the link and the mode that a station has
 abbrev pub change_of : Hierarchy → Grants → ℕ → Command → ℕ → ChildChange
 change_of h g d c x = child_change h d c x (g.links (Domain d) x) (g.modes x)
 
--- The links, the modes and the code after the command.
+-- What there is after the command.
 
+-- the link to the child after the command
 abbrev pub link_after : ChildChange → Link → Link
 link_after (Stays code) l = l
 link_after (Relinked new) l = new
@@ -86,15 +90,18 @@ mode_after (Stays code) m = m
 mode_after (Relinked new) m = if is_held new then m else mode.Included
 mode_after (ComesInto new) m = new
 
+-- the code that comes of one child
 abbrev pub code_of : ChildChange → ℕ
 code_of (Stays code) = code
 code_of (Relinked new) = 0
 code_of (ComesInto m) = 0
 
+-- the station's links after the command: those of the domain to its children
 abbrev pub links_after : Hierarchy → Grants → ℕ → Command → Holder → ℕ → Link
 links_after h g d c who x =
     if is_parent h x d && same_holder who (Domain d) then link_after (change_of h g d c x) (g.links (Domain d) x) else g.links who x
 
+-- the modes of the domain's children after the command
 abbrev pub modes_after : Hierarchy → Grants → ℕ → Command → ℕ → Mode
 modes_after h g d c x = if is_parent h x d then mode_after (change_of h g d c x) (g.modes x) else g.modes x
 
@@ -106,6 +113,7 @@ code_at_domain h d (Exclude t) = if is_below h t d then 0 else 2
 code_at_domain h d (Manual t) = if is_below h t d then 0 else 2
 code_at_domain h d (Ignore t) = if is_below h t d then 0 else 2
 
+-- the largest of these codes, 0 where there is none
 abbrev pub largest : List ℕ → ℕ
 largest [] = 0
 largest (code ∷ more) = max code (largest more)

@@ -25,9 +25,11 @@ no_grants = record { boot = 0; records = λ d. fresh; gathered = λ d. 0; links 
 abbrev pub put : {X : Type 0} → (ℕ → X) → ℕ → X → ℕ → X
 put table number value other = if other == number then value else table other
 
+-- another record of a domain
 abbrev pub with_record : Grants → ℕ → Standing → Grants
 with_record g d r = record g { records = put g.records d r }
 
+-- another gathered code of a domain
 abbrev pub with_gathered : Grants → ℕ → ℕ → Grants
 with_gathered g d code = record g { gathered = put g.gathered d code }
 
@@ -35,5 +37,6 @@ with_gathered g d code = record g { gathered = put g.gathered d code }
 abbrev pub put_link : (Holder → ℕ → Link) → Holder → ℕ → Link → Holder → ℕ → Link
 put_link links who d l other x = if x == d && same_holder other who then l else links other x
 
+-- another link of a holder to a domain
 abbrev pub with_link : Grants → Holder → ℕ → Link → Grants
 with_link g who d l = record g { links = put_link g.links who d l }

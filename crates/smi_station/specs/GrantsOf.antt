@@ -10,6 +10,7 @@ use Rattle.smi_station.specs.Keeping.{answered, take_comes, drop_comes, run_come
 use Rattle.smi_station.specs.Hearing.{tell_comes}
 use Rattle.smi_station.specs.Ordering.{order_comes}
 
+-- a datagram from that station
 abbrev pub datagram_comes : Hierarchy → ℕ → Grants → ℕ → Body → GrantStep
 datagram_comes h number g from (body.Ask d) = answered h number g from d
 datagram_comes h number g from (body.Take d who seen) = take_comes h number g from d who seen
@@ -20,6 +21,7 @@ datagram_comes h number g from (body.Watch x echo) = unchanged g []
 datagram_comes h number g from (body.State x echo v s) = unchanged g []
 datagram_comes h number g from (body.Unwatch x echo) = unchanged g []
 
+-- anything that may come to a station; reports and ticks leave the grants alone
 abbrev pub grant_step : Hierarchy → ℕ → Grants → Happening → GrantStep
 grant_step h number g (Comes m) = datagram_comes h number g m.from m.body
 grant_step h number g (Orders o what) = order_comes h number g o what

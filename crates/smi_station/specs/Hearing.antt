@@ -1,8 +1,8 @@
 -- What a station does with a record that it is told.
-use Rattle.std.specs.Prelude.{ℕ, ◌&&◌, max, not, Bool, true, false, if◌then◌else◌, List, [], ◌∷◌, ◌++◌, map, find, Option, Some, None, option_map}
+use Rattle.std.specs.Prelude.{ℕ, ◌&&◌, max, not, Bool, true, false, if◌then◌else◌, List, [], ◌∷◌, ◌++◌, map, find, Option, Some, None}
 use Rattle.smi_grant.specs.declared.Command.{Command}
 use Rattle.smi_grant.specs.declared.Holder.{Holder}
-use Rattle.smi_grant.specs.declared.Holder.TheVariants.{Free, Operator, Domain}
+use Rattle.smi_grant.specs.declared.Holder.TheVariants.{Operator, Domain}
 use Rattle.smi_grant.specs.Keeper.{settled}
 use Rattle.smi_grant.specs.Record.{Standing, is_settled}
 use Rattle.smi_tree.specs.Hierarchy.{Hierarchy}
@@ -14,8 +14,8 @@ use Rattle.smi_command.specs.declared.LinkHeard.TheVariants as heard
 use Rattle.smi_command.specs.declared.Settlement.{Settlement}
 use Rattle.smi_command.specs.Hearing.{told_link, told_heard}
 use Rattle.smi_message.specs.Message.{Message}
-use Rattle.smi_station.specs.Grants.{Grants, put, with_gathered, with_link, with_record}
-use Rattle.smi_station.specs.Messages.{if_any, requests_due, tells_holder}
+use Rattle.smi_station.specs.Grants.{Grants, with_gathered, with_link, with_record}
+use Rattle.smi_station.specs.Messages.{requests_due, tells_holder}
 use Rattle.smi_station.specs.Happening.{answer, answer_command}
 use Rattle.smi_station.specs.Refusals.{is_keeper}
 use Rattle.smi_station.specs.GrantStep.{GrantStep, OfDomain, OfOperator, unchanged, waits_for_children}
@@ -32,6 +32,7 @@ listeners h number d = map Operator (operators_of h number) ++ parent_here (pare
     parent_here None = []
     parent_here (Some p) = if is_keeper h number p then Domain p ∷ [] else []
 
+-- the record changes the link
 abbrev pub is_heard : LinkHeard → Bool
 is_heard heard.Unchanged = false
 is_heard heard.Renewed = true
@@ -60,11 +61,13 @@ answers_of o d (Dropping e) xs = map (λ x. answer o (order.Drop d) x.code) xs
 answers_of o d (Held e n p) xs = commands_answered o d e p xs
 answers_of o d (Out k) xs = []
 
+-- what has settled
 abbrev pub settlements_in : LinkHeard → List Settlement
 settlements_in heard.Unchanged = []
 settlements_in heard.Renewed = []
 settlements_in (heard.Settled xs) = xs
 
+-- the link changes and its row is saved; what it is due now is sent, and what has settled is answered
 abbrev pub operator_told : Hierarchy → ℕ → Grants → ℕ → ℕ → Standing → GrantStep
 operator_told h number g o d r =
     let old = g.links (Operator o) d in
@@ -97,21 +100,26 @@ parent_heard g p d r =
 abbrev pub ends : Hierarchy → Grants → ℕ → Bool
 ends h g p = not (is_settled (g.records p).phase) && not (waits_for_children h g p)
 
+-- the record of a domain whose command has ended with the gathered code
 abbrev pub ended_record : Grants → ℕ → Standing
 ended_record g p = settled (g.records p) (g.gathered p)
 
+-- the command has ended, or goes on
 abbrev pub ended : Bool → Grants → ℕ → Grants
 ended true g p = with_gathered (with_record g p (ended_record g p)) p 0
 ended false g p = g
 
+-- what the end of a command leaves in the trace
 abbrev pub ended_entries : Bool → Grants → ℕ → List Entry
 ended_entries true g p = entry.Settled p (g.records p).epoch (g.records p).last (g.gathered p) ∷ []
 ended_entries false g p = []
 
+-- the end of a command is told to the holder
 abbrev pub ended_sends : Hierarchy → ℕ → Bool → Grants → ℕ → List Message
 ended_sends h number true g p = tells_holder h number p (ended_record g p) ∷ []
 ended_sends h number false g p = []
 
+-- the link changes; where nothing is waited for any more the command ends; what the link is due now is sent
 abbrev pub parent_told : Hierarchy → ℕ → Grants → ℕ → ℕ → Standing → GrantStep
 parent_told h number g p d r =
     let on = parent_heard g p d r in
@@ -127,10 +135,12 @@ parent_told h number g p d r =
 
 -- Whoever it changes.
 
+-- the record is told to the one whom it changes, if there is one
 abbrev pub told_to : Hierarchy → ℕ → Grants → ℕ → Standing → Option Holder → GrantStep
 told_to h number g d r (Some (Operator o)) = operator_told h number g o d r
 told_to h number g d r (Some (Domain p)) = parent_told h number g p d r
 told_to h number g d r _ = unchanged g []
 
+-- a told record comes
 abbrev pub tell_comes : Hierarchy → ℕ → Grants → ℕ → Standing → GrantStep
 tell_comes h number g d r = told_to h number g d r (listener h number g d r)

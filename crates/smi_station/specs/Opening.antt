@@ -1,5 +1,5 @@
 -- How a station starts, and what it is where it stops in the middle of a step.
-use Rattle.std.specs.Prelude.{ℕ, ◌+◌, Bool, true, false, List, [], ◌∷◌, map, replicate, Option, Some, None}
+use Rattle.std.specs.Prelude.{ℕ, ◌+◌, true, false, List, [], ◌∷◌, map, replicate, None}
 use Rattle.std.specs.List.{filter_map, range_with_len}
 use Rattle.smi_grant.specs.declared.Shown.{Shown}
 use Rattle.smi_tree.specs.Hierarchy.{Hierarchy}
@@ -14,6 +14,7 @@ use Rattle.smi_station.specs.Step.{after}
 use Rattle.smi_station.specs.declared.entry.Entry.{Entry}
 use Rattle.smi_station.specs.declared.entry.Entry.TheVariants as entry
 
+-- units and devices
 abbrev pub object_count : Hierarchy → ℕ
 object_count h = domain_count h + device_count h
 
@@ -45,6 +46,7 @@ first_opened h number = opened h number no_grants
 abbrev pub all_shown : Hierarchy → Station → List Shown
 all_shown h s = filter_map (shown_at s.grants.boot s.display.conditions) (range_with_len 1 (object_count h))
 
+-- what a start leaves in the trace
 abbrev pub opening_entries : Hierarchy → ℕ → Station → List Entry
 opening_entries h number s = entry.Booted number s.grants.boot ∷ map entry.Passed (all_shown h s)
 

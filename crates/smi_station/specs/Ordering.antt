@@ -5,7 +5,7 @@ use Rattle.smi_grant.specs.declared.Command.TheVariants.{Do, Include, Exclude, M
 use Rattle.smi_grant.specs.declared.Holder.TheVariants.{Operator}
 use Rattle.smi_tree.specs.Hierarchy.{Hierarchy}
 use Rattle.smi_command.specs.declared.Link.{Link}
-use Rattle.smi_command.specs.declared.Link.TheVariants.{Out, Taking, Held, Dropping}
+use Rattle.smi_command.specs.declared.Link.TheVariants.{Held, Dropping}
 use Rattle.smi_command.specs.Order.{take_begun, drop_begun, command_issued}
 use Rattle.smi_station.specs.Grants.{Grants, with_link}
 use Rattle.smi_station.specs.Messages.{request_newest}
@@ -39,10 +39,12 @@ relinked h number g o d c l = record {
   issued = issued_by d c l;
 }
 
+-- the order is obeyed where the link allows it
 abbrev pub obeyed : Hierarchy → ℕ → Grants → ℕ → ℕ → Option Command → Result Link ℕ → GrantStep
 obeyed h number g o d c (Ok l) = relinked h number g o d c l
 obeyed h number g o d c (Err code) = unchanged g []
 
+-- a command is issued
 abbrev pub commands : Hierarchy → ℕ → Grants → ℕ → ℕ → Command → GrantStep
 commands h number g o d c = obeyed h number g o d (Some c) (command_issued (g.links (Operator o) d) c)
 

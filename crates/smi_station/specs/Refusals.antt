@@ -1,5 +1,5 @@
 -- What a station refuses, by the first test that fails.
-use Rattle.std.specs.Prelude.{ℕ, ◌+◌, ◌==◌, ◌&&◌, nat_le, not, Bool, true, false, if◌then◌else◌, Option, Some, None, option_and_then, Result, Ok, Err, count_by}
+use Rattle.std.specs.Prelude.{ℕ, ◌+◌, ◌==◌, ◌&&◌, nat_le, not, Bool, false, if◌then◌else◌, Option, Some, None, Result, Ok, Err, count_by}
 use Rattle.std.specs.Option.{option_or}
 use Rattle.std.specs.List.{range_with_len}
 use Rattle.smi_grant.specs.declared.Command.{Command}
@@ -17,7 +17,7 @@ use Rattle.smi_stable.specs.Known.{is_number, is_holder_of, is_command_of}
 use Rattle.smi_stable.specs.Stored.{is_out}
 use Rattle.smi_station.specs.Grants.{Grants}
 use Rattle.smi_station.specs.Messages.{holder_station}
-use Rattle.smi_station.specs.Happening.{Happening, Comes, Orders, Reports, Ticks, order_of}
+use Rattle.smi_station.specs.Happening.{Happening, Comes, Orders, Reports, Ticks}
 use Rattle.smi_station.specs.declared.order.Order.{Order}
 use Rattle.smi_station.specs.declared.order.Order.TheVariants as order
 use Rattle.smi_grant.specs.declared.Command.TheVariants.{Do, Include, Exclude, Manual, Ignore}
@@ -54,9 +54,11 @@ refusal_of_message h number m =
 
 -- Orders.
 
+-- the tree has the domain
 abbrev pub has_domain : Hierarchy → ℕ → Bool
 has_domain h d = is_between 1 (domain_count h) d
 
+-- the tree has the object
 abbrev pub has_object : Hierarchy → ℕ → Bool
 has_object h x = is_between 1 (domain_count h + device_count h) x
 
@@ -87,9 +89,11 @@ is_report_here h number device s =
 abbrev pub most_links : ℕ
 most_links = 16
 
+-- how many links of an operator are not out
 abbrev pub links_in_use : Hierarchy → Grants → ℕ → ℕ
 links_in_use h g o = count_by (λ d. not (is_out (g.links (Operator o) d))) (range_with_len 1 (domain_count h))
 
+-- the refusal, where there is one
 abbrev pub why_not : Result Link ℕ → Option ℕ
 why_not (Ok l) = None
 why_not (Err code) = Some code

@@ -1,7 +1,6 @@
 -- The rows of a station.
-use Rattle.std.specs.Prelude.{ℕ, ◌==◌, Bool, true, false, if◌then◌else◌, List, Option, Some, None}
+use Rattle.std.specs.Prelude.{ℕ, ◌==◌, Bool, false, if◌then◌else◌, List, Option, Some, None}
 use Rattle.std.specs.List.{filter_map, range_with_len}
-use Rattle.smi_grant.specs.declared.Holder.{Holder}
 use Rattle.smi_grant.specs.declared.Holder.TheVariants.{Operator, Domain}
 use Rattle.smi_tree.specs.Hierarchy.{Hierarchy}
 use Rattle.smi_tree.specs.Lookups.{domain_count, children_of}
@@ -21,6 +20,7 @@ use Rattle.smi_stable.specs.Stored.{stored}
 use Rattle.smi_station.specs.Grants.{Grants}
 use Rattle.smi_station.specs.GrantStep.{Touched, OfDomain, OfOperator}
 
+-- the key of a row
 abbrev pub key : ℕ → ℕ → ℕ → Key
 key station d o = record { station = station; domain = d; operator = o }
 
@@ -35,19 +35,24 @@ is_new (Dropping e) = false
 abbrev pub stored_if : ℕ → Link → Mode → Option StoredLink
 stored_if d l m = if is_new l then None else Some (stored d l m)
 
+-- a domain's links to its children
 abbrev pub child_links : Hierarchy → Grants → ℕ → List StoredLink
 child_links h g d = filter_map (λ x. stored_if x (g.links (Domain d) x) (g.modes x)) (children_of h d)
 
+-- an operator's links
 abbrev pub operator_links : Hierarchy → Grants → ℕ → List StoredLink
 operator_links h g o =
     filter_map (λ d. stored_if d (g.links (Operator o) d) mode.Included) (range_with_len 1 (domain_count h))
 
+-- what the row of a domain says
 abbrev pub domain_row : Hierarchy → Grants → ℕ → Row
 domain_row h g d = row.Domain (record { standing = g.records d; gathered = g.gathered d; links = child_links h g d })
 
+-- what the row of an operator says
 abbrev pub operator_row : Hierarchy → Grants → ℕ → Row
 operator_row h g o = row.Operator (operator_links h g o)
 
+-- the row that a start saves
 abbrev pub saved_boot : ℕ → ℕ → Saved
 saved_boot number boot = saved (key number 0 0) (row_bytes (newest kind.Boot) (row.Boot boot))
 

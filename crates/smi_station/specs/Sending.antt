@@ -1,7 +1,6 @@
 -- What a station may send, at any moment and any number of times.
 use Rattle.std.specs.Prelude.{ℕ, ◌≡◌, true, false, Some, slice_get}
 use Rattle.smi_grant.specs.declared.Holder.{Holder}
-use Rattle.smi_grant.specs.declared.Shown.{Shown}
 use Rattle.smi_message.specs.declared.Body.{Body}
 use Rattle.smi_message.specs.declared.Body.TheVariants as body
 use Rattle.smi_message.specs.Message.{Message}
@@ -39,5 +38,6 @@ MaySay h number s to (body.State x echo v state) =
     (shown_at s.grants.boot s.display.conditions x ≡ Some (record { object = x; version = v; state = state }))
     × IsWatchedBy s x to echo
 
+-- a datagram that a station may send
 abbrev pub MaySend : Hierarchy → ℕ → Station → Message → Type 0
 MaySend h number s m = (m.from ≡ number) × (m.tree ≡ h.number) × MaySay h number s m.to m.body

@@ -1,5 +1,5 @@
 -- What one event makes of a station.
-use Rattle.std.specs.Prelude.{ℕ, ◌||◌, Bool, true, false, if◌then◌else◌, List, [], ◌∷◌, ◌++◌, map, take, Option, Some, None, option_map, Result, Ok, Err}
+use Rattle.std.specs.Prelude.{ℕ, List, [], ◌∷◌, ◌++◌, map, take, Option, Some, None, option_map, Result, Ok, Err}
 use Rattle.std.specs.List.{flat_map}
 use Rattle.smi_grant.specs.declared.Shown.{Shown}
 use Rattle.smi_message.specs.declared.Bad.{Bad}
@@ -13,13 +13,13 @@ use Rattle.smi_publish.specs.declared.condition.Condition.{Condition}
 use Rattle.smi_stable.specs.Store.{Saved}
 use Rattle.smi_station.specs.Grants.{Grants}
 use Rattle.smi_station.specs.Display.{Display, Station}
-use Rattle.smi_station.specs.Happening.{Happening, Comes, Orders, Reports, Ticks, answer, told_entry, told_entries}
+use Rattle.smi_station.specs.Happening.{Happening, Comes, Orders, Reports, Ticks, answer, told_entries}
 use Rattle.smi_station.specs.Refusals.{refusal_of}
 use Rattle.smi_station.specs.GrantStep.{GrantStep}
 use Rattle.smi_station.specs.GrantsOf.{grant_step}
 use Rattle.smi_station.specs.Watching.{Notice, unnoticed, watch_comes, unwatch_comes, state_comes, told_state, record_comes, order_noticed}
 use Rattle.smi_station.specs.Ticking.{most_sent, tick_noticed}
-use Rattle.smi_station.specs.Showing.{Member, members_of, domain_of_happening, moved_by, followed, passed_in, shown_to_all, is_spent}
+use Rattle.smi_station.specs.Showing.{members_of, domain_of_happening, moved_by, followed, passed_in, shown_to_all, is_spent}
 use Rattle.smi_station.specs.SavedRows.{saved_row}
 use Rattle.smi_station.specs.declared.event.Event.{Event}
 use Rattle.smi_station.specs.declared.event.Event.TheVariants as event
@@ -39,6 +39,7 @@ pub record Out : Type 0 where
   pub issued : Option Mark
   pub shown : Option Shown
 
+-- nothing is handed out
 abbrev pub nothing_out : Out
 nothing_out = record { datagrams = []; answers = []; issued = None; shown = None }
 
@@ -54,12 +55,14 @@ pub record Outcome : Type 0 where
 
 -- Refused.
 
+-- a refused order is answered at once
 abbrev pub refusal_answers : Happening → ℕ → List Answer
 refusal_answers (Orders o what) code = answer o what code ∷ []
 refusal_answers (Comes m) code = []
 refusal_answers (Reports device s) code = []
 refusal_answers Ticks code = []
 
+-- nothing changes, and the code is answered
 abbrev pub refused : Station → ℕ → List Answer → Outcome
 refused s code answers = record {
   station = s;
@@ -72,6 +75,7 @@ refused s code answers = record {
 
 -- Not refused.
 
+-- what a datagram does to the display
 abbrev pub body_noticed : Hierarchy → ℕ → ℕ → Display → ℕ → Body → Notice
 body_noticed h number boot s from (body.Tell d r) = record_comes h number s d r
 body_noticed h number boot s from (body.Watch x echo) = watch_comes h number boot s from x echo
@@ -79,6 +83,7 @@ body_noticed h number boot s from (body.State x echo v state) = state_comes h nu
 body_noticed h number boot s from (body.Unwatch x echo) = unwatch_comes s from x echo
 body_noticed h number boot s from _ = unnoticed s
 
+-- what anything that comes does to the display
 abbrev pub notice : Hierarchy → ℕ → Grants → Display → Happening → Notice
 notice h number g s (Comes m) = body_noticed h number g.boot s m.from m.body
 notice h number g s (Orders o what) = order_noticed h number g.boot s o what
@@ -96,14 +101,17 @@ conditions_by h s grants display moved (Some d) =
     moved
     d
 
+-- devices move, and then the unit follows
 abbrev pub conditions_after : Hierarchy → Station → Grants → Display → Happening → ℕ → Option Condition
 conditions_after h s grants display what =
     conditions_by h s grants display (moved_by h s.grants s.display.conditions what) (domain_of_happening h what)
 
+-- done where a row was saved
 abbrev pub heard_of : Option Saved → Heard
 heard_of None = Same
 heard_of (Some row) = Done
 
+-- what it was shown leaves in the trace
 abbrev pub showed_entries : ℕ → Option Shown → List Entry
 showed_entries number None = []
 showed_entries number (Some s) = entry.Showed number s ∷ []
@@ -124,6 +132,7 @@ put_together h number s g n conditions passed = record {
   after = showed_entries number n.showed ++ map entry.Passed passed ++ told_entries (g.answers ++ n.answers);
 }
 
+-- a step that is not refused
 abbrev pub accepted : Hierarchy → ℕ → Station → Happening → Outcome
 accepted h number s what =
     let g = grant_step h number s.grants what in
@@ -131,6 +140,7 @@ accepted h number s what =
     let conditions = conditions_after h s g.grants n.display what in
     put_together h number s g n conditions (passed_in h s.grants.boot s.display.conditions conditions (domain_of_happening h what))
 
+-- a step, refused or not
 abbrev pub answered_or : Hierarchy → ℕ → Station → Happening → Option ℕ → Outcome
 answered_or h number s what (Some code) = refused s code (refusal_answers what code)
 answered_or h number s what None = accepted h number s what

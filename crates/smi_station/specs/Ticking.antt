@@ -1,7 +1,6 @@
 -- What a tick sends again.
-use Rattle.std.specs.Prelude.{ℕ, ◌+◌, ◌-◌, ◌==◌, ◌&&◌, ◌||◌, nat_lt, nat_le, not, Bool, true, false, if◌then◌else◌, List, [], ◌∷◌, ◌++◌, length, map, filter, take, Option, Some, None}
+use Rattle.std.specs.Prelude.{ℕ, ◌+◌, ◌-◌, ◌==◌, ◌&&◌, ◌||◌, nat_lt, nat_le, not, Bool, false, if◌then◌else◌, List, [], ◌∷◌, ◌++◌, map, filter, take, Option, Some, None}
 use Rattle.std.specs.List.{flat_map, range_with_len}
-use Rattle.smi_grant.specs.declared.Holder.{Holder}
 use Rattle.smi_grant.specs.declared.Holder.TheVariants.{Operator, Domain}
 use Rattle.smi_message.specs.Message.{Message}
 use Rattle.smi_tree.specs.Hierarchy.{Hierarchy}
@@ -22,20 +21,24 @@ most_sent = 64
 
 -- Places stand in the order of their kinds, and then of their numbers.
 
+-- the numbers by which places stand
 abbrev pub place_key : Place → List ℕ
 place_key (place.Child x) = 0 ∷ x ∷ []
 place_key (place.Link o d n) = 1 ∷ o ∷ d ∷ n ∷ []
 place_key (place.Ask o) = 2 ∷ o ∷ []
 place_key (place.Watch x) = 3 ∷ x ∷ []
 
+-- numbers are compared from the left
 abbrev pub is_key_before : List ℕ → List ℕ → Bool
 is_key_before [] _ = false
 is_key_before (a ∷ more) [] = false
 is_key_before (a ∷ more) (b ∷ rest) = nat_lt a b || (a == b && is_key_before more rest)
 
+-- one place stands before another
 abbrev pub is_before : Place → Place → Bool
 is_before a b = is_key_before (place_key a) (place_key b)
 
+-- where the first tick begins
 abbrev pub first_place : Place
 first_place = place.Child 1
 
@@ -51,14 +54,17 @@ pub record Owed : Type 0 where
   pub place : Place
   pub message : Message
 
+-- a datagram at a place
 abbrev pub owed : Place → Message → Owed
 owed p m = record { place = p; message = m }
 
+-- a take and a drop have number 0
 abbrev pub number_of_due : Due → ℕ
 number_of_due (Take s) = 0
 number_of_due (Drop e) = 0
 number_of_due (Run e n c) = n
 
+-- the domains by number
 abbrev pub domains_of : Hierarchy → List ℕ
 domains_of h = range_with_len 1 (domain_count h)
 
@@ -77,10 +83,12 @@ owed_to_domain h number g o d =
     (λ due. owed (place.Link o d (number_of_due due)) (requests h number (Operator o) d due))
     (all_due (g.links (Operator o) d))
 
+-- an open question
 abbrev pub owed_question : Hierarchy → ℕ → ℕ → Option ℕ → List Owed
 owed_question h number o None = []
 owed_question h number o (Some d) = owed (place.Ask o) (asks_about h number d) ∷ []
 
+-- a watch
 abbrev pub owed_watch : Hierarchy → ℕ → ℕ → Display → ℕ → List Owed
 owed_watch h number boot s x = if is_watched h number s x then owed (place.Watch x) (watches h number boot x) ∷ [] else []
 
@@ -101,6 +109,7 @@ abbrev pub place_behind : Hierarchy → Place → ℕ → List Owed → Place
 place_behind h last room [] = if room == 0 then next_place h last else first_place
 place_behind h last room (x ∷ more) = place_behind h x.place (room - 1) more
 
+-- what a tick sends, and the place that it remembers
 abbrev pub tick_noticed : Hierarchy → ℕ → Grants → Display → Notice
 tick_noticed h number g s =
     let sent = owed_from s.place (all_owed h number g s) in

@@ -1,5 +1,5 @@
 -- Who watches whom: what a station makes of watches, of the states that it is shown, and of orders to watch.
-use Rattle.std.specs.Prelude.{ℕ, ◌==◌, ◌||◌, nat_lt, max, not, Bool, true, false, if◌then◌else◌, List, [], ◌∷◌, ◌++◌, length, map, filter, Option, Some, None, option_map, option_and_then}
+use Rattle.std.specs.Prelude.{ℕ, ◌==◌, ◌||◌, nat_lt, not, Bool, true, false, if◌then◌else◌, List, [], ◌∷◌, length, map, filter, Option, Some, None}
 use Rattle.smi_grant.specs.declared.Shown.{Shown}
 use Rattle.smi_grant.specs.declared.Version.{Version}
 use Rattle.smi_grant.specs.Record.{Standing}
@@ -9,7 +9,7 @@ use Rattle.smi_tree.specs.Lookups.{operators_of, parent_of}
 use Rattle.smi_publish.specs.Published.{shown_at}
 use Rattle.smi_stable.specs.Known.{is_number}
 use Rattle.smi_view.specs.declared.Acceptance.{Acceptance}
-use Rattle.smi_view.specs.declared.Acceptance.TheVariants.{Accepted, OtherBoot, NotNewer}
+use Rattle.smi_view.specs.declared.Acceptance.TheVariants.{Accepted}
 use Rattle.smi_view.specs.Accepting.{acceptance, last_after}
 use Rattle.smi_watchers.specs.declared.Watcher.{Watcher}
 use Rattle.smi_watchers.specs.Watching.{most_watchers, listed, others_of, watched, unwatched, left_by}
@@ -29,14 +29,17 @@ pub record Notice : Type 0 where
   pub answers : List Answer
   pub showed : Option Shown
 
+-- nothing changes
 abbrev pub unnoticed : Display → Notice
 unnoticed s = record { display = s; sends = []; answers = []; showed = None }
 
+-- the display changes, and this is sent and told
 abbrev pub noticed : Display → List Message → List Answer → Notice
 noticed s sends answers = record { display = s; sends = sends; answers = answers; showed = None }
 
 -- Whom a station watches: the units of its domains' children, and what its operators name.
 
+-- the unit of a child of a domain that the station keeps
 abbrev pub is_child_unit : Hierarchy → ℕ → ℕ → Bool
 is_child_unit h number x = is_keeper_of_some h number (parent_of h x)
   where
@@ -44,6 +47,7 @@ is_child_unit h number x = is_keeper_of_some h number (parent_of h x)
     is_keeper_of_some h number None = false
     is_keeper_of_some h number (Some p) = is_keeper h number p
 
+-- the station watches the object
 abbrev pub is_watched : Hierarchy → ℕ → Display → ℕ → Bool
 is_watched h number s x = s.named x || is_child_unit h number x
 
@@ -57,6 +61,7 @@ lists_before s from echo = if nat_lt (s.echoes from) echo then left_by from s.wa
 abbrev pub is_full : List (List Watcher) → ℕ → ℕ → Bool
 is_full lists x from = length (others_of from (listed lists x)) == most_watchers
 
+-- the lists after the watch
 abbrev pub lists_after : List (List Watcher) → ℕ → ℕ → ℕ → List (List Watcher)
 lists_after lists x from echo = if is_full lists x from then lists else watched lists x from echo
 
@@ -74,14 +79,17 @@ watch_comes h number boot s from x echo =
     (watch_answer h number boot s from x echo)
     []
 
+-- an unwatch ends a watch that is not newer
 abbrev pub unwatch_comes : Display → ℕ → ℕ → ℕ → Notice
 unwatch_comes s from x echo = noticed (record s { watchers = unwatched s.watchers x from echo }) [] []
 
 -- A state comes.
 
+-- the state of an object that was told
 abbrev pub told_state : ℕ → Version → ℕ → Shown
 told_state x v state = record { object = x; version = v; state = state }
 
+-- an accepted state is the last that was shown
 abbrev pub showed_if : Display → Shown → Acceptance → Notice
 showed_if s state Accepted = record { display = record s { shown = last_after s.shown Accepted state }; sends = []; answers = []; showed = Some state }
 showed_if s state _ = unnoticed s
@@ -96,6 +104,7 @@ state_comes h number boot s from echo state =
 
 -- A record comes, and orders.
 
+-- the operator has asked about the domain
 abbrev pub has_asked : Display → ℕ → ℕ → Bool
 has_asked s d o = is_number (s.asks o) d
 

@@ -6,7 +6,10 @@ use smi_stable::Mode;
 #[derive(Clone, Copy, Debug, PartialEq, Eq)]
 pub enum Entry {
     /// A station has started.
-    Booted { station: u16, boot: u32 },
+    Booted {
+        station: u16,
+        boot: u32,
+    },
     /// A domain was granted.
     Granted {
         domain: u16,
@@ -14,7 +17,10 @@ pub enum Entry {
         holder: Holder,
     },
     /// A domain became free.
-    Freed { domain: u16, epoch: u64 },
+    Freed {
+        domain: u16,
+        epoch: u64,
+    },
     /// An operator issued a command.
     Ordered {
         operator: u16,
@@ -43,7 +49,10 @@ pub enum Entry {
         epoch: u64,
     },
     /// A held child is in another mode.
-    InMode { domain: u16, mode: Mode },
+    InMode {
+        domain: u16,
+        mode: Mode,
+    },
     /// A command has ended.
     Settled {
         domain: u16,
@@ -52,9 +61,15 @@ pub enum Entry {
         outcome: u16,
     },
     /// A station took a told state for what an object shows.
-    Showed { station: u16, shown: Shown },
+    Showed {
+        station: u16,
+        shown: Shown,
+    },
     /// An object changed its state.
     Passed(Shown),
     /// An operator was told how an order ended.
-    Told { operator: u16, told: Told },
+    Told {
+        operator: u16,
+        told: Told,
+    },
 }

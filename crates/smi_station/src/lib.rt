@@ -8,6 +8,7 @@
 mod entry;
 mod event;
 pub mod examples;
+pub mod law;
 pub mod limits;
 mod order;
 mod place;

@@ -3,7 +3,7 @@ use Rattle.std.specs.Prelude.{List, [], ◌∷◌, ◌++◌}
 use Rattle.smi_grant.specs.declared.Command.TheVariants as command
 use Rattle.smi_grant.specs.declared.Holder.TheVariants.{Operator, Domain}
 use Rattle.smi_stable.specs.declared.Mode.TheVariants as mode
-use Rattle.smi_station.specs.Played.{Deliver, Restart, StopAfter, Tick, Line, line, sends, TAKE, DROP, RUN, TELL, WATCH, STATE}
+use Rattle.smi_station.specs.Played.{Deliver, Restart, StopAfter, Tick, Line, line, sends, TAKE, RUN, TELL, WATCH, STATE}
 use Rattle.smi_station.specs.declared.order.Order.TheVariants.{Take, Drop, Do, Include, Manual, Ignore}
 use Rattle.smi_station.specs.declared.entry.Entry.{Entry}
 use Rattle.smi_station.specs.declared.entry.Entry.TheVariants.{Booted, Granted, Ordered, Ran, Learned, InMode, Settled}
@@ -32,6 +32,7 @@ handed_on =
     ∷ line (Deliver 8) (Ran DCS 1 2 (command.Do CONFIGURE) ∷ []) (sends TELL A A DCS ∷ sends RUN A B TPC ∷ [])
     ∷ []
 
+-- TPC runs CONFIGURE and its device moves
 abbrev pub TPC_configured : List Entry
 TPC_configured = Ran TPC 1 1 (command.Do CONFIGURE) ∷ Settled TPC 1 1 0 ∷ passed HV 1 1 READY ∷ passed TPC 1 1 READY ∷ []
 
@@ -48,6 +49,7 @@ configured =
 abbrev pub no_drop_while_pending : List Line
 no_drop_while_pending = handed_on ++ line (ann (Drop DCS)) (ann_told (Drop DCS) 22 ∷ []) [] ∷ []
 
+-- what the second start of B leaves in the trace
 abbrev pub B_started_again : List Entry
 B_started_again = Booted B 2 ∷ passed TPC 2 0 OFF ∷ passed HV 2 0 OFF ∷ []
 
@@ -129,6 +131,7 @@ ignored =
     ∷ line (Deliver 16) (showed A TPC 1 1 READY ∷ []) []
     ∷ []
 
+-- BOB holds TPC and has ordered CONFIGURE
 abbrev pub one_ordered : List Line
 one_ordered = taken ++ line (bob (Do TPC CONFIGURE)) (Ordered BOB TPC 1 1 (command.Do CONFIGURE) ∷ []) (sends RUN B B TPC ∷ []) ∷ []
 

@@ -8,6 +8,7 @@ use Rattle.smi_station.specs.declared.entry.Entry.TheVariants.{Booted, Granted, 
 use Rattle.smi_station.specs.examples.WorkedTree.{A, B, ANN, BOB, DCS, TPC, OFF, STOP}
 use Rattle.smi_station.specs.examples.Words.{ann, bob, ann_told, bob_told, passed}
 
+-- BOB asks for DCS
 abbrev pub asked_for_DCS : List Line
 asked_for_DCS = line (bob (Take DCS)) [] (sends TAKE B A DCS ∷ []) ∷ []
 
@@ -20,6 +21,7 @@ saved_but_not_told =
     ∷ line (Deliver 2) (Learned (Operator BOB) DCS 1 ∷ bob_told (Take DCS) 0 ∷ []) []
     ∷ []
 
+-- BOB is granted TPC, and has not heard of it
 abbrev pub granted : List Line
 granted =
     line (bob (Take TPC)) [] (sends TAKE B B TPC ∷ [])

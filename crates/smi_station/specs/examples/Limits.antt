@@ -1,32 +1,29 @@
 -- Stations at their limits.
-use Rattle.std.specs.Prelude.{ℕ, ◌+◌, ◌^◌, nat_le, Bool, true, if◌then◌else◌, List, [], ◌∷◌, map, Option, Some, None}
+use Rattle.std.specs.Prelude.{ℕ, ◌^◌, nat_le, true, if◌then◌else◌, List, [], ◌∷◌, map}
 use Rattle.std.specs.List.{range_with_len}
-use Rattle.smi_grant.specs.declared.Command.TheVariants.{Include}
-use Rattle.smi_grant.specs.declared.Holder.{Holder}
 use Rattle.smi_grant.specs.declared.Holder.TheVariants.{Free, Operator, Domain}
 use Rattle.smi_grant.specs.declared.Phase.TheVariants.{Settled, Busy}
-use Rattle.smi_grant.specs.Record.{Standing, standing}
+use Rattle.smi_grant.specs.Record.{standing}
 use Rattle.smi_message.specs.declared.Body.{Body}
 use Rattle.smi_message.specs.declared.Body.TheVariants as body
-use Rattle.smi_message.specs.Message.{Message}
 use Rattle.smi_tree.specs.Hierarchy.{Hierarchy}
-use Rattle.smi_command.specs.declared.Link.{Link}
-use Rattle.smi_command.specs.declared.Link.TheVariants.{Out, Taking, Held, Dropping}
+use Rattle.smi_command.specs.declared.Link.TheVariants.{Out, Taking}
 use Rattle.smi_watchers.specs.Watching.{watcher}
 use Rattle.smi_station.specs.Display.{Station}
-use Rattle.smi_station.specs.Grants.{Grants, with_record, with_link}
-use Rattle.smi_station.specs.Happening.{Happening, Comes, Orders, Ticks}
+use Rattle.smi_station.specs.Grants.{with_record, with_link}
+use Rattle.smi_station.specs.Happening.{Comes, Ticks}
 use Rattle.smi_station.specs.Messages.{says}
 use Rattle.smi_station.specs.Opening.{first_opened}
 use Rattle.smi_station.specs.Played.{Sending, sending_of, subject_of}
 use Rattle.smi_station.specs.Step.{Outcome, after}
-use Rattle.smi_station.specs.examples.WorkedTree.{worked_tree, A, B, ANN, DCS, TPC}
+use Rattle.smi_station.specs.examples.WorkedTree.{worked_tree, A, ANN, DCS, TPC}
 use Rattle.smi_station.specs.examples.WideTree.{wide_tree}
 
 -- what a datagram with this body brings about at station A, sent by that station
 abbrev pub comes : Hierarchy → Station → ℕ → Body → Outcome
 comes h s from what = after h A s (Comes (says h from A what))
 
+-- what was sent, as the examples show it
 abbrev pub sendings : Outcome → List Sending
 sendings o = map sending_of o.out.datagrams
 
@@ -40,6 +37,7 @@ sixteen_taken =
 abbrev pub all_named : Station
 all_named = let s = first_opened wide_tree A in record s { display = record s.display { named = λ x. true } }
 
+-- a tick of station A of the wide tree
 abbrev pub tick : Station → Outcome
 tick s = after wide_tree A s Ticks
 
@@ -66,5 +64,6 @@ last_epoch_taken =
       grants = with_link (with_record s.grants DCS (standing 1 (Operator ANN) 1 Busy 0)) (Domain DCS) TPC (Taking (2 ^ 62));
     }
 
+-- TPC is free at the last epoch
 abbrev pub free_at_last_epoch : Body
 free_at_last_epoch = body.Tell TPC (standing (2 ^ 62) Free 0 Settled 0)

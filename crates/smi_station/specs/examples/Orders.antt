@@ -1,21 +1,17 @@
 -- Stations in states of which the examples of refusals and outcomes begin.
-use Rattle.std.specs.Prelude.{ℕ, List, [], ◌∷◌, map, Option, Some, None, replicate}
-use Rattle.std.specs.List.{flat_map}
+use Rattle.std.specs.Prelude.{ℕ, List, [], ◌∷◌, map, replicate}
 use Rattle.smi_grant.specs.declared.Command.{Command}
 use Rattle.smi_grant.specs.declared.Command.TheVariants.{Do}
-use Rattle.smi_grant.specs.declared.Holder.{Holder}
 use Rattle.smi_grant.specs.declared.Holder.TheVariants.{Operator, Domain}
 use Rattle.smi_grant.specs.declared.Phase.TheVariants.{Settled}
-use Rattle.smi_grant.specs.Record.{Standing, standing}
-use Rattle.smi_message.specs.declared.Body.{Body}
+use Rattle.smi_grant.specs.Record.{standing}
 use Rattle.smi_message.specs.declared.Body.TheVariants as body
-use Rattle.smi_message.specs.Message.{Message}
 use Rattle.smi_tree.specs.Hierarchy.{Hierarchy}
 use Rattle.smi_command.specs.declared.Link.{Link}
 use Rattle.smi_stable.specs.declared.Mode.{Mode}
 use Rattle.smi_station.specs.Grants.{put, with_record, with_link}
 use Rattle.smi_station.specs.Display.{Station}
-use Rattle.smi_station.specs.Happening.{Happening, Comes, Orders}
+use Rattle.smi_station.specs.Happening.{Comes, Orders}
 use Rattle.smi_station.specs.Opening.{first_opened}
 use Rattle.smi_station.specs.Step.{Outcome, after}
 use Rattle.smi_station.specs.declared.order.Order.{Order}

@@ -1,5 +1,5 @@
 -- Trees for what the worked tree is too small for.
-use Rattle.std.specs.Prelude.{ℕ, ◌+◌, ◌/◌, ◌%◌, List, [], ◌∷◌, ◌++◌, map, replicate, Option, Some, None, codes}
+use Rattle.std.specs.Prelude.{ℕ, ◌+◌, ◌/◌, ◌%◌, List, [], ◌∷◌, ◌++◌, map, replicate, Some, None, codes}
 use Rattle.std.specs.List.{range_with_len}
 use Rattle.smi_tree.specs.Hierarchy.{Hierarchy}
 use Rattle.smi_tree.specs.declared.row.Device.{Device}
@@ -12,6 +12,7 @@ deep_tree = record worked_tree {
   domains = domain 1 2 None ∷ domain 2 2 (Some 1) ∷ domain 2 2 (Some 2) ∷ [];
 }
 
+-- its third domain
 abbrev pub SEC : ℕ
 SEC = 3
 
@@ -19,9 +20,11 @@ SEC = 3
 abbrev pub named : ℕ → ℕ → List ℕ
 named letter n = letter ∷ (65 + n / 16) ∷ (65 + n % 16) ∷ []
 
+-- so many different names
 abbrev pub names : ℕ → ℕ → List (List ℕ)
 names letter count = map (named letter) (range_with_len 1 count)
 
+-- a device in that domain
 abbrev pub device_in : ℕ → Device
 device_in d = record { domain = d; class = 1 }
 

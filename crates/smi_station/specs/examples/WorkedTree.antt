@@ -1,5 +1,5 @@
 -- The tree of examples/worked.tree.
-use Rattle.std.specs.Prelude.{ℕ, List, [], ◌∷◌, Option, Some, None, codes}
+use Rattle.std.specs.Prelude.{ℕ, [], ◌∷◌, Option, Some, None, codes}
 use Rattle.smi_tree.specs.Hierarchy.{Hierarchy}
 use Rattle.smi_tree.specs.ClassTable.{ClassTable}
 use Rattle.smi_tree.specs.declared.declaration.ClassKind.TheVariants as class
@@ -7,19 +7,22 @@ use Rattle.smi_tree.specs.declared.declaration.Quantifier.{Quantifier}
 use Rattle.smi_tree.specs.declared.declaration.Quantifier.TheVariants.{Any, All}
 use Rattle.smi_tree.specs.declared.number.Address.{Address}
 use Rattle.smi_tree.specs.declared.row.Domain.{Domain}
-use Rattle.smi_tree.specs.declared.row.Device.{Device}
 use Rattle.smi_tree.specs.declared.row.Move.{Move}
 use Rattle.smi_tree.specs.declared.row.Rule.{Rule}
 
+-- a port of the local host
 abbrev pub address : ℕ → Address
 address port = record { host = 127 ∷ 0 ∷ 0 ∷ 1 ∷ []; port = port }
 
+-- a rule: the quantifier, the state, the target
 abbrev pub rule : Quantifier → ℕ → ℕ → Rule
 rule quantifier state target = record { quantifier = quantifier; state = state; target = target }
 
+-- a row of a device class
 abbrev pub move : ℕ → ℕ → ℕ → ℕ → Move
 move class from action to = record { class = class; from = from; action = action; to = to }
 
+-- a domain: its station, its class, its parent
 abbrev pub domain : ℕ → ℕ → Option ℕ → Domain
 domain station class parent = record { station = station; class = class; parent = parent }
 
@@ -56,18 +59,21 @@ worked_tree = record {
   devices = record { domain = 2; class = 1 } ∷ [];
 }
 
+-- Stations.
 abbrev pub A : ℕ
 A = 1
 
 abbrev pub B : ℕ
 B = 2
 
+-- Operators.
 abbrev pub ANN : ℕ
 ANN = 1
 
 abbrev pub BOB : ℕ
 BOB = 2
 
+-- Domains, and the device as an object.
 abbrev pub DCS : ℕ
 DCS = 1
 
@@ -77,6 +83,7 @@ TPC = 2
 abbrev pub HV : ℕ
 HV = 3
 
+-- States.
 abbrev pub OFF : ℕ
 OFF = 1
 
@@ -86,6 +93,7 @@ READY = 2
 abbrev pub RUNNING : ℕ
 RUNNING = 3
 
+-- Actions.
 abbrev pub CONFIGURE : ℕ
 CONFIGURE = 1
 
