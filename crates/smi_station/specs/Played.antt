@@ -14,15 +14,15 @@ use Rattle.smi_station.specs.declared.entry.Entry.{Entry}
 use Rattle.smi_station.specs.declared.order.Order.{Order}
 
 -- What is done: the datagram of a number is delivered (of all that were sent, from 1), an operator of a station
--- orders, a device of a station reports, a station ticks, is started again, or is stopped behind the save of what
--- comes to it by a datagram and started again.
+-- orders, a device of a station reports, a station ticks, is started again, or stops behind the save of what a
+-- datagram that is delivered to it brings about, and is started again.
 pub data Act : Type 0 where
   Deliver : ℕ → Act
   OrderAt : (station : ℕ) → (operator : ℕ) → Order → Act
   ReportAt : (station : ℕ) → (device : ℕ) → (state : ℕ) → Act
   Tick : (station : ℕ) → Act
   Restart : (station : ℕ) → Act
-  StopAfter : ℕ → Act
+  StopAfter : (station : ℕ) → ℕ → Act
 
 -- the stations, and all datagrams that were sent, in their order
 pub record Play : Type 0 where
@@ -133,9 +133,9 @@ delivers h p None = still p
 delivers h p (Some m) = steps h p m.to (Comes m)
 
 -- its receiver stops behind the save, if it was sent
-abbrev pub stops_after : Hierarchy → Play → Option Message → Turn
-stops_after h p None = still p
-stops_after h p (Some m) = stops h p m.to (after h m.to (p.stations m.to) (Comes m))
+abbrev pub stops_after : Hierarchy → Play → ℕ → Option Message → Turn
+stops_after h p station None = still p
+stops_after h p station (Some m) = stops h p station (after h station (p.stations station) (Comes m))
 
 -- an act is done
 abbrev pub turn : Hierarchy → Play → Act → Turn
@@ -144,7 +144,7 @@ turn h p (OrderAt station o what) = steps h p station (Orders o what)
 turn h p (ReportAt station device s) = steps h p station (Reports device s)
 turn h p (Tick station) = steps h p station Ticks
 turn h p (Restart station) = started h p station [] None (opened h station (p.stations station).grants)
-turn h p (StopAfter k) = stops_after h p (slice_get p.sent (k - 1))
+turn h p (StopAfter station k) = stops_after h p station (slice_get p.sent (k - 1))
 
 -- what is seen of it
 abbrev pub seen_of : Turn → Seen

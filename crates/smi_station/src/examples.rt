@@ -103,6 +103,12 @@ pub fn two_pending()
     ensures { Plays worked_tree commands.two_pending }
 {}
 
+/// Eight commands are pending: a ninth and a drop are refused, and all run in their order.
+#[tactic(auto, unfolding(smi_tree::specs::Hierarchy::ancestors))]
+pub fn eight_pending()
+    ensures { Plays worked_tree commands.eight_pending }
+{}
+
 /// What is told of two commands that were pending says which command of which grant each was; what is
 /// issued says the same.
 #[tactic(auto, unfolding(smi_tree::specs::Hierarchy::ancestors))]
@@ -114,7 +120,7 @@ pub fn marks_of_two_pending()
 /// The rows that are saved: of DCS when it is granted, and of BOB when he has taken TPC and when two commands
 /// are pending.
 pub fn saved_rows()
-    ensures granted { (turn_after worked_tree grants.asked_for_DCS (StopAfter 1)).saved ≡ Some (saved (key A DCS 0) (0x02 ∷ 0x01 ∷ 0x00 ∷ 0x02 ∷ 0 ∷ 0 ∷ 0 ∷ 0 ∷ 0 ∷ 0 ∷ 0 ∷ 0x01 ∷ 0 ∷ 0 ∷ 0 ∷ 0 ∷ 0 ∷ 0 ∷ 0 ∷ 0 ∷ 0 ∷ 0 ∷ 0 ∷ 0 ∷ [])) }
+    ensures granted { (turn_after worked_tree grants.asked_for_DCS (StopAfter A 1)).saved ≡ Some (saved (key A DCS 0) (0x02 ∷ 0x01 ∷ 0x00 ∷ 0x02 ∷ 0 ∷ 0 ∷ 0 ∷ 0 ∷ 0 ∷ 0 ∷ 0 ∷ 0x01 ∷ 0 ∷ 0 ∷ 0 ∷ 0 ∷ 0 ∷ 0 ∷ 0 ∷ 0 ∷ 0 ∷ 0 ∷ 0 ∷ 0 ∷ [])) }
     ensures held { (turn_after worked_tree grants.granted (Deliver 2)).saved ≡ Some (saved (key B 0 BOB) (0x03 ∷ 0 ∷ 0 ∷ 0x01 ∷ 0 ∷ 0x02 ∷ 0x02 ∷ 0 ∷ 0 ∷ 0 ∷ 0 ∷ 0 ∷ 0 ∷ 0 ∷ 0 ∷ 0x01 ∷ 0 ∷ 0 ∷ 0 ∷ 0 ∷ 0 ∷ 0 ∷ 0 ∷ 0 ∷ [])) }
     ensures two_pending { (turn_after worked_tree commands.one_ordered (bob (Do TPC START))).saved ≡ Some (saved (key B 0 BOB) (0x03 ∷ 0 ∷ 0 ∷ 0x01 ∷ 0 ∷ 0x02 ∷ 0x05 ∷ 0 ∷ 0 ∷ 0 ∷ 0 ∷ 0 ∷ 0 ∷ 0 ∷ 0 ∷ 0x01 ∷ 0 ∷ 0 ∷ 0 ∷ 0x02 ∷ 0 ∷ 0x01 ∷ 0 ∷ 0x01 ∷ 0 ∷ 0x01 ∷ 0 ∷ 0x01 ∷ 0 ∷ 0x02 ∷ [])) }
 {}

@@ -1,5 +1,6 @@
 -- Worked examples of commands that go through the hierarchy.
-use Rattle.std.specs.Prelude.{List, [], ◌∷◌, ◌++◌}
+use Rattle.std.specs.Prelude.{ℕ, ◌+◌, List, [], ◌∷◌, ◌++◌, map, replicate}
+use Rattle.std.specs.List.{range_with_len}
 use Rattle.smi_grant.specs.declared.Command.TheVariants as command
 use Rattle.smi_grant.specs.declared.Holder.TheVariants.{Operator, Domain}
 use Rattle.smi_stable.specs.declared.Mode.TheVariants as mode
@@ -67,7 +68,7 @@ repeated_run =
 abbrev pub stopped_after_run : List Line
 stopped_after_run =
     handed_on
-    ++ line (StopAfter 10) (Ran TPC 1 1 (command.Do CONFIGURE) ∷ Settled TPC 1 1 0 ∷ B_started_again) []
+    ++ line (StopAfter B 10) (Ran TPC 1 1 (command.Do CONFIGURE) ∷ Settled TPC 1 1 0 ∷ B_started_again) []
     ∷ line (Tick A) [] (sends RUN A B TPC ∷ sends RUN A A DCS ∷ sends WATCH A B TPC ∷ [])
     ∷ line (Deliver 11) [] (sends TELL B A TPC ∷ [])
     ∷ []
@@ -157,4 +158,25 @@ two_pending =
     both_run
     ++ line (Deliver 7) (bob_told (Do TPC CONFIGURE) 8 ∷ bob_told (Do TPC START) 0 ∷ []) []
     ∷ line (Deliver 6) [] []
+    ∷ []
+
+-- BOB orders CONFIGURE under this number.
+abbrev pub ordered_once : ℕ → Line
+ordered_once n = line (bob (Do TPC CONFIGURE)) (Ordered BOB TPC 1 n (command.Do CONFIGURE) ∷ []) (sends RUN B B TPC ∷ [])
+
+-- CONFIGURE runs under this number, once more.
+abbrev pub ran_again : ℕ → Line
+ran_again n = line (Deliver (n + 2)) (Ran TPC 1 n (command.Do CONFIGURE) ∷ Settled TPC 1 n 0 ∷ []) (sends TELL B B TPC ∷ [])
+
+-- Eight commands pending: a ninth and a drop are refused; all run in their order, and of all but the last the outcome
+-- was not seen.
+abbrev pub eight_pending : List Line
+eight_pending =
+    taken
+    ++ map ordered_once (range_with_len 1 8)
+    ++ line (bob (Do TPC CONFIGURE)) (bob_told (Do TPC CONFIGURE) 22 ∷ []) []
+    ∷ line (bob (Drop TPC)) (bob_told (Drop TPC) 22 ∷ []) []
+    ∷ line (Deliver 3) TPC_configured (sends TELL B B TPC ∷ [])
+    ∷ map ran_again (range_with_len 2 7)
+    ++ line (Deliver 18) (replicate 7 (bob_told (Do TPC CONFIGURE) 8) ++ bob_told (Do TPC CONFIGURE) 0 ∷ []) []
     ∷ []

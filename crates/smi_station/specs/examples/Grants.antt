@@ -16,7 +16,7 @@ asked_for_DCS = line (bob (Take DCS)) [] (sends TAKE B A DCS ∷ []) ∷ []
 abbrev pub saved_but_not_told : List Line
 saved_but_not_told =
     asked_for_DCS
-    ++ line (StopAfter 1) (Granted DCS 1 (Operator BOB) ∷ Booted A 2 ∷ passed DCS 2 0 OFF ∷ []) []
+    ++ line (StopAfter A 1) (Granted DCS 1 (Operator BOB) ∷ Booted A 2 ∷ passed DCS 2 0 OFF ∷ []) []
     ∷ line (Deliver 1) [] (sends TELL A B DCS ∷ [])
     ∷ line (Deliver 2) (Learned (Operator BOB) DCS 1 ∷ bob_told (Take DCS) 0 ∷ []) []
     ∷ []
