@@ -153,9 +153,11 @@ abbrev pub lines_of : World → Turn → List Line
 lines_of w t = map line.Entry t.entries ++ sent_lines (length w.sent + 1) t.sends
 
 -- all stations start, by number
+abbrev pub opening_of : Hierarchy → List Entry
+opening_of h = flat_map (λ number. opening_entries h number (first_opened h number)) (range_with_len 1 (station_count h))
+
 abbrev pub opening_lines : Hierarchy → List Line
-opening_lines h =
-    map line.Entry (flat_map (λ number. opening_entries h number (first_opened h number)) (range_with_len 1 (station_count h)))
+opening_lines h = map line.Entry (opening_of h)
 
 abbrev pub trace_from : Hierarchy → World → List Item → List Line
 trace_from h w [] = []
