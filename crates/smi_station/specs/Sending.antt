@@ -12,13 +12,13 @@ use Rattle.smi_publish.specs.Published.{shown_at}
 use Rattle.smi_watchers.specs.Watching.{listed, watcher}
 use Rattle.smi_station.specs.Grants.{Grants}
 use Rattle.smi_station.specs.Display.{Station}
-use Rattle.smi_station.specs.Messages.{home, object_home}
+use Rattle.smi_station.specs.Messages.{home, object_home, holder_station}
 use Rattle.smi_station.specs.Refusals.{is_keeper}
 use Rattle.smi_station.specs.Watching.{is_watched}
 
--- a holder's link is due this
-abbrev pub IsDue : Grants → Holder → ℕ → Due → Type 0
-IsDue g who d due = (i : ℕ) × (due_of (g.links who d) i ≡ Some due)
+-- a link of a holder of the station is due this
+abbrev pub IsDue : Hierarchy → ℕ → Grants → Holder → ℕ → Due → Type 0
+IsDue h number g who d due = (holder_station h who ≡ Some number) × ((i : ℕ) × (due_of (g.links who d) i ≡ Some due))
 
 -- the station at this place of the list watches an object since its boot
 abbrev pub IsWatchedBy : Station → ℕ → ℕ → ℕ → Type 0
@@ -28,9 +28,9 @@ IsWatchedBy s x station echo = (i : ℕ) × (slice_get (listed s.display.watcher
 -- and what its objects show, to those who watch them
 abbrev pub MaySay : Hierarchy → ℕ → Station → ℕ → Body → Type 0
 MaySay h number s to (body.Tell d r) = (is_keeper h number d ≡ true) × (r ≡ s.grants.records d)
-MaySay h number s to (body.Take d who seen) = (to ≡ home h d) × IsDue s.grants who d (Take seen)
-MaySay h number s to (body.Drop d who e) = (to ≡ home h d) × IsDue s.grants who d (Drop e)
-MaySay h number s to (body.Run d who e n c) = (to ≡ home h d) × IsDue s.grants who d (Run e n c)
+MaySay h number s to (body.Take d who seen) = (to ≡ home h d) × IsDue h number s.grants who d (Take seen)
+MaySay h number s to (body.Drop d who e) = (to ≡ home h d) × IsDue h number s.grants who d (Drop e)
+MaySay h number s to (body.Run d who e n c) = (to ≡ home h d) × IsDue h number s.grants who d (Run e n c)
 MaySay h number s to (body.Ask d) = to ≡ home h d
 MaySay h number s to (body.Watch x echo) = (to ≡ object_home h x) × (is_watched h number s.display x ≡ true) × (echo ≡ s.grants.boot)
 MaySay h number s to (body.Unwatch x echo) = (is_watched h number s.display x ≡ false) × (echo ≡ s.grants.boot)

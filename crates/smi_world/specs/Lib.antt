@@ -1,5 +1,6 @@
 pub mod Examples
 pub mod Failing
+pub mod Known
 pub mod Safe
 pub mod Schedule
 pub mod Trace

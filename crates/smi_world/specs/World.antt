@@ -1,6 +1,6 @@
 -- What may happen next in the world, with every choice open.
 use Rattle.std.specs.Prelude.{ℕ, ◌≡◌, ◌≢◌, ◌≤◌, ◌⊎◌, Bool, true, false, List, [], ◌∷◌, ◌++◌, reverse, Some}
-use Rattle.smi_message.specs.Message.{Message, last_boot}
+use Rattle.smi_message.specs.Message.{Message, is_message, last_boot}
 use Rattle.smi_tree.specs.Hierarchy.{Hierarchy}
 use Rattle.smi_tree.specs.Lookups.{station_count}
 use Rattle.smi_station.specs.declared.Entry.{Entry}
@@ -31,8 +31,8 @@ with_sent w m = record { stations = w.stations; sent = w.sent ++ m ∷ [] }
 
 -- One step, with the entries that it leaves, in their order.
 pub data Step (h : Hierarchy) (w : World) : List Entry → World → Type 0 where
-  -- a station sends what it may send
-  sends : (number : ℕ) (m : Message) → MaySend h number (w.stations number) m → Step h w [] (with_sent w m)
+  -- a station sends a datagram that it may send
+  sends : (number : ℕ) (m : Message) → is_message m ≡ true → MaySend h number (w.stations number) m → Step h w [] (with_sent w m)
   -- something comes to a station that runs
   steps : (number : ℕ) (what : Happening) → (w.stations number).is_stopped ≡ false → MayCome w what
       → Step h w ((after h number (w.stations number) what).kept ++ (after h number (w.stations number) what).after)

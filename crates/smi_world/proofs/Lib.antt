@@ -1,0 +1,3 @@
+pub mod Moves
+pub mod RecordMoves
+pub mod LinkMoves
