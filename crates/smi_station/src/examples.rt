@@ -2,7 +2,7 @@
 //! does nothing, and its clause says that the stations of examples/worked.tree do, line by line, what
 //! the example says.
 
-ghost use Rattle.std.specs.Prelude.{◌≡◌, [], ◌∷◌, ◌++◌, Some};
+ghost use Rattle.std.specs.Prelude.{◌≡◌, [], ◌∷◌, ◌++◌, map, Some};
 ghost use Rattle.smi_grant.specs.declared.Command.TheVariants as command;
 ghost use Rattle.smi_stable.specs.Store.{saved};
 ghost use Rattle.smi_station.specs.Happening.{answer_command, mark};
@@ -114,6 +114,7 @@ pub fn eight_pending()
 #[tactic(auto, unfolding(smi_tree::specs::Hierarchy::ancestors))]
 pub fn marks_of_two_pending()
     ensures answers { (turn_after worked_tree commands.both_run (Deliver 7)).out.answers ≡ answer_command BOB TPC 1 1 (command.Do CONFIGURE) 8 ∷ answer_command BOB TPC 1 2 (command.Do START) 0 ∷ [] }
+    ensures marks { map (λ a. a.mark) (turn_after worked_tree commands.both_run (Deliver 7)).out.answers ≡ Some (mark TPC 1 1) ∷ Some (mark TPC 1 2) ∷ [] }
     ensures issued { (turn_after worked_tree commands.one_ordered (bob (Do TPC START))).out.issued ≡ Some (mark TPC 1 2) }
 {}
 

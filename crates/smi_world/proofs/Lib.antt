@@ -1,3 +1,4 @@
 pub mod Moves
 pub mod RecordMoves
+pub mod Views
 pub mod LinkMoves
