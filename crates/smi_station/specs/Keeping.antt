@@ -2,6 +2,7 @@
 use Rattle.std.specs.Prelude.{ℕ, ◌+◌, Bool, true, false, if◌then◌else◌, List, [], ◌∷◌, ◌++◌}
 use Rattle.std.specs.List.{flat_map}
 use Rattle.smi_grant.specs.declared.Command.{Command}
+use Rattle.smi_grant.specs.declared.Command.TheVariants.{Do, Include, Exclude, Manual, Ignore}
 use Rattle.smi_grant.specs.declared.Holder.{Holder}
 use Rattle.smi_grant.specs.declared.Holder.TheVariants.{Domain}
 use Rattle.smi_grant.specs.declared.Verdict.{Verdict}
@@ -11,6 +12,7 @@ use Rattle.smi_message.specs.Message.{Message}
 use Rattle.smi_tree.specs.Hierarchy.{Hierarchy}
 use Rattle.smi_tree.specs.Lookups.{children_of}
 use Rattle.smi_command.specs.declared.Link.TheVariants.{Dropping}
+use Rattle.smi_stable.specs.Known.{is_parent}
 use Rattle.smi_station.specs.Grants.{Grants, put, with_record}
 use Rattle.smi_station.specs.Messages.{tells, requests_due}
 use Rattle.smi_station.specs.Children.{ChildChange, Relinked, ComesInto, change_of, links_after, modes_after, own_code}
@@ -59,11 +61,17 @@ abbrev pub mode_changed : ℕ → ChildChange → List Entry
 mode_changed x (ComesInto m) = entry.InMode x m ∷ []
 mode_changed x _ = []
 
--- what a command leaves in the trace of the children: grants given up, and then modes
+-- what a command leaves in the trace of the child that it is about: a grant given up, or a mode
+abbrev pub entries_at : Hierarchy → Grants → ℕ → Command → ℕ → List Entry
+entries_at h g d c t =
+    if is_parent h t d then let_go_of d t (change_of h g d c t) ++ mode_changed t (change_of h g d c t) else []
+
 abbrev pub child_entries : Hierarchy → Grants → ℕ → Command → List Entry
-child_entries h g d c =
-    flat_map (λ x. let_go_of d x (change_of h g d c x)) (children_of h d)
-    ++ flat_map (λ x. mode_changed x (change_of h g d c x)) (children_of h d)
+child_entries h g d (Do a) = []
+child_entries h g d (Include t) = entries_at h g d (Include t) t
+child_entries h g d (Exclude t) = entries_at h g d (Exclude t) t
+child_entries h g d (Manual t) = entries_at h g d (Manual t) t
+child_entries h g d (Ignore t) = entries_at h g d (Ignore t) t
 
 -- what the links that changed are due
 abbrev pub child_request : Hierarchy → ℕ → ℕ → ℕ → ChildChange → List Message

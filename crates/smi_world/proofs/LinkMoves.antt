@@ -1,6 +1,6 @@
 -- What anything that comes to a station does to each link there is a move.
-use Rattle.std.proofs.Common.{ℕ, ◌≡◌, Bool, true, false, List, ◌⊎◌, inl, inr, refl, sym, ap, ◌∙◌, subst}
-use Rattle.std.specs.Prelude.{◌==◌, ◌&&◌, not, Option, Some, None, Result, Ok, Err, if◌then◌else◌}
+use Rattle.std.proofs.Common.{ℕ, ◌≡◌, Bool, true, false, List, inl, inr, refl, sym, subst}
+use Rattle.std.specs.Prelude.{◌==◌, ◌&&◌, Option, Some, None, Result, Ok, Err, if◌then◌else◌}
 use Rattle.std.proofs.lemmas.Bool.{and_parts}
 use Rattle.smi_grant.specs.declared.Command.{Command}
 use Rattle.smi_grant.specs.declared.Command.TheVariants.{Do, Include, Exclude, Manual, Ignore}
@@ -27,7 +27,7 @@ use Rattle.smi_stable.specs.Ranges.{is_held}
 use Rattle.smi_station.specs.Grants.{Grants, put_link}
 use Rattle.smi_station.specs.Happening.{Happening, Comes, Orders, Reports, Ticks}
 use Rattle.smi_station.specs.Keeping.{decided, run_comes}
-use Rattle.smi_station.specs.Children.{ChildChange, Stays, Relinked, ComesInto, relinked_or, is_commanded, same_mode, comes_into, handed_on, aimed_at, targeted, child_change, change_of, link_after}
+use Rattle.smi_station.specs.Children.{ChildChange, Stays, ComesInto, relinked_or, is_commanded, same_mode, comes_into, handed_on, aimed_at, targeted, child_change, change_of, link_after}
 use Rattle.smi_station.specs.Hearing.{listener, told_to, parent_heard, ends, ended}
 use Rattle.smi_station.specs.Ordering.{obeyed, order_comes}
 use Rattle.smi_station.specs.GrantsOf.{datagram_comes, grant_step}
@@ -96,10 +96,10 @@ run_moves : (h : Hierarchy) (number : ℕ) (g : Grants) (from x : ℕ) (who : Ho
 run_moves h number g from x who e n c sent me d = elim (either (admits (g.records x) who e n)) [
   | inl t ↦ rw t (elim (either (is_parent h d x && same_holder me (Domain x))) [
     | inl u ↦ rw u (
-      let a = and_parts (is_parent h d x) _ u in
-      subst (λ z. LinkMove sent d z (g.links z d) (link_after (change_of h g x c d) (g.links (Domain x) d))) (sym (same_is me (Domain x) a.1))
-      (child_moves sent d (Domain x) (g.links (Domain x) d) h x c (g.modes d))
-    )
+        let a = and_parts (is_parent h d x) _ u in
+        subst (λ z. LinkMove sent d z (g.links z d) (link_after (change_of h g x c d) (g.links (Domain x) d))) (sym (same_is me (Domain x) a.1))
+        (child_moves sent d (Domain x) (g.links (Domain x) d) h x c (g.modes d))
+        )
     | inr f ↦ rw f move.stays
   ])
   | inr f ↦ rw f move.stays
@@ -110,7 +110,7 @@ heard_at : (g : Grants) (who : Holder) (x : ℕ) (r : Standing) (sent : List Mes
 heard_at g who x r sent m a b me d =
     at_put_link (LinkMove sent d me (g.links me d)) g.links who x (told_link (g.links who x) who r) me d
     (λ i j. subst (λ z. LinkMove sent z me (g.links me z) (told_link (g.links who x) who r)) (sym i)
-        (subst (λ z. LinkMove sent x z (g.links z x) (told_link (g.links who x) who r)) (sym j) (move.hears m r a b)))
+    (subst (λ z. LinkMove sent x z (g.links z x) (told_link (g.links who x) who r)) (sym j) (move.hears m r a b)))
     move.stays
 
 ended_links : (b : Bool) (on : Grants) (p : ℕ) → (ended b on p).links ≡ on.links

@@ -1,12 +1,11 @@
 -- What a step does to one record and to one link.
-use Rattle.std.proofs.Common.{ℕ, ◌≡◌, Bool, true, false, List, ◌⊎◌, inl, inr, refl, sym, ap, ◌∙◌, subst}
-use Rattle.std.specs.Prelude.{◌==◌, ◌&&◌, Result, Ok, if◌then◌else◌}
+use Rattle.std.proofs.Common.{ℕ, ◌≡◌, Bool, List, ◌⊎◌, inl, inr, arith}
+use Rattle.std.specs.Prelude.{◌==◌, ◌&&◌, Ok}
 use Rattle.std.proofs.lemmas.Bool.{and_parts, eqb-true}
 use Rattle.smi_grant.specs.declared.Command.{Command}
 use Rattle.smi_grant.specs.declared.Holder.{Holder}
 use Rattle.smi_grant.specs.Holder.{same_holder}
 use Rattle.smi_grant.specs.Record.{Standing}
-use Rattle.smi_message.specs.declared.Body.{Body}
 use Rattle.smi_message.specs.declared.Body.TheVariants as body
 use Rattle.smi_message.specs.Message.{Message}
 use Rattle.smi_command.specs.declared.Link.{Link}
@@ -32,6 +31,10 @@ pub data LinkMove (sent : List Message) (d : ℕ) (me : Holder) (l : Link) : Lin
   drops : (new : Link) → drop_begun l ≡ Ok new → LinkMove sent d me l new
   commands : (c : Command) (new : Link) → command_issued l c ≡ Ok new → LinkMove sent d me l new
   hears : (m : Message) (r : Standing) → Among m sent → m.body ≡ body.Tell d r → LinkMove sent d me l (told_link l me r)
+
+-- two numbers are one, or are not
+pub apart : (m n : ℕ) → (m ≡ n) ⊎ (m ≡ n → ⊥)
+apart m n = grind arith
 
 -- what holds of each value holds of a table with another value at one number
 pub at_put : {X : Type 0} (P : X → Type 0) (table : ℕ → X) (x : ℕ) (v : X) (d : ℕ) → (d ≡ x → P v) → P (table d) → P (put table x v d)

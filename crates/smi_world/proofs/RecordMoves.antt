@@ -1,6 +1,6 @@
 -- What anything that comes to a station does to each record there is a move.
-use Rattle.std.proofs.Common.{ℕ, ◌≡◌, Bool, true, false, List, ◌⊎◌, inl, inr, refl, sym, ap, ◌∙◌, subst}
-use Rattle.std.specs.Prelude.{◌==◌, ◌&&◌, not, Option, Some, None, Result, Ok, Err, if◌then◌else◌}
+use Rattle.std.proofs.Common.{ℕ, ◌≡◌, Bool, true, false, List, inl, inr, refl, sym, subst}
+use Rattle.std.specs.Prelude.{not, Option, Some, None, Result, Ok, Err, if◌then◌else◌}
 use Rattle.std.proofs.lemmas.Bool.{and_parts}
 use Rattle.smi_grant.specs.declared.Command.{Command}
 use Rattle.smi_grant.specs.declared.Command.TheVariants.{Do, Include, Exclude, Manual, Ignore}
@@ -17,7 +17,7 @@ use Rattle.smi_tree.specs.Hierarchy.{Hierarchy}
 use Rattle.smi_command.specs.declared.Link.{Link}
 use Rattle.smi_command.specs.declared.Due.TheVariants.{Take, Drop, Run}
 use Rattle.smi_command.specs.Order.{take_begun, drop_begun, command_issued}
-use Rattle.smi_command.specs.OneLink.{asked_record, kept_after, settled_record}
+use Rattle.smi_command.specs.OneLink.{kept_after}
 use Rattle.smi_command.proofs.Holders.{either}
 use Rattle.smi_station.specs.Grants.{Grants, put}
 use Rattle.smi_station.specs.Happening.{Happening, Comes, Orders, Reports, Ticks}
@@ -58,9 +58,9 @@ run_moves : (h : Hierarchy) (number : ℕ) (g : Grants) (from x : ℕ) (who : Ho
     → (d : ℕ) → RecordMove sent d (g.records d) ((run_comes h number g from x who e n c).grants.records d)
 run_moves h number g from x who e n c sent m a b d = elim (either (admits (g.records x) who e n)) [
   | inl t ↦ rw t (
-    moved_at sent g.records x (started (g.records x) busy own) d
-    (subst (λ z. RecordMove sent x (g.records x) (if z then started (g.records x) busy own else g.records x)) t (move.asked m who (Run e n c) a b busy own))
-  )
+      moved_at sent g.records x (started (g.records x) busy own) d
+      (subst (λ z. RecordMove sent x (g.records x) (if z then started (g.records x) busy own else g.records x)) t (move.asked m who (Run e n c) a b busy own))
+      )
   | inr f ↦ rw f move.rests
 ]
   where

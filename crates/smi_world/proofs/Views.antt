@@ -1,10 +1,10 @@
 -- Each domain and each of its holders in the world is one pair of a keeper and a link, whatever happens.
-use Rattle.std.proofs.Common.{ℕ, zero, suc, ◌≡◌, Bool, true, false, List, [], ◌∷◌, ◌⊎◌, inl, inr, refl, sym, ap, ◌∙◌, subst}
-use Rattle.std.specs.Prelude.{◌==◌, ◌&&◌, ◌++◌, not, slice_get, Option, Some, None, Result, Ok, if◌then◌else◌}
-use Rattle.std.proofs.lemmas.Bool.{and_parts, eqb-true}
+use Rattle.std.proofs.Common.{ℕ, zero, suc, ◌≡◌, Bool, true, false, List, [], ◌∷◌, inl, inr, refl, sym, ap, subst}
+use Rattle.std.specs.Prelude.{slice_get, Option, Some, None}
+use Rattle.std.proofs.lemmas.Bool.{and_parts}
 use Rattle.smi_grant.specs.declared.Holder.{Holder}
 use Rattle.smi_grant.specs.declared.Holder.TheVariants.{Free, Operator, Domain}
-use Rattle.smi_grant.specs.Holder.{is_free, same_holder, odd_of}
+use Rattle.smi_grant.specs.Holder.{is_free, same_holder}
 use Rattle.smi_grant.specs.Record.{Standing}
 use Rattle.smi_message.specs.declared.Body.{Body}
 use Rattle.smi_message.specs.declared.Body.TheVariants as body
@@ -14,9 +14,8 @@ use Rattle.smi_command.specs.declared.Due.{Due}
 use Rattle.smi_command.specs.declared.Due.TheVariants.{Take, Drop, Run}
 use Rattle.smi_command.specs.Hearing.{told_link}
 use Rattle.smi_command.specs.Link.{due_of}
-use Rattle.smi_command.specs.Order.{take_begun, drop_begun, command_issued}
-use Rattle.smi_command.specs.OneLink.{Datagram, Asks, Tells, Pair, asked, asked_record, settled_record, relinked, commanded, sent_due, delivered, has_number, is_stranger, Event, OrderTake, OrderCommand, OrderDrop, SendDue, Deliver, Settle, Stranger, Ask, after, Among}
-use Rattle.smi_command.proofs.Holders.{either, told_apart}
+use Rattle.smi_command.specs.OneLink.{Datagram, Asks, Tells, Pair, asked_record, relinked, commanded, sent_due, delivered, has_number, is_stranger, Event, OrderTake, OrderCommand, OrderDrop, SendDue, Deliver, Settle, Stranger, Ask, after, Among}
+use Rattle.smi_command.proofs.Holders.{told_apart}
 use Rattle.smi_station.specs.Messages.{request}
 use Rattle.smi_world.specs.World.{Among as IsSent}
 use Rattle.smi_world.proofs.Moves as move
@@ -121,12 +120,12 @@ recorded d me p sent range covers r move.rests = record { event = None; kept = r
 recorded d me p sent range covers r (move.ends x) = record { event = Some (Settle x); kept = refl; link = refl; keeps = λ k a. a }
 recorded d me p sent range covers r (move.asked m who due a b busy x) = elim (told_apart who me) [
   | inl s ↦
-    let c : Covers d me p.sent (request d me due) = subst (λ z. Covers d me p.sent (request d z due)) s.1 (subst (Covers d me p.sent) b (covers m a)) in
-    subst (λ z. Recorded me p (asked_record p.kept z due busy x)) (sym s.1)
-    (asked_by_me me p due busy x (among_at (Asks me due) p.sent (covers_request d me p.sent due c)))
+      let c : Covers d me p.sent (request d me due) = subst (λ z. Covers d me p.sent (request d z due)) s.1 (subst (Covers d me p.sent) b (covers m a)) in
+      subst (λ z. Recorded me p (asked_record p.kept z due busy x)) (sym s.1)
+      (asked_by_me me p due busy x (among_at (Asks me due) p.sent (covers_request d me p.sent due c)))
   | inr o ↦
-    asked_by_another me p who due busy x
-    (is_strange me who due (request_in_range d who due (subst (λ z. is_body z ≡ true) b (body_in_range m (range m a)))) o.0)
+      asked_by_another me p who due busy x
+      (is_strange me who due (request_in_range d who due (subst (λ z. is_body z ≡ true) b (body_in_range m (range m a)))) o.0)
 ]
 
 pub record Relinked (me : Holder) (p : Pair) (l : Link) : Type 0 where

@@ -1,6 +1,5 @@
 -- The worked examples as schedules, and the traces that they make.
 use Rattle.std.specs.Prelude.{ℕ, ◌≡◌, ◌+◌, List, [], ◌∷◌, ◌++◌, length, map}
-use Rattle.smi_message.specs.Message.{Message}
 use Rattle.smi_tree.specs.Hierarchy.{Hierarchy}
 use Rattle.smi_station.specs.declared.Entry.{Entry}
 use Rattle.smi_station.specs.Played.{Act, Deliver, OrderAt, ReportAt, Tick, Restart, StopAfter, Line as ExampleLine, Sending, sending_of}

@@ -1,5 +1,5 @@
 -- What a trace has to be like, at every moment.
-use Rattle.std.specs.Prelude.{ℕ, ◌≡◌, ◌≤◌, ◌<◌, ◌+◌, ◌%◌, ◌⊎◌, true, List, [], ◌∷◌, Some}
+use Rattle.std.specs.Prelude.{ℕ, ◌≡◌, ◌<◌, ◌+◌, ◌%◌, ◌⊎◌, true, List, [], ◌∷◌, Some}
 use Rattle.smi_grant.specs.declared.Command.{Command}
 use Rattle.smi_grant.specs.declared.Command.TheVariants.{Do, Include, Exclude, Manual, Ignore}
 use Rattle.smi_grant.specs.declared.Holder.{Holder}
@@ -10,7 +10,7 @@ use Rattle.smi_tree.specs.Lookups.{accepts, is_below, parent_of}
 use Rattle.smi_view.specs.Accepting.{is_newer}
 use Rattle.smi_station.specs.Children.{is_commanded}
 use Rattle.smi_station.specs.declared.Entry.{Entry}
-use Rattle.smi_station.specs.declared.Entry.TheVariants.{Booted, Granted, Freed, Ordered, Ran, Learned, LetGo, InMode, Settled, Showed, Passed, Told}
+use Rattle.smi_station.specs.declared.Entry.TheVariants.{Booted, Granted, Freed, Ran, Learned, LetGo, Showed, Passed}
 use Rattle.smi_world.specs.Trace.{Stands, epoch_at, holder_at, Holds, mode_at, orders_of, InWork, runs_under}
 
 -- Who is in command.

@@ -1,5 +1,5 @@
 -- What a schedule makes of the world, item by item, and the trace that it leaves.
-use Rattle.std.specs.Prelude.{ℕ, ◌+◌, ◌-◌, ◌==◌, ◌&&◌, not, Bool, true, false, if◌then◌else◌, List, [], ◌∷◌, ◌++◌, length, map, slice_get, Option, Some, None, option_map, option_and_then, is_some}
+use Rattle.std.specs.Prelude.{ℕ, ◌+◌, ◌-◌, ◌==◌, ◌&&◌, not, Bool, true, false, if◌then◌else◌, List, [], ◌∷◌, ◌++◌, length, map, slice_get, Option, Some, None, option_map, is_some}
 use Rattle.std.specs.List.{flat_map, range_with_len}
 use Rattle.smi_message.specs.Message.{Message, last_boot}
 use Rattle.smi_tree.specs.Hierarchy.{Hierarchy}
@@ -8,7 +8,6 @@ use Rattle.smi_publish.specs.Publishing.{keeper_of}
 use Rattle.smi_stable.specs.declared.Plan.{Plan}
 use Rattle.smi_stable.specs.declared.Plan.TheVariants as plan
 use Rattle.smi_station.specs.declared.Entry.{Entry}
-use Rattle.smi_station.specs.declared.Order.{Order}
 use Rattle.smi_station.specs.Display.{Station}
 use Rattle.smi_station.specs.Grants.{put}
 use Rattle.smi_station.specs.Happening.{Happening, Comes, Orders, Reports, Ticks, answer, told_entry}

@@ -1,8 +1,7 @@
 -- What may happen next in the world, with every choice open.
-use Rattle.std.specs.Prelude.{ℕ, ◌≡◌, ◌≢◌, ◌≤◌, ◌⊎◌, Bool, true, false, List, [], ◌∷◌, ◌++◌, reverse, Some}
+use Rattle.std.specs.Prelude.{ℕ, ◌≡◌, ◌≢◌, ◌⊎◌, true, false, List, [], ◌∷◌, ◌++◌, reverse}
 use Rattle.smi_message.specs.Message.{Message, is_message, last_boot}
 use Rattle.smi_tree.specs.Hierarchy.{Hierarchy}
-use Rattle.smi_tree.specs.Lookups.{station_count}
 use Rattle.smi_station.specs.declared.Entry.{Entry}
 use Rattle.smi_station.specs.Display.{Station}
 use Rattle.smi_station.specs.Grants.{put}
@@ -36,7 +35,7 @@ pub data Step (h : Hierarchy) (w : World) : List Entry → World → Type 0 wher
   -- something comes to a station that runs
   steps : (number : ℕ) (what : Happening) → (w.stations number).is_stopped ≡ false → MayCome w what
       → Step h w ((after h number (w.stations number) what).kept ++ (after h number (w.stations number) what).after)
-        (with_station w number (after h number (w.stations number) what).station)
+      (with_station w number (after h number (w.stations number) what).station)
   -- the stable change of that alone happens, and the station has stopped
   stops : (number : ℕ) (what : Happening) → (w.stations number).is_stopped ≡ false → MayCome w what
       → Step h w (after h number (w.stations number) what).kept (with_station w number (saved_only h number (w.stations number) what))

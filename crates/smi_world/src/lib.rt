@@ -6,5 +6,6 @@
 
 pub mod examples;
 mod item;
+pub mod law;
 
 pub use item::{Deed, Item, Line, Moment};

@@ -1,0 +1,33 @@
+//! What holds in every world that can be reached, whatever is lost, repeated, reordered, stopped and
+//! started again, as laws: each function does nothing. A world is reached by any list of steps
+//! (specs/World.antt): any datagram that was ever sent may come at any time and any number of times,
+//! any operator may order anything, any device may be reported in any state, any station may stop
+//! before or behind a save, and start again.
+
+ghost use Rattle.std.specs.Prelude.{◌≡◌, ◌⊎◌, ℕ, List, false};
+ghost use Rattle.smi_grant.specs.declared.Command.{Command};
+ghost use Rattle.smi_grant.specs.declared.Holder.{Holder};
+ghost use Rattle.smi_grant.specs.Holder.{is_free};
+ghost use Rattle.smi_grant.specs.Record.{IsRecord};
+ghost use Rattle.smi_message.specs.declared.Body.TheVariants.{Run};
+ghost use Rattle.smi_message.specs.Message.{Message};
+ghost use Rattle.smi_tree.specs.Hierarchy.{Hierarchy};
+ghost use Rattle.smi_command.specs.declared.Link.TheVariants.{Held};
+ghost use Rattle.smi_command.specs.KnownGrant.{KnownGrant, InStep, IsSpent, Waits};
+ghost use Rattle.smi_station.specs.declared.Entry.{Entry};
+ghost use Rattle.smi_world.specs.Known.{record_in, link_in};
+ghost use Rattle.smi_world.specs.Schedule.{World};
+ghost use Rattle.smi_world.specs.World.{Reaches, Among};
+
+/// Every record is lawful; a record's holder has a link that knows of the grant, and a link that is
+/// held is that of the record's holder, at its epoch; the numbers of pending commands are in step with
+/// the record; and every `RUN` that was ever sent is spent or still pending on its link.
+pub fn links_know_their_records()
+    ensures lawful { (h : Hierarchy) (past : List Entry) (w : World) (d : ℕ) → Reaches h past w → IsRecord (record_in h w d) }
+    ensures known { (h : Hierarchy) (past : List Entry) (w : World) (d : ℕ) (me : Holder) → is_free me ≡ false → Reaches h past w →
+        KnownGrant (record_in h w d) me (link_in h w me d) }
+    ensures in_step { (h : Hierarchy) (past : List Entry) (w : World) (d : ℕ) (me : Holder) (e n : ℕ) (p : List Command) → is_free me ≡ false → Reaches h past w →
+        link_in h w me d ≡ Held e n p → InStep (record_in h w d) n p }
+    ensures sent { (h : Hierarchy) (past : List Entry) (w : World) (d : ℕ) (me : Holder) (m : Message) (e n : ℕ) (c : Command) → is_free me ≡ false → Reaches h past w →
+        Among m w.sent → m.body ≡ Run d me e n c → IsSpent (record_in h w d) e n ⊎ Waits (link_in h w me d) e n c }
+{}
