@@ -1,6 +1,10 @@
+pub mod Changes
 pub mod KnownFacts
 pub mod Moves
+pub mod Quiet
 pub mod RecordMoves
+pub mod Traces
 pub mod Views
 pub mod Viewed
+pub mod LinkChanges
 pub mod LinkMoves

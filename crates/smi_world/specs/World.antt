@@ -1,5 +1,5 @@
 -- What may happen next in the world, with every choice open.
-use Rattle.std.specs.Prelude.{ℕ, ◌≡◌, ◌≢◌, ◌⊎◌, true, false, List, [], ◌∷◌, ◌++◌, reverse}
+use Rattle.std.specs.Prelude.{ℕ, ◌≡◌, ◌≢◌, ◌⊎◌, true, false, List, [], ◌∷◌, ◌++◌}
 use Rattle.smi_message.specs.Message.{Message, is_message, last_boot}
 use Rattle.smi_tree.specs.Hierarchy.{Hierarchy}
 use Rattle.smi_station.specs.declared.Entry.{Entry}
@@ -45,7 +45,12 @@ pub data Step (h : Hierarchy) (w : World) : List Entry → World → Type 0 wher
   starts : (number : ℕ) → (w.stations number).grants.boot ≢ last_boot
       → Step h w (opening_entries h number (opened h number (w.stations number).grants)) (with_station w number (opened h number (w.stations number).grants))
 
+-- a trace with these entries after it, one after the other
+abbrev pub noted : List Entry → List Entry → List Entry
+noted [] past = past
+noted (x ∷ new) past = noted new (x ∷ past)
+
 -- a run from the opening, with its trace, the newest entry first
 pub data Reaches (h : Hierarchy) : List Entry → World → Type 0 where
-  opens : Reaches h (reverse (opening_of h)) (first_world h)
-  goes_on : {past new : List Entry} {w next : World} → Reaches h past w → Step h w new next → Reaches h (reverse new ++ past) next
+  opens : Reaches h (noted (opening_of h) []) (first_world h)
+  goes_on : {past new : List Entry} {w next : World} → Reaches h past w → Step h w new next → Reaches h (noted new past) next
