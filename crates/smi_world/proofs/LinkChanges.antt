@@ -24,6 +24,7 @@ use Rattle.smi_world.specs.World.{Among as IsSent}
 use Rattle.smi_world.proofs.Changes.{SameGrant, SameLink}
 use Rattle.smi_world.proofs.KnownFacts.{known_grant}
 use Rattle.smi_world.proofs.Moves.{apart}
+use Rattle.smi_world.proofs.Quiet.{epoch_quiet, holder_quiet}
 use Rattle.smi_world.proofs.Traces.{Traces, Safely, holds_at, one_commander}
 use Rattle.smi_world.proofs.Viewed.{Viewed}
 
@@ -67,31 +68,6 @@ about_others me who d x e f o = elim (either (is_grant_of me d e who x f)) [
   | inr i ↦ i
 ]
 
--- the holder of the present grant was granted it
-pub granted_stands : (d : ℕ) (who : Holder) → is_free who ≡ false → (past : List Entry) → holder_at d past ≡ who → Stands (Granted d (epoch_at d past) who) past
-unfolding holder_at epoch_at
-granted_stands d who p [] i = let t : is_free Free ≡ false = ap is_free i ∙ p in absurd cc
-granted_stands d who p (Granted x e g ∷ past) i = elim (either (x == d)) [
-  | inl t ↦ rw t (inl (ap (λ z. Granted z e who) (sym (eqb-true x d t)) ∙ ap (Granted x e) (sym (subst (λ b. (if b then g else holder_at d past) ≡ who) t i))))
-  | inr f ↦ rw f (inr (granted_stands d who p past (subst (λ b. (if b then g else holder_at d past) ≡ who) f i)))
-]
-granted_stands d who p (Freed x e ∷ past) i = elim (either (x == d)) [
-  | inl t ↦
-    let j : Free ≡ who = subst (λ b. (if b then Free else holder_at d past) ≡ who) t i in
-    let k : is_free Free ≡ false = ap is_free j ∙ p in absurd cc
-  | inr f ↦ rw f (inr (granted_stands d who p past (subst (λ b. (if b then Free else holder_at d past) ≡ who) f i)))
-]
-granted_stands d who p (Learned g x e ∷ past) i = inr (granted_stands d who p past i)
-granted_stands d who p (LetGo g x e ∷ past) i = inr (granted_stands d who p past i)
-granted_stands d who p (Booted s b ∷ past) i = inr (granted_stands d who p past i)
-granted_stands d who p (Ordered o x e n c ∷ past) i = inr (granted_stands d who p past i)
-granted_stands d who p (Ran x e n c ∷ past) i = inr (granted_stands d who p past i)
-granted_stands d who p (InMode x m ∷ past) i = inr (granted_stands d who p past i)
-granted_stands d who p (Settled x e n q ∷ past) i = inr (granted_stands d who p past i)
-granted_stands d who p (Showed s q ∷ past) i = inr (granted_stands d who p past i)
-granted_stands d who p (Passed q ∷ past) i = inr (granted_stands d who p past i)
-granted_stands d who p (Told o q ∷ past) i = inr (granted_stands d who p past i)
-
 -- the trace says nothing new of epochs and holders, nor of other links
 
 epoch_learned : (d x e : ℕ) (who : Holder) (past : List Entry) → epoch_at d (Learned who x e ∷ past) ≡ epoch_at d past
@@ -117,6 +93,62 @@ learned_learned me d e who x f past = refl
 learned_let_go : (me : Holder) (d e : ℕ) (who : Holder) (x f : ℕ) (past : List Entry) → has_learned me d e (LetGo who x f ∷ past) ≡ (if is_grant_of me d e who x f then false else has_learned me d e past)
 unfolding has_learned
 learned_let_go me d e who x f past = refl
+
+epoch_granted : (d x e : ℕ) (who : Holder) (past : List Entry) → epoch_at d (Granted x e who ∷ past) ≡ (if x == d then e else epoch_at d past)
+unfolding epoch_at
+epoch_granted d x e who past = refl
+
+epoch_freed : (d x e : ℕ) (past : List Entry) → epoch_at d (Freed x e ∷ past) ≡ (if x == d then e else epoch_at d past)
+unfolding epoch_at
+epoch_freed d x e past = refl
+
+holder_granted : (d x e : ℕ) (who : Holder) (past : List Entry) → holder_at d (Granted x e who ∷ past) ≡ (if x == d then who else holder_at d past)
+unfolding holder_at
+holder_granted d x e who past = refl
+
+holder_freed : (d x e : ℕ) (past : List Entry) → holder_at d (Freed x e ∷ past) ≡ (if x == d then Free else holder_at d past)
+unfolding holder_at
+holder_freed d x e past = refl
+
+holder_none : (d : ℕ) → holder_at d [] ≡ Free
+unfolding holder_at
+holder_none d = refl
+
+-- behind an entry that leaves the epoch, the grant stands as before
+still_stands : (d : ℕ) (who : Holder) (x : Entry) (past : List Entry) → epoch_at d (x ∷ past) ≡ epoch_at d past → Stands (Granted d (epoch_at d past) who) past → Stands (Granted d (epoch_at d (x ∷ past)) who) (x ∷ past)
+still_stands d who x past same a = subst (λ n. Stands (Granted d n who) (x ∷ past)) (sym same) (inr a)
+
+-- the holder of the present grant was granted it
+pub granted_stands : (d : ℕ) (who : Holder) → is_free who ≡ false → (past : List Entry) → holder_at d past ≡ who → Stands (Granted d (epoch_at d past) who) past
+granted_stands d who p [] i = let t : is_free Free ≡ false = ap is_free (sym (holder_none d) ∙ i) ∙ p in absurd cc
+granted_stands d who p (Granted x e g ∷ past) i = elim (either (x == d)) [
+  | inl t ↦
+    let a : epoch_at d (Granted x e g ∷ past) ≡ e = epoch_granted d x e g past ∙ ap (λ b. if b then e else epoch_at d past) t in
+    let b : g ≡ who = sym (holder_granted d x e g past ∙ ap (λ z. if z then g else holder_at d past) t) ∙ i in
+    subst (λ n. Stands (Granted d n who) (Granted x e g ∷ past)) (sym a)
+    (inl (ap (λ z. Granted z e who) (sym (eqb-true x d t)) ∙ ap (Granted x e) (sym b)))
+  | inr f ↦
+    still_stands d who (Granted x e g) past (epoch_granted d x e g past ∙ ap (λ b. if b then e else epoch_at d past) f)
+    (granted_stands d who p past (sym (holder_granted d x e g past ∙ ap (λ z. if z then g else holder_at d past) f) ∙ i))
+]
+granted_stands d who p (Freed x e ∷ past) i = elim (either (x == d)) [
+  | inl t ↦
+    let b : Free ≡ who = sym (holder_freed d x e past ∙ ap (λ z. if z then Free else holder_at d past) t) ∙ i in
+    let k : is_free Free ≡ false = ap is_free b ∙ p in absurd cc
+  | inr f ↦
+    still_stands d who (Freed x e) past (epoch_freed d x e past ∙ ap (λ b. if b then e else epoch_at d past) f)
+    (granted_stands d who p past (sym (holder_freed d x e past ∙ ap (λ z. if z then Free else holder_at d past) f) ∙ i))
+]
+granted_stands d who p (Learned g x e ∷ past) i = still_stands d who (Learned g x e) past (epoch_learned d x e g past) (granted_stands d who p past (sym (holder_learned d x e g past) ∙ i))
+granted_stands d who p (LetGo g x e ∷ past) i = still_stands d who (LetGo g x e) past (epoch_let_go d x e g past) (granted_stands d who p past (sym (holder_let_go d x e g past) ∙ i))
+granted_stands d who p (Booted s b ∷ past) i = still_stands d who (Booted s b) past (epoch_quiet d (Booted s b) past tt) (granted_stands d who p past (sym (holder_quiet d (Booted s b) past tt) ∙ i))
+granted_stands d who p (Ordered o x e n c ∷ past) i = still_stands d who (Ordered o x e n c) past (epoch_quiet d (Ordered o x e n c) past tt) (granted_stands d who p past (sym (holder_quiet d (Ordered o x e n c) past tt) ∙ i))
+granted_stands d who p (Ran x e n c ∷ past) i = still_stands d who (Ran x e n c) past (epoch_quiet d (Ran x e n c) past tt) (granted_stands d who p past (sym (holder_quiet d (Ran x e n c) past tt) ∙ i))
+granted_stands d who p (InMode x m ∷ past) i = still_stands d who (InMode x m) past (epoch_quiet d (InMode x m) past tt) (granted_stands d who p past (sym (holder_quiet d (InMode x m) past tt) ∙ i))
+granted_stands d who p (Settled x e n q ∷ past) i = still_stands d who (Settled x e n q) past (epoch_quiet d (Settled x e n q) past tt) (granted_stands d who p past (sym (holder_quiet d (Settled x e n q) past tt) ∙ i))
+granted_stands d who p (Showed s q ∷ past) i = still_stands d who (Showed s q) past (epoch_quiet d (Showed s q) past tt) (granted_stands d who p past (sym (holder_quiet d (Showed s q) past tt) ∙ i))
+granted_stands d who p (Passed q ∷ past) i = still_stands d who (Passed q) past (epoch_quiet d (Passed q) past tt) (granted_stands d who p past (sym (holder_quiet d (Passed q) past tt) ∙ i))
+granted_stands d who p (Told o q ∷ past) i = still_stands d who (Told o q) past (epoch_quiet d (Told o q) past tt) (granted_stands d who p past (sym (holder_quiet d (Told o q) past tt) ∙ i))
 
 -- A take has come to its grant.
 
