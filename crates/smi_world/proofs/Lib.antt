@@ -1,4 +1,5 @@
 pub mod Changes
+pub mod GrantKinds
 pub mod KnownFacts
 pub mod Moves
 pub mod Quiet
