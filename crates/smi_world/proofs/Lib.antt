@@ -1,4 +1,5 @@
 pub mod Changes
+pub mod ChildKinds
 pub mod GrantKinds
 pub mod KnownFacts
 pub mod Moves

@@ -107,7 +107,7 @@ stop_moves h w number what may =
 
 -- A datagram is sent.
 
-keeper_home : (o : Option ℕ) (n : ℕ) → is_number o n ≡ true → unwrap_or o 0 ≡ n
+pub keeper_home : (o : Option ℕ) (n : ℕ) → is_number o n ≡ true → unwrap_or o 0 ≡ n
 keeper_home None n i = absurd cc
 keeper_home (Some m) n i = eqb-true m n i
 

@@ -64,14 +64,14 @@ party_held Free p = absurd cc
 party_held (Operator o) p = refl
 party_held (Domain d) p = refl
 
-body_in_range : (m : Message) → is_message m ≡ true → is_body m.body ≡ true
+pub body_in_range : (m : Message) → is_message m ≡ true → is_body m.body ≡ true
 body_in_range m i = (and_parts (is_addressed m.from m.to m.tree) _ i).1
 
-record InRange (who : Holder) (due : Due) : Type 0 where
-  held : is_free who ≡ false
-  number : has_number due ≡ true
+pub record InRange (who : Holder) (due : Due) : Type 0 where
+  pub held : is_free who ≡ false
+  pub number : has_number due ≡ true
 
-request_in_range : (d : ℕ) (who : Holder) (due : Due) → is_body (request d who due) ≡ true → InRange who due
+pub request_in_range : (d : ℕ) (who : Holder) (due : Due) → is_body (request d who due) ≡ true → InRange who due
 request_in_range d who (Take s) i =
     let a = and_parts _ _ i in let b = and_parts (is_party who) _ a.1 in
     record { held = party_held who b.0; number = refl }
