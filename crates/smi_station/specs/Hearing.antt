@@ -24,13 +24,14 @@ use Rattle.smi_station.specs.declared.order.Order.TheVariants as order
 use Rattle.smi_station.specs.declared.entry.Entry.{Entry}
 use Rattle.smi_station.specs.declared.entry.Entry.TheVariants as entry
 
+-- the parent, where it is kept here
+abbrev pub parent_here : Hierarchy → ℕ → Option ℕ → List Holder
+parent_here h number None = []
+parent_here h number (Some p) = if is_keeper h number p then Domain p ∷ [] else []
+
 -- whoever may have a link to the domain here: the operators by number, and then the domain's parent
 abbrev pub listeners : Hierarchy → ℕ → ℕ → List Holder
-listeners h number d = map Operator (operators_of h number) ++ parent_here (parent_of h d)
-  where
-    parent_here : Option ℕ → List Holder
-    parent_here None = []
-    parent_here (Some p) = if is_keeper h number p then Domain p ∷ [] else []
+listeners h number d = map Operator (operators_of h number) ++ parent_here h number (parent_of h d)
 
 -- the record changes the link
 abbrev pub is_heard : LinkHeard → Bool

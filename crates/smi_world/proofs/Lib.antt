@@ -1,6 +1,7 @@
 pub mod Changes
 pub mod ChildKinds
 pub mod GrantKinds
+pub mod HearingKinds
 pub mod KnownFacts
 pub mod Moves
 pub mod Quiet

@@ -1,7 +1,8 @@
 -- What a step does to one record and to one link.
-use Rattle.std.proofs.Common.{ℕ, ◌≡◌, Bool, List, ◌⊎◌, inl, inr, arith}
+use Rattle.std.proofs.Common.{ℕ, refl, ◌≡◌, Bool, true, List, ◌⊎◌, inl, inr, arith}
 use Rattle.std.specs.Prelude.{◌==◌, ◌&&◌, Ok}
 use Rattle.std.proofs.lemmas.Bool.{and_parts, eqb-true}
+use Rattle.std.proofs.lemmas.Bool.Decides.{nat_tests}
 use Rattle.smi_grant.specs.declared.Command.{Command}
 use Rattle.smi_grant.specs.declared.Holder.{Holder}
 use Rattle.smi_grant.specs.Holder.{same_holder}
@@ -13,7 +14,7 @@ use Rattle.smi_command.specs.declared.Due.{Due}
 use Rattle.smi_command.specs.Hearing.{told_link}
 use Rattle.smi_command.specs.OneLink.{asked_record, settled_record}
 use Rattle.smi_command.specs.Order.{take_begun, drop_begun, command_issued}
-use Rattle.smi_command.proofs.Holders.{either, same_is}
+use Rattle.smi_command.proofs.Holders.{either, same_is, same_self}
 use Rattle.smi_station.specs.Grants.{put, put_link}
 use Rattle.smi_station.specs.Messages.{request}
 use Rattle.smi_world.specs.World.{Among}
@@ -45,3 +46,9 @@ at_put_link P links who x l me d here other = elim (either (d == x && same_holde
   | inl t ↦ let a = and_parts (d == x) _ t in rw t (here (eqb-true d x a.0) (same_is me who a.1))
   | inr f ↦ rw f other
 ]
+
+pub put_link_here : (links : Holder → ℕ → Link) (who : Holder) (x : ℕ) (l : Link) → put_link links who x l who x ≡ l
+put_link_here links who x l = rw (self x) (rw (same_self who) refl)
+  where
+    self : (n : ℕ) → (n == n) ≡ true
+    self n = grind (arith, nat_tests)
