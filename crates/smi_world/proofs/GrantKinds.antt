@@ -55,7 +55,7 @@ pub data GrantKind (h : Hierarchy) (number : ℕ) (sent : List Message) (g k : G
 
 -- the same of the whole world
 
-put_here : {X : Type 0} (table : ℕ → X) (n : ℕ) (v : X) → put table n v n ≡ v
+pub put_here : {X : Type 0} (table : ℕ → X) (n : ℕ) (v : X) → put table n v n ≡ v
 put_here table n v = rw (self n) refl
   where
     self : (n : ℕ) → (n == n) ≡ true

@@ -6,6 +6,7 @@ pub mod KnownFacts
 pub mod Moves
 pub mod Quiet
 pub mod RecordMoves
+pub mod StepKinds
 pub mod Traces
 pub mod Views
 pub mod Viewed

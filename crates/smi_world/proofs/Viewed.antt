@@ -174,7 +174,7 @@ spoken h w number to d me p kept link (body.State x echo v s) may = of_others d 
 spoken h w number to d me p kept link (body.Unwatch x echo) may = of_others d me p (body.Unwatch x echo) tt
 
 -- what is among more datagrams was among them, or is the new one
-sent_or : (m k : Message) (sent : List Message) → IsSent m (sent ++ k ∷ []) → IsSent m sent ⊎ (m ≡ k)
+pub sent_or : (m k : Message) (sent : List Message) → IsSent m (sent ++ k ∷ []) → IsSent m sent ⊎ (m ≡ k)
 sent_or m k [] (inl same) = inr same
 sent_or m k [] (inr a) = absurd a
 sent_or m k (x ∷ sent) (inl same) = inl (inl same)
