@@ -8,6 +8,7 @@ ghost use Rattle.std.specs.Cmp.Rules.{hashing};
 ghost use Rattle.std.proofs.Common.{rules};
 
 use crate::number::is_digit;
+use crate::text::Word;
 use std::alloc::{AllocError, Global};
 use std::collections::hash_map::Equivalent;
 use std::hash::{Hash, Hasher};
@@ -117,11 +118,11 @@ impl<'a> Name<'a> {
 
     /// The name that a word is, where it is one: 1 to 16 bytes of `A` to `Z`, `0` to `9` and `_`, the first a letter.
     #[inline(always)]
-    pub(crate) fn read(word: &'a [u8]) -> Option<Name<'a>>
-        ensures { result ≡ name_of word.now }
+    pub(crate) fn read(word: Word<'a>) -> Option<Name<'a>>
+        ensures { result ≡ name_of word.entry }
     {
-        if is_name(word) {
-            Some(Name::of(word))
+        if is_name(&word) {
+            Some(Name::of(word.text()))
         } else {
             None
         }
@@ -150,14 +151,16 @@ impl NameBuf {
 }
 
 ghost use Rattle.std.specs.Prelude.{◌≡◌};
-ghost use Rattle.std.specs.List.{list_all};
 ghost use Rattle.smi_tree.specs.Name.{is_name, is_name_byte, is_letter, begins_with_letter};
 
 /// Whether a word is well formed as a name.
-fn is_name(word: &[u8]) -> bool
+#[inline(always)]
+fn is_name(word: &Word) -> bool
     ensures { result ≡ is_name word.now }
 {
-    word.len() <= MOST_BYTES && begins_with_letter(word) && has_name_bytes_alone(word)
+    word.text().len() <= MOST_BYTES
+        && begins_with_letter(word.text())
+        && word.has_name_bytes_alone()
 }
 
 fn begins_with_letter(word: &[u8]) -> bool
@@ -169,13 +172,7 @@ fn begins_with_letter(word: &[u8]) -> bool
     }
 }
 
-fn has_name_bytes_alone(word: &[u8]) -> bool
-    ensures { result ≡ list_all is_name_byte word.now }
-{
-    word.iter().all(|byte| is_name_byte(*byte))
-}
-
-fn is_name_byte(byte: u8) -> bool
+pub(crate) fn is_name_byte(byte: u8) -> bool
     ensures { result ≡ is_name_byte byte }
 {
     is_letter(byte) || is_digit(byte) || byte == b'_'
