@@ -125,7 +125,7 @@ impl<'a> Word<'a> {
 
 /// How many bytes stand before the first blank of a text, all where there is none, and whether each of
 /// them is one of a name's.
-#[inline(always)]
+#[inline(never)]
 fn word_before_blank(text: &[u8]) -> (usize, bool)
     ensures place { result.0 ≡ position_or_len (cuts Blank) text.now }
     ensures within { result.0 ≤ length text.now }
@@ -136,7 +136,7 @@ fn word_before_blank(text: &[u8]) -> (usize, bool)
         if Mark::Blank.is_at(*byte) {
             return (place, has_name_bytes_alone);
         }
-        has_name_bytes_alone = has_name_bytes_alone && is_name_byte(*byte);
+        has_name_bytes_alone &= is_name_byte(*byte);
     }
     (text.len(), has_name_bytes_alone)
 }
