@@ -4,6 +4,7 @@
 //! has no bytes, and no last value.
 #![tactic(auto)]
 
+mod step;
 mod tally;
 
 pub use tally::Tally;

@@ -1,24 +1,21 @@
 //! Counts that only clauses read.
 
-ghost use Rattle.std.specs.Prelude.{◌≡◌, ℕ, ◌+◌};
-ghost use base.Fml.{ftrue};
-
-use std::marker::{Model, PhantomData};
+use crate::step::Step;
+use std::marker::Model;
+use std::snapshot::Snapshot;
 
 /// A count that clauses alone read. It has no bytes, and so no last value.
+#[derive(Drop)]
 pub struct Tally {
-    marker: PhantomData<()>,
-    pub ghost count: { ℕ },
+    last: Snapshot<Step>,
 }
 
 impl Model for Tally {
-    ghost also_owns = { λ _. ftrue };
-}
+    ghost use Rattle.smi_tally.specs.Count.{Count};
 
-impl Drop for Tally {
-    fn drop(self) {
-        let Self { marker: _ } = self;
-    }
+    ghost Value = { Count };
+
+    ghost view = { λ t. record { count = t.last.value } };
 }
 
 impl Tally {
@@ -28,26 +25,8 @@ impl Tally {
     pub fn zero() -> Tally
         ensures { result.count ≡ 0 }
     {
-        Tally::beside(&0)
-    }
-
-    // The first count.
-    fn beside(byte: &u8) -> Tally
-        ensures { result.count ≡ 0 }
-    {
-        let _ = byte;
         Tally {
-            marker: PhantomData,
-        }
-    }
-
-    // The count after another.
-    fn after(earlier: &Tally) -> Tally
-        ensures { result.count ≡ earlier.now.count + 1 }
-    {
-        let _ = earlier;
-        Tally {
-            marker: PhantomData,
+            last: Snapshot::of(&Step { before: None }),
         }
     }
 
@@ -55,6 +34,7 @@ impl Tally {
     pub fn raise(&mut self)
         ensures { self.new.count ≡ self.old.count + 1 }
     {
-        *self = Tally::after(self);
+        let Tally { last } = std::mem::replace(self, Tally::zero());
+        self.last = Snapshot::of(&Step { before: Some(last) });
     }
 }

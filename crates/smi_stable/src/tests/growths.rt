@@ -1,0 +1,111 @@
+//! Growths that are refused: for a run in which each allocation is refused in turn. Without a refusal these tests say
+//! that ample memory suffices.
+
+use super::{BOOT, HELD, PENDING, TAKEN, TREE, WORKING, fault, key, rewritten};
+use crate::{MemoryStable, PlannedStable, SavedRow, SqliteStable, Stable, StoreFault};
+use smi_tree::Tree;
+use sqlite::Connection;
+use std::test::Fail;
+
+/// All rows, at the second try where the first had no memory.
+fn listed<S: Stable>(store: &mut S) -> Result<Vec<SavedRow>, StoreFault> {
+    match store.load() {
+        Err(StoreFault::Memory) => store.load(),
+        other => other,
+    }
+}
+
+fn is_same(a: &SavedRow, b: &SavedRow) -> bool {
+    a.key == b.key && a.bytes.as_slice() == b.bytes.as_slice()
+}
+
+fn are_same(before: &[SavedRow], after: &[SavedRow]) -> bool {
+    before.len() == after.len() && before.iter().zip(after.iter()).all(|(a, b)| is_same(a, b))
+}
+
+fn has_row(list: &[SavedRow], at: u16, bytes: &[u8]) -> bool {
+    list.iter().any(|row| row.key == key(1, at, 0) && row.bytes.as_slice() == bytes)
+}
+
+/// Whether a save did what it says: its row is there, or for want of memory all rows are as before.
+fn keeps_its_word<S: Stable>(store: &mut S, at: u16, bytes: &[u8]) -> Result<bool, StoreFault> {
+    let before = listed(store)?;
+    let result = store.save(key(1, at, 0), bytes);
+    let after = listed(store)?;
+    match result {
+        Ok(()) => Ok(has_row(&after, at, bytes)),
+        Err(StoreFault::Memory) => Ok(are_same(&before, &after)),
+        Err(_) => Ok(false),
+    }
+}
+
+/// Two new rows, and one of them anew.
+fn saves_keep_their_word<S: Stable>(store: &mut S) -> Result<bool, StoreFault> {
+    Ok(
+        keeps_its_word(store, 1, TAKEN)?
+            && keeps_its_word(store, 0, BOOT)?
+            && keeps_its_word(store, 1, WORKING)?,
+    )
+}
+
+#[test]
+fn saves_in_memory(rt: HostRuntime) {
+    let mut store = PlannedStable::new(MemoryStable::new(rt.alloc()));
+    assert_eq!(rt; saves_keep_their_word(&mut store), Ok(true));
+}
+
+#[test]
+fn saves_over_sql(rt: HostRuntime) {
+    let Ok(conn) = Connection::open_in_memory(rt.alloc()) else {
+        return;
+    };
+    let adopted = match SqliteStable::adopt(conn) {
+        Err((StoreFault::Memory, conn)) => SqliteStable::adopt(conn),
+        other => other,
+    };
+    match adopted {
+        Ok(mut store) => {
+            assert_eq!(rt; saves_keep_their_word(&mut store), Ok(true));
+            drop(store.release());
+        }
+        Err((fault, _)) => panic!(rt; "{fault:?}"),
+    }
+}
+
+#[test]
+fn rows_read(rt: HostRuntime) {
+    let Ok(tree) = Tree::read(rt.alloc(), TREE) else {
+        return;
+    };
+    for (key, bytes) in [
+        (key(1, 0, 0), BOOT),
+        (key(1, 1, 0), WORKING),
+        (key(2, 0, 2), PENDING),
+    ] {
+        match fault(rt.alloc(), &tree, key, bytes) {
+            // Want of memory, which is over at the next try.
+            99 => assert_eq!(rt; fault(rt.alloc(), &tree, key, bytes), 0),
+            code => assert_eq!(rt; code, 0),
+        }
+    }
+}
+
+#[test]
+fn rows_written(rt: HostRuntime) -> Result<(), Fail> {
+    let Ok(tree) = Tree::read(rt.alloc(), TREE) else {
+        return Ok(());
+    };
+    for (key, bytes) in [
+        (key(1, 0, 0), BOOT),
+        (key(1, 1, 0), WORKING),
+        (key(2, 0, 2), HELD),
+        (key(2, 0, 2), PENDING),
+    ] {
+        let written = match rewritten(rt.alloc(), &tree, key, bytes) {
+            Ok(row) => row,
+            Err(_) => rewritten(rt.alloc(), &tree, key, bytes)?,
+        };
+        assert_eq!(rt; written.as_slice(), bytes);
+    }
+    Ok(())
+}

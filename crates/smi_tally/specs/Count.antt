@@ -1,0 +1,5 @@
+-- What contracts see of a tally.
+use Rattle.std.specs.Prelude.{ℕ}
+
+pub record Count : Type 0 where
+  pub count : ℕ
