@@ -2,7 +2,7 @@
 
 Each figure is the best of five rounds, of the program and of the plain measure alike.
 
-usage: bench.py SMI SMI_BENCH
+usage: bench.py SMI SMI_BENCH SMI_TRIAL
 """
 
 import os
@@ -126,8 +126,19 @@ def saves(bench):
           % (SAVES, max(stored), min(stored), max(written), min(written), max(stored) / max(written)))
 
 
+LAYERS = [["board", "1", "2000000"], ["board", "3", "2000000"], ["link", "20000"], ["watchers", "20"]]
+
+
+def layers(trial):
+    """How fast the board, two links over UDP and the watcher lists are: every run."""
+    for words in LAYERS:
+        lines = [subprocess.run([trial] + words, stdout=subprocess.PIPE, stderr=subprocess.DEVNULL, check=True).stdout.decode().strip()
+                 for _ in range(ROUNDS)]
+        print("\n".join(lines))
+
+
 def main():
-    program, bench = map(os.path.abspath, sys.argv[1:])
+    program, bench, trial = map(os.path.abspath, sys.argv[1:])
     with tempfile.TemporaryDirectory() as folder:
         path = os.path.join(folder, "grants")
         count = write_grants(path)
@@ -139,6 +150,7 @@ def main():
         print("answer: %d datagrams, %.0f a second; through cat alone %.0f; ratio %.2f; %d KiB at most"
               % (count, count / min(answer), count / min(plain), min(plain) / min(answer), peak_kib(program, path)))
         trees(bench, folder)
+        layers(trial)
     saves(bench)
 
 

@@ -1,0 +1,7 @@
+pub mod Commands
+pub mod Grants
+pub mod Limits
+pub mod Orders
+pub mod WideTree
+pub mod Words
+pub mod WorkedTree

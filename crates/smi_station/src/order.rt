@@ -1,0 +1,57 @@
+use smi_grant::Record;
+
+/// What an operator may order, or a device report. Domains, objects, devices, actions and states
+/// have their numbers of the tree.
+#[derive(Clone, Copy, Debug, PartialEq, Eq)]
+pub enum Order {
+    /// Take the domain.
+    Take(u16),
+    /// Give the domain back.
+    Drop(u16),
+    /// Run an action at the domain.
+    Do(u16, u16),
+    /// Have the domain take in another one below it.
+    Include(u16, u16),
+    /// Have the domain give up another one below it.
+    Exclude(u16, u16),
+    /// Have the domain keep another one below it, but send it no commands.
+    Manual(u16, u16),
+    /// Have the domain keep another one below it, but take no notice of its state.
+    Ignore(u16, u16),
+    /// How does the domain stand?
+    Ask(u16),
+    /// Watch the object.
+    Watch(u16),
+    /// Watch the object no longer.
+    Unwatch(u16),
+    /// The device, by its number among the devices, is in this state.
+    Report(u16, u16),
+}
+
+/// An order and how it ended.
+#[derive(Clone, Copy, Debug, PartialEq, Eq)]
+pub struct Told {
+    pub order: Order,
+    /// An outcome 0 to 9 (docs/PROTOCOL.md, "Outcomes"), a refusal 21 to 26 ("Orders"), or a fault
+    /// 31 to 33 ("Steps").
+    pub code: u16,
+    /// The record, where the order was an `Ask` that was answered.
+    pub asked: Option<Record>,
+}
+
+/// Which command of which grant.
+#[derive(Clone, Copy, Debug, PartialEq, Eq)]
+pub struct Mark {
+    pub domain: u16,
+    pub epoch: u64,
+    pub number: u32,
+}
+
+/// What an operator is told.
+#[derive(Clone, Copy, Debug, PartialEq, Eq)]
+pub struct Answer {
+    pub operator: u16,
+    pub told: Told,
+    /// The command that this answers, where it answers a command that was issued.
+    pub mark: Option<Mark>,
+}
