@@ -20,18 +20,24 @@ run: bin/smi
 # that the gate has just built where it left one.
 test:
 	rt ci
-	@if [ -x crates/smi/out/smi ] && [ -z "$$(find $(SOURCES) -newer crates/smi/out/smi)" ]; then \
-		mkdir -p bin && cp crates/smi/out/smi bin/smi; fi
+	@for it in smi smi_trial; do \
+		if [ -x crates/$$it/out/$$it ] && [ -z "$$(find $(SOURCES) -newer crates/$$it/out/$$it)" ]; then \
+			mkdir -p bin && cp crates/$$it/out/$$it bin/$$it; fi; done
 	$(MAKE) --no-print-directory cases
 
 # The command lines alone. The last line is 'N passed, M failed'.
-cases: bin/smi
-	python3 tests/command_lines.py bin/smi
+cases: bin/smi bin/smi_trial
+	python3 tests/command_lines.py bin/smi bin/smi_trial
 
-bench: bin/smi bin/smi_bench
-	python3 tests/bench.py bin/smi bin/smi_bench
+bench: bin/smi bin/smi_bench bin/smi_trial
+	python3 tests/bench.py bin/smi bin/smi_bench bin/smi_trial
 
 bin/smi_bench: $(SOURCES)
 	cd crates/smi_bench && rt run < /dev/null
 	mkdir -p bin
 	cp crates/smi_bench/out/smi_bench bin/smi_bench
+
+bin/smi_trial: $(SOURCES)
+	cd crates/smi_trial && rt run < /dev/null
+	mkdir -p bin
+	cp crates/smi_trial/out/smi_trial bin/smi_trial

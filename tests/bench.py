@@ -2,11 +2,12 @@
 
 Each figure is the best of five rounds, of the program and of the plain measure alike.
 
-usage: bench.py SMI SMI_BENCH
+usage: bench.py SMI SMI_BENCH SMI_TRIAL
 """
 
 import os
 import shutil
+import sqlite3
 import struct
 import subprocess
 import sys
@@ -16,6 +17,8 @@ import time
 ROUNDS = 5
 GRANTS = 500_000
 COMMANDS = 8
+SAVES = 10_000
+KEYS = 128
 
 
 def datagram(kind, code=0, epoch=0, number=0, argument=0):
@@ -91,8 +94,51 @@ def trees(bench, folder):
         print("tree: " + min(lines, key=lambda line: int(line.split()[3])).strip())
 
 
+def row_bytes(save):
+    """The row of a domain that operator 2 took, its last command numbered by the save."""
+    return struct.pack(">BBHQIBBHHH", 2, 1, 2, 1, save, 0, 0, 0, 0, 0)
+
+
+def check_store(path):
+    """The store as Python's own SQLite reads it: whole, and of each domain the row that was saved last."""
+    last = {save % KEYS + 1: save for save in range(SAVES)}
+    with sqlite3.connect(path) as file:
+        rows = file.execute("SELECT * FROM stable_rows ORDER BY station, domain, operator").fetchall()
+        whole = file.execute("PRAGMA integrity_check").fetchall()
+    file.close()
+    assert whole == [("ok",)], whole
+    assert rows == [(1, domain, 0, row_bytes(save)) for domain, save in sorted(last.items())], path
+
+
+def saves(bench):
+    """Saves of stable rows, beside the same bytes written one row after the other and handed to the device."""
+    stored, written = [], []
+    for _ in range(ROUNDS):
+        # On the disk that the repository is on, as a folder for temporary files may be in memory.
+        with tempfile.TemporaryDirectory(dir=os.path.dirname(bench)) as folder:
+            store = os.path.join(folder, "store")
+            command = [bench, store, os.path.join(folder, "plain"), str(SAVES)]
+            words = subprocess.run(command, stdout=subprocess.PIPE, check=True).stdout.decode().split()
+            check_store(store)
+        stored.append(SAVES * 1e6 / int(words[3]))
+        written.append(SAVES * 1e6 / int(words[7]))
+    print("stable rows: %d saves, %.0f a second (least %.0f); plain writes %.0f (least %.0f); ratio %.2f"
+          % (SAVES, max(stored), min(stored), max(written), min(written), max(stored) / max(written)))
+
+
+LAYERS = [["board", "1", "2000000"], ["board", "3", "2000000"], ["link", "20000"], ["watchers", "20"]]
+
+
+def layers(trial):
+    """How fast the board, two links over UDP and the watcher lists are: every run."""
+    for words in LAYERS:
+        lines = [subprocess.run([trial] + words, stdout=subprocess.PIPE, stderr=subprocess.DEVNULL, check=True).stdout.decode().strip()
+                 for _ in range(ROUNDS)]
+        print("\n".join(lines))
+
+
 def main():
-    program, bench = map(os.path.abspath, sys.argv[1:])
+    program, bench, trial = map(os.path.abspath, sys.argv[1:])
     with tempfile.TemporaryDirectory() as folder:
         path = os.path.join(folder, "grants")
         count = write_grants(path)
@@ -104,6 +150,8 @@ def main():
         print("answer: %d datagrams, %.0f a second; through cat alone %.0f; ratio %.2f; %d KiB at most"
               % (count, count / min(answer), count / min(plain), min(plain) / min(answer), peak_kib(program, path)))
         trees(bench, folder)
+        layers(trial)
+    saves(bench)
 
 
 main()

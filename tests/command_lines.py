@@ -1,6 +1,6 @@
 """Runs the program on each case of command-lines.txt and compares standard output, standard error and status.
 
-usage: command_lines.py SMI
+usage: command_lines.py SMI SMI_TRIAL
 
 A case begins with `case NAME`. `args` are the words of the command line, `in` and `out` bytes in
 hexadecimal, in which `N*BB` is N times a byte; several lines of one kind follow one another. `from
@@ -9,8 +9,8 @@ directory` reads the standard input from a directory, `to full` writes to a devi
 for the path of the worked tree file and for a path where there is none.
 
 After the table, a take is tried with each other value of each byte and in each length, against the
-layout in layout.py, each tree file of trees.py is checked, each store of stores.py listed, and each growth of some runs is refused in
-turn (growths.py). The last line is 'N passed, M failed'.
+layout in layout.py, each tree file of trees.py is checked, each store of stores.py listed, and each growth of some runs, and of the
+layers' objects in SMI_TRIAL, is refused in turn (growths.py). The last line is 'N passed, M failed'.
 """
 
 import os
@@ -128,14 +128,15 @@ def store_cases(folder):
 
 
 def main():
-    program = os.path.abspath(sys.argv[1])
+    program, trial = map(os.path.abspath, sys.argv[1:])
     cases = read_cases(os.path.join(HERE, "command-lines.txt"))
     cases += [variant_case(name, data) for name, data in variants(cases[0]["in"])]
     with tempfile.TemporaryDirectory() as folder:
         cases += tree_cases(folder)
         cases += store_cases(folder)
         done = [holds(program, case) for case in cases]
-        for name, held in growths.refused_cases(program, folder):
+        grown = list(growths.refused_cases(program, folder)) + list(growths.layer_cases(trial, folder))
+        for name, held in grown:
             done.append(held)
             if not held:
                 print("FAILED " + name)

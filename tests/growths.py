@@ -1,4 +1,8 @@
-"""Each growth of a run refused in turn: the program says so and ends with status 4."""
+"""Each growth of a run refused in turn.
+
+The program says so and ends with status 4. A layer's object is after each as it was before, and the same call then
+does what it does otherwise (crates/smi_trial).
+"""
 
 import os
 import subprocess
@@ -13,6 +17,9 @@ RUNS = [
     (["answer"], os.path.join(EXAMPLES, "one-domain.datagrams")),
 ]
 MOST_GROWTHS = 100_000
+
+# The layers whose objects smi_trial makes and changes.
+LAYERS = ["watchers", "link", "view", "publish", "board"]
 
 
 def library(folder):
@@ -45,3 +52,20 @@ def refused_cases(program, folder):
                 yield "%s: %d growths" % (name, growth - 1), growth > 1 and status == 0
                 break
             yield "%s: growth %d" % (name, growth), (whole[0].startswith(out), err, status) == (True, b"no memory\n", 4)
+
+
+def layer_cases(trial, folder):
+    """Of each layer and each growth of its run: a name, and whether the layer's object was as it should be.
+
+    The first growths are those of the command line, which the program gives up at; all later ones are the layer's.
+    """
+    refusing = library(folder)
+    for layer in LAYERS:
+        kept = 0
+        for growth in range(1, MOST_GROWTHS):
+            out, _, status = run(trial, ["refused", layer], os.devnull, {"LD_PRELOAD": refusing, "REFUSE": str(growth)})
+            if (out, status) == (b"whole\n", 0):
+                yield "%s: %d growths, %d of them its own" % (layer, growth - 1, kept), kept > 0
+                break
+            kept += out == b"kept\n"
+            yield "%s: growth %d" % (layer, growth), (out, status) == (b"kept\n", 0) or (kept == 0 and out == b"" and status == 1)

@@ -1,8 +1,11 @@
-//! Measures reading a tree file, beside a plain loop over the same bytes.
+//! Measures what the program's commands can't measure themselves, beside plain work on the same bytes.
 //!
 //! `smi_bench FILE ROUNDS` prints for one round the microseconds of `Tree::read` and of a loop that
-//! only finds the lines and words. Without words it measures nothing.
+//! only finds the lines and words. `smi_bench STORE PLAIN SAVES` prints the microseconds of so many
+//! saves to a new store and of as many writes to a new file. Without words it measures nothing.
 #![tactic(auto)]
+
+mod stores;
 
 use smi_tree::Tree;
 use std::time::{Duration, Instant};
@@ -13,14 +16,38 @@ fn main(rt: HostRuntime) -> io::Result<()> {
     for word in env::args(&rt)? {
         words.push(word)?;
     }
-    let [_, path, rounds] = words.as_slice() else {
-        return Ok(());
-    };
-    let bytes = fs::read(&rt, path.as_str())?;
+    match words.as_slice() {
+        [_, path, rounds] => trees(&rt, path.as_str(), number(rounds.as_str())),
+        [_, store, plain, saves] => saves_in(
+            &rt,
+            store.as_str(),
+            plain.as_str(),
+            number(saves.as_str()),
+        ),
+        _ => Ok(()),
+    }
+}
+
+/// The number that a word is, or 1.
+fn number(word: &str) -> u32 {
+    word.parse::<u32>().unwrap_or(1).max(1)
+}
+
+fn saves_in(rt: &HostRuntime, store: &str, plain: &str, saves: u32) -> io::Result<()> {
+    let saved = stores::save_time(rt, store, saves)?;
+    let written = stores::write_time(rt, plain, saves)?;
+    println!(rt;
+        "{saves} saves: store {} us, plain writes {} us",
+        saved.as_micros(),
+        written.as_micros()
+    )
+}
+
+fn trees(rt: &HostRuntime, path: &str, rounds: u32) -> io::Result<()> {
+    let bytes = fs::read(rt, path)?;
     let bytes = bytes.as_slice();
-    let rounds = rounds.as_str().parse::<u32>().unwrap_or(1).max(1);
-    let (read, trees) = read_time(&rt, bytes, rounds)?;
-    let (plain, count) = plain_time(&rt, bytes, rounds)?;
+    let (read, trees) = read_time(rt, bytes, rounds)?;
+    let (plain, count) = plain_time(rt, bytes, rounds)?;
     println!(rt;
         "{} bytes: read {} us, plain loop {} us",
         bytes.len(),

@@ -1,9 +1,14 @@
 //! What the objects of the worked tree show.
 
+ghost use Rattle.std.specs.Prelude.{◌≡◌, ℕ, IfOk};
+ghost use Rattle.smi_tree.specs.Lookups.{domain_count};
+ghost use Rattle.smi_publish.specs.Published.{HasRoom, conditions_of};
+
 use crate::{Changes, Publisher};
 use smi_grant::{Shown, Version};
 use smi_tree::{Tree, TreeFault};
-use std::alloc::{AllocError, Global};
+use std::alloc::Global;
+use std::process::Abort;
 use std::test::Fail;
 
 /// Two stations, a domain on each, one below the other, and a device in the lower one. Actions are 1
@@ -20,23 +25,64 @@ fn shown(object: u16, boot: u32, sequence: u32, state: u16) -> Shown {
     }
 }
 
-#[test]
-fn configured_and_evaluated(rt: HostRuntime) -> Result<(), Fail> {
-    let tree = Tree::read(rt.alloc(), WORKED)?;
-    let mut publisher = Publisher::new(rt.alloc(), &tree, 2, 1)?;
+/// The worked tree.
+fn worked<R: Abort>(rt: &R, alloc: Global) -> Result<Tree, TreeFault>
+    ensures { IfOk result (λ tree. domain_count tree ≡ 2) }
+{
+    let tree = Tree::read(alloc, WORKED)?;
     assert!(rt; tree.domain_count() == 2);
+    Ok(tree)
+}
+
+#[test]
+fn a_start(rt: HostRuntime) -> Result<(), Fail> {
+    let tree = worked(&rt, rt.alloc())?;
+    let publisher = Publisher::new(rt.alloc(), &tree, 2, 1)?;
     assert_eq!(rt; publisher.current(1), None);
     assert_eq!(rt; publisher.current(2), Some(shown(2, 1, 0, 1)));
     assert_eq!(rt; publisher.current(3), Some(shown(3, 1, 0, 1)));
-    let mut changes = publisher.run_action(&tree, 2, 1);
+    Ok(())
+}
+
+#[test]
+fn a_device_moves(rt: HostRuntime) -> Result<(), Fail> {
+    let tree = worked(&rt, rt.alloc())?;
+    let mut publisher = Publisher::new(rt.alloc(), &tree, 2, 1)?;
+    let changes = publisher.run_action(&tree, 2, 1);
     assert!(rt; changes.as_slice() == [shown(3, 1, 1, 2)].as_slice());
-    assert!(rt; publisher.has_room(2));
-    let unit = publisher.evaluate(&tree, 2, &[2]);
-    assert_eq!(rt; unit, Some(shown(2, 1, 1, 2)));
-    changes.push(shown(2, 1, 1, 2));
-    assert_eq!(rt; changes.len(), 2);
+    assert_eq!(rt; publisher.current(3), Some(shown(3, 1, 1, 2)));
+    Ok(())
+}
+
+#[test]
+fn a_unit_follows_its_device(rt: HostRuntime) -> Result<(), Fail> {
+    let tree = worked(&rt, rt.alloc())?;
+    let mut publisher = Publisher::new(rt.alloc(), &tree, 2, 1)?;
+    assert_eq!(rt; publisher.evaluate(&tree, 2, &[2]), Some(shown(2, 1, 1, 2)));
     assert!(rt; publisher.has_room(2));
     assert_eq!(rt; publisher.evaluate(&tree, 2, &[2]), None);
+    Ok(())
+}
+
+#[test]
+fn the_unit_behind_its_device(rt: HostRuntime) -> Result<(), Fail> {
+    let tree = worked(&rt, rt.alloc())?;
+    let mut publisher = Publisher::new(rt.alloc(), &tree, 2, 1)?;
+    let mut changes = publisher.run_action(&tree, 2, 1);
+    assert!(rt; publisher.has_room(2));
+    if let Some(unit) = publisher.evaluate(&tree, 2, &[2]) {
+        changes.push(unit);
+    }
+    assert_eq!(rt; changes.len(), 2);
+    assert!(rt; changes.as_slice() == [shown(3, 1, 1, 2), shown(2, 1, 1, 2)].as_slice());
+    Ok(())
+}
+
+#[test]
+fn a_device_is_told_its_state(rt: HostRuntime) -> Result<(), Fail> {
+    let tree = worked(&rt, rt.alloc())?;
+    let mut publisher = Publisher::new(rt.alloc(), &tree, 2, 1)?;
+    assert!(rt; !publisher.run_action(&tree, 2, 1).is_empty());
     assert!(rt; publisher.has_room(3));
     assert_eq!(rt; publisher.report(3, 4), Some(shown(3, 1, 2, 4)));
     assert!(rt; publisher.has_room(3));
@@ -47,17 +93,28 @@ fn configured_and_evaluated(rt: HostRuntime) -> Result<(), Fail> {
 
 #[test]
 fn a_unit_whose_child_is_not_shown(rt: HostRuntime) -> Result<(), Fail> {
-    let tree = Tree::read(rt.alloc(), WORKED)?;
+    let tree = worked(&rt, rt.alloc())?;
     let mut publisher = Publisher::new(rt.alloc(), &tree, 1, 2)?;
-    assert!(rt; tree.domain_count() == 2);
-    assert!(rt; publisher.run_action(&tree, 1, 1).is_empty());
-    assert!(rt; publisher.has_room(1));
     assert_eq!(rt; publisher.evaluate(&tree, 1, &[0]), None);
     assert!(rt; publisher.has_room(1));
     assert_eq!(rt; publisher.evaluate(&tree, 1, &[2]), Some(shown(1, 2, 1, 2)));
-    assert!(rt; publisher.has_room(3));
+    Ok(())
+}
+
+#[test]
+fn a_domain_without_devices(rt: HostRuntime) -> Result<(), Fail> {
+    let tree = worked(&rt, rt.alloc())?;
+    let mut publisher = Publisher::new(rt.alloc(), &tree, 1, 2)?;
+    assert!(rt; publisher.run_action(&tree, 1, 1).is_empty());
+    assert!(rt; Changes::new().is_empty());
+    Ok(())
+}
+
+#[test]
+fn an_object_of_another_station(rt: HostRuntime) -> Result<(), Fail> {
+    let tree = worked(&rt, rt.alloc())?;
+    let mut publisher = Publisher::new(rt.alloc(), &tree, 1, 2)?;
     assert_eq!(rt; publisher.report(3, 2), None);
     assert_eq!(rt; publisher.current(3), None);
-    assert!(rt; Changes::new().is_empty());
     Ok(())
 }

@@ -1,5 +1,5 @@
 -- Rows by their keys, and what a save makes of them.
-use Rattle.std.specs.Prelude.{ℕ, ◌≡◌, ◌==◌, ◌&&◌, nat_lt, Bool, true, false, if◌then◌else◌, List, [], ◌∷◌, Option, Some, None, Result, Ok, Err, IsTrue}
+use Rattle.std.specs.Prelude.{ℕ, ◌≡◌, ◌⊎◌, ◌==◌, ◌&&◌, nat_lt, Bool, true, false, if◌then◌else◌, List, [], ◌∷◌, Option, Some, None, Result, Ok, Err, IsTrue}
 use Rattle.smi_stable.specs.declared.key.Key.{Key}
 use Rattle.smi_stable.specs.declared.stable.StoreFault.{StoreFault}
 use Rattle.smi_stable.specs.declared.stable.StoreFault.TheVariants.{Memory, Device, Unsure}
@@ -78,3 +78,10 @@ IfFailed (Ok x) P = Unit {0}
 IfFailed (Err Memory) P = Unit {0}
 IfFailed (Err Device) P = P
 IfFailed (Err Unsure) P = P
+
+-- what is listed after a save: the rows as saved, the rows as before, or in doubt one of them
+abbrev pub ListsAfter : {X : Type 0} → Result X StoreFault → Rows → Rows → List Saved → Type 0
+ListsAfter (Ok x) before after list = IsListing after list
+ListsAfter (Err Memory) before after list = IsListing before list
+ListsAfter (Err Device) before after list = IsListing before list
+ListsAfter (Err Unsure) before after list = IsListing before list ⊎ IsListing after list

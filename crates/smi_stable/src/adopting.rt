@@ -9,7 +9,7 @@ ghost use Rattle.smi_stable.specs.SqlRows.{IsKeyed};
 use crate::schema_shape::{is_empty, is_stable};
 use crate::sqlite_stable::SqliteStable;
 use crate::stable::StoreFault;
-use crate::statement::{fault_of, is_open, make_table};
+use crate::statement::{fault_of, make_table, test_open};
 use core::snapshot::Snapshot;
 use smi_tally::Tally;
 use sqlite::{Alter, Connection};
@@ -50,8 +50,9 @@ impl<S: Alter> SqliteStable<S> {
         ensures begun { IfOk result (λ s. s.begun ≡ s.held) }
     {
         let mut conn = with_table(connection)?;
-        if !is_open(&mut conn) {
-            return Err((StoreFault::Unsure, conn));
+        match test_open(&mut conn) {
+            Ok(()) => {}
+            Err(fault) => return Err((fault, conn)),
         }
         let begun = Snapshot::of(&conn);
         Ok(SqliteStable {

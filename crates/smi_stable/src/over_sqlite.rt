@@ -17,7 +17,7 @@ use crate::saved::SavedRow;
 use crate::shown::{is_rising, saved_rows};
 use crate::sqlite_stable::SqliteStable;
 use crate::stable::{Stable, StoreFault};
-use crate::statement::{fault_of, is_open, save_surely};
+use crate::statement::{fault_of, save_surely, test_open};
 use sqlite::{Alter, Connection};
 
 /// The saved rows in an answer of the database.
@@ -35,19 +35,22 @@ fn listed(rows: &Vec<sqlite::Row>) -> Result<Vec<SavedRow>, StoreFault>
 fn load_rows<S: Alter>(conn: &mut Connection<S>) -> Result<Vec<SavedRow>, StoreFault>
     ensures ready { IsReady (state S.Store conn.old) → IsReady (state S.Store conn.new) }
     ensures loaded { IsReady (state S.Store conn.old) → HasCleanDisk (state S.Store conn.new) → IsTrue (state S.Store conn.old).is_open → IfOk result (λ list. IsListing (rows_of (state S.Store conn.old)) list.items) }
+    ensures was_open { HasCleanDisk (state S.Store conn.new) → IfOk result (λ _. IsTrue (state S.Store conn.old).is_open) }
     ensures open { IsReady (state S.Store conn.old) → HasCleanDisk (state S.Store conn.new) → IsTrue (state S.Store conn.old).is_open → IfSure result (IsTrue (state S.Store conn.new).is_open) }
     ensures still { IsReady (state S.Store conn.old) → HasCleanDisk (state S.Store conn.new) → IsTrue (state S.Store conn.old).is_open → IsTrue (state S.Store conn.new).is_open → (state S.Store conn.new).now ≡ (state S.Store conn.old).now }
     ensures clean { HasCleanDisk (state S.Store conn.new) → HasCleanDisk (state S.Store conn.old) }
     ensures crash { IsReady (state S.Store conn.old) → HasCleanDisk (state S.Store conn.new) → IsTrue (state S.Store conn.old).is_open → (db : _) → (state S.Store conn.new).may_leave db → (state S.Store conn.old).may_leave db }
 {
-    let answer = match list_rows(conn) {
+    match list_rows(conn) {
         Ok(rows) => listed(&rows),
-        Err(error) => Err(fault_of(error)),
-    };
-    if is_open(conn) {
-        return answer;
+        Err(error) => {
+            if fault_of(error) == StoreFault::Memory && test_open(conn).is_ok() {
+                Err(StoreFault::Memory)
+            } else {
+                Err(StoreFault::Unsure)
+            }
+        }
     }
-    Err(StoreFault::Unsure)
 }
 
 impl<S: Alter> Stable for SqliteStable<S> {

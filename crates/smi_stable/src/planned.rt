@@ -65,6 +65,7 @@ impl<S> PlannedStable<S> {
     pub fn new(store: S) -> PlannedStable<S>
         ensures store { result.store ≡ store }
         ensures planned { result.planned ≡ None }
+        ensures counts { (result.saves.count ≡ 0) × (result.struck.count ≡ 0) }
     {
         PlannedStable {
             store,
@@ -77,16 +78,14 @@ impl<S> PlannedStable<S> {
     /// The `nth` save from now, from 1, fails so. An earlier plan is given up.
     pub fn plan(&mut self, nth: u64, plan: Plan)
         requires { 1 ≤ nth }
-        ensures planned { self.new.planned ≡ Some (planned nth plan) }
-        ensures store { self.new.store ≡ self.old.store }
+        ensures { self.new ≡ record self.old { planned = Some (planned nth plan) } }
     {
         self.planned = Some(Planned { nth, plan });
     }
 
     /// No save is planned to fail.
     pub fn unplan(&mut self)
-        ensures planned { self.new.planned ≡ None }
-        ensures store { self.new.store ≡ self.old.store }
+        ensures { self.new ≡ record self.old { planned = None } }
     {
         self.planned = None;
     }
@@ -132,7 +131,11 @@ impl<S: Stable> Stable for PlannedStable<S> {
         // The plan strikes, and is spent.
         ensures device { due_of self.old.planned ≡ Some Plan.Device → (result ≡ Err StoreFault.Device) × (self.new.store ≡ self.old.store) }
         ensures before { due_of self.old.planned ≡ Some Plan.Before → (result ≡ Err StoreFault.Unsure) × (self.new.store ≡ self.old.store) }
-        ensures after { due_of self.old.planned ≡ Some Plan.After → IsErr result }
+        ensures after { due_of self.old.planned ≡ Some Plan.After → IsErr result × (S.saves self.new.store ≡ S.saves self.old.store + 1) }
+        // Where the store below saved the row, it stays.
+        ensures landed { due_of self.old.planned ≡ Some Plan.After → S.is_honest self.new.store → self.old.struck.count < self.new.struck.count → (result ≡ Err StoreFault.Unsure) × S.is_open self.new.store × IsSame (S.rows self.new.store) (with_row key bytes.now (S.rows self.old.store)) }
+        // No plan strikes before its time.
+        ensures passed_on { due_of self.old.planned ≡ None → (self.new.struck.count ≡ self.old.struck.count) × (S.saves self.new.store ≡ S.saves self.old.store + 1) }
         ensures left { self.new.planned ≡ left_of self.old.planned }
     {
         self.saves.raise();

@@ -64,9 +64,10 @@ pub trait Stable {
         ensures failures { failures self.old ≤ failures self.new }
         ensures cause { IfFailed result (failures self.old < failures self.new) };
 
-    /// All rows, by rising key. The rows stay, whatever the answer.
+    /// All rows, by rising key. The rows stay, whatever the answer, and a store that failed for good
+    /// lists none.
     fn load(&mut self) -> Result<Vec<SavedRow>, StoreFault>
-        ensures loaded { is_honest self.new → is_open self.old → IfOk result (λ list. IsListing (rows self.old) list.items) }
+        ensures loaded { is_honest self.new → IfOk result (λ list. is_open self.old × IsListing (rows self.old) list.items) }
         ensures open { is_honest self.new → is_open self.old → IfSure result (is_open self.new) }
         ensures kept { is_honest self.new → is_open self.old → is_open self.new → IsSame (rows self.new) (rows self.old) }
         ensures crash { is_honest self.new → is_open self.old → (r : Rows) → may_find self.new r → IsSame r (rows self.old) }

@@ -66,18 +66,18 @@ pub(crate) fn make_table<S: Alter>(conn: &mut Connection<S>) -> Result<usize, Er
     conn.execute(MAKE, &[])
 }
 
-/// Whether no failure has shut the connection.
-pub(crate) fn is_open<S: Alter>(conn: &mut Connection<S>) -> bool
+/// `Ok` where no failure has shut the connection. Nothing is run.
+pub(crate) fn test_open<S: Alter>(conn: &mut Connection<S>) -> Result<(), StoreFault>
     ensures ready { IsReady (state S.Store conn.old) → IsReady (state S.Store conn.new) }
     ensures clean { HasCleanDisk (state S.Store conn.new) → HasCleanDisk (state S.Store conn.old) }
     ensures still { IsReady (state S.Store conn.old) → HasCleanDisk (state S.Store conn.new) → IsTrue (state S.Store conn.new).is_open → IsTrue (state S.Store conn.old).is_open × ((state S.Store conn.new).now ≡ (state S.Store conn.old).now) }
-    ensures unchanged { HasCleanDisk (state S.Store conn.new) → IsTrue result → IsUnchanged (state S.Store conn.old) (state S.Store conn.new) }
+    ensures unchanged { HasCleanDisk (state S.Store conn.new) → OnOk result (IsUnchanged (state S.Store conn.old) (state S.Store conn.new)) }
     ensures crash { HasCleanDisk (state S.Store conn.new) → (db : _) → (state S.Store conn.new).may_leave db → (state S.Store conn.old).may_leave db }
 {
-    if let Err(_) = conn.prepare(SAVE) {
-        return false;
+    if let Err(error) = conn.prepare(SAVE) {
+        return Err(fault_of(error));
     }
-    true
+    Ok(())
 }
 
 /// The row is saved; or the rows are as before, and the connection is still open; or it is unsure.
@@ -96,7 +96,7 @@ pub(crate) fn save_surely<S: Alter>(
     match save_row(conn, key, bytes) {
         Ok(()) => Ok(()),
         Err(StoreFault::Memory) => {
-            if is_open(conn) {
+            if test_open(conn).is_ok() {
                 Err(StoreFault::Memory)
             } else {
                 Err(StoreFault::Unsure)

@@ -5,6 +5,7 @@ use smi_tree::Tree;
 use std::alloc::Global;
 use std::test::Fail;
 
+mod disks;
 mod growths;
 mod planned;
 mod replaced;

@@ -1,16 +1,16 @@
 -- What is read of a file, told line by line.
-use Rattle.std.proofs.Common.{◌≡◌, ℕ, suc, ◌+◌, ◌<◌, ◌≤◌, Bool, true, false, cond, List, [], ◌∷◌, ◌++◌, length, Result, Ok, Err, refl, ap, ◌∙◌, sym, subst, ◌⊎◌, inl, inr, ◌↔◌, arith}
+use Rattle.std.proofs.Common.{◌≡◌, ℕ, ◌+◌, ◌<◌, ◌≤◌, Bool, true, false, cond, List, [], ◌∷◌, ◌++◌, length, Result, Ok, Err, refl, ap, ◌∙◌, sym, subst, ◌⊎◌, inl, inr, ◌↔◌, arith}
 use Rattle.std.proofs.lemmas.Bool.Decides.{nat_tests}
 use Rattle.std.specs.Prelude.{nat_lt}
 use Rattle.std.specs.Str.Lines.{lines}
 use Rattle.smi_tree.specs.Fault.{fault_number}
 use Rattle.smi_tree.specs.Hierarchy.{Hierarchy, undeclared}
 use Rattle.smi_tree.specs.File.{with_line, with_lines, go_on, at_line, is_complete, ended, tree_of}
-use Rattle.smi_tree.specs.TreeFile.{Makes, IsTreeFile, HasFault, HasFaultyLine, IsIncomplete}
+use Rattle.smi_tree.specs.TreeFile.{Makes, IsTreeFile, HasFaultyLine, IsIncomplete}
 use Rattle.smi_tree.specs.declared.fault.Fault.{Fault}
 use Rattle.smi_tree.specs.declared.fault.Fault.TheVariants.{FileTooLong, Incomplete}
 use Rattle.smi_tree.specs.declared.fault.TreeFault.{TreeFault}
-use Rattle.smi_tree.specs.declared.fault.TreeFault.TheVariants.{Line, Memory}
+use Rattle.smi_tree.specs.declared.fault.TreeFault.TheVariants.{Line}
 
 made-of : (ls : List (List ℕ)) (number : ℕ) (h end : Hierarchy) → with_lines number h ls ≡ Ok end → Makes h ls end
 unfolding with_lines

@@ -12,3 +12,4 @@ pub mod NumberLemmas
 pub mod ActionLemmas
 pub mod NamedLemmas
 pub mod FileLemmas
+pub mod NameBytes

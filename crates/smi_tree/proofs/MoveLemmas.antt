@@ -2,29 +2,21 @@
 use Rattle.std.proofs.Common.{◌≡◌, ℕ, Bool, true, false, cond, List, [], ◌∷◌, ◌++◌, Option, Some, None, refl, ap, ◌∙◌, sym}
 use Rattle.std.specs.Prelude.{◌==◌, ◌&&◌}
 use Rattle.std.specs.Option.{option_or}
-use Rattle.std.specs.HashMap.{get, HashMap}
-use Rattle.std.specs.declared.hash.FoldHasher.{FoldHasher}
-use Rattle.std.specs.declared.hash.BuildHasherDefault.{BuildHasherDefault}
 use Rattle.std.proofs.lemmas.List.Folds.{find-append}
 use Rattle.smi_tree.proofs.Kept.{both-left, both-right, eq-true}
 use Rattle.smi_tree.specs.Hierarchy.{move_in, is_move_at}
-use Rattle.smi_tree.specs.MoveIndex.{IsMoveIndex, same_key}
+use Rattle.smi_tree.specs.MoveIndex.{IsMoveIndex, IsPutAt}
 use Rattle.smi_tree.specs.declared.row.Move.{Move}
 
 pub or-none : {X : Type 0} (r : Option X) → option_or r None ≡ r
 or-none (Some x) = refl
 or-none None = refl
 
-and-apart : (a b c : Bool) → (a && b && c) ≡ (a && (b && c))
-and-apart true b c = refl
-and-apart false b c = refl
-
 one-more : (rows : List Move) (row : Move) (class state action : ℕ) → move_in rows row.class row.from row.action ≡ None →
-    cond (same_key (row.class, row.from, row.action) (class, state, action)) (Some row) (move_in rows class state action)
+    cond (is_move_at class state action row) (Some row) (move_in rows class state action)
     ≡ move_in (rows ++ row ∷ []) class state action
 one-more rows row class state action absent =
-    ap (λ (b : Bool). cond b (Some row) (move_in rows class state action)) (and-apart (row.class == class) (row.from == state) (row.action == action))
-    ∙ go (is_move_at class state action row) refl ∙ sym (find-append (is_move_at class state action) rows (row ∷ []))
+    go (is_move_at class state action row) refl ∙ sym (find-append (is_move_at class state action) rows (row ∷ []))
   where
     go : (b : Bool) → is_move_at class state action row ≡ b →
         cond b (Some row) (move_in rows class state action) ≡ option_or (move_in rows class state action) (cond b (Some row) None)
@@ -39,13 +31,11 @@ one-more rows row class state action absent =
         rw none refl
     go false is = sym (or-none (move_in rows class state action))
 
-pub IsMoveIndex-push : (rows : List Move) (row : Move) (old new : HashMap (ℕ × ℕ × ℕ) Move (BuildHasherDefault FoldHasher)) →
-    IsMoveIndex rows old → move_in rows row.class row.from row.action ≡ None →
-    ((q : ℕ × ℕ × ℕ) → get same_key new q ≡ cond (same_key (row.class, row.from, row.action) q) (Some row) (get same_key old q)) →
-    IsMoveIndex (rows ++ row ∷ []) new
-IsMoveIndex-push rows row old new h absent updates = record {
+pub IsMoveIndex-push : (rows : List Move) (row : Move) (old new : List (List (List (Option Move)))) →
+    IsMoveIndex rows old → move_in rows row.class row.from row.action ≡ None → IsPutAt old row new → IsMoveIndex (rows ++ row ∷ []) new
+IsMoveIndex-push rows row old new h absent put = record {
   found = λ class state action.
-      updates (class, state, action)
-      ∙ ap (cond (same_key (row.class, row.from, row.action) (class, state, action)) (Some row)) (h.found class state action)
+      put class state action
+      ∙ ap (cond (is_move_at class state action row) (Some row)) (h.found class state action)
       ∙ one-more rows row class state action absent;
 }

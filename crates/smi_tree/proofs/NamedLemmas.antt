@@ -1,5 +1,5 @@
 -- No declaration lets a name stand twice.
-use Rattle.std.proofs.Common.{◌≡◌, ℕ, ◌+◌, Bool, true, false, cond, List, [], ◌∷◌, ◌++◌, length, Option, Some, None, Result, Ok, Err, refl, ap, ◌∙◌, sym, subst, ◌⊎◌, inl, inr, arith}
+use Rattle.std.proofs.Common.{◌≡◌, ℕ, ◌+◌, Bool, true, false, cond, List, [], ◌∷◌, ◌++◌, length, Option, Some, None, Ok, Err, refl, ap, ◌∙◌, sym, subst, ◌⊎◌, inl, inr, arith}
 use Rattle.std.specs.Prelude.{◌||◌, ◌&&◌, ◌==◌, nat_lt, count_by, is_some, ok_or}
 use Rattle.std.specs.Option.{option_or}
 use Rattle.std.specs.List.{list_any}
@@ -12,12 +12,11 @@ use Rattle.smi_tree.specs.Text.{words}
 use Rattle.smi_tree.specs.Name.{number_of, is_declared, added}
 use Rattle.smi_tree.specs.ClassTable.{is_kind}
 use Rattle.smi_tree.specs.Hierarchy.{Hierarchy, undeclared, move_in, is_device_of}
-use Rattle.smi_tree.specs.Named.{AreOnce, AreApart, HaveNames, IsNamed}
+use Rattle.smi_tree.specs.Named.{AreOnce, AreApart, IsNamed}
 use Rattle.smi_tree.specs.Declaration.{declaration_of, keyword_of}
 use Rattle.smi_tree.specs.Additions.{known, known_class, known_parent, is_taken, has_room, with_state, with_action, with_station, with_operator, with_class, with_move, with_accepted, with_rule, with_domain, with_device, with_declaration, with_words_of}
 use Rattle.smi_tree.specs.File.{is_comment, is_out_of_place, with_words, with_line}
 use Rattle.smi_tree.specs.declared.number.Address.{Address}
-use Rattle.smi_tree.specs.declared.fault.Fault.{Fault}
 use Rattle.smi_tree.specs.declared.fault.Fault.TheVariants as faults
 use Rattle.smi_tree.specs.declared.declaration.ClassKind.{ClassKind}
 use Rattle.smi_tree.specs.declared.declaration.ClassKind.TheVariants as kind

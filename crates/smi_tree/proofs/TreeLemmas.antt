@@ -1,7 +1,7 @@
 -- What is read is a tree.
-use Rattle.std.proofs.Common.{◌≡◌, ℕ, suc, zero, ◌+◌, ◌≤◌, Bool, true, false, not, cond, List, [], ◌∷◌, length, Some, None, Result, Ok, Err, refl, ap, ◌∙◌, sym, subst, ◌⊎◌, inl, inr, arith}
+use Rattle.std.proofs.Common.{◌≡◌, ℕ, suc, zero, ◌+◌, ◌≤◌, Bool, true, false, not, cond, List, [], ◌∷◌, length, Some, None, Result, Ok, Err, refl, ap, sym, subst, ◌⊎◌, inl, inr, arith}
 use Rattle.std.proofs.lemmas.Bool.Decides.{nat_tests}
-use Rattle.std.specs.Prelude.{◌==◌, nat_le, nat_lt, ok_or, option_and_then, slice_get, ◌&&◌}
+use Rattle.std.specs.Prelude.{◌==◌, nat_le, nat_lt, ok_or, option_and_then, ◌&&◌}
 use Rattle.smi_tree.proofs.Lawfulness.{Always, Always-then, Always-unless, Always-or, entry-suc, no-entry}
 use Rattle.smi_tree.proofs.Kept.{always-at, known-some, both-left, both-right, lawful-state, lawful-action, lawful-station, lawful-operator, lawful-class, lawful-move, lawful-accepted, lawful-rule, lawful-domain, lawful-device}
 use Rattle.smi_tree.specs.Text.{words}
@@ -9,7 +9,7 @@ use Rattle.smi_tree.specs.Number.{number_within, is_number, decimal}
 use Rattle.smi_tree.specs.Declaration.{one, one_name, two_names, three_names, four_names, tree_line, station_line, domain_line, name, parent, two, four, declaration_of, keyword_of}
 use Rattle.smi_tree.specs.Number.{address_of}
 use Rattle.smi_tree.proofs.HierarchyLemmas.{ancestors-none}
-use Rattle.smi_tree.specs.Hierarchy.{Hierarchy, undeclared, entry, parent_in}
+use Rattle.smi_tree.specs.Hierarchy.{Hierarchy, undeclared, parent_in}
 use Rattle.smi_tree.specs.declared.row.Domain.{Domain}
 use Rattle.smi_tree.specs.Additions.{with_declaration, with_words_of}
 use Rattle.smi_tree.specs.Named.{IsNamed}

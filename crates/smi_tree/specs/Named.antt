@@ -1,5 +1,5 @@
 -- Names and numbers tell each other: no name stands twice.
-use Rattle.std.specs.Prelude.{ℕ, ◌≡◌, Bool, true, false, List, Option, Some}
+use Rattle.std.specs.Prelude.{ℕ, ◌≡◌, true, false, List, Some}
 use Rattle.smi_tree.specs.Name.{number_of, is_declared}
 use Rattle.smi_tree.specs.Hierarchy.{Hierarchy, entry}
 

@@ -1,5 +1,5 @@
 -- Which files are tree files, and where the others are faulty, told line by line.
-use Rattle.std.specs.Prelude.{ℕ, ◌≡◌, ◌+◌, ◌<◌, ◌≤◌, true, false, List, [], ◌∷◌, ◌++◌, length, Ok, Err}
+use Rattle.std.specs.Prelude.{ℕ, ◌≡◌, ◌+◌, ◌≤◌, true, false, List, [], ◌∷◌, ◌++◌, length, Ok, Err}
 use Rattle.std.specs.Str.Lines.{lines}
 use Rattle.smi_tree.specs.Fault.{fault_number}
 use Rattle.smi_tree.specs.Hierarchy.{Hierarchy, undeclared}

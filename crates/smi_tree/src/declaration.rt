@@ -3,7 +3,7 @@
 use crate::fault::Fault;
 use crate::name::Name;
 use crate::number::{Address, number_within};
-use crate::text::first_word;
+use crate::text::{Word, first_word};
 
 /// The word that a line begins with.
 #[derive(Clone, Copy, Debug, PartialEq, Eq)]
@@ -110,8 +110,8 @@ ghost use Rattle.smi_tree.specs.Declaration.{
 
 /// The one word of a text.
 #[inline(always)]
-fn one(text: &[u8]) -> Result<&[u8], Fault>
-    ensures { Gives (λ word. word.now) result (one (words text.now)) }
+fn one(text: &[u8]) -> Result<Word<'_>, Fault>
+    ensures { Gives (λ word. word) result (one (words text.now)) }
 {
     let Some((word, rest)) = first_word(text) else {
         return Err(Fault::WordCount);
@@ -123,8 +123,8 @@ fn one(text: &[u8]) -> Result<&[u8], Fault>
 }
 
 #[inline(always)]
-fn two(text: &[u8]) -> Result<(&[u8], &[u8]), Fault>
-    ensures { Gives (λ words. (words.0.now, words.1.now)) result (two (words text.now)) }
+fn two(text: &[u8]) -> Result<(Word<'_>, Word<'_>), Fault>
+    ensures { Gives (λ words. (words.0, words.1)) result (two (words text.now)) }
 {
     let Some((first, rest)) = first_word(text) else {
         return Err(Fault::WordCount);
@@ -134,8 +134,8 @@ fn two(text: &[u8]) -> Result<(&[u8], &[u8]), Fault>
 }
 
 #[inline(always)]
-fn three(text: &[u8]) -> Result<(&[u8], &[u8], &[u8]), Fault>
-    ensures { Gives (λ words. (words.0.now, words.1.now, words.2.now)) result (three (words text.now)) }
+fn three(text: &[u8]) -> Result<(Word<'_>, Word<'_>, Word<'_>), Fault>
+    ensures { Gives (λ words. (words.0, words.1, words.2)) result (three (words text.now)) }
 {
     let Some((first, rest)) = first_word(text) else {
         return Err(Fault::WordCount);
@@ -145,8 +145,8 @@ fn three(text: &[u8]) -> Result<(&[u8], &[u8], &[u8]), Fault>
 }
 
 #[inline(always)]
-fn four(text: &[u8]) -> Result<(&[u8], &[u8], &[u8], &[u8]), Fault>
-    ensures { Gives (λ words. (words.0.now, words.1.now, words.2.now, words.3.now)) result (four (words text.now)) }
+fn four(text: &[u8]) -> Result<(Word<'_>, Word<'_>, Word<'_>, Word<'_>), Fault>
+    ensures { Gives (λ words. (words.0, words.1, words.2, words.3)) result (four (words text.now)) }
 {
     let Some((first, rest)) = first_word(text) else {
         return Err(Fault::WordCount);
@@ -182,8 +182,8 @@ impl Keyword {
 }
 
 #[inline(always)]
-fn name(word: &[u8]) -> Result<Name<'_>, Fault>
-    ensures { result ≡ name word.now }
+fn name(word: Word<'_>) -> Result<Name<'_>, Fault>
+    ensures { result ≡ name word.entry }
 {
     Name::read(word).ok_or(Fault::Malformed)
 }
@@ -238,7 +238,7 @@ fn tree_line(text: &[u8]) -> Result<Declaration<'_>, Fault>
     ensures { result ≡ tree_line (words text.now) }
 {
     let word = one(text)?;
-    let number = number_within(1, 65_535, word).ok_or(Fault::Malformed)?;
+    let number = number_within(1, 65_535, word.text()).ok_or(Fault::Malformed)?;
     Ok(Declaration::Tree(number as u16))
 }
 
@@ -248,16 +248,16 @@ fn station_line(text: &[u8]) -> Result<Declaration<'_>, Fault>
 {
     let (own, address) = two(text)?;
     let name = name(own)?;
-    let address = Address::read(address).ok_or(Fault::BadAddress)?;
+    let address = Address::read(address.text()).ok_or(Fault::BadAddress)?;
     Ok(Declaration::Station { name, address })
 }
 
 /// The parent that a word names, none where it is a dash.
 #[tactic(auto, unfolding(crate::specs::Declaration::parent))]
-fn parent(word: &[u8]) -> Result<Option<Name<'_>>, Fault>
-    ensures { result ≡ parent word.now }
+fn parent(word: Word<'_>) -> Result<Option<Name<'_>>, Fault>
+    ensures { result ≡ parent word.entry }
 {
-    match word {
+    match word.text() {
         b"-" => Ok(None),
         _ => Ok(Some(name(word)?)),
     }

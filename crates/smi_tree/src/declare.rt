@@ -73,7 +73,13 @@ pub(crate) fn is_child_of(parent: u16, row: &Domain) -> bool
 fn count_of_devices(devices: &[Device], domain: u16) -> usize
     ensures { result ≡ count_by (is_device_of domain) devices.now }
 {
-    devices.iter().filter(|row| row.domain == domain).count()
+    let mut count = 0;
+    for row in devices {
+        if row.domain == domain {
+            count += 1;
+        }
+    }
+    count
 }
 
 /// The domain above a domain.

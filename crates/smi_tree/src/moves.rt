@@ -2,14 +2,43 @@
 
 use crate::row::Move;
 use std::alloc::{AllocError, Global};
-use std::collections::HashMap;
 use std::marker::Model;
+
+/// The moves of a class from one state, at hand by the action's number.
+#[derive(Debug, Drop)]
+struct StateMoves {
+    by_action: Vec<Option<Move>>,
+}
+
+impl Model for StateMoves {
+    ghost use Rattle.std.specs.Prelude.{List, Option};
+    ghost use Rattle.smi_tree.specs.declared.row.Move.{Move};
+
+    ghost Value = { List (Option Move) };
+
+    ghost view = { λ m. m.by_action.items };
+}
+
+/// The moves of a class, at hand by the state's number and then by the action's.
+#[derive(Debug, Drop)]
+struct ClassMoves {
+    by_state: Vec<StateMoves>,
+}
+
+impl Model for ClassMoves {
+    ghost use Rattle.std.specs.Prelude.{List, Option};
+    ghost use Rattle.smi_tree.specs.declared.row.Move.{Move};
+
+    ghost Value = { List (List (Option Move)) };
+
+    ghost view = { λ m. m.by_state.items };
+}
 
 /// Moves, in the order in which they came, and at hand by class, state and action.
 #[derive(Debug, Drop)]
 pub(crate) struct Moves {
     rows: Vec<Move>,
-    index: HashMap<(u16, u16, u16), Move>,
+    by_class: Vec<ClassMoves>,
 }
 
 impl Model for Moves {
@@ -22,7 +51,107 @@ impl Model for Moves {
 
     ghost use Rattle.smi_tree.specs.MoveIndex.{IsMoveIndex};
 
-    ghost invariant = { λ m. IsMoveIndex m.rows.items m.index };
+    ghost invariant = { λ m. IsMoveIndex m.rows.items m.by_class.items };
+}
+
+ghost use Rattle.std.specs.Prelude.{◌≡◌, ℕ, OnOk, OnErr};
+ghost use Rattle.smi_tree.specs.MoveIndex.{move_by, move_from, move_at, IsPutBy, IsPutFrom, IsPutAt};
+
+/// The row stands under its action.
+fn put_by(by_action: &mut Vec<Option<Move>>, row: Move) -> Result<(), AllocError>
+    ensures ok { OnOk result (IsPutBy by_action.old.items row by_action.new.items) }
+    ensures err { OnErr result ((action : ℕ) → move_by by_action.new.items action ≡ move_by by_action.old.items action) }
+{
+    let place = usize::from(row.action);
+    while by_action.len() <= place {
+        by_action.push(None)?;
+    }
+    by_action[place] = Some(row);
+    Ok(())
+}
+
+/// The row stands under its state and its action.
+fn put_from(by_state: &mut Vec<StateMoves>, row: Move) -> Result<(), AllocError>
+    ensures ok { OnOk result (IsPutFrom by_state.old.items row by_state.new.items) }
+    ensures err { OnErr result ((state action : ℕ) → move_from by_state.new.items state action ≡ move_from by_state.old.items state action) }
+{
+    let alloc = *by_state.allocator();
+    let place = usize::from(row.from);
+    while by_state.len() <= place {
+        by_state.push(StateMoves::new(alloc))?;
+    }
+    by_state[place].put(row)
+}
+
+/// The row stands under its class, its state and its action.
+fn put_at(by_class: &mut Vec<ClassMoves>, row: Move) -> Result<(), AllocError>
+    ensures ok { OnOk result (IsPutAt by_class.old.items row by_class.new.items) }
+    ensures err { OnErr result ((class state action : ℕ) → move_at by_class.new.items class state action ≡ move_at by_class.old.items class state action) }
+{
+    let alloc = *by_class.allocator();
+    let place = usize::from(row.class);
+    while by_class.len() <= place {
+        by_class.push(ClassMoves::new(alloc))?;
+    }
+    by_class[place].put(row)
+}
+
+impl StateMoves {
+    ghost use Rattle.std.specs.Prelude.{◌≡◌, ℕ, [], OnOk, OnErr};
+    ghost use Rattle.smi_tree.specs.MoveIndex.{move_by, IsPutBy};
+
+    fn new(alloc: Global) -> StateMoves
+        ensures { result ≡ [] }
+    {
+        StateMoves {
+            by_action: Vec::new(alloc),
+        }
+    }
+
+    fn find(&self, action: u16) -> Option<Move>
+        ensures { result ≡ move_by self.now action }
+    {
+        match self.by_action.get(usize::from(action)) {
+            Some(row) => *row,
+            None => None,
+        }
+    }
+
+    fn put(&mut self, row: Move) -> Result<(), AllocError>
+        ensures ok { OnOk result (IsPutBy self.old row self.new) }
+        ensures err { OnErr result ((action : ℕ) → move_by self.new action ≡ move_by self.old action) }
+    {
+        put_by(&mut self.by_action, row)
+    }
+}
+
+impl ClassMoves {
+    ghost use Rattle.std.specs.Prelude.{◌≡◌, ℕ, [], OnOk, OnErr};
+    ghost use Rattle.smi_tree.specs.MoveIndex.{move_from, IsPutFrom};
+
+    fn new(alloc: Global) -> ClassMoves
+        ensures { result ≡ [] }
+    {
+        ClassMoves {
+            by_state: Vec::new(alloc),
+        }
+    }
+
+    fn find(&self, state: u16, action: u16) -> Option<Move>
+        ensures { result ≡ move_from self.now state action }
+    {
+        match self.by_state.get(usize::from(state)) {
+            Some(moves) => moves.find(action),
+            None => None,
+        }
+    }
+
+    fn put(&mut self, row: Move) -> Result<(), AllocError>
+        ensures ok { OnOk result (IsPutFrom self.old row self.new) }
+        ensures err { OnErr result ((state action : ℕ) → move_from self.new state action ≡ move_from self.old state action) }
+    {
+        put_from(&mut self.by_state, row)
+    }
 }
 
 impl Moves {
@@ -34,7 +163,7 @@ impl Moves {
     {
         Moves {
             rows: Vec::new(alloc),
-            index: HashMap::new(alloc),
+            by_class: Vec::new(alloc),
         }
     }
 
@@ -42,7 +171,10 @@ impl Moves {
     pub(crate) fn find(&self, class: u16, state: u16, action: u16) -> Option<Move>
         ensures { result ≡ move_in self.now class state action }
     {
-        self.index.get(&(class, state, action)).copied()
+        match self.by_class.get(usize::from(class)) {
+            Some(moves) => moves.find(state, action),
+            None => None,
+        }
     }
 
     /// Puts a row at the end, for a state and an action that its class has no row for.
@@ -51,9 +183,9 @@ impl Moves {
         ensures { OnOk result (self.new ≡ self.old ++ row ∷ []) }
     {
         self.rows.push(row)?;
-        if let Err(refused) = self.index.insert((row.class, row.from, row.action), row) {
+        if let Err(refused) = put_at(&mut self.by_class, row) {
             self.rows.pop();
-            return Err(refused.into());
+            return Err(refused);
         }
         Ok(())
     }

@@ -7,7 +7,7 @@ ghost use Rattle.std.specs.Cmp.Lexicographic.{nat_list_eq_equiv};
 ghost use Rattle.std.specs.Cmp.Rules.{hashing};
 ghost use Rattle.std.proofs.Common.{rules};
 
-use crate::number::is_digit;
+use crate::text::Word;
 use std::alloc::{AllocError, Global};
 use std::collections::hash_map::Equivalent;
 use std::hash::{Hash, Hasher};
@@ -117,11 +117,11 @@ impl<'a> Name<'a> {
 
     /// The name that a word is, where it is one: 1 to 16 bytes of `A` to `Z`, `0` to `9` and `_`, the first a letter.
     #[inline(always)]
-    pub(crate) fn read(word: &'a [u8]) -> Option<Name<'a>>
-        ensures { result ≡ name_of word.now }
+    pub(crate) fn read(word: Word<'a>) -> Option<Name<'a>>
+        ensures { result ≡ name_of word.entry }
     {
-        if is_name(word) {
-            Some(Name::of(word))
+        if is_name(&word) {
+            Some(Name::of(word.text()))
         } else {
             None
         }
@@ -150,14 +150,16 @@ impl NameBuf {
 }
 
 ghost use Rattle.std.specs.Prelude.{◌≡◌};
-ghost use Rattle.std.specs.List.{list_all};
 ghost use Rattle.smi_tree.specs.Name.{is_name, is_name_byte, is_letter, begins_with_letter};
 
 /// Whether a word is well formed as a name.
-fn is_name(word: &[u8]) -> bool
+#[inline(always)]
+fn is_name(word: &Word) -> bool
     ensures { result ≡ is_name word.now }
 {
-    word.len() <= MOST_BYTES && begins_with_letter(word) && has_name_bytes_alone(word)
+    word.text().len() <= MOST_BYTES
+        && begins_with_letter(word.text())
+        && word.has_name_bytes_alone()
 }
 
 fn begins_with_letter(word: &[u8]) -> bool
@@ -169,16 +171,34 @@ fn begins_with_letter(word: &[u8]) -> bool
     }
 }
 
-fn has_name_bytes_alone(word: &[u8]) -> bool
-    ensures { result ≡ list_all is_name_byte word.now }
-{
-    word.iter().all(|byte| is_name_byte(*byte))
-}
+/// Whether each byte, by its number, is one of a name's.
+const IS_NAME_BYTE: [bool; 256] = [
+    false, false, false, false, false, false, false, false, false, false, false, false, false,
+    false, false, false, false, false, false, false, false, false, false, false, false, false,
+    false, false, false, false, false, false, false, false, false, false, false, false, false,
+    false, false, false, false, false, false, false, false, false, true, true, true, true, true,
+    true, true, true, true, true, false, false, false, false, false, false, false, true, true,
+    true, true, true, true, true, true, true, true, true, true, true, true, true, true, true, true,
+    true, true, true, true, true, true, true, true, false, false, false, false, true, false, false,
+    false, false, false, false, false, false, false, false, false, false, false, false, false,
+    false, false, false, false, false, false, false, false, false, false, false, false, false,
+    false, false, false, false, false, false, false, false, false, false, false, false, false,
+    false, false, false, false, false, false, false, false, false, false, false, false, false,
+    false, false, false, false, false, false, false, false, false, false, false, false, false,
+    false, false, false, false, false, false, false, false, false, false, false, false, false,
+    false, false, false, false, false, false, false, false, false, false, false, false, false,
+    false, false, false, false, false, false, false, false, false, false, false, false, false,
+    false, false, false, false, false, false, false, false, false, false, false, false, false,
+    false, false, false, false, false, false, false, false, false, false, false, false, false,
+    false, false, false, false, false, false, false, false, false, false, false, false, false,
+    false, false, false, false, false, false, false, false, false, false, false, false, false,
+    false, false,
+];
 
-fn is_name_byte(byte: u8) -> bool
+pub(crate) fn is_name_byte(byte: u8) -> bool
     ensures { result ≡ is_name_byte byte }
 {
-    is_letter(byte) || is_digit(byte) || byte == b'_'
+    IS_NAME_BYTE[usize::from(byte)]
 }
 
 fn is_letter(byte: u8) -> bool

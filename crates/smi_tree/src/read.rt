@@ -78,9 +78,10 @@ impl Tables {
         if line.len() > MOST_BYTES_OF_A_LINE {
             return Err(Refusal::Faulty(Fault::LineTooLong));
         }
-        let Some((word, rest)) = first_word(line) else {
+        let Some((first, rest)) = first_word(line) else {
             return Ok(());
         };
+        let word = first.text();
         if is_comment(word) {
             return Ok(());
         }

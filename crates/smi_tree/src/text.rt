@@ -1,9 +1,14 @@
 //! How bytes are cut into lines, and lines into words.
 
-ghost use Rattle.std.specs.Prelude.{◌≡◌, ◌<◌, ◌≤◌, [], ◌∷◌, length, MatchOption};
-ghost use Rattle.std.specs.List.{position_or_len};
+ghost use Rattle.std.specs.Prelude.{◌≡◌, ◌<◌, ◌≤◌, [], ◌∷◌, length, take, MatchOption};
+ghost use Rattle.std.specs.List.{position_or_len, list_all};
 ghost use Rattle.std.specs.Str.Lines.{lines, strip_carriage_return};
 ghost use Rattle.smi_tree.specs.Text.{cuts, words};
+ghost use Rattle.smi_tree.specs.Name.{is_name_byte};
+ghost use Rattle.smi_tree.specs.declared.text.Mark.TheVariants.{Blank};
+
+use crate::name::is_name_byte;
+use std::marker::Model;
 
 /// What a text is cut at.
 #[derive(Clone, Copy, Debug, PartialEq, Eq)]
@@ -25,7 +30,8 @@ impl Mark {
     {
         match self {
             Mark::LineFeed => byte == b'\n',
-            Mark::Blank => byte == b' ' || byte == b'\t',
+            // Most bytes lie above both.
+            Mark::Blank => byte <= b' ' && (byte == b' ' || byte == b'\t'),
             Mark::Dot => byte == b'.',
             Mark::Colon => byte == b':',
         }
@@ -76,15 +82,80 @@ fn without_return(line: &[u8]) -> &[u8]
     }
 }
 
+/// A word of a line, and whether each of its bytes is one of a name's.
+#[derive(Debug, Drop)]
+pub(crate) struct Word<'a> {
+    text: &'a [u8],
+    has_name_bytes_alone: bool,
+}
+
+impl<'a> Model for Word<'a> {
+    ghost use Rattle.std.specs.Prelude.{ℕ, List, ◌≡◌};
+    ghost use Rattle.std.specs.List.{list_all};
+    ghost use Rattle.smi_tree.specs.Name.{is_name_byte};
+
+    ghost Value = { List ℕ };
+
+    ghost view = { λ w. w.text.now };
+
+    ghost invariant = { λ w. w.has_name_bytes_alone ≡ list_all is_name_byte w.text.now };
+}
+
+impl<'a> Word<'a> {
+    ghost use Rattle.std.specs.Prelude.{◌≡◌};
+    ghost use Rattle.std.specs.List.{list_all};
+    ghost use Rattle.smi_tree.specs.Name.{is_name_byte};
+
+    /// Its bytes.
+    #[inline(always)]
+    pub(crate) fn text(&self) -> &'a [u8]
+        ensures { result.now ≡ self.now }
+    {
+        self.text
+    }
+
+    /// Whether each of its bytes is one of a name's.
+    #[inline(always)]
+    pub(crate) fn has_name_bytes_alone(&self) -> bool
+        ensures { result ≡ list_all is_name_byte self.now }
+    {
+        self.has_name_bytes_alone
+    }
+}
+
+/// How many bytes stand before the first blank of a text, all where there is none, and whether each of
+/// them is one of a name's.
+#[inline(never)]
+fn word_before_blank(text: &[u8]) -> (usize, bool)
+    ensures place { result.0 ≡ position_or_len (cuts Blank) text.now }
+    ensures within { result.0 ≤ length text.now }
+    ensures names { result.1 ≡ list_all is_name_byte (take result.0 text.now) }
+{
+    let mut has_name_bytes_alone = true;
+    for (place, byte) in text.iter().enumerate() {
+        if Mark::Blank.is_at(*byte) {
+            return (place, has_name_bytes_alone);
+        }
+        has_name_bytes_alone &= is_name_byte(*byte);
+    }
+    (text.len(), has_name_bytes_alone)
+}
+
 /// The first word of a line, and what follows it.
 #[inline(always)]
-pub(crate) fn first_word(line: &[u8]) -> Option<(&[u8], &[u8])>
-    ensures { MatchOption result (words line.now ≡ []) (λ cut. words line.now ≡ cut.0.now ∷ words cut.1.now) }
+pub(crate) fn first_word(line: &[u8]) -> Option<(Word<'_>, &[u8])>
+    ensures { MatchOption result (words line.now ≡ []) (λ cut. words line.now ≡ cut.0 ∷ words cut.1.now) }
 {
     for start in 0..line.len() {
         if !Mark::Blank.is_at(line[start]) {
             let (_, rest) = line.split_at(start);
-            return Some(rest.split_at(length_before(rest, Mark::Blank)));
+            let (end, has_name_bytes_alone) = word_before_blank(rest);
+            let (text, after) = rest.split_at(end);
+            let word = Word {
+                text,
+                has_name_bytes_alone,
+            };
+            return Some((word, after));
         }
     }
     None

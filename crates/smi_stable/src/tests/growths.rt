@@ -1,10 +1,10 @@
 //! Growths that are refused: for a run in which each allocation is refused in turn. Without a refusal these tests say
 //! that ample memory suffices.
 
+use super::disks::{blank, close, open};
 use super::{BOOT, HELD, PENDING, TAKEN, TREE, WORKING, fault, key, rewritten};
-use crate::{MemoryStable, PlannedStable, SavedRow, SqliteStable, Stable, StoreFault};
+use crate::{MemoryStable, PlannedStable, SavedRow, Stable, StoreFault};
 use smi_tree::Tree;
-use sqlite::Connection;
 use std::test::Fail;
 
 /// All rows, at the second try where the first had no memory.
@@ -55,20 +55,20 @@ fn saves_in_memory(rt: HostRuntime) {
 }
 
 #[test]
-fn saves_over_sql(rt: HostRuntime) {
-    let Ok(conn) = Connection::open_in_memory(rt.alloc()) else {
-        return;
+fn saves_over_sql(rt: HostRuntime) -> Result<(), Fail> {
+    let store = match open(rt.alloc(), blank(rt.alloc())) {
+        Ok(store) => Ok(store),
+        // Want of memory, which is over at the next try.
+        Err(files) => open(rt.alloc(), files),
     };
-    let adopted = match SqliteStable::adopt(conn) {
-        Err((StoreFault::Memory, conn)) => SqliteStable::adopt(conn),
-        other => other,
-    };
-    match adopted {
+    match store {
         Ok(mut store) => {
-            assert_eq!(rt; saves_keep_their_word(&mut store), Ok(true));
-            drop(store.release());
+            let kept = saves_keep_their_word(&mut store);
+            drop(close(store));
+            assert_eq!(rt; kept, Ok(true));
+            Ok(())
         }
-        Err((fault, _)) => panic!(rt; "{fault:?}"),
+        Err(_) => Err("the files are not opened")?,
     }
 }
 

@@ -1,8 +1,8 @@
 //! What was saved is loaded, by rising key, from each store.
 
+use super::disks::{Store, close, open, opened};
 use super::{BOOT, HELD, TAKEN, key};
-use crate::{Key, MemoryStable, PlannedStable, SavedRow, SqliteStable, Stable, StoreFault};
-use sqlite::{Connection, MemStore};
+use crate::{Key, MemoryStable, PlannedStable, SavedRow, Stable, StoreFault};
 use std::alloc::Global;
 use std::test::Fail;
 
@@ -75,22 +75,15 @@ fn with_nothing_planned(rt: HostRuntime) {
     }
 }
 
-/// A connection that was given back is taken over again, with the rows in it.
-fn survives_release(store: SqliteStable<MemStore>) -> Result<bool, StoreFault> {
-    match SqliteStable::adopt(store.release()) {
+/// The rows of the files that a store over SQL gave up, taken over again.
+fn found_again(alloc: Global, store: Store) -> Result<bool, Fail> {
+    match open(alloc, close(store)) {
         Ok(mut again) => {
             let list = again.load();
-            drop(again.release());
+            drop(close(again));
             Ok(are_rows(&list?))
         }
-        Err((fault, _)) => Err(fault),
-    }
-}
-
-fn opened(alloc: Global) -> Result<SqliteStable<MemStore>, StoreFault> {
-    match Connection::open_in_memory(alloc) {
-        Ok(conn) => SqliteStable::adopt(conn).map_err(|refused| refused.0),
-        Err(_) => Err(StoreFault::Memory),
+        Err(_) => Err("the files are not opened again")?,
     }
 }
 
@@ -98,8 +91,9 @@ fn opened(alloc: Global) -> Result<SqliteStable<MemStore>, StoreFault> {
 fn over_sql(rt: HostRuntime) -> Result<(), Fail> {
     for order in ORDERS {
         let mut store = opened(rt.alloc())?;
-        assert_eq!(rt; loads_what_was_saved(&mut store, order), Ok(true));
-        assert_eq!(rt; survives_release(store), Ok(true));
+        let loaded = loads_what_was_saved(&mut store, order);
+        assert_eq!(rt; found_again(rt.alloc(), store)?, true);
+        assert_eq!(rt; loaded, Ok(true));
     }
     Ok(())
 }

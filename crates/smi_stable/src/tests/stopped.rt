@@ -1,46 +1,13 @@
 //! Saves over SQL on disks that stop after so many calls: the next open finds the row as before or as saved.
 
+use super::disks::{Disks, close, disk, open, opened};
 use super::{BOOT, TAKEN, key};
-use crate::{SavedRow, SqliteStable, Stable, StoreFault};
-use sqlite::{Connection, FileStore, Files, Options};
-use sqlite_disk::{Crash, Disk, Fuse, Memory};
+use crate::{SavedRow, Stable, StoreFault};
+use sqlite::Files;
+use sqlite_disk::Crash;
 use std::alloc::Global;
 use std::process::Abort;
 use std::test::Fail;
-
-type Disks = Files<Fuse<Memory>>;
-
-type Store = SqliteStable<FileStore<Fuse<Memory>>>;
-
-/// A disk with these bytes that passes so many calls on.
-fn disk(alloc: Global, bytes: &[u8], calls: u64) -> Result<Fuse<Memory>, Fail> {
-    let mut memory = Memory::new(alloc);
-    memory.write_at(0, bytes)?;
-    memory.sync()?;
-    Ok(Fuse::new(memory, calls))
-}
-
-fn adopted(conn: Connection<FileStore<Fuse<Memory>>>) -> Result<Store, Disks> {
-    match SqliteStable::adopt(conn) {
-        Ok(store) => Ok(store),
-        Err((_, conn)) => Err(conn.into_store().close()),
-    }
-}
-
-/// A store over the files, or the files.
-fn open(alloc: Global, files: Disks) -> Result<Store, Disks> {
-    if !files.may_be_used() {
-        return Err(files);
-    }
-    match Connection::open_files(alloc, files, Options::new(1)) {
-        Ok(conn) => adopted(conn),
-        Err((_, left)) => Err(left.into_files()),
-    }
-}
-
-fn close(store: Store) -> Disks {
-    store.release().into_store().close()
-}
 
 /// What a save came to: nothing where the store was not opened.
 #[derive(Clone, Copy, Debug, PartialEq, Eq)]
@@ -81,17 +48,11 @@ fn found(alloc: Global, files: Disks) -> Result<Vec<SavedRow>, Fail> {
 
 /// The files of a store in which a boot is saved.
 fn begun(alloc: Global) -> Result<Disks, Fail> {
-    let log = disk(alloc, b"", u64::MAX)?;
-    let db = disk(alloc, b"", u64::MAX)?;
-    match open(alloc, Files { log, db }) {
-        Ok(mut store) => {
-            let saved = store.save(key(1, 0, 0), BOOT);
-            let files = close(store);
-            saved?;
-            Ok(files)
-        }
-        Err(_) => Err("the files are not opened")?,
-    }
+    let mut store = opened(alloc)?;
+    let saved = store.save(key(1, 0, 0), BOOT);
+    let files = close(store);
+    saved?;
+    Ok(files)
 }
 
 /// The same files, each of which passes so many calls on.

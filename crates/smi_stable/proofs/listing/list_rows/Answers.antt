@@ -67,3 +67,9 @@ returns-clause-ready g c ready clean =
     (λ rows shown. still old new before.0 before.1 (inl (load-unchanged old new rows.items (before.1 (load-open old new _ _ rows.items shown)).schema shown)))
     (λ e fails. still old new before.0 before.1 (load-fails old new _ _ e fails)) in
     (s.0, λ live. (s.1 live).0)
+
+pub returns-clause-was_open : goal.returns-clause-was_open
+returns-clause-was_open g c clean =
+    let old = state g.S.Store c.args.conn.now in
+    let new = state g.S.Store c.query_all.new.self in
+    then c.query_all.result _ _ (c.query_all.ensures.ok clean) (λ rows shown. load-open old new _ _ rows.items shown)

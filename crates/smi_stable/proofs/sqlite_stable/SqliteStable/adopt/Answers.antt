@@ -7,4 +7,4 @@ use Rattle.smi_stable.proofs.sqlite_stable.SqliteStable.adopt.Goals as goal
 
 pub returns-clause-adopted : goal.returns-clause-adopted
 returns-clause-adopted g c clean =
-    adopted-still (state g.S.Store c.args.connection) (state g.S.Store c.in_ok-conn.conn) (state g.S.Store c.is_open.new.conn) (c.in_ok-conn.ensures (c.is_open.ensures.clean clean)) (c.if-not-is_open.ensures.unchanged clean refl)
+    adopted-still (state g.S.Store c.args.connection) (state g.S.Store c.in_ok-conn.conn) (state g.S.Store c.test_open.new.conn) (c.in_ok-conn.ensures (c.test_open.ensures.clean clean)) (c.in-Ok.ensures.unchanged clean)

@@ -1,4 +1,4 @@
-use Rattle.std.proofs.Common.{◌≡◌, ◌∙◌, ℕ, ◌+◌, ◌<◌, ◌^◌, cond, ap, sym, length, List, ◌++◌, ◌∷◌, [], Some, None, rules}
+use Rattle.std.proofs.Common.{◌≡◌, ◌∙◌, ℕ, ◌+◌, ◌<◌, ◌^◌, cond, ap, length, List, ◌++◌, ◌∷◌, [], Some, None, rules}
 use Rattle.std.specs.HashMap.{get}
 use Rattle.std.specs.Str.{bytes_eq}
 use Rattle.smi_tree.specs.Name.{number_of}

@@ -1,0 +1,77 @@
+//! Saves of stable rows, beside plain writes of the same bytes.
+
+use smi_stable::{Key, SqliteStable, Stable, StoreFault};
+use sqlite::{Connection, File, FileStore};
+use std::fs;
+use std::io::{self, Write};
+use std::time::{Duration, Instant};
+
+/// The row of a domain that operator 2 took.
+const ROW: [u8; 24] = [
+    2, 1, 0, 2, 0, 0, 0, 0, 0, 0, 0, 1, 0, 0, 0, 0, 0, 0, 0, 0, 0, 0, 0, 0,
+];
+
+/// The row's key in the nth save: the domains of one station in turn.
+fn key(nth: u32) -> Key {
+    Key {
+        station: 1,
+        domain: (nth % 128) as u16 + 1,
+        operator: 0,
+    }
+}
+
+/// The bytes of the nth save. No two that follow one another are the same.
+fn bytes(nth: u32) -> [u8; 24] {
+    let mut row = ROW;
+    row[12..16].copy_from_slice(&nth.to_be_bytes());
+    row
+}
+
+fn store_fault<E: Drop>(_error: E) -> io::Error {
+    io::Error::other("the store failed")
+}
+
+fn save_all<S: Stable>(store: &mut S, saves: u32) -> Result<(), StoreFault> {
+    for nth in 0..saves {
+        store.save(key(nth), &bytes(nth))?;
+    }
+    Ok(())
+}
+
+/// How long so many saves take over SQL, in a store that has each key once.
+pub fn save_time(rt: &HostRuntime, path: &str, saves: u32) -> io::Result<Duration> {
+    let connection = Connection::open(rt, path).map_err(store_fault)?;
+    match SqliteStable::adopt(connection) {
+        Ok(mut store) => {
+            let time = timed(rt, &mut store, saves);
+            store.release().close().map_err(store_fault)?;
+            time
+        }
+        Err((fault, connection)) => {
+            let _ = connection.close();
+            Err(store_fault(fault))
+        }
+    }
+}
+
+fn timed(
+    rt: &HostRuntime,
+    store: &mut SqliteStable<FileStore<File>>,
+    saves: u32,
+) -> io::Result<Duration> {
+    save_all(store, 128).map_err(store_fault)?;
+    let start = Instant::now(rt)?;
+    save_all(store, saves).map_err(store_fault)?;
+    start.elapsed(rt)
+}
+
+/// How long it takes to write the same bytes one after the other, each handed to the device.
+pub fn write_time(rt: &HostRuntime, path: &str, saves: u32) -> io::Result<Duration> {
+    let mut file = fs::create(rt, path)?;
+    let start = Instant::now(rt)?;
+    for nth in 0..saves {
+        file.write_all(&bytes(nth))?;
+        file.sync_data()?;
+    }
+    start.elapsed(rt)
+}

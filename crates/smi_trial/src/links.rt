@@ -1,0 +1,82 @@
+//! How many datagrams two links over UDP send to one another on this machine.
+
+use smi_link::{DatagramLink, Reception, UdpLink};
+use std::alloc::AllocError;
+use std::io;
+use std::net::{SocketAddr, UdpSocket};
+use std::time::Instant;
+
+const DATAGRAM: [u8; 44] = [7; 44];
+
+/// Prints how long a round takes, one datagram there and one back, beside two plain sockets.
+pub(crate) fn measure(rt: &HostRuntime, rounds: u32) -> io::Result<()> {
+    let start = Instant::now(rt)?;
+    let whole = over_links(rt, rounds)?;
+    let links = start.elapsed(rt)?.as_nanos();
+    let start = Instant::now(rt)?;
+    let plain_whole = over_sockets(rt, rounds)?;
+    let plain = start.elapsed(rt)?.as_nanos();
+    let rounds = u128::from(rounds.max(1));
+    println!(rt;
+        "links: {} ns a round, plain sockets {} ns",
+        links / rounds,
+        plain / rounds
+    )?;
+    eprintln!(rt; "{whole} and {plain_whole} datagrams came")?;
+    Ok(())
+}
+
+fn socket(rt: &HostRuntime) -> io::Result<UdpSocket> {
+    UdpSocket::bind(rt, "127.0.0.1:0")
+}
+
+fn over_links(rt: &HostRuntime, rounds: u32) -> io::Result<u32> {
+    let here = socket(rt)?;
+    let there = socket(rt)?;
+    let addresses = (here.local_addr()?, there.local_addr()?);
+    let mut here = UdpLink::over(here, both(rt, addresses)?)?;
+    let mut there = UdpLink::over(there, both(rt, addresses)?)?;
+    let mut whole: u32 = 0;
+    for _ in 0..rounds {
+        whole = whole.wrapping_add(u32::from(passes(&mut here, &mut there, 2)));
+        whole = whole.wrapping_add(u32::from(passes(&mut there, &mut here, 1)));
+    }
+    Ok(whole)
+}
+
+fn both(
+    rt: &HostRuntime,
+    addresses: (SocketAddr, SocketAddr),
+) -> Result<Vec<SocketAddr>, AllocError> {
+    let mut peers = Vec::new(rt.alloc());
+    peers.push(addresses.0)?;
+    peers.push(addresses.1)?;
+    Ok(peers)
+}
+
+/// Whether a datagram that one link sends to a station comes to the other whole.
+fn passes(from: &mut UdpLink, to: &mut UdpLink, station: u16) -> bool {
+    let mut buffer = [0u8; 45];
+    from.send(station, &DATAGRAM).is_ok()
+        && to.receive(&mut buffer) == Reception::Received(44)
+        && buffer[43] == DATAGRAM[43]
+}
+
+fn over_sockets(rt: &HostRuntime, rounds: u32) -> io::Result<u32> {
+    let here = socket(rt)?;
+    let there = socket(rt)?;
+    let addresses = (here.local_addr()?, there.local_addr()?);
+    let mut whole: u32 = 0;
+    for _ in 0..rounds {
+        whole = whole.wrapping_add(u32::from(goes(&here, &there, addresses.1)));
+        whole = whole.wrapping_add(u32::from(goes(&there, &here, addresses.0)));
+    }
+    Ok(whole)
+}
+
+fn goes(from: &UdpSocket, to: &UdpSocket, address: SocketAddr) -> bool {
+    let mut buffer = [0u8; 45];
+    from.send_to(&DATAGRAM, address).is_ok()
+        && matches!(to.recv_from(&mut buffer), Ok((44, _)))
+        && buffer[43] == DATAGRAM[43]
+}

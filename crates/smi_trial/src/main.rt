@@ -1,0 +1,50 @@
+//! Small runs of the layers: how fast they are, and what a refused growth leaves.
+//!
+//! `smi_trial refused LAYER` makes and changes the objects of a layer, and sees after each growth that
+//! was refused that its object is as it was and that the same call then does what it does otherwise. It
+//! prints `whole` where no growth was refused, `kept` where all was as it should be after one that was,
+//! and `changed` else. The growths are refused from outside (tests/refuse.c).
+//!
+//! `smi_trial board READERS READS`, `smi_trial link ROUNDS` and `smi_trial watchers ROUNDS` print how
+//! long the board, two links over UDP and the watcher lists take, beside a plain measure. Without words
+//! it does nothing.
+#![tactic(auto)]
+
+ghost use Rattle.std.specs.Prelude.{◌≤◌};
+
+mod board;
+mod links;
+mod outcome;
+mod refused;
+mod watching;
+
+use std::{env, io};
+
+fn main(rt: HostRuntime) -> io::Result<()> {
+    let mut words = Vec::new(rt.alloc());
+    for word in env::args(&rt)? {
+        words.push(word)?;
+    }
+    match words.as_slice() {
+        [_, what, layer] if what.as_str() == "refused" => {
+            println!(rt; "{}", refused::of(&rt, rt.alloc(), layer.as_str()).word())
+        }
+        [_, what, readers, reads] if what.as_str() == "board" => {
+            board::measure(&rt, number(readers.as_str()), number(reads.as_str()))
+        }
+        [_, what, rounds] if what.as_str() == "link" => {
+            links::measure(&rt, number(rounds.as_str()))
+        }
+        [_, what, rounds] if what.as_str() == "watchers" => {
+            watching::measure(&rt, number(rounds.as_str()))
+        }
+        _ => Ok(()),
+    }
+}
+
+/// The number of a word, at least 1.
+fn number(word: &str) -> u32
+    ensures { 1 ≤ result }
+{
+    word.parse::<u32>().unwrap_or(1).max(1)
+}

@@ -1,0 +1,246 @@
+//! What a refused growth leaves of each layer's objects.
+
+ghost use Rattle.std.specs.Prelude.{◌≡◌, ◌≤◌, ◌<◌, length, IfSome};
+
+use crate::outcome::Outcome;
+use smi_grant::{Shown, Version};
+use smi_link::{DatagramLink, MemoryLink, Reception};
+use smi_publish::Publisher;
+use smi_tree::Tree;
+use smi_view::{Board, Glance, View, open_board};
+use smi_watchers::{WatchFault, Watcher, Watchers};
+use std::alloc::Global;
+use std::sync::Wait;
+
+pub(crate) fn of<R: Wait>(rt: &R, alloc: Global, layer: &str) -> Outcome {
+    match layer {
+        "watchers" => watchers(alloc),
+        "link" => link(alloc),
+        "view" => view(alloc),
+        "publish" => publish(alloc),
+        "board" => board(rt, alloc),
+        _ => Outcome::Changed,
+    }
+}
+
+/// Two lists, the first of which grows several times, and a renewal.
+fn watchers(alloc: Global) -> Outcome {
+    let Some((mut watchers, mut outcome)) = opened_lists(alloc) else {
+        return Outcome::Changed;
+    };
+    for station in 1..9 {
+        outcome = outcome.and(watch(&mut watchers, station));
+    }
+    outcome.and(renew(&mut watchers, 3)).and(Outcome::of(
+        watchers.count(1) == 7 && watchers.count(2) == 1,
+    ))
+}
+
+fn opened_lists(alloc: Global) -> Option<(Watchers, Outcome)>
+    ensures { IfSome result (λ opened. length opened.0 ≡ 2) }
+{
+    if let Ok(watchers) = Watchers::new(alloc, 2) {
+        return Some((watchers, Outcome::Whole));
+    }
+    match Watchers::new(alloc, 2) {
+        Ok(watchers) => Some((watchers, Outcome::Kept)),
+        Err(_) => None,
+    }
+}
+
+/// The first entries of both lists.
+fn entries(watchers: &Watchers) -> [Option<Watcher>; 12]
+    requires { length watchers.now ≡ 2 }
+{
+    [
+        watchers.nth(1, 0),
+        watchers.nth(1, 1),
+        watchers.nth(1, 2),
+        watchers.nth(1, 3),
+        watchers.nth(1, 4),
+        watchers.nth(1, 5),
+        watchers.nth(1, 6),
+        watchers.nth(1, 7),
+        watchers.nth(1, 8),
+        watchers.nth(2, 0),
+        watchers.nth(2, 1),
+        watchers.nth(2, 2),
+    ]
+}
+
+fn watch(watchers: &mut Watchers, station: u16) -> Outcome
+    requires lists { length watchers.old ≡ 2 }
+    requires least { 1 ≤ station }
+    requires most { station ≤ 128 }
+    ensures { length watchers.new ≡ 2 }
+{
+    let before = entries(watchers);
+    match watchers.watch(1, station, 1) {
+        Ok(_) => Outcome::Whole,
+        Err(WatchFault::Full) => Outcome::Changed,
+        Err(WatchFault::Memory) => {
+            let is_as_before = entries(watchers) == before;
+            Outcome::again(is_as_before, watchers.watch(1, station, 1).is_ok())
+        }
+    }
+}
+
+fn renew(watchers: &mut Watchers, station: u16) -> Outcome
+    requires lists { length watchers.old ≡ 2 }
+    requires least { 1 ≤ station }
+    requires most { station ≤ 128 }
+    ensures { length watchers.new ≡ 2 }
+{
+    let before = entries(watchers);
+    match watchers.renew(2, station, 2) {
+        Ok(_) => Outcome::Whole,
+        Err(WatchFault::Full) => Outcome::Changed,
+        Err(WatchFault::Memory) => {
+            let is_as_before = entries(watchers) == before;
+            Outcome::again(is_as_before, watchers.renew(2, station, 2).is_ok())
+        }
+    }
+}
+
+/// A link that is to give, and to take, several datagrams.
+fn link(alloc: Global) -> Outcome {
+    let mut link = MemoryLink::new(alloc, 1);
+    let mut outcome = Outcome::Whole;
+    for byte in 0..9 {
+        outcome = outcome.and(put(&mut link, byte));
+    }
+    outcome = outcome
+        .and(put_nothing(&mut link))
+        .and(put_fault(&mut link));
+    for byte in 9..18 {
+        outcome = outcome.and(send(&mut link, byte));
+    }
+    for byte in 0..9 {
+        outcome = outcome.and(comes(&mut link, byte));
+    }
+    let mut buffer = [0u8; 45];
+    outcome = outcome.and(Outcome::of(link.receive(&mut buffer) == Reception::Nothing));
+    outcome = outcome.and(Outcome::of(link.receive(&mut buffer) == Reception::Fault));
+    for byte in 9..18 {
+        outcome = outcome.and(comes(&mut link, byte));
+    }
+    outcome.and(Outcome::of(link.receive(&mut buffer) == Reception::Nothing))
+}
+
+fn put(link: &mut MemoryLink, byte: u8) -> Outcome {
+    match link.put(&[byte; 44]) {
+        Ok(()) => Outcome::Whole,
+        Err(_) => Outcome::again(true, link.put(&[byte; 44]).is_ok()),
+    }
+}
+
+fn put_nothing(link: &mut MemoryLink) -> Outcome {
+    match link.put_nothing() {
+        Ok(()) => Outcome::Whole,
+        Err(_) => Outcome::again(true, link.put_nothing().is_ok()),
+    }
+}
+
+fn put_fault(link: &mut MemoryLink) -> Outcome {
+    match link.put_fault() {
+        Ok(()) => Outcome::Whole,
+        Err(_) => Outcome::again(true, link.put_fault().is_ok()),
+    }
+}
+
+fn send(link: &mut MemoryLink, byte: u8) -> Outcome {
+    match link.send(1, &[byte; 44]) {
+        Ok(()) => Outcome::Whole,
+        Err(_) => Outcome::again(true, link.send(1, &[byte; 44]).is_ok()),
+    }
+}
+
+/// Whether the datagram of this byte comes next: what was refused before left nothing behind.
+fn comes(link: &mut MemoryLink, byte: u8) -> Outcome {
+    let mut buffer = [0u8; 45];
+    let reception = link.receive(&mut buffer);
+    Outcome::of(reception == Reception::Received(44) && &buffer[..44] == [byte; 44].as_slice())
+}
+
+fn view(alloc: Global) -> Outcome {
+    match View::new(alloc, 640, 1) {
+        Ok(view) => Outcome::of(view.last(640).is_none()),
+        Err(_) => match View::new(alloc, 640, 1) {
+            Ok(view) => Outcome::again(view.last(640).is_none(), true),
+            Err(_) => Outcome::Changed,
+        },
+    }
+}
+
+const WORKED: &[u8] =
+    b"tree 17\nstate OFF\naction START\nstation A 127.0.0.1:9001\noperator ANN A\ndevclass DEV OFF\nunitclass UNIT OFF\ndomain DCS A UNIT -\ndevice HV DCS DEV\n";
+
+fn publish(alloc: Global) -> Outcome {
+    let (tree, read) = match Tree::read(alloc, WORKED) {
+        Ok(tree) => (tree, Outcome::Whole),
+        Err(_) => match Tree::read(alloc, WORKED) {
+            Ok(tree) => (tree, Outcome::Kept),
+            Err(_) => return Outcome::Changed,
+        },
+    };
+    match Publisher::new(alloc, &tree, 1, 1) {
+        Ok(publisher) => read.and(Outcome::of(publisher.current(2).is_some())),
+        Err(_) => match Publisher::new(alloc, &tree, 1, 1) {
+            Ok(publisher) => Outcome::again(publisher.current(2).is_some(), true),
+            Err(_) => Outcome::Changed,
+        },
+    }
+}
+
+fn board<R: Wait>(rt: &R, alloc: Global) -> Outcome {
+    let (mut board, opened) = match open_board(alloc, 1) {
+        Ok(board) => (board, Outcome::Whole),
+        Err(_) => match open_board(alloc, 1) {
+            Ok(board) => (board, Outcome::Kept),
+            Err(_) => return Outcome::Changed,
+        },
+    };
+    let outcome = match board.glance() {
+        Ok(mut glance) => publications(rt, &mut board, &mut glance),
+        Err(_) => match board.glance() {
+            Ok(mut glance) => publications(rt, &mut board, &mut glance).and(Outcome::Kept),
+            Err(_) => Outcome::Changed,
+        },
+    };
+    board.close(rt);
+    opened.and(outcome)
+}
+
+fn publications<R: Wait>(rt: &R, board: &mut Board, glance: &mut Glance) -> Outcome {
+    let mut outcome = Outcome::Whole;
+    for sequence in 1..19 {
+        outcome = outcome.and(shows(rt, board, glance, sequence));
+    }
+    outcome
+}
+
+/// One more row is put and published.
+fn shows<R: Wait>(rt: &R, board: &mut Board, glance: &mut Glance, sequence: u32) -> Outcome {
+    let row = Shown {
+        object: (sequence % 5) as u16,
+        version: Version { boot: 1, sequence },
+        state: 1,
+    };
+    let before = glance.read(row.object);
+    let put = match board.put(row) {
+        Ok(()) => Outcome::Whole,
+        Err(_) => {
+            let is_as_before = glance.read(row.object) == before;
+            Outcome::again(is_as_before, board.put(row).is_ok())
+        }
+    };
+    let published = match board.publish(rt) {
+        Ok(()) => Outcome::Whole,
+        Err(_) => {
+            let is_as_before = glance.read(row.object) == before;
+            Outcome::again(is_as_before, board.publish(rt).is_ok())
+        }
+    };
+    put.and(published)
+        .and(Outcome::of(glance.read(row.object) == Ok(Some(row))))
+}
