@@ -110,9 +110,9 @@ module _ (h : Hierarchy) (g : Grants) (d : ℕ) (c : Command) where
   pub links_same : (me : Holder) (x : ℕ) → (is_parent h x d ≡ true → me ≡ Domain d → c ≡ Exclude x → ⊥) → SameLink (g.links me x) (links_after h g d c me x)
   links_same me x o = elim (either (is_parent h x d && same_holder me (Domain d))) [
     | inl t ↦
-      let a = and_parts (is_parent h x d) _ t in
-      let i = same_is me (Domain d) a.1 in
-      rw t (subst (λ z. SameLink (g.links z x) (link_after (change_of h g d c x) (g.links (Domain d) x))) (sym i)
+        let a = and_parts (is_parent h x d) _ t in
+        let i = same_is me (Domain d) a.1 in
+        rw t (subst (λ z. SameLink (g.links z x) (link_after (change_of h g d c x) (g.links (Domain d) x))) (sym i)
         (all_same (g.links (Domain d) x) h d c x (g.modes x) (o a.0 i)).link)
     | inr f ↦ rw f (same_link (g.links me x))
   ]
@@ -146,16 +146,16 @@ excluded h g d t (Err why) is parent =
     (λ me x. elim (either (is_parent h x d && same_holder me (Domain d))) [
       | inl u ↦ rw u (elim (apart x t) [
         | inl i ↦
-          let a = and_parts (is_parent h x d) _ u in
-          let j = same_is me (Domain d) a.1 in
-          subst (λ z. SameLink (g.links z x) (link_after (change_of h g d (Exclude t) x) (g.links (Domain d) x))) (sym j)
-          (subst (λ z. SameLink (g.links (Domain d) z) (link_after (change_of h g d (Exclude t) z) (g.links (Domain d) z))) (sym i)
+            let a = and_parts (is_parent h x d) _ u in
+            let j = same_is me (Domain d) a.1 in
+            subst (λ z. SameLink (g.links z x) (link_after (change_of h g d (Exclude t) x) (g.links (Domain d) x))) (sym j)
+            (subst (λ z. SameLink (g.links (Domain d) z) (link_after (change_of h g d (Exclude t) z) (g.links (Domain d) z))) (sym i)
             (subst (λ z. SameLink (g.links (Domain d) t) (link_after z (g.links (Domain d) t))) (sym change) (same_link (g.links (Domain d) t))))
         | inr o ↦
-          let a = and_parts (is_parent h x d) _ u in
-          let j = same_is me (Domain d) a.1 in
-          subst (λ z. SameLink (g.links z x) (link_after (change_of h g d (Exclude t) x) (g.links (Domain d) x))) (sym j)
-          (all_same (g.links (Domain d) x) h d (Exclude t) x (g.modes x) (λ e. let same : t ≡ x = cc in o (sym same))).link
+            let a = and_parts (is_parent h x d) _ u in
+            let j = same_is me (Domain d) a.1 in
+            subst (λ z. SameLink (g.links z x) (link_after (change_of h g d (Exclude t) x) (g.links (Domain d) x))) (sym j)
+            (all_same (g.links (Domain d) x) h d (Exclude t) x (g.modes x) (λ e. let same : t ≡ x = cc in o (sym same))).link
       ])
       | inr f ↦ rw f (same_link (g.links me x))
     ])

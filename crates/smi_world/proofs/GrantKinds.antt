@@ -88,8 +88,8 @@ module _ (h : Hierarchy) (w : World) (number : ℕ) (s : Station) where
   world_handed x who e is others links = record {
     record_ = record_here x e ∙ is ∙ ap (λ z. handed ((w.stations z).grants.records x) who) (sym e);
     others = λ d o. at_put (λ z. SameGrant (record_in h w d) (z.grants.records d)) w.stations number s (home h d)
-      (λ i. subst (λ z. SameGrant ((w.stations z).grants.records d) (s.grants.records d)) (sym i) (others d o))
-      (same_grant (record_in h w d));
+        (λ i. subst (λ z. SameGrant ((w.stations z).grants.records d) (s.grants.records d)) (sym i) (others d o))
+        (same_grant (record_in h w d));
     links = world_links links;
     sent = refl;
   }
@@ -100,8 +100,8 @@ module _ (h : Hierarchy) (w : World) (number : ℕ) (s : Station) where
     was = ap (λ z. (w.stations z).grants.links who x) e ∙ was;
     is = link_here who x e ∙ is;
     others = λ me d o. at_put (λ z. SameLink (link_in h w me d) (z.grants.links me d)) w.stations number s (holder_home h me)
-      (λ i. subst (λ z. SameLink ((w.stations z).grants.links me d) (s.grants.links me d)) (sym i) (others me d o))
-      (same_link (link_in h w me d));
+        (λ i. subst (λ z. SameLink ((w.stations z).grants.links me d) (s.grants.links me d)) (sym i) (others me d o))
+        (same_link (link_in h w me d));
     records = world_records records;
     sent = refl;
   }
@@ -129,5 +129,5 @@ kind_safely h past w number s new (learning who x n more party e was is others r
 kind_safely h past w number s new (leaving who x f n p before more party e was is others records quiet rest) v next safely =
     subst (λ z. Safely h z (with_station w number s)) (sym (noted_both before (LetGo who x f ∷ more) past))
     (safely_quiet h (with_station w number s) next more (LetGo who x f ∷ noted before past) rest
-      (left_safely h (noted before past) w (with_station w number s) who x f n p party (world_change h w number s who x (Held f n p) (Dropping f) e was is others records) v next
-        (safely_quiet h w v before past quiet safely)))
+    (left_safely h (noted before past) w (with_station w number s) who x f n p party (world_change h w number s who x (Held f n p) (Dropping f) e was is others records) v next
+    (safely_quiet h w v before past quiet safely)))

@@ -109,9 +109,9 @@ all_found : {X : Type 0} (P : X → Type 0) (test : X → Bool) (xs : List X) (y
 all_found P test [] y a is = absurd cc
 all_found P test (x ∷ xs) y a is = elim (either (test x)) [
   | inl t ↦
-    let same : Some x ≡ Some y = sym (ap (λ b. if b then Some x else find test xs) t) ∙ is in
-    let i : x ≡ y = cc in
-    subst P i a.0
+      let same : Some x ≡ Some y = sym (ap (λ b. if b then Some x else find test xs) t) ∙ is in
+      let i : x ≡ y = cc in
+      subst P i a.0
   | inr f ↦ all_found P test xs y a.1 (sym (ap (λ b. if b then Some x else find test xs) f) ∙ is)
 ]
 
@@ -181,11 +181,11 @@ relinked_kind h w number who d r k more here v records quiet is = kind (told_kin
 
     others : (me : Holder) (x : ℕ) → (me ≡ who → x ≡ d → ⊥) → SameLink (g.links me x) (k.links me x)
     others me x o = subst (λ (z : Holder → ℕ → Link). SameLink (g.links me x) (z me x)) (sym is)
-      (at_put_link (λ z. SameLink (g.links me x) z) g.links who d new me x (λ i j. absurd (o j i)) (same_link (g.links me x)))
+        (at_put_link (λ z. SameLink (g.links me x) z) g.links who d new me x (λ i j. absurd (o j i)) (same_link (g.links me x)))
 
     every : SameLink old new → (me : Holder) (x : ℕ) → SameLink (g.links me x) (k.links me x)
     every same me x = subst (λ (z : Holder → ℕ → Link). SameLink (g.links me x) (z me x)) (sym is)
-      (at_put_link (λ z. SameLink (g.links me x) z) g.links who d new me x
+        (at_put_link (λ z. SameLink (g.links me x) z) g.links who d new me x
         (λ i j. subst (λ z. SameLink (g.links z x) new) (sym j) (subst (λ z. SameLink (g.links who z) new) (sym i) same))
         (same_link (g.links me x)))
 
@@ -193,7 +193,7 @@ relinked_kind h w number who d r k more here v records quiet is = kind (told_kin
     kind (learns s was becomes) =
         subst (λ z. GrantKind h number w.sent g k (learned who d z new ++ more)) (sym was)
         (subst (λ z. GrantKind h number w.sent g k (learned who d (Taking s) z ++ more)) (sym becomes)
-          (learning who d s more here.party here.home was (at ∙ becomes) others records quiet))
+        (learning who d s more here.party here.home was (at ∙ becomes) others records quiet))
     kind (remains same calm) = silently (learned who d old new ++ more) (quiet_both (learned who d old new) more calm quiet) records (every same)
 
 ended_records : (b : Bool) (on : Grants) (p : ℕ) (d : ℕ) → SameGrant (on.records d) ((ended b on p).records d)

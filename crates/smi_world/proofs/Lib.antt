@@ -1,6 +1,7 @@
 pub mod Changes
 pub mod ChildKinds
 pub mod GrantKinds
+pub mod GrantsSafe
 pub mod HearingKinds
 pub mod KnownFacts
 pub mod Moves

@@ -63,8 +63,8 @@ about_it who x e f = rw (number_self x) (rw (same_self who) (and_true (e == f)))
 about_others : (me who : Holder) (d x e f : ℕ) → (me ≡ who → d ≡ x → ⊥) → is_grant_of me d e who x f ≡ false
 about_others me who d x e f o = elim (either (is_grant_of me d e who x f)) [
   | inl t ↦
-    let a = and_parts (x == d) _ t in let b = and_parts (e == f) _ a.1 in
-    absurd (o (same_is me who b.1) (sym (eqb-true x d a.0)))
+      let a = and_parts (x == d) _ t in let b = and_parts (e == f) _ a.1 in
+      absurd (o (same_is me who b.1) (sym (eqb-true x d a.0)))
   | inr i ↦ i
 ]
 
@@ -123,21 +123,21 @@ pub granted_stands : (d : ℕ) (who : Holder) → is_free who ≡ false → (pas
 granted_stands d who p [] i = let t : is_free Free ≡ false = ap is_free (sym (holder_none d) ∙ i) ∙ p in absurd cc
 granted_stands d who p (Granted x e g ∷ past) i = elim (either (x == d)) [
   | inl t ↦
-    let a : epoch_at d (Granted x e g ∷ past) ≡ e = epoch_granted d x e g past ∙ ap (λ b. if b then e else epoch_at d past) t in
-    let b : g ≡ who = sym (holder_granted d x e g past ∙ ap (λ z. if z then g else holder_at d past) t) ∙ i in
-    subst (λ n. Stands (Granted d n who) (Granted x e g ∷ past)) (sym a)
-    (inl (ap (λ z. Granted z e who) (sym (eqb-true x d t)) ∙ ap (Granted x e) (sym b)))
+      let a : epoch_at d (Granted x e g ∷ past) ≡ e = epoch_granted d x e g past ∙ ap (λ b. if b then e else epoch_at d past) t in
+      let b : g ≡ who = sym (holder_granted d x e g past ∙ ap (λ z. if z then g else holder_at d past) t) ∙ i in
+      subst (λ n. Stands (Granted d n who) (Granted x e g ∷ past)) (sym a)
+      (inl (ap (λ z. Granted z e who) (sym (eqb-true x d t)) ∙ ap (Granted x e) (sym b)))
   | inr f ↦
-    still_stands d who (Granted x e g) past (epoch_granted d x e g past ∙ ap (λ b. if b then e else epoch_at d past) f)
-    (granted_stands d who p past (sym (holder_granted d x e g past ∙ ap (λ z. if z then g else holder_at d past) f) ∙ i))
+      still_stands d who (Granted x e g) past (epoch_granted d x e g past ∙ ap (λ b. if b then e else epoch_at d past) f)
+      (granted_stands d who p past (sym (holder_granted d x e g past ∙ ap (λ z. if z then g else holder_at d past) f) ∙ i))
 ]
 granted_stands d who p (Freed x e ∷ past) i = elim (either (x == d)) [
   | inl t ↦
-    let b : Free ≡ who = sym (holder_freed d x e past ∙ ap (λ z. if z then Free else holder_at d past) t) ∙ i in
-    let k : is_free Free ≡ false = ap is_free b ∙ p in absurd cc
+      let b : Free ≡ who = sym (holder_freed d x e past ∙ ap (λ z. if z then Free else holder_at d past) t) ∙ i in
+      let k : is_free Free ≡ false = ap is_free b ∙ p in absurd cc
   | inr f ↦
-    still_stands d who (Freed x e) past (epoch_freed d x e past ∙ ap (λ b. if b then e else epoch_at d past) f)
-    (granted_stands d who p past (sym (holder_freed d x e past ∙ ap (λ z. if z then Free else holder_at d past) f) ∙ i))
+      still_stands d who (Freed x e) past (epoch_freed d x e past ∙ ap (λ b. if b then e else epoch_at d past) f)
+      (granted_stands d who p past (sym (holder_freed d x e past ∙ ap (λ z. if z then Free else holder_at d past) f) ∙ i))
 ]
 granted_stands d who p (Learned g x e ∷ past) i = still_stands d who (Learned g x e) past (epoch_learned d x e g past) (granted_stands d who p past (sym (holder_learned d x e g past) ∙ i))
 granted_stands d who p (LetGo g x e ∷ past) i = still_stands d who (LetGo g x e) past (epoch_let_go d x e g past) (granted_stands d who p past (sym (holder_let_go d x e g past) ∙ i))
@@ -156,9 +156,9 @@ module _ (h : Hierarchy) (past : List Entry) (w next : World) (who : Holder) (x 
   learns_known : (me : Holder) (d : ℕ) → known (link_in h w me d) ≤ known (link_in h next me d)
   learns_known me d = elim (it_or me who d x) [
     | inl i ↦
-      let a : known (link_in h w me d) ≡ s = ap (λ z. known (link_in h w z d)) i.holder ∙ ap (λ z. known (link_in h w who z)) i.domain ∙ ap known c.was in
-      let b : known (link_in h next me d) ≡ s + 1 = ap (λ z. known (link_in h next z d)) i.holder ∙ ap (λ z. known (link_in h next who z)) i.domain ∙ ap known c.is in
-      omega (arith, a, b)
+        let a : known (link_in h w me d) ≡ s = ap (λ z. known (link_in h w z d)) i.holder ∙ ap (λ z. known (link_in h w who z)) i.domain ∙ ap known c.was in
+        let b : known (link_in h next me d) ≡ s + 1 = ap (λ z. known (link_in h next z d)) i.holder ∙ ap (λ z. known (link_in h next who z)) i.domain ∙ ap known c.is in
+        omega (arith, a, b)
     | inr o ↦ (c.others me d o).known
   ]
 
@@ -194,7 +194,7 @@ module _ (h : Hierarchy) (past : List Entry) (w next : World) (who : Holder) (x 
   learns_let_go : (me : Holder) (d e : ℕ) → link_in h next me d ≡ Dropping e → link_in h w me d ≡ Dropping e
   learns_let_go me d e i = elim (it_or me who d x) [
     | inl j ↦
-      let a : Held (s + 1) 0 [] ≡ Dropping e = sym c.is ∙ ap (λ z. link_in h next z x) (sym j.holder) ∙ ap (λ z. link_in h next me z) (sym j.domain) ∙ i in absurd cc
+        let a : Held (s + 1) 0 [] ≡ Dropping e = sym c.is ∙ ap (λ z. link_in h next z x) (sym j.holder) ∙ ap (λ z. link_in h next me z) (sym j.domain) ∙ i in absurd cc
     | inr o ↦ (c.others me d o).dropping e i
   ]
 
@@ -204,7 +204,7 @@ module _ (h : Hierarchy) (past : List Entry) (w next : World) (who : Holder) (x 
     holder = λ d. holder_learned d x (s + 1) who past ∙ t.holder d ∙ sym (c.records d).holder;
     learned = λ me d e. elim (it_or me who d x) [
       | inl i ↦ subst (λ z. has_learned z d e (Learned who x (s + 1) ∷ past) ≡ holds_at (link_in h next z d) e) (sym i.holder)
-        (subst (λ z. has_learned who z e (Learned who x (s + 1) ∷ past) ≡ holds_at (link_in h next who z) e) (sym i.domain) (learns_it e))
+          (subst (λ z. has_learned who z e (Learned who x (s + 1) ∷ past) ≡ holds_at (link_in h next who z) e) (sym i.domain) (learns_it e))
       | inr o ↦ learns_others me d e o
     ];
     once = learns_once;
@@ -215,14 +215,13 @@ module _ (h : Hierarchy) (past : List Entry) (w next : World) (who : Holder) (x 
   pub learned_fits : is_free who ≡ false → Viewed h next → GrantFits h (Learned who x (s + 1)) past
   learned_fits party v =
       let k = (known_grant h next x who party v).is_held (s + 1) 0 [] c.is in
-      let e : epoch_at x past ≡ s + 1 = t.epoch x ∙ sym (c.records x).epoch ∙ k.0 in
-      (
+      let e : epoch_at x past ≡ s + 1 = t.epoch x ∙ sym (c.records x).epoch ∙ k.0 in (
         sym e,
         subst (λ z. Stands (Granted x z who) past) e (granted_stands x who party past (t.holder x ∙ sym (c.records x).holder ∙ k.1)),
         λ a.
-        let b = t.once who x (s + 1) a in
-        let l : known (link_in h w who x) ≡ s = ap known c.was in
-        omega (arith, b, l),
+            let b = t.once who x (s + 1) a in
+            let l : known (link_in h w who x) ≡ s = ap known c.was in
+            omega (arith, b, l),
       )
 
 pub learned_safely : (h : Hierarchy) (past : List Entry) (w next : World) (who : Holder) (x s : ℕ) → is_free who ≡ false → LinkChange h w next who x (Taking s) (Held (s + 1) 0 []) → Viewed h next → Safely h past w → Safely h (Learned who x (s + 1) ∷ past) next
@@ -236,9 +235,9 @@ module _ (h : Hierarchy) (past : List Entry) (w next : World) (who : Holder) (x 
   leaves_known : (me : Holder) (d : ℕ) → known (link_in h w me d) ≤ known (link_in h next me d)
   leaves_known me d = elim (it_or me who d x) [
     | inl i ↦
-      let a : known (link_in h w me d) ≡ f = ap (λ z. known (link_in h w z d)) i.holder ∙ ap (λ z. known (link_in h w who z)) i.domain ∙ ap known c.was in
-      let b : known (link_in h next me d) ≡ f = ap (λ z. known (link_in h next z d)) i.holder ∙ ap (λ z. known (link_in h next who z)) i.domain ∙ ap known c.is in
-      omega (arith, a, b)
+        let a : known (link_in h w me d) ≡ f = ap (λ z. known (link_in h w z d)) i.holder ∙ ap (λ z. known (link_in h w who z)) i.domain ∙ ap known c.was in
+        let b : known (link_in h next me d) ≡ f = ap (λ z. known (link_in h next z d)) i.holder ∙ ap (λ z. known (link_in h next who z)) i.domain ∙ ap known c.is in
+        omega (arith, a, b)
     | inr o ↦ (c.others me d o).known
   ]
 
@@ -268,9 +267,9 @@ module _ (h : Hierarchy) (past : List Entry) (w next : World) (who : Holder) (x 
   leaves_let_go : (me : Holder) (d e : ℕ) → link_in h next me d ≡ Dropping e → Stands (LetGo me d e) (LetGo who x f ∷ past)
   leaves_let_go me d e i = elim (it_or me who d x) [
     | inl j ↦
-      let a : Dropping f ≡ Dropping e = sym c.is ∙ ap (λ z. link_in h next z x) (sym j.holder) ∙ ap (λ z. link_in h next me z) (sym j.domain) ∙ i in
-      let k : f ≡ e = cc in
-      inl (ap (λ z. LetGo z d e) j.holder ∙ ap (λ z. LetGo who z e) j.domain ∙ ap (LetGo who x) (sym k))
+        let a : Dropping f ≡ Dropping e = sym c.is ∙ ap (λ z. link_in h next z x) (sym j.holder) ∙ ap (λ z. link_in h next me z) (sym j.domain) ∙ i in
+        let k : f ≡ e = cc in
+        inl (ap (λ z. LetGo z d e) j.holder ∙ ap (λ z. LetGo who z e) j.domain ∙ ap (LetGo who x) (sym k))
     | inr o ↦ inr (t.let_go me d e ((c.others me d o).dropping e i))
   ]
 
@@ -280,7 +279,7 @@ module _ (h : Hierarchy) (past : List Entry) (w next : World) (who : Holder) (x 
     holder = λ d. holder_let_go d x f who past ∙ t.holder d ∙ sym (c.records d).holder;
     learned = λ me d e. elim (it_or me who d x) [
       | inl i ↦ subst (λ z. has_learned z d e (LetGo who x f ∷ past) ≡ holds_at (link_in h next z d) e) (sym i.holder)
-        (subst (λ z. has_learned who z e (LetGo who x f ∷ past) ≡ holds_at (link_in h next who z) e) (sym i.domain) (leaves_it e))
+          (subst (λ z. has_learned who z e (LetGo who x f ∷ past) ≡ holds_at (link_in h next who z) e) (sym i.domain) (leaves_it e))
       | inr o ↦ leaves_others me d e o
     ];
     once = λ me d e a. let b = t.once me d e (left_before me d e a) in let k = leaves_known me d in omega (arith, b, k);

@@ -58,12 +58,12 @@ nothing h number sent g = silently [] tt (λ d. same_grant (g.records d)) (λ me
 take_new : (r : Standing) (who : Holder) (s : ℕ) (q : Standing) → take_after r who s ≡ New q → q ≡ handed r who
 take_new r who s q is = elim (either (is_free r.holder && (r.epoch == s && nat_lt s last_epoch))) [
   | inl t ↦
-    let a : New (handed r who) ≡ New q = sym (ap (λ b. if b then New (handed r who) else Same) t) ∙ is in
-    let b : handed r who ≡ q = cc in
-    sym b
+      let a : New (handed r who) ≡ New q = sym (ap (λ b. if b then New (handed r who) else Same) t) ∙ is in
+      let b : handed r who ≡ q = cc in
+      sym b
   | inr f ↦
-    let a : Same ≡ New q = sym (ap (λ b. if b then New (handed r who) else Same) f) ∙ is in
-    absurd cc
+      let a : Same ≡ New q = sym (ap (λ b. if b then New (handed r who) else Same) f) ∙ is in
+      absurd cc
 ]
 
 record Freed (r : Standing) (who : Holder) (e : ℕ) (q : Standing) : Type 0 where
@@ -74,14 +74,14 @@ record Freed (r : Standing) (who : Holder) (e : ℕ) (q : Standing) : Type 0 whe
 drop_new : (r : Standing) (who : Holder) (e : ℕ) (q : Standing) → drop_after r who e ≡ New q → Freed r who e q
 drop_new r who e q is = elim (either (same_holder r.holder who && (r.epoch == e && is_settled r.phase))) [
   | inl t ↦
-    let a : New (handed r Free) ≡ New q = sym (ap (λ b. if b then New (handed r Free) else Same) t) ∙ is in
-    let b : handed r Free ≡ q = cc in
-    let c = and_parts (same_holder r.holder who) _ t in
-    let d = and_parts (r.epoch == e) _ c.1 in
-    record { is = sym b; holder = same_is r.holder who c.0; epoch = eqb-true r.epoch e d.0 }
+      let a : New (handed r Free) ≡ New q = sym (ap (λ b. if b then New (handed r Free) else Same) t) ∙ is in
+      let b : handed r Free ≡ q = cc in
+      let c = and_parts (same_holder r.holder who) _ t in
+      let d = and_parts (r.epoch == e) _ c.1 in
+      record { is = sym b; holder = same_is r.holder who c.0; epoch = eqb-true r.epoch e d.0 }
   | inr f ↦
-    let a : Same ≡ New q = sym (ap (λ b. if b then New (handed r Free) else Same) f) ∙ is in
-    absurd cc
+      let a : Same ≡ New q = sym (ap (λ b. if b then New (handed r Free) else Same) f) ∙ is in
+      absurd cc
 ]
 
 entry_granted : (x e : ℕ) (who : Holder) → is_free who ≡ false → handed_entry x e who ≡ Granted x e who
@@ -198,8 +198,8 @@ understood h number m none = elim (either (not (m.tree == h.number))) [
     | inl t ↦ absurd (not_some 8 (sym (ap (λ b. if b then Some 7 else inner) f ∙ ap (λ b. if b then Some 8 else last) t) ∙ none))
     | inr g ↦ elim (either (is_between 1 (station_count h) m.from && is_body_of h m.from m.to m.body)) [
       | inl t ↦
-        let a = and_parts (is_between 1 (station_count h) m.from) _ t in
-        subst (λ z. is_body_of h m.from z m.body ≡ true) (eqb-true m.to number (not_not (m.to == number) g)) a.1
+          let a = and_parts (is_between 1 (station_count h) m.from) _ t in
+          subst (λ z. is_body_of h m.from z m.body ≡ true) (eqb-true m.to number (not_not (m.to == number) g)) a.1
       | inr k ↦ absurd (not_some 9 (sym (ap (λ b. if b then Some 7 else inner) f ∙ ap (λ b. if b then Some 8 else last) g ∙ ap (λ b. if b then None else Some 9) k) ∙ none))
     ]
   ]

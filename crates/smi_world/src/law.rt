@@ -16,6 +16,7 @@ ghost use Rattle.smi_command.specs.declared.Link.TheVariants.{Held};
 ghost use Rattle.smi_command.specs.KnownGrant.{KnownGrant, InStep, IsSpent, Waits};
 ghost use Rattle.smi_station.specs.declared.Entry.{Entry};
 ghost use Rattle.smi_world.specs.Known.{record_in, link_in};
+ghost use Rattle.smi_world.specs.Safe.{SafeGrants};
 ghost use Rattle.smi_world.specs.Schedule.{World};
 ghost use Rattle.smi_world.specs.World.{Reaches, Among};
 
@@ -30,4 +31,12 @@ pub fn links_know_their_records()
         link_in h w me d ≡ Held e n p → InStep (record_in h w d) n p }
     ensures sent { (h : Hierarchy) (past : List Entry) (w : World) (d : ℕ) (me : Holder) (m : Message) (e n : ℕ) (c : Command) → is_free me ≡ false → Reaches h past w →
         Among m w.sent → m.body ≡ Run d me e n c → IsSpent (record_in h w d) e n ⊎ Waits (link_in h w me d) e n c }
+{}
+
+/// At every moment of every trace: each grant raises the epoch of its domain by one, is odd, and is to an
+/// operator or to the domain's parent; each end of a grant raises it by one, is even, and its holder has
+/// let go before; a holder learns of its grant once, after it was granted and while it is current, and lets
+/// go of what it holds; and at most one operator commands each domain.
+pub fn grants_are_safe()
+    ensures { (h : Hierarchy) (past : List Entry) (w : World) → Reaches h past w → SafeGrants h past }
 {}
