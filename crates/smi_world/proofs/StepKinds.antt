@@ -55,7 +55,7 @@ nothing h number sent g = silently [] tt (λ d. same_grant (g.records d)) (λ me
 
 -- Takes and drops.
 
-take_new : (r : Standing) (who : Holder) (s : ℕ) (q : Standing) → take_after r who s ≡ New q → q ≡ handed r who
+pub take_new : (r : Standing) (who : Holder) (s : ℕ) (q : Standing) → take_after r who s ≡ New q → q ≡ handed r who
 take_new r who s q is = elim (either (is_free r.holder && (r.epoch == s && nat_lt s last_epoch))) [
   | inl t ↦
       let a : New (handed r who) ≡ New q = sym (ap (λ b. if b then New (handed r who) else Same) t) ∙ is in
@@ -66,12 +66,12 @@ take_new r who s q is = elim (either (is_free r.holder && (r.epoch == s && nat_l
       absurd cc
 ]
 
-record Freed (r : Standing) (who : Holder) (e : ℕ) (q : Standing) : Type 0 where
-  is : q ≡ handed r Free
-  holder : r.holder ≡ who
-  epoch : r.epoch ≡ e
+pub record Freed (r : Standing) (who : Holder) (e : ℕ) (q : Standing) : Type 0 where
+  pub is : q ≡ handed r Free
+  pub holder : r.holder ≡ who
+  pub epoch : r.epoch ≡ e
 
-drop_new : (r : Standing) (who : Holder) (e : ℕ) (q : Standing) → drop_after r who e ≡ New q → Freed r who e q
+pub drop_new : (r : Standing) (who : Holder) (e : ℕ) (q : Standing) → drop_after r who e ≡ New q → Freed r who e q
 drop_new r who e q is = elim (either (same_holder r.holder who && (r.epoch == e && is_settled r.phase))) [
   | inl t ↦
       let a : New (handed r Free) ≡ New q = sym (ap (λ b. if b then New (handed r Free) else Same) t) ∙ is in
@@ -191,7 +191,7 @@ order_kind h number sent g o here (order.Report device s) = nothing h number sen
 not_some : (code : ℕ) → Some code ≡ None → ⊥
 not_some code i = cc
 
-understood : (h : Hierarchy) (number : ℕ) (m : Message) → refusal_of_message h number m ≡ None → is_body_of h m.from number m.body ≡ true
+pub understood : (h : Hierarchy) (number : ℕ) (m : Message) → refusal_of_message h number m ≡ None → is_body_of h m.from number m.body ≡ true
 understood h number m none = elim (either (not (m.tree == h.number))) [
   | inl t ↦ absurd (not_some 7 (sym (ap (λ b. if b then Some 7 else inner) t) ∙ none))
   | inr f ↦ elim (either (not (m.to == number))) [
