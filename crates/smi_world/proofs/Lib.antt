@@ -7,6 +7,7 @@ pub mod KnownFacts
 pub mod Moves
 pub mod Quiet
 pub mod RecordMoves
+pub mod RunOrder
 pub mod RunSteps
 pub mod StepKinds
 pub mod Traces
