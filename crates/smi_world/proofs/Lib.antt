@@ -9,6 +9,7 @@ pub mod Quiet
 pub mod RecordMoves
 pub mod RunOrder
 pub mod RunSteps
+pub mod RunsOrdered
 pub mod StepKinds
 pub mod Traces
 pub mod Views

@@ -56,7 +56,7 @@ one_under : (d f x e n : ℕ) (c : Command) (past : List Entry) → runs_under d
 unfolding runs_under
 one_under d f x e n c past = refl
 
-nothing_under : (d f : ℕ) → runs_under d f [] ≡ 0
+pub nothing_under : (d f : ℕ) → runs_under d f [] ≡ 0
 unfolding runs_under
 nothing_under d f = refl
 
@@ -106,7 +106,7 @@ pub record Counted (h : Hierarchy) (past : List Entry) (w : World) : Type 0 wher
   pub bound : (d f m : ℕ) (k : Command) → Stands (Ran d f m k) past → (f < (record_in h w d).epoch) ⊎ ((f ≡ (record_in h w d).epoch) × (m ≤ (record_in h w d).last))
   pub order : RunsInOrder past
 
-counted_none : (h : Hierarchy) (w : World) (new past : List Entry) → NoRuns new → Counted h past w → Counted h (noted new past) w
+pub counted_none : (h : Hierarchy) (w : World) (new past : List Entry) → NoRuns new → Counted h past w → Counted h (noted new past) w
 counted_none h w [] past q c = c
 counted_none h w (y ∷ new) past q c = counted_none h w new (y ∷ past) q.1 (record {
   count = λ d. none_under d (record_in h w d).epoch y past q.0 ∙ c.count d;
@@ -114,7 +114,7 @@ counted_none h w (y ∷ new) past q c = counted_none h w new (y ∷ past) q.1 (r
   order = order_none y past q.0 c.order;
 })
 
-counted_same : (h : Hierarchy) (w next : World) (past : List Entry) → ((d : ℕ) → SameLast (record_in h w d) (record_in h next d)) → Counted h past w → Counted h past next
+pub counted_same : (h : Hierarchy) (w next : World) (past : List Entry) → ((d : ℕ) → SameLast (record_in h w d) (record_in h next d)) → Counted h past w → Counted h past next
 counted_same h w next past same c = record {
   count = λ d. ap (λ z. runs_under d z past) (same d).epoch ∙ c.count d ∙ sym (same d).last;
   bound = λ d f m k a. moved d f m (c.bound d f m k a);
@@ -126,13 +126,13 @@ counted_same h w next past same c = record {
     moved d f m (inr at) = let a = (same d).epoch in let b = (same d).last in let e = at.0 in let l = at.1 in inr (e ∙ sym a, omega (arith, l, b))
 
 -- one record changes, and the others have run what they had
-record OneRecord (h : Hierarchy) (w next : World) (x : ℕ) (epoch last : ℕ) : Type 0 where
-  epoch_ : (record_in h next x).epoch ≡ epoch
-  last_ : (record_in h next x).last ≡ last
-  others : (d : ℕ) → (d ≡ x → ⊥) → SameLast (record_in h w d) (record_in h next d)
+pub record OneRecord (h : Hierarchy) (w next : World) (x : ℕ) (epoch last : ℕ) : Type 0 where
+  pub epoch_ : (record_in h next x).epoch ≡ epoch
+  pub last_ : (record_in h next x).last ≡ last
+  pub others : (d : ℕ) → (d ≡ x → ⊥) → SameLast (record_in h w d) (record_in h next d)
 
 -- a domain changes hands: nothing has run yet
-counted_handed : (h : Hierarchy) (w next : World) (past : List Entry) (x : ℕ) → OneRecord h w next x ((record_in h w x).epoch + 1) 0 → Counted h past w → Counted h past next
+pub counted_handed : (h : Hierarchy) (w next : World) (past : List Entry) (x : ℕ) → OneRecord h w next x ((record_in h w x).epoch + 1) 0 → Counted h past w → Counted h past next
 counted_handed h w next past x one c = record {
   count = λ d. elim (apart d x) [
     | inl i ↦ subst (λ z. runs_under z (record_in h next z).epoch past ≡ (record_in h next z).last) (sym i) here
@@ -161,7 +161,7 @@ counted_handed h w next past x one c = record {
     kept d f m same (inr at) = let a = same.epoch in let b = same.last in let e = at.0 in let l = at.1 in inr (e ∙ sym a, omega (arith, l, b))
 
 -- the next command of a domain runs
-counted_run : (h : Hierarchy) (w next : World) (past : List Entry) (x n : ℕ) (k : Command) → n ≡ (record_in h w x).last + 1 → OneRecord h w next x (record_in h w x).epoch n → Counted h past w → Counted h (Ran x (record_in h w x).epoch n k ∷ past) next
+pub counted_run : (h : Hierarchy) (w next : World) (past : List Entry) (x n : ℕ) (k : Command) → n ≡ (record_in h w x).last + 1 → OneRecord h w next x (record_in h w x).epoch n → Counted h past w → Counted h (Ran x (record_in h w x).epoch n k ∷ past) next
 counted_run h w next past x n k numbered one c = record {
   count = λ d. elim (apart d x) [
     | inl i ↦ subst (λ z. runs_under z (record_in h next z).epoch (Ran x e n k ∷ past) ≡ (record_in h next z).last) (sym i) here

@@ -16,7 +16,7 @@ ghost use Rattle.smi_command.specs.declared.Link.TheVariants.{Held};
 ghost use Rattle.smi_command.specs.KnownGrant.{KnownGrant, InStep, IsSpent, Waits};
 ghost use Rattle.smi_station.specs.declared.Entry.{Entry};
 ghost use Rattle.smi_world.specs.Known.{record_in, link_in};
-ghost use Rattle.smi_world.specs.Safe.{SafeGrants};
+ghost use Rattle.smi_world.specs.Safe.{RunsInOrder, SafeGrants};
 ghost use Rattle.smi_world.specs.Schedule.{World};
 ghost use Rattle.smi_world.specs.World.{Reaches, Among};
 
@@ -39,4 +39,10 @@ pub fn links_know_their_records()
 /// go of what it holds; and at most one operator commands each domain.
 pub fn grants_are_safe()
     ensures { (h : Hierarchy) (past : List Entry) (w : World) → Reaches h past w → SafeGrants h past }
+{}
+
+/// In every trace the runs of each domain rise by epoch and number, and those of one grant are 1, 2 and so
+/// on: none runs twice, and none before its turn.
+pub fn runs_are_in_order()
+    ensures { (h : Hierarchy) (past : List Entry) (w : World) → Reaches h past w → RunsInOrder past }
 {}
