@@ -56,9 +56,9 @@ two_operators =
     ∷ line (Deliver 4) (ann_told (Take TPC) 5 ∷ []) []
     ∷ []
 
--- Included once it is free: ANN holds DCS and has it take in TPC, first while BOB holds TPC and then after.
-abbrev pub included_once_free : List Line
-included_once_free =
+-- ANN holds DCS and has it take in TPC while BOB holds TPC.
+abbrev pub held_by_another : List Line
+held_by_another =
     line (ann (Take DCS)) [] (sends TAKE A A DCS ∷ [])
     ∷ line (Deliver 1) (Granted DCS 1 (Operator ANN) ∷ []) (sends TELL A A DCS ∷ [])
     ∷ line (Deliver 2) (Learned (Operator ANN) DCS 1 ∷ ann_told (Take DCS) 0 ∷ []) []
@@ -70,7 +70,13 @@ included_once_free =
     ∷ line (Deliver 7) [] (sends TELL B A TPC ∷ [])
     ∷ line (Deliver 8) (Settled DCS 1 1 5 ∷ []) (sends TELL A A DCS ∷ [])
     ∷ line (Deliver 9) (ann_told (Include DCS TPC) 5 ∷ []) []
-    ∷ line (bob (Drop TPC)) (LetGo (Operator BOB) TPC 1 ∷ []) (sends DROP B B TPC ∷ [])
+    ∷ []
+
+-- Included once it is free: BOB gives TPC back, and ANN orders it once more.
+abbrev pub included_once_free : List Line
+included_once_free =
+    held_by_another
+    ++ line (bob (Drop TPC)) (LetGo (Operator BOB) TPC 1 ∷ []) (sends DROP B B TPC ∷ [])
     ∷ line (Deliver 10) (Freed TPC 2 ∷ []) (sends TELL B B TPC ∷ [])
     ∷ line (Deliver 11) (bob_told (Drop TPC) 0 ∷ []) []
     ∷ line (ann (Include DCS TPC)) (Ordered ANN DCS 1 2 (command.Include TPC) ∷ []) (sends RUN A A DCS ∷ [])
