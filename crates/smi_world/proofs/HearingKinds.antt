@@ -89,11 +89,11 @@ within_epochs h w number who d party e v =
 -- Whose link it is.
 
 -- somebody whose station this is
-record IsHere (h : Hierarchy) (number : ℕ) (who : Holder) : Type 0 where
-  party : is_free who ≡ false
-  home : holder_home h who ≡ number
+pub record IsHere (h : Hierarchy) (number : ℕ) (who : Holder) : Type 0 where
+  pub party : is_free who ≡ false
+  pub home : holder_home h who ≡ number
 
-abbrev AllOf : {X : Type 0} → (X → Type 0) → List X → Type 0
+abbrev pub AllOf : {X : Type 0} → (X → Type 0) → List X → Type 0
 AllOf P [] = Unit {0}
 AllOf P (x ∷ xs) = P x × AllOf P xs
 
@@ -105,7 +105,7 @@ all_map : {X Y : Type 0} (P : Y → Type 0) (f : X → Y) (xs : List X) → AllO
 all_map P f [] a = tt
 all_map P f (x ∷ xs) a = (a.0, all_map P f xs a.1)
 
-all_found : {X : Type 0} (P : X → Type 0) (test : X → Bool) (xs : List X) (y : X) → AllOf P xs → find test xs ≡ Some y → P y
+pub all_found : {X : Type 0} (P : X → Type 0) (test : X → Bool) (xs : List X) (y : X) → AllOf P xs → find test xs ≡ Some y → P y
 all_found P test [] y a is = absurd cc
 all_found P test (x ∷ xs) y a is = elim (either (test x)) [
   | inl t ↦
@@ -146,7 +146,7 @@ operators_here h number = all_numbers (λ o. IsHere h number (Operator o)) (λ s
     at : (j station : ℕ) → slice_get h.homes j ≡ Some station → (station == number) ≡ true → holder_home h (Operator (j + 1)) ≡ number
     at j station is t = ap (λ o. unwrap_or o 0) (entry_next h.homes j ∙ is) ∙ eqb-true station number t
 
-listeners_here : (h : Hierarchy) (number d : ℕ) → AllOf (IsHere h number) (listeners h number d)
+pub listeners_here : (h : Hierarchy) (number d : ℕ) → AllOf (IsHere h number) (listeners h number d)
 listeners_here h number d =
     all_both (IsHere h number) (map Operator (operators_of h number)) _
     (all_map (IsHere h number) Operator (operators_of h number) (operators_here h number))

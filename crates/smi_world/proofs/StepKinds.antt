@@ -243,7 +243,7 @@ body_kind h w number from m a v (body.Watch x echo) b ok = nothing h number w.se
 body_kind h w number from m a v (body.State x echo q s) b ok = nothing h number w.sent (w.stations number).grants
 body_kind h w number from m a v (body.Unwatch x echo) b ok = nothing h number w.sent (w.stations number).grants
 
-order_here : (h : Hierarchy) (number : ℕ) (g : Grants) (o : ℕ) (what : Order) → refusal_of h number g (Orders o what) ≡ None → holder_home h (Operator o) ≡ number
+pub order_here : (h : Hierarchy) (number : ℕ) (g : Grants) (o : ℕ) (what : Order) → refusal_of h number g (Orders o what) ≡ None → holder_home h (Operator o) ≡ number
 order_here h number g o what none = elim (either (is_order_here h number o what)) [
   | inl t ↦ let a = and_parts (is_number (operator_station_of h o) number) _ t in keeper_home (operator_station_of h o) number a.0
   | inr f ↦ absurd (not_some 26 (sym (ap (λ b. if b then refusal_by_link h g o what else Some 26) f) ∙ none))
