@@ -74,27 +74,28 @@ same_last r = record { epoch = refl; last = refl }
 abbrev pub OthersLast : Grants → Grants → ℕ → Type 0
 OthersLast g k x = (d : ℕ) → (d ≡ x → ⊥) → SameLast (g.records d) (k.records d)
 
-pub data RunStep (h : Hierarchy) (number : ℕ) (g k : Grants) : List Entry → Type 0 where
-  no_run : (new : List Entry) → NoRuns new → ((d : ℕ) → SameLast (g.records d) (k.records d)) → RunStep h number g k new
-  hands : (new : List Entry) → NoRuns new → (x : ℕ) (who : Holder) → home h x ≡ number → k.records x ≡ handed (g.records x) who → OthersLast g k x → RunStep h number g k new
-  next_run : (x n : ℕ) (c : Command) (more : List Entry) → NoRuns more → home h x ≡ number → (k.records x).epoch ≡ (g.records x).epoch → (k.records x).last ≡ n → n ≡ (g.records x).last + 1 → OthersLast g k x
-      → RunStep h number g k (Ran x (g.records x).epoch n c ∷ more)
+-- `came` is what has come
+pub data RunStep (h : Hierarchy) (number : ℕ) (came : Body → Type 0) (g k : Grants) : List Entry → Type 0 where
+  no_run : (new : List Entry) → NoRuns new → ((d : ℕ) → SameLast (g.records d) (k.records d)) → RunStep h number came g k new
+  hands : (new : List Entry) → NoRuns new → (x : ℕ) (who : Holder) → home h x ≡ number → k.records x ≡ handed (g.records x) who → OthersLast g k x → RunStep h number came g k new
+  next_run : (x n : ℕ) (c : Command) (more : List Entry) → came (body.Run x (g.records x).holder (g.records x).epoch n c) → NoRuns more → home h x ≡ number → (k.records x).epoch ≡ (g.records x).epoch → (k.records x).last ≡ n → n ≡ (g.records x).last + 1 → OthersLast g k x
+      → RunStep h number came g k (Ran x (g.records x).epoch n c ∷ more)
 
-nothing : (h : Hierarchy) (number : ℕ) (g : Grants) → RunStep h number g g []
-nothing h number g = no_run [] tt (λ d. same_last (g.records d))
+nothing : (h : Hierarchy) (number : ℕ) (came : Body → Type 0) (g : Grants) → RunStep h number came g g []
+nothing h number came g = no_run [] tt (λ d. same_last (g.records d))
 
 others_put : (g : Grants) (x : ℕ) (r : Standing) (d : ℕ) → (d ≡ x → ⊥) → SameLast (g.records d) (put g.records x r d)
 others_put g x r d o = at_put (λ z. SameLast (g.records d) z) g.records x r d (λ i. absurd (o i)) (same_last (g.records d))
 
-take_run : (h : Hierarchy) (number : ℕ) (g : Grants) (from x : ℕ) (who : Holder) (s : ℕ) → is_keeper h number x ≡ true → (v : Verdict) → take_after (g.records x) who s ≡ v
-    → RunStep h number g (decided h number g from x (Granted x ((g.records x).epoch + 1) who) v).grants (decided h number g from x (Granted x ((g.records x).epoch + 1) who) v).entries
-take_run h number g from x who s here (New r) is = hands (Granted x ((g.records x).epoch + 1) who ∷ []) (tt, tt) x who (keeper_home _ number here) (put_here g.records x r ∙ take_new (g.records x) who s r is) (others_put g x r)
-take_run h number g from x who s here Same is = nothing h number g
+take_run : (h : Hierarchy) (number : ℕ) (came : Body → Type 0) (g : Grants) (from x : ℕ) (who : Holder) (s : ℕ) → is_keeper h number x ≡ true → (v : Verdict) → take_after (g.records x) who s ≡ v
+    → RunStep h number came g (decided h number g from x (Granted x ((g.records x).epoch + 1) who) v).grants (decided h number g from x (Granted x ((g.records x).epoch + 1) who) v).entries
+take_run h number came g from x who s here (New r) is = hands (Granted x ((g.records x).epoch + 1) who ∷ []) (tt, tt) x who (keeper_home _ number here) (put_here g.records x r ∙ take_new (g.records x) who s r is) (others_put g x r)
+take_run h number came g from x who s here Same is = nothing h number came g
 
-drop_run : (h : Hierarchy) (number : ℕ) (g : Grants) (from x : ℕ) (who : Holder) (e : ℕ) → is_keeper h number x ≡ true → (v : Verdict) → drop_after (g.records x) who e ≡ v
-    → RunStep h number g (decided h number g from x (Freed x ((g.records x).epoch + 1)) v).grants (decided h number g from x (Freed x ((g.records x).epoch + 1)) v).entries
-drop_run h number g from x who e here (New r) is = hands (Freed x ((g.records x).epoch + 1) ∷ []) (tt, tt) x Free (keeper_home _ number here) (put_here g.records x r ∙ (drop_new (g.records x) who e r is).is) (others_put g x r)
-drop_run h number g from x who e here Same is = nothing h number g
+drop_run : (h : Hierarchy) (number : ℕ) (came : Body → Type 0) (g : Grants) (from x : ℕ) (who : Holder) (e : ℕ) → is_keeper h number x ≡ true → (v : Verdict) → drop_after (g.records x) who e ≡ v
+    → RunStep h number came g (decided h number g from x (Freed x ((g.records x).epoch + 1)) v).grants (decided h number g from x (Freed x ((g.records x).epoch + 1)) v).entries
+drop_run h number came g from x who e here (New r) is = hands (Freed x ((g.records x).epoch + 1) ∷ []) (tt, tt) x Free (keeper_home _ number here) (put_here g.records x r ∙ (drop_new (g.records x) who e r is).is) (others_put g x r)
+drop_run h number came g from x who e here Same is = nothing h number came g
 
 -- A command runs.
 
@@ -136,20 +137,21 @@ started_last : (r : Standing) (busy : Bool) (own : ℕ) → (started r busy own)
 started_last r true own = refl
 started_last r false own = refl
 
-run_run : (h : Hierarchy) (number : ℕ) (g : Grants) (from x : ℕ) (who : Holder) (e n : ℕ) (c : Command) → is_keeper h number x ≡ true
-    → RunStep h number g (run_comes h number g from x who e n c).grants (run_comes h number g from x who e n c).entries
-run_run h number g from x who e n c here = elim (either (admits (g.records x) who e n)) [
+run_run : (h : Hierarchy) (number : ℕ) (came : Body → Type 0) (g : Grants) (from x : ℕ) (who : Holder) (e n : ℕ) (c : Command) → came (body.Run x who e n c) → is_keeper h number x ≡ true
+    → RunStep h number came g (run_comes h number g from x who e n c).grants (run_comes h number g from x who e n c).entries
+run_run h number came g from x who e n c cause here = elim (either (admits (g.records x) who e n)) [
   | inl t ↦
     let a = admitted (g.records x) who e n t in
-    rw t (subst (λ z. RunStep h number g (ran h number g from x e n c busy own).grants (Ran x z n c ∷ child_entries h g x c ++ settled_at_once x e n busy own)) a.epoch
+    rw t (subst (λ z. RunStep h number came g (ran h number g from x e n c busy own).grants (Ran x z n c ∷ child_entries h g x c ++ settled_at_once x e n busy own)) a.epoch
       (next_run x n c (child_entries h g x c ++ settled_at_once x e n busy own)
+        (subst (λ z. came (body.Run x z (g.records x).epoch n c)) (sym a.holder) (subst (λ z. came (body.Run x who z n c)) (sym a.epoch) cause))
         (none_both (child_entries h g x c) (settled_at_once x e n busy own) (child_none h g x c) (settled_none x e n busy own))
         (keeper_home _ number here)
         (ap (λ (r : Standing). r.epoch) (put_here g.records x (started (g.records x) busy own)) ∙ started_epoch (g.records x) busy own)
         (ap (λ (r : Standing). r.last) (put_here g.records x (started (g.records x) busy own)) ∙ started_last (g.records x) busy own ∙ sym a.next)
         a.next
         (others_put g x (started (g.records x) busy own))))
-  | inr f ↦ rw f (nothing h number g)
+  | inr f ↦ rw f (nothing h number came g)
 ]
   where
     busy : Bool
@@ -180,12 +182,12 @@ ended_none : (b : Bool) (on : Grants) (p : ℕ) → NoRuns (ended_entries b on p
 ended_none true on p = (tt, tt)
 ended_none false on p = tt
 
-tell_run : (h : Hierarchy) (number : ℕ) (g : Grants) (x : ℕ) (r : Standing) (o : Option Holder) → RunStep h number g (told_to h number g x r o).grants (told_to h number g x r o).entries
-tell_run h number g x r None = nothing h number g
-tell_run h number g x r (Some Free) = nothing h number g
-tell_run h number g x r (Some (Operator o)) =
+tell_run : (h : Hierarchy) (number : ℕ) (came : Body → Type 0) (g : Grants) (x : ℕ) (r : Standing) (o : Option Holder) → RunStep h number came g (told_to h number g x r o).grants (told_to h number g x r o).entries
+tell_run h number came g x r None = nothing h number came g
+tell_run h number came g x r (Some Free) = nothing h number came g
+tell_run h number came g x r (Some (Operator o)) =
     no_run (told_to h number g x r (Some (Operator o))).entries (learned_none (Operator o) x (g.links (Operator o) x) (told_link (g.links (Operator o) x) (Operator o) r)) (λ d. same_last (g.records d))
-tell_run h number g x r (Some (Domain p)) =
+tell_run h number came g x r (Some (Domain p)) =
     let on = parent_heard g p x r in
     no_run (told_to h number g x r (Some (Domain p))).entries
     (none_both (learned (Domain p) x (g.links (Domain p) x) (on.links (Domain p) x)) (ended_entries (ends h on p) on p) (learned_none (Domain p) x (g.links (Domain p) x) (on.links (Domain p) x)) (ended_none (ends h on p) on p))
@@ -203,37 +205,44 @@ order_none o d None (Taking s) = tt
 order_none o d None (Held e n p) = tt
 order_none o d None (Dropping e) = (tt, tt)
 
-obeyed_run : (h : Hierarchy) (number : ℕ) (g : Grants) (o x : ℕ) (c : Option Command) (res : Result Link ℕ) → RunStep h number g (obeyed h number g o x c res).grants (obeyed h number g o x c res).entries
-obeyed_run h number g o x c (Ok l) = no_run (order_entries o x c l) (order_none o x c l) (λ d. same_last (g.records d))
-obeyed_run h number g o x c (Err code) = nothing h number g
+obeyed_run : (h : Hierarchy) (number : ℕ) (came : Body → Type 0) (g : Grants) (o x : ℕ) (c : Option Command) (res : Result Link ℕ) → RunStep h number came g (obeyed h number g o x c res).grants (obeyed h number g o x c res).entries
+obeyed_run h number came g o x c (Ok l) = no_run (order_entries o x c l) (order_none o x c l) (λ d. same_last (g.records d))
+obeyed_run h number came g o x c (Err code) = nothing h number came g
 
-order_run : (h : Hierarchy) (number : ℕ) (g : Grants) (o : ℕ) (what : Order) → RunStep h number g (order_comes h number g o what).grants (order_comes h number g o what).entries
-order_run h number g o (order.Take x) = obeyed_run h number g o x None (take_begun (g.links (Operator o) x))
-order_run h number g o (order.Drop x) = obeyed_run h number g o x None (drop_begun (g.links (Operator o) x))
-order_run h number g o (order.Do x a) = obeyed_run h number g o x (Some (Do a)) (command_issued (g.links (Operator o) x) (Do a))
-order_run h number g o (order.Include x t) = obeyed_run h number g o x (Some (Include t)) (command_issued (g.links (Operator o) x) (Include t))
-order_run h number g o (order.Exclude x t) = obeyed_run h number g o x (Some (Exclude t)) (command_issued (g.links (Operator o) x) (Exclude t))
-order_run h number g o (order.Manual x t) = obeyed_run h number g o x (Some (Manual t)) (command_issued (g.links (Operator o) x) (Manual t))
-order_run h number g o (order.Ignore x t) = obeyed_run h number g o x (Some (Ignore t)) (command_issued (g.links (Operator o) x) (Ignore t))
-order_run h number g o (order.Ask x) = nothing h number g
-order_run h number g o (order.Watch x) = nothing h number g
-order_run h number g o (order.Unwatch x) = nothing h number g
-order_run h number g o (order.Report device s) = nothing h number g
+order_run : (h : Hierarchy) (number : ℕ) (came : Body → Type 0) (g : Grants) (o : ℕ) (what : Order) → RunStep h number came g (order_comes h number g o what).grants (order_comes h number g o what).entries
+order_run h number came g o (order.Take x) = obeyed_run h number came g o x None (take_begun (g.links (Operator o) x))
+order_run h number came g o (order.Drop x) = obeyed_run h number came g o x None (drop_begun (g.links (Operator o) x))
+order_run h number came g o (order.Do x a) = obeyed_run h number came g o x (Some (Do a)) (command_issued (g.links (Operator o) x) (Do a))
+order_run h number came g o (order.Include x t) = obeyed_run h number came g o x (Some (Include t)) (command_issued (g.links (Operator o) x) (Include t))
+order_run h number came g o (order.Exclude x t) = obeyed_run h number came g o x (Some (Exclude t)) (command_issued (g.links (Operator o) x) (Exclude t))
+order_run h number came g o (order.Manual x t) = obeyed_run h number came g o x (Some (Manual t)) (command_issued (g.links (Operator o) x) (Manual t))
+order_run h number came g o (order.Ignore x t) = obeyed_run h number came g o x (Some (Ignore t)) (command_issued (g.links (Operator o) x) (Ignore t))
+order_run h number came g o (order.Ask x) = nothing h number came g
+order_run h number came g o (order.Watch x) = nothing h number came g
+order_run h number came g o (order.Unwatch x) = nothing h number came g
+order_run h number came g o (order.Report device s) = nothing h number came g
 
 -- Anything that is not refused.
 
-body_run : (h : Hierarchy) (number : ℕ) (g : Grants) (from : ℕ) (b : Body) → is_body_of h from number b ≡ true → RunStep h number g (datagram_comes h number g from b).grants (datagram_comes h number g from b).entries
-body_run h number g from (body.Ask x) ok = nothing h number g
-body_run h number g from (body.Take x who s) ok = take_run h number g from x who s (and_parts (is_keeper h number x) _ ok).0 (take_after (g.records x) who s) refl
-body_run h number g from (body.Drop x who e) ok = drop_run h number g from x who e (and_parts (is_keeper h number x) _ ok).0 (drop_after (g.records x) who e) refl
-body_run h number g from (body.Run x who e n c) ok = run_run h number g from x who e n c (and_parts (is_keeper h number x) _ ok).0
-body_run h number g from (body.Tell x r) ok = tell_run h number g x r (listener h number g x r)
-body_run h number g from (body.Watch x echo) ok = nothing h number g
-body_run h number g from (body.State x echo v s) ok = nothing h number g
-body_run h number g from (body.Unwatch x echo) ok = nothing h number g
+body_run : (h : Hierarchy) (number : ℕ) (came : Body → Type 0) (g : Grants) (from : ℕ) (b : Body) → came b → is_body_of h from number b ≡ true → RunStep h number came g (datagram_comes h number g from b).grants (datagram_comes h number g from b).entries
+body_run h number came g from (body.Ask x) cause ok = nothing h number came g
+body_run h number came g from (body.Take x who s) cause ok = take_run h number came g from x who s (and_parts (is_keeper h number x) _ ok).0 (take_after (g.records x) who s) refl
+body_run h number came g from (body.Drop x who e) cause ok = drop_run h number came g from x who e (and_parts (is_keeper h number x) _ ok).0 (drop_after (g.records x) who e) refl
+body_run h number came g from (body.Run x who e n c) cause ok = run_run h number came g from x who e n c cause (and_parts (is_keeper h number x) _ ok).0
+body_run h number came g from (body.Tell x r) cause ok = tell_run h number came g x r (listener h number g x r)
+body_run h number came g from (body.Watch x echo) cause ok = nothing h number came g
+body_run h number came g from (body.State x echo v s) cause ok = nothing h number came g
+body_run h number came g from (body.Unwatch x echo) cause ok = nothing h number came g
 
-pub step_run : (h : Hierarchy) (number : ℕ) (g : Grants) (what : Happening) → refusal_of h number g what ≡ None → RunStep h number g (grant_step h number g what).grants (grant_step h number g what).entries
-step_run h number g (Comes m) none = body_run h number g m.from m.body (understood h number m none)
-step_run h number g (Orders o what) none = order_run h number g o what
-step_run h number g (Reports device s) none = nothing h number g
-step_run h number g Ticks none = nothing h number g
+-- what has come: the body of a datagram
+abbrev pub HasCome : Happening → Body → Type 0
+HasCome (Comes m) b = m.body ≡ b
+HasCome (Orders o what) b = ⊥
+HasCome (Reports device s) b = ⊥
+HasCome Ticks b = ⊥
+
+pub step_run : (h : Hierarchy) (number : ℕ) (g : Grants) (what : Happening) → refusal_of h number g what ≡ None → RunStep h number (HasCome what) g (grant_step h number g what).grants (grant_step h number g what).entries
+step_run h number g (Comes m) none = body_run h number (HasCome (Comes m)) g m.from m.body refl (understood h number m none)
+step_run h number g (Orders o what) none = order_run h number (HasCome (Orders o what)) g o what
+step_run h number g (Reports device s) none = nothing h number (HasCome (Reports device s)) g
+step_run h number g Ticks none = nothing h number (HasCome Ticks) g

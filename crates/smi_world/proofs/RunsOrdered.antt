@@ -6,6 +6,7 @@ use Rattle.smi_grant.specs.declared.Holder.{Holder}
 use Rattle.smi_grant.specs.declared.Shown.{Shown}
 use Rattle.smi_grant.specs.Keeper.{handed}
 use Rattle.smi_grant.specs.Record.{Standing}
+use Rattle.smi_message.specs.declared.Body.{Body}
 use Rattle.smi_tree.specs.Hierarchy.{Hierarchy}
 use Rattle.smi_tree.specs.Lookups.{station_count}
 use Rattle.smi_station.specs.Display.{Station}
@@ -28,7 +29,7 @@ use Rattle.smi_world.proofs.GrantKinds.{put_here}
 use Rattle.smi_world.proofs.Moves.{at_put}
 use Rattle.smi_world.proofs.Quiet.{noted_both}
 use Rattle.smi_world.proofs.RunOrder.{Counted, OneRecord, nothing_under, counted_none, counted_same, counted_handed, counted_run}
-use Rattle.smi_world.proofs.RunSteps.{NoRuns, none_both, SameLast, same_last, OthersLast, RunStep, no_run, hands, next_run, step_run}
+use Rattle.smi_world.proofs.RunSteps.{HasCome, NoRuns, none_both, SameLast, same_last, OthersLast, RunStep, no_run, hands, next_run, step_run}
 
 -- No command runs behind a save, nor at a start.
 
@@ -50,7 +51,7 @@ all_none number shown passed answers =
     (none_both (showed_entries number shown) (map entry.Passed passed) (showed_none number shown) (passed_none passed))
     (told_none answers)
 
-after_none : (h : Hierarchy) (number : ℕ) (s : Station) (what : Happening) (o : Option ℕ) → NoRuns (answered_or h number s what o).after
+pub after_none : (h : Hierarchy) (number : ℕ) (s : Station) (what : Happening) (o : Option ℕ) → NoRuns (answered_or h number s what o).after
 after_none h number s what (Some code) = told_none (refusal_answers what code)
 after_none h number s what None =
     let g = grant_step h number s.grants what in
@@ -58,10 +59,10 @@ after_none h number s what None =
     let conditions = conditions_after h s g.grants n.display what in
     all_none number n.showed (passed_in h s.grants.boot s.display.conditions conditions (domain_of_happening h what)) (g.answers ++ n.answers)
 
-opening_none : (h : Hierarchy) (number : ℕ) (s : Station) → NoRuns (opening_entries h number s)
+pub opening_none : (h : Hierarchy) (number : ℕ) (s : Station) → NoRuns (opening_entries h number s)
 opening_none h number s = (tt, passed_none (all_shown h s))
 
-openings_none : (h : Hierarchy) (numbers : List ℕ) → NoRuns (flat_map (λ number. opening_entries h number (first_opened h number)) numbers)
+pub openings_none : (h : Hierarchy) (numbers : List ℕ) → NoRuns (flat_map (λ number. opening_entries h number (first_opened h number)) numbers)
 openings_none h [] = tt
 openings_none h (number ∷ numbers) = none_both (opening_entries h number (first_opened h number)) _ (opening_none h number (first_opened h number)) (openings_none h numbers)
 
@@ -102,19 +103,19 @@ module _ (h : Hierarchy) (w : World) (number : ℕ) (s : Station) where
     others = world_others x others;
   }
 
-counted_step : (h : Hierarchy) (w : World) (number : ℕ) (s : Station) (new past : List Entry) → RunStep h number (w.stations number).grants s.grants new → Counted h past w → Counted h (noted new past) (with_station w number s)
-counted_step h w number s new past (no_run all none same) c =
+counted_step : (h : Hierarchy) (w : World) (number : ℕ) (s : Station) (came : Body → Type 0) (new past : List Entry) → RunStep h number came (w.stations number).grants s.grants new → Counted h past w → Counted h (noted new past) (with_station w number s)
+counted_step h w number s came new past (no_run all none same) c =
     counted_none h (with_station w number s) all past none (counted_same h w (with_station w number s) past (world_last h w number s same) c)
-counted_step h w number s new past (hands all none x who e is others) c =
+counted_step h w number s came new past (hands all none x who e is others) c =
     counted_none h (with_station w number s) all past none (counted_handed h w (with_station w number s) past x (one_handed h w number s x who e is others) c)
-counted_step h w number s new past (next_run x n k more none e epoch last numbered others) c =
+counted_step h w number s came new past (next_run x n k more cause none e epoch last numbered others) c =
     let same = record_before h w number s x e in
     subst (λ (r : Standing). Counted h (noted more (entry.Ran x r.epoch n k ∷ past)) (with_station w number s)) (sym same)
     (counted_none h (with_station w number s) more (entry.Ran x (record_in h w x).epoch n k ∷ past) none
       (counted_run h w (with_station w number s) past x n k (numbered ∙ ap (λ (r : Standing). r.last + 1) same) (one_run h w number s x n e epoch last others) c))
 
-kept_run : (h : Hierarchy) (w : World) (number : ℕ) (what : Happening) (o : Option ℕ) → refusal_of h number (w.stations number).grants what ≡ o
-    → RunStep h number (w.stations number).grants (answered_or h number (w.stations number) what o).station.grants (answered_or h number (w.stations number) what o).kept
+pub kept_run : (h : Hierarchy) (w : World) (number : ℕ) (what : Happening) (o : Option ℕ) → refusal_of h number (w.stations number).grants what ≡ o
+    → RunStep h number (HasCome what) (w.stations number).grants (answered_or h number (w.stations number) what o).station.grants (answered_or h number (w.stations number) what o).kept
 kept_run h w number what (Some code) is = no_run [] tt (λ d. same_last ((w.stations number).grants.records d))
 kept_run h w number what None is = step_run h number (w.stations number).grants what is
 
@@ -127,15 +128,15 @@ step_counted h past w new next (steps number what runs may) c =
     let out = after_happening h number (w.stations number) what in
     subst (λ z. Counted h z (with_station w number out.station)) (sym (noted_both out.kept out.after past))
     (counted_none h (with_station w number out.station) out.after (noted out.kept past) (after_none h number (w.stations number) what o)
-      (counted_step h w number out.station out.kept past (kept_run h w number what o refl) c))
+      (counted_step h w number out.station (HasCome what) out.kept past (kept_run h w number what o refl) c))
 step_counted h past w new next (stops number what runs may) c =
     let o = refusal_of h number (w.stations number).grants what in
-    counted_step h w number (saved_only h number (w.stations number) what) (after_happening h number (w.stations number) what).kept past (kept_run h w number what o refl) c
+    counted_step h w number (saved_only h number (w.stations number) what) (HasCome what) (after_happening h number (w.stations number) what).kept past (kept_run h w number what o refl) c
 step_counted h past w new next (halts number) c =
-    counted_step h w number (record (w.stations number) { is_stopped = true }) [] past (no_run [] tt (λ d. same_last ((w.stations number).grants.records d))) c
+    counted_step h w number (record (w.stations number) { is_stopped = true }) (λ b. ⊥) [] past (no_run [] tt (λ d. same_last ((w.stations number).grants.records d))) c
 step_counted h past w new next (starts number boots) c =
     let started = opened h number (w.stations number).grants in
-    counted_step h w number started (opening_entries h number started) past (no_run (opening_entries h number started) (opening_none h number started) (λ d. same_last ((w.stations number).grants.records d))) c
+    counted_step h w number started (λ b. ⊥) (opening_entries h number started) past (no_run (opening_entries h number started) (opening_none h number started) (λ d. same_last ((w.stations number).grants.records d))) c
 
 pub counted : (h : Hierarchy) (past : List Entry) (w : World) → Reaches h past w → Counted h past w
 counted h past w opens =
