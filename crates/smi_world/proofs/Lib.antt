@@ -5,6 +5,7 @@ pub mod GrantsSafe
 pub mod HearingKinds
 pub mod KnownFacts
 pub mod Moves
+pub mod OrdersLogged
 pub mod OrderSteps
 pub mod Quiet
 pub mod RecordMoves
