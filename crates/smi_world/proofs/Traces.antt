@@ -52,7 +52,7 @@ traces_quiet h past w x q t = record {
 
 -- One commander.
 
-record IsHeldLink (l : Link) (e : ℕ) : Type 0 where
+pub record IsHeldLink (l : Link) (e : ℕ) : Type 0 where
   number : ℕ
   pending : List Command
   is : l ≡ Held e number pending

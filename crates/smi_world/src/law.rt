@@ -16,7 +16,7 @@ ghost use Rattle.smi_command.specs.declared.Link.TheVariants.{Held};
 ghost use Rattle.smi_command.specs.KnownGrant.{KnownGrant, InStep, IsSpent, Waits};
 ghost use Rattle.smi_station.specs.declared.Entry.{Entry};
 ghost use Rattle.smi_world.specs.Known.{record_in, link_in};
-ghost use Rattle.smi_world.specs.Safe.{RunsInOrder, SafeGrants};
+ghost use Rattle.smi_world.specs.Safe.{RunsInOrder, SafeGrants, SoundOrders};
 ghost use Rattle.smi_world.specs.Schedule.{World};
 ghost use Rattle.smi_world.specs.World.{Reaches, Among};
 
@@ -45,4 +45,10 @@ pub fn grants_are_safe()
 /// on: none runs twice, and none before its turn.
 pub fn runs_are_in_order()
     ensures { (h : Hierarchy) (past : List Entry) (w : World) → Reaches h past w → RunsInOrder past }
+{}
+
+/// In every trace each run of a domain that an operator holds is backed: the run is under the current grant,
+/// which the operator holds, and the operator ordered this command under its number, once and no other.
+pub fn ordered_runs_are_backed()
+    ensures { (h : Hierarchy) (past : List Entry) (w : World) → Reaches h past w → SoundOrders h past }
 {}
