@@ -1,28 +1,26 @@
 -- How a world changes when nothing, or one thing, happens to grants; and what its entry asks of the trace.
-use Rattle.std.proofs.Common.{ℕ, ◌≡◌, ◌≤◌, ◌<◌, ◌+◌, ◌%◌, Bool, true, false, List, [], ◌∷◌, ◌⊎◌, inl, inr, refl, sym, ap, ◌∙◌, subst, arith}
-use Rattle.std.specs.Prelude.{◌==◌, ◌&&◌, if◌then◌else◌}
-use Rattle.std.proofs.lemmas.Bool.{and_parts, eqb-true}
+use Rattle.std.proofs.Common.{ℕ, ◌≡◌, ◌≤◌, ◌+◌, ◌%◌, false, List, ◌∷◌, inl, inr, refl, sym, ap, ◌∙◌, subst, arith}
+use Rattle.std.specs.Prelude.{◌==◌, if◌then◌else◌}
+use Rattle.std.proofs.lemmas.Bool.{eqb-true}
 use Rattle.std.proofs.lemmas.Bool.Decides.{nat_tests}
 use Rattle.smi_grant.specs.declared.Holder.{Holder}
 use Rattle.smi_grant.specs.declared.Holder.TheVariants.{Free, Operator, Domain}
-use Rattle.smi_grant.specs.Holder.{is_free, odd_of, same_holder}
+use Rattle.smi_grant.specs.Holder.{is_free, odd_of}
 use Rattle.smi_grant.specs.Keeper.{handed}
 use Rattle.smi_grant.specs.Record.{Standing}
-use Rattle.smi_message.specs.declared.Body.TheVariants as body
-use Rattle.smi_message.specs.Message.{Message}
 use Rattle.smi_tree.specs.Hierarchy.{Hierarchy}
 use Rattle.smi_command.specs.declared.Link.{Link}
-use Rattle.smi_command.specs.declared.Link.TheVariants.{Out, Taking, Held, Dropping}
+use Rattle.smi_command.specs.declared.Link.TheVariants.{Dropping}
 use Rattle.smi_command.specs.Link.{known}
-use Rattle.smi_command.proofs.Holders.{either, same_is, same_self, held_odd}
+use Rattle.smi_command.proofs.Holders.{either, held_odd}
 use Rattle.smi_station.specs.declared.Entry.{Entry}
-use Rattle.smi_station.specs.declared.Entry.TheVariants.{Booted, Granted, Freed, Ordered, Ran, Learned, LetGo, InMode, Settled, Showed, Passed, Told}
+use Rattle.smi_station.specs.declared.Entry.TheVariants.{Granted, Freed, Learned, LetGo}
 use Rattle.smi_world.specs.Known.{record_in, link_in}
-use Rattle.smi_world.specs.Safe.{GrantFits, MayHold, SafeGrants}
+use Rattle.smi_world.specs.Safe.{GrantFits, MayHold}
 use Rattle.smi_world.specs.Schedule.{World}
-use Rattle.smi_world.specs.Trace.{Stands, epoch_at, holder_at, has_learned, is_grant_of, Holds}
+use Rattle.smi_world.specs.Trace.{Stands, epoch_at, holder_at, has_learned}
 use Rattle.smi_world.specs.World.{Among as IsSent}
-use Rattle.smi_world.proofs.KnownFacts.{known_lawful, known_grant}
+use Rattle.smi_world.proofs.KnownFacts.{known_lawful}
 use Rattle.smi_world.proofs.Traces.{Traces, Safely, holds_at, one_commander}
 use Rattle.smi_world.proofs.Viewed.{Viewed}
 

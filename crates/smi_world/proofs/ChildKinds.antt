@@ -1,5 +1,5 @@
 -- What a command does to the links of a domain's children: one is given up at most, and all others hold what they held.
-use Rattle.std.proofs.Common.{ℕ, ◌≡◌, ◌≤◌, ◌+◌, Bool, true, false, List, [], ◌∷◌, ◌⊎◌, inl, inr, refl, sym, ap, ◌∙◌, subst, arith}
+use Rattle.std.proofs.Common.{ℕ, ◌≡◌, ◌+◌, Bool, true, false, List, [], ◌∷◌, inl, inr, refl, sym, ap, ◌∙◌, subst, arith}
 use Rattle.std.specs.Prelude.{◌==◌, ◌&&◌, ◌++◌, Result, Ok, Err, if◌then◌else◌}
 use Rattle.std.proofs.lemmas.Bool.{and_parts, eqb-true}
 use Rattle.std.proofs.lemmas.Bool.Decides.{nat_tests}
@@ -14,7 +14,7 @@ use Rattle.smi_command.specs.declared.Link.{Link}
 use Rattle.smi_command.specs.declared.Link.TheVariants.{Out, Taking, Held, Dropping}
 use Rattle.smi_command.specs.Order.{take_begun, drop_begun, command_issued}
 use Rattle.smi_command.proofs.Holders.{either, same_is, same_self}
-use Rattle.smi_command.proofs.Orders.{take_begins, drop_begins, Issues, command_issues}
+use Rattle.smi_command.proofs.Orders.{take_begins, drop_begins, command_issues}
 use Rattle.smi_stable.specs.declared.Mode.{Mode}
 use Rattle.smi_stable.specs.declared.Mode.TheVariants as mode
 use Rattle.smi_stable.specs.Known.{is_parent}
@@ -22,7 +22,6 @@ use Rattle.smi_stable.specs.Ranges.{is_held}
 use Rattle.smi_station.specs.Children.{ChildChange, Stays, Relinked, ComesInto, relinked_or, is_commanded, same_mode, comes_into, handed_on, aimed_at, targeted, child_change, change_of, link_after, links_after}
 use Rattle.smi_station.specs.Grants.{Grants}
 use Rattle.smi_station.specs.Keeping.{let_go_of, mode_changed, entries_at, child_entries}
-use Rattle.smi_station.specs.declared.Entry.{Entry}
 use Rattle.smi_station.specs.declared.Entry.TheVariants.{LetGo}
 use Rattle.smi_world.proofs.Changes.{SameLink, same_link}
 use Rattle.smi_world.proofs.Moves.{apart}

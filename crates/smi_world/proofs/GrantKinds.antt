@@ -1,6 +1,6 @@
 -- The kinds of change that a station's grants can go through in one step, and that each keeps the trace safe.
-use Rattle.std.proofs.Common.{ℕ, ◌≡◌, ◌≤◌, ◌+◌, Bool, true, false, List, [], ◌∷◌, ◌⊎◌, inl, inr, refl, sym, ap, ◌∙◌, subst, arith}
-use Rattle.std.specs.Prelude.{◌==◌, ◌++◌, if◌then◌else◌}
+use Rattle.std.proofs.Common.{ℕ, ◌≡◌, ◌+◌, true, false, List, [], ◌∷◌, refl, sym, ap, ◌∙◌, subst, arith}
+use Rattle.std.specs.Prelude.{◌==◌, ◌++◌}
 use Rattle.std.proofs.lemmas.Bool.Decides.{nat_tests}
 use Rattle.smi_grant.specs.declared.Command.{Command}
 use Rattle.smi_grant.specs.declared.Holder.{Holder}
@@ -12,7 +12,7 @@ use Rattle.smi_message.specs.declared.Body.TheVariants as body
 use Rattle.smi_message.specs.Message.{Message}
 use Rattle.smi_tree.specs.Hierarchy.{Hierarchy}
 use Rattle.smi_command.specs.declared.Link.{Link}
-use Rattle.smi_command.specs.declared.Link.TheVariants.{Out, Taking, Held, Dropping}
+use Rattle.smi_command.specs.declared.Link.TheVariants.{Taking, Held, Dropping}
 use Rattle.smi_station.specs.Display.{Station}
 use Rattle.smi_station.specs.Grants.{Grants, put}
 use Rattle.smi_station.specs.Messages.{home}
@@ -26,7 +26,7 @@ use Rattle.smi_world.proofs.Changes.{SameGrant, same_grant, SameLink, same_link,
 use Rattle.smi_world.proofs.LinkChanges.{LinkChange, learned_safely, left_safely}
 use Rattle.smi_world.proofs.Moves.{at_put}
 use Rattle.smi_world.proofs.Quiet.{AllQuiet, noted_both}
-use Rattle.smi_world.proofs.Traces.{Traces, Safely, safely_quiet}
+use Rattle.smi_world.proofs.Traces.{Safely, safely_quiet}
 use Rattle.smi_world.proofs.Viewed.{Viewed}
 
 abbrev pub SameRecords : Grants → Grants → Type 0

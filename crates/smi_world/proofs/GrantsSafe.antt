@@ -1,5 +1,5 @@
 -- In every run the trace of grants is safe.
-use Rattle.std.proofs.Common.{ℕ, ◌≡◌, ◌≤◌, ◌+◌, Bool, true, false, List, [], ◌∷◌, ◌⊎◌, inl, inr, refl, sym, ap, ◌∙◌, subst}
+use Rattle.std.proofs.Common.{ℕ, ◌≡◌, true, false, List, [], ◌∷◌, inl, inr, refl, sym, ap, ◌∙◌, subst}
 use Rattle.std.specs.Prelude.{◌++◌, Option, Some, None, map, unwrap_or}
 use Rattle.std.specs.List.{flat_map, range_with_len}
 use Rattle.smi_grant.specs.declared.Holder.{Holder}
@@ -10,13 +10,10 @@ use Rattle.smi_message.specs.declared.Body.TheVariants as body
 use Rattle.smi_message.specs.Message.{Message}
 use Rattle.smi_tree.specs.Hierarchy.{Hierarchy}
 use Rattle.smi_tree.specs.Lookups.{station_count}
-use Rattle.smi_command.specs.declared.Link.{Link}
-use Rattle.smi_command.specs.declared.Link.TheVariants.{Out, Taking, Held, Dropping}
 use Rattle.smi_command.proofs.Waiting.{due_drop}
 use Rattle.smi_station.specs.Display.{Station}
-use Rattle.smi_station.specs.Happening.{Happening, told_entry, told_entries}
+use Rattle.smi_station.specs.Happening.{Happening, told_entries}
 use Rattle.smi_station.specs.GrantsOf.{grant_step}
-use Rattle.smi_station.specs.Messages.{holder_station}
 use Rattle.smi_station.specs.Showing.{domain_of_happening, passed_in}
 use Rattle.smi_station.specs.Opening.{opened, opening_entries, all_shown, first_opened, saved_only}
 use Rattle.smi_station.specs.Refusals.{refusal_of}
@@ -25,14 +22,14 @@ use Rattle.smi_station.specs.Step.{refusal_answers, notice, conditions_after, an
 use Rattle.smi_station.specs.declared.Answer.{Answer}
 use Rattle.smi_station.specs.declared.Entry.{Entry}
 use Rattle.smi_station.specs.declared.Entry.TheVariants as entry
-use Rattle.smi_world.specs.Known.{holder_home, link_in}
+use Rattle.smi_world.specs.Known.{holder_home}
 use Rattle.smi_world.specs.Safe.{SafeGrants}
 use Rattle.smi_world.specs.Schedule.{World, first_world, opening_of}
 use Rattle.smi_world.specs.Trace.{Stands, epoch_at, holder_at, has_learned}
-use Rattle.smi_world.specs.World.{Among as IsSent, MayCome, with_station, with_sent, noted, Step, sends, steps, stops, halts, starts, Reaches, opens, goes_on}
+use Rattle.smi_world.specs.World.{MayCome, with_station, with_sent, noted, Step, sends, steps, stops, halts, starts, Reaches, opens, goes_on}
 use Rattle.smi_world.proofs.Changes.{same_grant, same_link}
 use Rattle.smi_world.proofs.GrantKinds.{GrantKind, silently, kind_safely}
-use Rattle.smi_world.proofs.Quiet.{IsQuiet, AllQuiet, quiet_both, noted_both}
+use Rattle.smi_world.proofs.Quiet.{AllQuiet, quiet_both, noted_both}
 use Rattle.smi_world.proofs.StepKinds.{step_kind}
 use Rattle.smi_world.proofs.Traces.{Traces, Safely, safely_quiet, one_commander}
 use Rattle.smi_world.proofs.Viewed.{Viewed, step_viewed, viewed, sent_or}

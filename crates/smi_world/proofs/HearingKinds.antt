@@ -1,7 +1,7 @@
 -- What a told record does to grants: a take comes to its grant, or every link holds what it held.
-use Rattle.std.proofs.Common.{ℕ, zero, suc, ◌≡◌, ◌≤◌, ◌<◌, ◌+◌, ◌-◌, Bool, true, false, List, [], ◌∷◌, ◌⊎◌, inl, inr, refl, sym, ap, ◌∙◌, subst, arith}
-use Rattle.std.specs.Prelude.{◌==◌, ◌&&◌, ◌++◌, not, Option, Some, None, map, find, slice_get, unwrap_or, if◌then◌else◌}
-use Rattle.std.proofs.lemmas.Bool.{and_parts, eqb-true}
+use Rattle.std.proofs.Common.{ℕ, suc, ◌≡◌, ◌≤◌, ◌+◌, ◌-◌, Bool, true, false, List, [], ◌∷◌, inl, inr, refl, sym, ap, ◌∙◌, subst, arith}
+use Rattle.std.specs.Prelude.{◌==◌, ◌++◌, Option, Some, None, map, find, slice_get, unwrap_or, if◌then◌else◌}
+use Rattle.std.proofs.lemmas.Bool.{eqb-true}
 use Rattle.std.proofs.lemmas.Bool.Decides.{nat_tests}
 use Rattle.smi_grant.specs.declared.Command.{Command}
 use Rattle.smi_grant.specs.declared.Holder.{Holder}
@@ -9,9 +9,8 @@ use Rattle.smi_grant.specs.declared.Holder.TheVariants.{Free, Operator, Domain}
 use Rattle.smi_grant.specs.Holder.{is_free}
 use Rattle.smi_grant.specs.Keeper.{settled}
 use Rattle.smi_grant.specs.Record.{Standing, last_epoch}
-use Rattle.smi_message.specs.Message.{Message}
 use Rattle.smi_tree.specs.Hierarchy.{Hierarchy, entry}
-use Rattle.smi_tree.specs.Lookups.{numbers_from, operators_of, operator_station_of, parent_of}
+use Rattle.smi_tree.specs.Lookups.{numbers_from, operators_of, parent_of}
 use Rattle.smi_command.specs.declared.Link.{Link}
 use Rattle.smi_command.specs.declared.Link.TheVariants.{Out, Taking, Held, Dropping}
 use Rattle.smi_command.specs.Hearing.{told_link, told_heard}
@@ -20,12 +19,10 @@ use Rattle.smi_command.proofs.Epochs.{known_told}
 use Rattle.smi_command.proofs.Facts.{LinkOk}
 use Rattle.smi_command.proofs.Heard.{by_row_taking, by_row_held, by_row_dropping}
 use Rattle.smi_command.proofs.Holders.{either}
-use Rattle.smi_station.specs.Grants.{Grants, put, put_link}
-use Rattle.smi_station.specs.GrantStep.{GrantStep}
-use Rattle.smi_station.specs.Hearing.{parent_here, listeners, is_heard, listener, learned, operator_told, parent_told, parent_heard, ends, ended, ended_entries, told_to}
+use Rattle.smi_station.specs.Grants.{Grants, put_link}
+use Rattle.smi_station.specs.Hearing.{parent_here, listeners, is_heard, listener, learned, operator_told, parent_heard, ends, ended, ended_entries, told_to}
 use Rattle.smi_station.specs.Refusals.{is_keeper}
 use Rattle.smi_station.specs.declared.Entry.{Entry}
-use Rattle.smi_station.specs.declared.Entry.TheVariants.{Learned}
 use Rattle.smi_world.specs.Known.{holder_home, record_in, link_in}
 use Rattle.smi_world.specs.Schedule.{World}
 use Rattle.smi_world.proofs.Changes.{SameGrant, same_grant, SameLink, same_link}

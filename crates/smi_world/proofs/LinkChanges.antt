@@ -1,17 +1,15 @@
 -- How a world changes when one link becomes held or dropping, and what its entry asks of the trace.
-use Rattle.std.proofs.Common.{ℕ, ◌≡◌, ◌≤◌, ◌<◌, ◌+◌, ◌%◌, Bool, true, false, List, [], ◌∷◌, ◌⊎◌, inl, inr, refl, sym, ap, ◌∙◌, subst, arith}
+use Rattle.std.proofs.Common.{ℕ, ◌≡◌, ◌≤◌, ◌+◌, Bool, true, false, List, [], ◌∷◌, ◌⊎◌, inl, inr, refl, sym, ap, ◌∙◌, subst, arith}
 use Rattle.std.specs.Prelude.{◌==◌, ◌&&◌, if◌then◌else◌}
 use Rattle.std.proofs.lemmas.Bool.{and_parts, eqb-true}
 use Rattle.std.proofs.lemmas.Bool.Decides.{nat_tests}
 use Rattle.smi_grant.specs.declared.Command.{Command}
 use Rattle.smi_grant.specs.declared.Holder.{Holder}
-use Rattle.smi_grant.specs.declared.Holder.TheVariants.{Free, Operator, Domain}
-use Rattle.smi_grant.specs.Holder.{is_free, same_holder}
-use Rattle.smi_grant.specs.Record.{Standing}
-use Rattle.smi_message.specs.Message.{Message}
+use Rattle.smi_grant.specs.declared.Holder.TheVariants.{Free}
+use Rattle.smi_grant.specs.Holder.{is_free}
 use Rattle.smi_tree.specs.Hierarchy.{Hierarchy}
 use Rattle.smi_command.specs.declared.Link.{Link}
-use Rattle.smi_command.specs.declared.Link.TheVariants.{Out, Taking, Held, Dropping}
+use Rattle.smi_command.specs.declared.Link.TheVariants.{Taking, Held, Dropping}
 use Rattle.smi_command.specs.Link.{known}
 use Rattle.smi_command.proofs.Holders.{either, told_apart, same_is, same_self}
 use Rattle.smi_station.specs.declared.Entry.{Entry}
@@ -19,7 +17,7 @@ use Rattle.smi_station.specs.declared.Entry.TheVariants.{Booted, Granted, Freed,
 use Rattle.smi_world.specs.Known.{record_in, link_in}
 use Rattle.smi_world.specs.Safe.{GrantFits}
 use Rattle.smi_world.specs.Schedule.{World}
-use Rattle.smi_world.specs.Trace.{Stands, epoch_at, holder_at, has_learned, is_grant_of, Holds}
+use Rattle.smi_world.specs.Trace.{Stands, epoch_at, holder_at, has_learned, is_grant_of}
 use Rattle.smi_world.specs.World.{Among as IsSent}
 use Rattle.smi_world.proofs.Changes.{SameGrant, SameLink}
 use Rattle.smi_world.proofs.KnownFacts.{known_grant}

@@ -1,7 +1,7 @@
 -- What an operator has issued by the trace is what the operator's link says.
-use Rattle.std.proofs.Common.{ℕ, ◌≡◌, ◌≤◌, ◌+◌, Bool, true, false, List, [], ◌∷◌, ◌⊎◌, inl, inr, refl, sym, ap, ◌∙◌, subst, arith}
-use Rattle.std.specs.Prelude.{◌==◌, ◌&&◌, ◌++◌, length, Option, Some, None, Result, Ok, Err, if◌then◌else◌}
-use Rattle.std.proofs.lemmas.Bool.{and_parts, eqb-true}
+use Rattle.std.proofs.Common.{ℕ, ◌≡◌, ◌≤◌, ◌+◌, Bool, true, false, List, [], ◌∷◌, inl, inr, refl, sym, ap, ◌∙◌, subst, arith}
+use Rattle.std.specs.Prelude.{◌==◌, ◌&&◌, ◌++◌, Option, Some, None, Result, Ok, Err, if◌then◌else◌}
+use Rattle.std.proofs.lemmas.Bool.{and_parts}
 use Rattle.smi_grant.specs.declared.Command.{Command}
 use Rattle.smi_grant.specs.declared.Command.TheVariants.{Do, Include, Exclude, Manual, Ignore}
 use Rattle.smi_grant.specs.declared.Holder.{Holder}
@@ -13,7 +13,6 @@ use Rattle.smi_grant.specs.Keeper.{take_after, drop_after, admits}
 use Rattle.smi_grant.specs.Record.{Standing}
 use Rattle.smi_message.specs.declared.Body.{Body}
 use Rattle.smi_message.specs.declared.Body.TheVariants as body
-use Rattle.smi_message.specs.Message.{Message}
 use Rattle.smi_tree.specs.Hierarchy.{Hierarchy}
 use Rattle.smi_command.specs.declared.Link.{Link}
 use Rattle.smi_command.specs.declared.Link.TheVariants.{Out, Taking, Held, Dropping}
@@ -24,15 +23,15 @@ use Rattle.smi_command.specs.Order.{take_begun, drop_begun, command_issued}
 use Rattle.smi_command.proofs.Epochs.{known_told, known_taken, known_dropped}
 use Rattle.smi_command.proofs.Heard.{Quiet, quiet_same, quiet_taking, quiet_dropping, told_quiet}
 use Rattle.smi_command.proofs.Holders.{either}
-use Rattle.smi_command.proofs.Orders.{take_begins, drop_begins, Issues, command_issues}
+use Rattle.smi_command.proofs.Orders.{take_begins, drop_begins, command_issues}
 use Rattle.smi_stable.specs.Known.{is_parent}
-use Rattle.smi_station.specs.Children.{ChildChange, Stays, Relinked, ComesInto, change_of, link_after, own_code, links_after}
+use Rattle.smi_station.specs.Children.{ChildChange, Stays, Relinked, ComesInto, change_of, own_code, links_after}
 use Rattle.smi_station.specs.Grants.{Grants, put_link, with_link}
 use Rattle.smi_station.specs.GrantStep.{waits_for_children}
 use Rattle.smi_station.specs.GrantsOf.{datagram_comes, grant_step}
 use Rattle.smi_station.specs.Happening.{Happening, Comes, Orders, Reports, Ticks}
 use Rattle.smi_station.specs.Hearing.{listeners, listener, learned, told_to, parent_heard, ends, ended, ended_entries}
-use Rattle.smi_station.specs.Keeping.{decided, commanded, let_go_of, mode_changed, entries_at, child_entries, settled_at_once, ran, run_comes}
+use Rattle.smi_station.specs.Keeping.{decided, commanded, let_go_of, mode_changed, entries_at, child_entries, settled_at_once, run_comes}
 use Rattle.smi_station.specs.Ordering.{order_entries, obeyed, order_comes}
 use Rattle.smi_station.specs.Refusals.{refusal_of}
 use Rattle.smi_station.specs.declared.Entry.{Entry}
@@ -42,8 +41,7 @@ use Rattle.smi_station.specs.declared.Order.TheVariants as order
 use Rattle.smi_world.specs.Known.{holder_home, record_in, link_in}
 use Rattle.smi_world.specs.Schedule.{World}
 use Rattle.smi_world.specs.Trace.{orders_of}
-use Rattle.smi_world.specs.World.{MayCome}
-use Rattle.smi_world.proofs.HearingKinds.{IsHere, AllOf, all_found, listeners_here, within_epochs}
+use Rattle.smi_world.proofs.HearingKinds.{IsHere, all_found, listeners_here, within_epochs}
 use Rattle.smi_world.proofs.KnownFacts.{view_fits}
 use Rattle.smi_world.proofs.Moves.{at_put_link, put_link_here}
 use Rattle.smi_world.proofs.StepKinds.{order_here}
@@ -190,7 +188,7 @@ operators_stay h g d c o x = elim (either (is_parent h x d && same_holder (Opera
 run_calm : (h : Hierarchy) (number : ℕ) (g : Grants) (from x : ℕ) (who : Holder) (e n : ℕ) (c : Command) → OrderStep h number g (run_comes h number g from x who e n c).grants (run_comes h number g from x who e n c).entries
 run_calm h number g from x who e n c = elim (either (admits (g.records x) who e n)) [
   | inl t ↦ rw t (no_order (Ran x e n c ∷ child_entries h g x c ++ settled_at_once x e n busy own)
-    (tt, no_both (child_entries h g x c) (settled_at_once x e n busy own) (child_no h g x c) (settled_no x e n busy own)) (operators_stay h g x c))
+      (tt, no_both (child_entries h g x c) (settled_at_once x e n busy own) (child_no h g x c) (settled_no x e n busy own)) (operators_stay h g x c))
   | inr f ↦ rw f (nothing h number g)
 ]
   where
@@ -247,7 +245,7 @@ tell_calm h w number d r v (Some (Domain p)) here =
     no_order (told_to h number g d r (Some (Domain p))).entries
     (no_both (learned (Domain p) d (g.links (Domain p) d) (on.links (Domain p) d)) (ended_entries (ends h on p) on p) (learned_no (Domain p) d (g.links (Domain p) d) (on.links (Domain p) d)) (ended_no (ends h on p) on p))
     (λ o x. subst (λ (z : Holder → ℕ → Link). Calm (g.links (Operator o) x) (z (Operator o) x)) (sym (ended_links (ends h on p) on p))
-      (relinked_calm g (Domain p) d (told_link (g.links (Domain p) d) (Domain p) r) (told_calm h w number d r (Domain p) (here (Domain p) refl) v) o x))
+    (relinked_calm g (Domain p) d (told_link (g.links (Domain p) d) (Domain p) r) (told_calm h w number d r (Domain p) (here (Domain p) refl) v) o x))
 
 hear_calm : (h : Hierarchy) (w : World) (number d : ℕ) (r : Standing) → Viewed h w
     → OrderStep h number (w.stations number).grants (told_to h number (w.stations number).grants d r (listener h number (w.stations number).grants d r)).grants (told_to h number (w.stations number).grants d r (listener h number (w.stations number).grants d r)).entries
@@ -277,7 +275,7 @@ module _ (h : Hierarchy) (number : ℕ) (g : Grants) (o x : ℕ) (here : holder_
       let b = command_issues (g.links (Operator o) x) c new is in
       subst (λ z. OrderStep h number g (with_link g (Operator o) x new) (order_entries o x (Some c) z)) (sym b.becomes)
       (ordering o x b.epoch b.number b.pending c here b.was (put_link_here g.links (Operator o) x new ∙ b.becomes)
-        (λ p d other. at_put_link (λ z. Calm (g.links (Operator p) d) z) g.links (Operator o) x new (Operator p) d (λ i j. let same : p ≡ o = cc in absurd (other same i)) (calm_same (g.links (Operator p) d))))
+      (λ p d other. at_put_link (λ z. Calm (g.links (Operator p) d) z) g.links (Operator o) x new (Operator p) d (λ i j. let same : p ≡ o = cc in absurd (other same i)) (calm_same (g.links (Operator p) d))))
   commands c (Err code) is = nothing h number g
 
 order_step : (h : Hierarchy) (number : ℕ) (g : Grants) (o : ℕ) → holder_home h (Operator o) ≡ number → (what : Order) → OrderStep h number g (order_comes h number g o what).grants (order_comes h number g o what).entries

@@ -1,18 +1,15 @@
 -- In every run what an operator has issued by the trace is what the operator's link says.
-use Rattle.std.proofs.Common.{ℕ, ◌≡◌, ◌≤◌, ◌+◌, Bool, true, false, List, [], ◌∷◌, ◌⊎◌, inl, inr, refl, sym, ap, ◌∙◌, subst, arith}
+use Rattle.std.proofs.Common.{ℕ, ◌≡◌, ◌≤◌, ◌+◌, true, false, List, [], ◌∷◌, ◌⊎◌, inl, inr, refl, sym, ap, ◌∙◌, subst, arith}
 use Rattle.std.specs.Prelude.{◌==◌, ◌&&◌, ◌++◌, length, Option, Some, None, map, if◌then◌else◌}
 use Rattle.std.specs.List.{flat_map, range_with_len}
 use Rattle.std.proofs.lemmas.Bool.{and_parts, eqb-true}
 use Rattle.std.proofs.lemmas.Bool.Decides.{nat_tests}
-use Rattle.smi_grant.specs.declared.Command.{Command}
-use Rattle.smi_grant.specs.declared.Holder.{Holder}
 use Rattle.smi_grant.specs.declared.Holder.TheVariants.{Operator}
 use Rattle.smi_grant.specs.declared.Shown.{Shown}
 use Rattle.smi_tree.specs.Hierarchy.{Hierarchy}
 use Rattle.smi_tree.specs.Lookups.{station_count}
-use Rattle.smi_command.specs.declared.Link.{Link}
 use Rattle.smi_command.specs.declared.Link.TheVariants.{Out, Held}
-use Rattle.smi_command.specs.OneLink.{Job, job}
+use Rattle.smi_command.specs.OneLink.{job}
 use Rattle.smi_command.proofs.Holders.{either}
 use Rattle.smi_command.proofs.Logs.{Logged, logged_first, logged_quiet, logged_issue}
 use Rattle.smi_station.specs.Display.{Station}
@@ -28,7 +25,7 @@ use Rattle.smi_station.specs.declared.Entry.{Entry}
 use Rattle.smi_station.specs.declared.Entry.TheVariants as entry
 use Rattle.smi_world.specs.Known.{holder_home, link_in}
 use Rattle.smi_world.specs.Schedule.{World, first_world, opening_of}
-use Rattle.smi_world.specs.World.{with_station, with_sent, noted, Step, sends, steps, stops, halts, starts, Reaches, opens, goes_on}
+use Rattle.smi_world.specs.World.{with_station, noted, Step, sends, steps, stops, halts, starts, Reaches, opens, goes_on}
 use Rattle.smi_world.proofs.GrantKinds.{put_here}
 use Rattle.smi_world.proofs.KnownFacts.{known_in_step}
 use Rattle.smi_world.proofs.Moves.{apart, at_put}
@@ -123,11 +120,11 @@ logged_step h w number s new past (no_order all none calm) v l b d =
     logged_no h (with_station w number s) all past none (λ o x. logged_calm h w (with_station w number s) past o x (world_calm h w number s calm o x) (l o x)) b d
 logged_step h w number s new past (ordering o x e n p c here was becomes others) v l b d = elim (it_or b o d x) [
   | inl i ↦
-    subst (λ z. Logged (link_in h next (Operator z) d) (issued_at z d (entry.Ordered o x e (n + 1) c ∷ past))) (sym i.operator)
-    (subst (λ z. Logged (link_in h next (Operator o) z) (issued_at o z (entry.Ordered o x e (n + 1) c ∷ past))) (sym i.domain) it)
+      subst (λ z. Logged (link_in h next (Operator z) d) (issued_at z d (entry.Ordered o x e (n + 1) c ∷ past))) (sym i.operator)
+      (subst (λ z. Logged (link_in h next (Operator o) z) (issued_at o z (entry.Ordered o x e (n + 1) c ∷ past))) (sym i.domain) it)
   | inr f ↦
-    subst (Logged (link_in h next (Operator b) d)) (sym (issued_more b d o x e (n + 1) c past ∙ ap (λ z. if z then job (Operator b) e (n + 1) c ∷ issued_at b d past else issued_at b d past) (not_it f)))
-    (logged_calm h w next past b d (world_other h w number s b d (others b d f)) (l b d))
+      subst (Logged (link_in h next (Operator b) d)) (sym (issued_more b d o x e (n + 1) c past ∙ ap (λ z. if z then job (Operator b) e (n + 1) c ∷ issued_at b d past else issued_at b d past) (not_it f)))
+      (logged_calm h w next past b d (world_other h w number s b d (others b d f)) (l b d))
 ]
   where
     next : World
@@ -143,7 +140,7 @@ logged_step h w number s new past (ordering o x e n p c here was becomes others)
     it =
         subst (λ z. Logged z (issued_at o x (entry.Ordered o x e (n + 1) c ∷ past))) (sym (link_here h w number s o x here ∙ becomes))
         (subst (Logged (Held e (n + 1) (p ++ c ∷ []))) (sym (issued_more o x o x e (n + 1) c past ∙ rw (number_self o) (rw (number_self x) refl)))
-          (logged_issue (Operator o) e n p c (issued_at o x past) counted (subst (λ z. Logged z (issued_at o x past)) held (l o x))))
+        (logged_issue (Operator o) e n p c (issued_at o x past) counted (subst (λ z. Logged z (issued_at o x past)) held (l o x))))
 
     not_it : (b ≡ o → d ≡ x → ⊥) → (o == b && x == d) ≡ false
     not_it f = elim (either (o == b && x == d)) [
@@ -163,7 +160,7 @@ step_logged h past w new next (steps number what runs may) v l =
     let out = after_happening h number (w.stations number) what in
     subst (λ z. AllLogged h z (with_station w number out.station)) (sym (noted_both out.kept out.after past))
     (logged_no h (with_station w number out.station) out.after (noted out.kept past) (after_no h number (w.stations number) what o)
-      (logged_step h w number out.station out.kept past (kept_order h w number what v o refl) v l))
+    (logged_step h w number out.station out.kept past (kept_order h w number what v o refl) v l))
 step_logged h past w new next (stops number what runs may) v l =
     let o = refusal_of h number (w.stations number).grants what in
     logged_step h w number (saved_only h number (w.stations number) what) (after_happening h number (w.stations number) what).kept past (kept_order h w number what v o refl) v l

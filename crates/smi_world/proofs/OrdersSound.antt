@@ -1,10 +1,9 @@
 -- In every trace the runs of a domain that an operator holds are backed.
-use Rattle.std.proofs.Common.{ℕ, ◌≡◌, ◌≤◌, ◌<◌, ◌+◌, Bool, true, false, List, [], ◌∷◌, ◌⊎◌, inl, inr, refl, sym, ap, ◌∙◌, subst, arith}
-use Rattle.std.specs.Prelude.{◌==◌, ◌++◌, Option, Some, None, if◌then◌else◌}
+use Rattle.std.proofs.Common.{ℕ, ◌≡◌, ◌+◌, true, List, [], ◌∷◌, inl, inr, refl, sym, ap, ◌∙◌, subst, arith}
+use Rattle.std.specs.Prelude.{◌==◌}
 use Rattle.std.specs.List.{range_with_len}
 use Rattle.std.proofs.lemmas.Bool.Decides.{nat_tests}
 use Rattle.smi_grant.specs.declared.Command.{Command}
-use Rattle.smi_grant.specs.declared.Holder.{Holder}
 use Rattle.smi_grant.specs.declared.Holder.TheVariants.{Operator}
 use Rattle.smi_grant.specs.Record.{Standing}
 use Rattle.smi_message.specs.declared.Body.{Body}
@@ -12,23 +11,19 @@ use Rattle.smi_message.specs.declared.Body.TheVariants as body
 use Rattle.smi_message.specs.Message.{Message}
 use Rattle.smi_tree.specs.Hierarchy.{Hierarchy}
 use Rattle.smi_tree.specs.Lookups.{station_count}
-use Rattle.smi_command.specs.declared.Link.{Link}
-use Rattle.smi_command.specs.declared.Link.TheVariants.{Held}
-use Rattle.smi_command.specs.KnownGrant.{IsSpent, Waits}
-use Rattle.smi_command.specs.OneLink.{issued_under}
+use Rattle.smi_command.specs.KnownGrant.{Waits}
 use Rattle.smi_station.specs.Display.{Station}
 use Rattle.smi_station.specs.Happening.{Happening, Comes, Orders, Reports, Ticks}
 use Rattle.smi_station.specs.Opening.{opened, opening_entries, saved_only}
 use Rattle.smi_station.specs.Refusals.{refusal_of}
-use Rattle.smi_station.specs.Step.{answered_or, after as after_happening}
-use Rattle.smi_station.specs.Messages.{home}
+use Rattle.smi_station.specs.Step.{after as after_happening}
 use Rattle.smi_station.specs.declared.Entry.{Entry}
 use Rattle.smi_station.specs.declared.Entry.TheVariants.{Booted, Granted, Freed, Ordered, Ran, Learned, LetGo, InMode, Settled, Showed, Passed, Told}
 use Rattle.smi_world.specs.Known.{record_in, link_in}
 use Rattle.smi_world.specs.Safe.{IsGrantNow, Backed, by_operator, SoundOrders}
-use Rattle.smi_world.specs.Schedule.{World, first_world, opening_of}
-use Rattle.smi_world.specs.Trace.{Stands, epoch_at, holder_at, Holds, has_learned, orders_of}
-use Rattle.smi_world.specs.World.{Among as IsSent, MayCome, with_station, noted, Step, sends, steps, stops, halts, starts, Reaches, opens, goes_on}
+use Rattle.smi_world.specs.Schedule.{World, opening_of}
+use Rattle.smi_world.specs.Trace.{epoch_at, holder_at, has_learned, orders_of}
+use Rattle.smi_world.specs.World.{Among as IsSent, MayCome, noted, Step, sends, steps, stops, halts, starts, Reaches, opens, goes_on}
 use Rattle.smi_world.proofs.GrantsSafe.{safely}
 use Rattle.smi_world.proofs.KnownFacts.{known_sent}
 use Rattle.smi_world.proofs.OrdersLogged.{AllLogged, logged}
@@ -36,7 +31,7 @@ use Rattle.smi_world.proofs.OrderSteps.{orders_issued}
 use Rattle.smi_world.proofs.Quiet.{noted_both, epoch_quiet, holder_quiet, learned_quiet}
 use Rattle.smi_world.proofs.RunsOrdered.{after_none, opening_none, openings_none, kept_run}
 use Rattle.smi_world.proofs.RunSteps.{IsNoRun, NoRuns, HasCome, RunStep, no_run, hands, next_run}
-use Rattle.smi_world.proofs.Traces.{Traces, Safely, holds_at}
+use Rattle.smi_world.proofs.Traces.{Traces, holds_at}
 use Rattle.smi_world.proofs.Viewed.{Viewed, viewed}
 
 orders_ran : (o d e n x f m : ℕ) (c : Command) (past : List Entry) → orders_of o d e n (Ran x f m c ∷ past) ≡ orders_of o d e n past
@@ -83,15 +78,14 @@ module _ (h : Hierarchy) (past : List Entry) (w : World) (v : Viewed h w) (t : T
   grant_now : IsGrantNow x (record_in h w x).epoch (Operator o) (Ran x (record_in h w x).epoch n c ∷ past)
   grant_now =
       let now : Entry = Ran x (record_in h w x).epoch n c in
-      let e : epoch_at x (now ∷ past) ≡ (record_in h w x).epoch = epoch_quiet x now past tt ∙ t.epoch x in
-      (
+      let e : epoch_at x (now ∷ past) ≡ (record_in h w x).epoch = epoch_quiet x now past tt ∙ t.epoch x in (
         sym e,
         holder_quiet x now past tt ∙ t.holder x ∙ holder,
         ap (λ z. has_learned (Operator o) x z (now ∷ past)) e
-        ∙ learned_quiet (Operator o) x (record_in h w x).epoch now past tt
-        ∙ t.learned (Operator o) x (record_in h w x).epoch
-        ∙ ap (λ z. holds_at z (record_in h w x).epoch) waits.is
-        ∙ number_self (record_in h w x).epoch,
+            ∙ learned_quiet (Operator o) x (record_in h w x).epoch now past tt
+            ∙ t.learned (Operator o) x (record_in h w x).epoch
+            ∙ ap (λ z. holds_at z (record_in h w x).epoch) waits.is
+            ∙ number_self (record_in h w x).epoch,
       )
 
   backed : Backed h (Ran x (record_in h w x).epoch n c ∷ past) x (record_in h w x).epoch n c
@@ -121,8 +115,8 @@ sound_step h w number s what new past may (next_run x n c more cause none e epoc
         let from = came_sent w what (body.Run x ((w.stations number).grants.records x).holder ((w.stations number).grants.records x).epoch n c) may cause in
         subst (λ (r : Standing). Backed h (Ran x r.epoch n c ∷ past) x r.epoch n c) (sym same)
         (backed h past w v t l x n o c from.0 from.1
-          (from.2 ∙ ap (λ (r : Standing). body.Run x r.holder r.epoch n c) same ∙ ap (λ z. body.Run x z (record_in h w x).epoch n c) mine)
-          (numbered ∙ ap (λ (r : Standing). r.last + 1) same) mine)
+        (from.2 ∙ ap (λ (r : Standing). body.Run x r.holder r.epoch n c) same ∙ ap (λ z. body.Run x z (record_in h w x).epoch n c) mine)
+        (numbered ∙ ap (λ (r : Standing). r.last + 1) same) mine)
 
 step_sound : (h : Hierarchy) (past : List Entry) (w : World) (new : List Entry) (next : World) → Step h w new next → Viewed h w → Traces h past w → AllLogged h past w → SoundOrders h past → SoundOrders h (noted new past)
 step_sound h past w new next (sends number m range may) v t l safe = safe
@@ -131,7 +125,7 @@ step_sound h past w new next (steps number what runs may) v t l safe =
     let out = after_happening h number (w.stations number) what in
     subst (SoundOrders h) (sym (noted_both out.kept out.after past))
     (sound_noted h out.after (noted out.kept past) (after_none h number (w.stations number) what o)
-      (sound_step h w number out.station what out.kept past may (kept_run h w number what o refl) v t l safe))
+    (sound_step h w number out.station what out.kept past may (kept_run h w number what o refl) v t l safe))
 step_sound h past w new next (stops number what runs may) v t l safe =
     let o = refusal_of h number (w.stations number).grants what in
     sound_step h w number (saved_only h number (w.stations number) what) what (after_happening h number (w.stations number) what).kept past may (kept_run h w number what o refl) v t l safe

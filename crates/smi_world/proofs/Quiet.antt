@@ -1,5 +1,5 @@
 -- Entries that are not about grants change nothing that is read off a trace about grants.
-use Rattle.std.proofs.Common.{ℕ, ◌≡◌, ◌≤◌, ◌+◌, Bool, true, false, List, [], ◌∷◌, ◌⊎◌, inl, inr, refl, sym, ap, ◌∙◌, subst}
+use Rattle.std.proofs.Common.{ℕ, ◌≡◌, List, [], ◌∷◌, inl, inr, refl, sym, subst}
 use Rattle.std.specs.Prelude.{◌++◌}
 use Rattle.smi_grant.specs.declared.Holder.{Holder}
 use Rattle.smi_station.specs.declared.Entry.{Entry}

@@ -1,39 +1,20 @@
 -- In every run the commands of each domain run in order: 1, 2 and so on under each grant.
-use Rattle.std.proofs.Common.{ℕ, ◌≡◌, ◌≤◌, ◌<◌, ◌+◌, Bool, true, false, List, [], ◌∷◌, ◌⊎◌, inl, inr, refl, sym, ap, ◌∙◌, subst, arith}
-use Rattle.std.specs.Prelude.{◌==◌, ◌&&◌, ◌++◌, Option, Some, None, map, if◌then◌else◌}
-use Rattle.std.specs.List.{flat_map, range_with_len}
+use Rattle.std.proofs.Common.{ℕ, ◌≡◌, ◌≤◌, ◌<◌, ◌+◌, true, false, List, [], ◌∷◌, ◌⊎◌, inl, inr, refl, sym, ap, ◌∙◌, subst, arith}
+use Rattle.std.specs.Prelude.{◌==◌, ◌&&◌, if◌then◌else◌}
 use Rattle.std.proofs.lemmas.Bool.{and_parts, eqb-true}
 use Rattle.std.proofs.lemmas.Bool.Decides.{nat_tests}
 use Rattle.smi_grant.specs.declared.Command.{Command}
-use Rattle.smi_grant.specs.declared.Holder.{Holder}
-use Rattle.smi_grant.specs.declared.Shown.{Shown}
-use Rattle.smi_grant.specs.Keeper.{handed}
-use Rattle.smi_grant.specs.Record.{Standing}
 use Rattle.smi_tree.specs.Hierarchy.{Hierarchy}
-use Rattle.smi_tree.specs.Lookups.{station_count}
 use Rattle.smi_command.proofs.Holders.{either}
-use Rattle.smi_station.specs.Display.{Station}
-use Rattle.smi_station.specs.Grants.{Grants, put}
-use Rattle.smi_station.specs.GrantsOf.{grant_step}
-use Rattle.smi_station.specs.Happening.{Happening, told_entries}
-use Rattle.smi_station.specs.Messages.{home}
-use Rattle.smi_station.specs.Opening.{opened, opening_entries, all_shown, first_opened, saved_only}
-use Rattle.smi_station.specs.Refusals.{refusal_of}
-use Rattle.smi_station.specs.Showing.{domain_of_happening, passed_in}
-use Rattle.smi_station.specs.Step.{refusal_answers, notice, conditions_after, answered_or, showed_entries, after as after_happening}
-use Rattle.smi_station.specs.declared.Answer.{Answer}
 use Rattle.smi_station.specs.declared.Entry.{Entry}
-use Rattle.smi_station.specs.declared.Entry.TheVariants as entry
 use Rattle.smi_station.specs.declared.Entry.TheVariants.{Booted, Granted, Freed, Ordered, Ran, Learned, LetGo, InMode, Settled, Showed, Passed, Told}
 use Rattle.smi_world.specs.Known.{record_in}
 use Rattle.smi_world.specs.Safe.{IsBehind, RunsInOrder}
-use Rattle.smi_world.specs.Schedule.{World, first_world, opening_of}
+use Rattle.smi_world.specs.Schedule.{World}
 use Rattle.smi_world.specs.Trace.{Stands, runs_under}
-use Rattle.smi_world.specs.World.{with_station, with_sent, noted, Step, sends, steps, stops, halts, starts, Reaches, opens, goes_on}
-use Rattle.smi_world.proofs.GrantKinds.{put_here}
-use Rattle.smi_world.proofs.Moves.{apart, at_put}
-use Rattle.smi_world.proofs.Quiet.{noted_both}
-use Rattle.smi_world.proofs.RunSteps.{IsNoRun, NoRuns, none_both, SameLast, same_last, OthersLast, RunStep, no_run, hands, next_run, step_run}
+use Rattle.smi_world.specs.World.{noted}
+use Rattle.smi_world.proofs.Moves.{apart}
+use Rattle.smi_world.proofs.RunSteps.{IsNoRun, NoRuns, SameLast}
 
 -- What a trace says of runs.
 
@@ -83,8 +64,8 @@ runs_zero : (d f : ℕ) (past : List Entry) → ((m : ℕ) (k : Command) → Sta
 runs_zero d f [] none = nothing_under d f
 runs_zero d f (Ran x e n c ∷ past) none = elim (either (x == d && e == f)) [
   | inl t ↦
-    let a = and_parts (x == d) _ t in
-    absurd (none n c (inl (ap (λ z. Ran z f n c) (sym (eqb-true x d a.0)) ∙ ap (λ z. Ran x z n c) (sym (eqb-true e f a.1)))))
+      let a = and_parts (x == d) _ t in
+      absurd (none n c (inl (ap (λ z. Ran z f n c) (sym (eqb-true x d a.0)) ∙ ap (λ z. Ran x z n c) (sym (eqb-true e f a.1)))))
   | inr i ↦ one_under d f x e n c past ∙ ap (λ b. if b then runs_under d f past + 1 else runs_under d f past) i ∙ runs_zero d f past (λ m k a. none m k (inr a))
 ]
 runs_zero d f (Booted s b ∷ past) none = none_under d f (Booted s b) past tt ∙ runs_zero d f past (λ m k a. none m k (inr a))
@@ -140,7 +121,7 @@ counted_handed h w next past x one c = record {
   ];
   bound = λ d f m k a. elim (apart d x) [
     | inl i ↦ subst (λ z. (f < (record_in h next z).epoch) ⊎ ((f ≡ (record_in h next z).epoch) × (m ≤ (record_in h next z).last))) (sym i)
-      (earlier f m (subst (λ z. (f < (record_in h w z).epoch) ⊎ ((f ≡ (record_in h w z).epoch) × (m ≤ (record_in h w z).last))) i (c.bound d f m k a)))
+        (earlier f m (subst (λ z. (f < (record_in h w z).epoch) ⊎ ((f ≡ (record_in h w z).epoch) × (m ≤ (record_in h w z).last))) i (c.bound d f m k a)))
     | inr o ↦ kept d f m (one.others d o) (c.bound d f m k a)
   ];
   order = c.order;
@@ -166,8 +147,8 @@ counted_run h w next past x n k numbered one c = record {
   count = λ d. elim (apart d x) [
     | inl i ↦ subst (λ z. runs_under z (record_in h next z).epoch (Ran x e n k ∷ past) ≡ (record_in h next z).last) (sym i) here
     | inr o ↦ one_under d (record_in h next d).epoch x e n k past
-      ∙ ap (λ b. if b then runs_under d (record_in h next d).epoch past + 1 else runs_under d (record_in h next d).epoch past) (not_it d (record_in h next d).epoch o)
-      ∙ (ap (λ z. runs_under d z past) (one.others d o).epoch ∙ c.count d ∙ sym (one.others d o).last)
+        ∙ ap (λ b. if b then runs_under d (record_in h next d).epoch past + 1 else runs_under d (record_in h next d).epoch past) (not_it d (record_in h next d).epoch o)
+        ∙ (ap (λ z. runs_under d z past) (one.others d o).epoch ∙ c.count d ∙ sym (one.others d o).last)
   ];
   bound = bounded;
   order = (numbered ∙ ap (λ z. z + 1) (sym (c.count x)), behind, c.order);
@@ -206,7 +187,7 @@ counted_run h w next past x n k numbered one c = record {
         inr (b ∙ sym one.epoch_ ∙ ap (λ z. (record_in h next z).epoch) (sym a), omega (arith, g, l))
     bounded d f m j (inr a) = elim (apart d x) [
       | inl i ↦ subst (λ z. (f < (record_in h next z).epoch) ⊎ ((f ≡ (record_in h next z).epoch) × (m ≤ (record_in h next z).last))) (sym i)
-        (further f m (subst (λ z. (f < (record_in h w z).epoch) ⊎ ((f ≡ (record_in h w z).epoch) × (m ≤ (record_in h w z).last))) i (c.bound d f m j a)))
+          (further f m (subst (λ z. (f < (record_in h w z).epoch) ⊎ ((f ≡ (record_in h w z).epoch) × (m ≤ (record_in h w z).last))) i (c.bound d f m j a)))
       | inr o ↦ kept d f m (one.others d o) (c.bound d f m j a)
     ]
       where

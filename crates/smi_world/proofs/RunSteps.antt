@@ -1,6 +1,6 @@
 -- What anything that comes to a station does to the runs of its domains: none, a change of hands, or the next one.
-use Rattle.std.proofs.Common.{ℕ, ◌≡◌, ◌+◌, Bool, true, false, List, [], ◌∷◌, ◌⊎◌, inl, inr, refl, sym, ap, ◌∙◌, subst}
-use Rattle.std.specs.Prelude.{◌==◌, ◌&&◌, ◌++◌, not, Option, Some, None, Result, Ok, Err, if◌then◌else◌}
+use Rattle.std.proofs.Common.{ℕ, ◌≡◌, ◌+◌, Bool, true, false, List, [], ◌∷◌, inl, inr, refl, sym, ap, ◌∙◌, subst}
+use Rattle.std.specs.Prelude.{◌++◌, Option, Some, None, Result, Ok, Err}
 use Rattle.std.proofs.lemmas.Bool.{and_parts}
 use Rattle.smi_grant.specs.declared.Command.{Command}
 use Rattle.smi_grant.specs.declared.Command.TheVariants.{Do, Include, Exclude, Manual, Ignore}
@@ -12,13 +12,12 @@ use Rattle.smi_grant.specs.Keeper.{handed, take_after, drop_after, admits, start
 use Rattle.smi_grant.specs.Record.{Standing}
 use Rattle.smi_message.specs.declared.Body.{Body}
 use Rattle.smi_message.specs.declared.Body.TheVariants as body
-use Rattle.smi_message.specs.Message.{Message}
 use Rattle.smi_tree.specs.Hierarchy.{Hierarchy}
 use Rattle.smi_command.specs.declared.Link.{Link}
 use Rattle.smi_command.specs.declared.Link.TheVariants.{Out, Taking, Held, Dropping}
 use Rattle.smi_command.specs.Order.{take_begun, drop_begun, command_issued}
 use Rattle.smi_command.specs.Hearing.{told_link}
-use Rattle.smi_command.proofs.Asked.{Admitted, admitted}
+use Rattle.smi_command.proofs.Asked.{admitted}
 use Rattle.smi_command.proofs.Holders.{either}
 use Rattle.smi_stable.specs.Known.{is_parent}
 use Rattle.smi_station.specs.Grants.{Grants, put}
@@ -141,16 +140,16 @@ run_run : (h : Hierarchy) (number : ℕ) (came : Body → Type 0) (g : Grants) (
     → RunStep h number came g (run_comes h number g from x who e n c).grants (run_comes h number g from x who e n c).entries
 run_run h number came g from x who e n c cause here = elim (either (admits (g.records x) who e n)) [
   | inl t ↦
-    let a = admitted (g.records x) who e n t in
-    rw t (subst (λ z. RunStep h number came g (ran h number g from x e n c busy own).grants (Ran x z n c ∷ child_entries h g x c ++ settled_at_once x e n busy own)) a.epoch
+      let a = admitted (g.records x) who e n t in
+      rw t (subst (λ z. RunStep h number came g (ran h number g from x e n c busy own).grants (Ran x z n c ∷ child_entries h g x c ++ settled_at_once x e n busy own)) a.epoch
       (next_run x n c (child_entries h g x c ++ settled_at_once x e n busy own)
-        (subst (λ z. came (body.Run x z (g.records x).epoch n c)) (sym a.holder) (subst (λ z. came (body.Run x who z n c)) (sym a.epoch) cause))
-        (none_both (child_entries h g x c) (settled_at_once x e n busy own) (child_none h g x c) (settled_none x e n busy own))
-        (keeper_home _ number here)
-        (ap (λ (r : Standing). r.epoch) (put_here g.records x (started (g.records x) busy own)) ∙ started_epoch (g.records x) busy own)
-        (ap (λ (r : Standing). r.last) (put_here g.records x (started (g.records x) busy own)) ∙ started_last (g.records x) busy own ∙ sym a.next)
-        a.next
-        (others_put g x (started (g.records x) busy own))))
+      (subst (λ z. came (body.Run x z (g.records x).epoch n c)) (sym a.holder) (subst (λ z. came (body.Run x who z n c)) (sym a.epoch) cause))
+      (none_both (child_entries h g x c) (settled_at_once x e n busy own) (child_none h g x c) (settled_none x e n busy own))
+      (keeper_home _ number here)
+      (ap (λ (r : Standing). r.epoch) (put_here g.records x (started (g.records x) busy own)) ∙ started_epoch (g.records x) busy own)
+      (ap (λ (r : Standing). r.last) (put_here g.records x (started (g.records x) busy own)) ∙ started_last (g.records x) busy own ∙ sym a.next)
+      a.next
+      (others_put g x (started (g.records x) busy own))))
   | inr f ↦ rw f (nothing h number came g)
 ]
   where

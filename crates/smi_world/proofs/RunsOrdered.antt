@@ -24,7 +24,7 @@ use Rattle.smi_station.specs.declared.Entry.TheVariants as entry
 use Rattle.smi_world.specs.Known.{record_in}
 use Rattle.smi_world.specs.Safe.{RunsInOrder}
 use Rattle.smi_world.specs.Schedule.{World, first_world, opening_of}
-use Rattle.smi_world.specs.World.{with_station, with_sent, noted, Step, sends, steps, stops, halts, starts, Reaches, opens, goes_on}
+use Rattle.smi_world.specs.World.{with_station, noted, Step, sends, steps, stops, halts, starts, Reaches, opens, goes_on}
 use Rattle.smi_world.proofs.GrantKinds.{put_here}
 use Rattle.smi_world.proofs.Moves.{at_put}
 use Rattle.smi_world.proofs.Quiet.{noted_both}
@@ -112,7 +112,7 @@ counted_step h w number s came new past (next_run x n k more cause none e epoch 
     let same = record_before h w number s x e in
     subst (λ (r : Standing). Counted h (noted more (entry.Ran x r.epoch n k ∷ past)) (with_station w number s)) (sym same)
     (counted_none h (with_station w number s) more (entry.Ran x (record_in h w x).epoch n k ∷ past) none
-      (counted_run h w (with_station w number s) past x n k (numbered ∙ ap (λ (r : Standing). r.last + 1) same) (one_run h w number s x n e epoch last others) c))
+    (counted_run h w (with_station w number s) past x n k (numbered ∙ ap (λ (r : Standing). r.last + 1) same) (one_run h w number s x n e epoch last others) c))
 
 pub kept_run : (h : Hierarchy) (w : World) (number : ℕ) (what : Happening) (o : Option ℕ) → refusal_of h number (w.stations number).grants what ≡ o
     → RunStep h number (HasCome what) (w.stations number).grants (answered_or h number (w.stations number) what o).station.grants (answered_or h number (w.stations number) what o).kept
@@ -128,7 +128,7 @@ step_counted h past w new next (steps number what runs may) c =
     let out = after_happening h number (w.stations number) what in
     subst (λ z. Counted h z (with_station w number out.station)) (sym (noted_both out.kept out.after past))
     (counted_none h (with_station w number out.station) out.after (noted out.kept past) (after_none h number (w.stations number) what o)
-      (counted_step h w number out.station (HasCome what) out.kept past (kept_run h w number what o refl) c))
+    (counted_step h w number out.station (HasCome what) out.kept past (kept_run h w number what o refl) c))
 step_counted h past w new next (stops number what runs may) c =
     let o = refusal_of h number (w.stations number).grants what in
     counted_step h w number (saved_only h number (w.stations number) what) (HasCome what) (after_happening h number (w.stations number) what).kept past (kept_run h w number what o refl) c

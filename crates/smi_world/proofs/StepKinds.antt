@@ -1,6 +1,6 @@
 -- What anything that comes to a station does to its grants is one of the kinds of change.
-use Rattle.std.proofs.Common.{ℕ, ◌≡◌, ◌≤◌, ◌+◌, Bool, true, false, List, [], ◌∷◌, ◌⊎◌, inl, inr, refl, sym, ap, ◌∙◌, subst, arith}
-use Rattle.std.specs.Prelude.{◌==◌, ◌&&◌, ◌++◌, nat_lt, not, Option, Some, None, Result, Ok, Err, unwrap_or, if◌then◌else◌}
+use Rattle.std.proofs.Common.{ℕ, ◌≡◌, ◌+◌, Bool, true, false, List, [], ◌∷◌, inl, inr, refl, sym, ap, ◌∙◌, subst}
+use Rattle.std.specs.Prelude.{◌==◌, ◌&&◌, ◌++◌, nat_lt, not, Option, Some, None, Result, Ok, Err, if◌then◌else◌}
 use Rattle.std.proofs.lemmas.Bool.{and_parts, eqb-true}
 use Rattle.smi_grant.specs.declared.Command.{Command}
 use Rattle.smi_grant.specs.declared.Command.TheVariants.{Do, Include, Exclude, Manual, Ignore}
@@ -13,25 +13,23 @@ use Rattle.smi_grant.specs.Keeper.{handed, take_after, drop_after, admits, start
 use Rattle.smi_grant.specs.Record.{Standing, is_settled, last_epoch}
 use Rattle.smi_message.specs.declared.Body.{Body}
 use Rattle.smi_message.specs.declared.Body.TheVariants as body
-use Rattle.smi_message.specs.Message.{Message, is_body, is_message, is_between}
+use Rattle.smi_message.specs.Message.{Message, is_body, is_between}
 use Rattle.smi_tree.specs.Hierarchy.{Hierarchy}
 use Rattle.smi_tree.specs.Lookups.{station_count, operator_station_of, parent_of}
 use Rattle.smi_command.specs.declared.Link.{Link}
-use Rattle.smi_command.specs.declared.Link.TheVariants.{Out, Taking, Held, Dropping}
-use Rattle.smi_command.specs.declared.Due.TheVariants.{Take, Drop, Run}
+use Rattle.smi_command.specs.declared.Due.TheVariants.{Take}
 use Rattle.smi_command.specs.Order.{take_begun, drop_begun, command_issued}
 use Rattle.smi_command.proofs.Holders.{either, same_is}
 use Rattle.smi_command.proofs.Orders.{take_begins, drop_begins, command_issues}
 use Rattle.smi_stable.specs.Known.{is_number, is_holder_of}
-use Rattle.smi_station.specs.Grants.{Grants, put, put_link, with_link}
-use Rattle.smi_station.specs.Children.{own_code, links_after}
+use Rattle.smi_station.specs.Grants.{Grants, put, with_link}
+use Rattle.smi_station.specs.Children.{own_code}
 use Rattle.smi_station.specs.GrantStep.{waits_for_children}
 use Rattle.smi_station.specs.GrantsOf.{datagram_comes, grant_step}
 use Rattle.smi_station.specs.Happening.{Happening, Comes, Orders, Reports, Ticks}
 use Rattle.smi_station.specs.Keeping.{decided, commanded, child_entries, settled_at_once, ran, run_comes}
 use Rattle.smi_station.specs.Ordering.{order_entries, obeyed, order_comes}
-use Rattle.smi_station.specs.Refusals.{is_keeper, speaks_for, is_body_of, refusal_of_message, refusal_by_link, is_order_here, is_order_of, refusal_of}
-use Rattle.smi_station.specs.declared.Entry.{Entry}
+use Rattle.smi_station.specs.Refusals.{is_keeper, is_body_of, refusal_of_message, refusal_by_link, is_order_here, refusal_of}
 use Rattle.smi_station.specs.declared.Entry.TheVariants as entry
 use Rattle.smi_station.specs.declared.Entry.TheVariants.{Granted, Ran, LetGo}
 use Rattle.smi_station.specs.declared.Order.{Order}
@@ -42,12 +40,12 @@ use Rattle.smi_world.specs.Schedule.{World}
 use Rattle.smi_world.specs.World.{Among as IsSent, MayCome}
 use Rattle.smi_world.proofs.Changes.{SameGrant, same_grant, SameLink, same_link, handed_entry}
 use Rattle.smi_world.proofs.ChildKinds.{RunKind, quietly, excludes, run_kind, take_same, command_same}
-use Rattle.smi_world.proofs.GrantKinds.{GrantKind, silently, granting, freeing, leaving, put_here, SameRecords, SameLinks, OtherLinks, OtherRecords}
+use Rattle.smi_world.proofs.GrantKinds.{GrantKind, silently, granting, freeing, leaving, put_here, SameLinks, OtherLinks}
 use Rattle.smi_world.proofs.HearingKinds.{hearing_kind}
 use Rattle.smi_world.proofs.Moves.{at_put, at_put_link, put_link_here}
 use Rattle.smi_world.proofs.Quiet.{AllQuiet, quiet_both}
 use Rattle.smi_world.proofs.Viewed.{Viewed, keeper_home}
-use Rattle.smi_world.proofs.Views.{body_in_range, InRange, request_in_range}
+use Rattle.smi_world.proofs.Views.{body_in_range, request_in_range}
 
 -- nothing happens
 nothing : (h : Hierarchy) (number : ℕ) (sent : List Message) (g : Grants) → GrantKind h number sent g g []

@@ -1,16 +1,14 @@
 -- What a trace says of grants is what the records and the links are.
-use Rattle.std.proofs.Common.{ℕ, ◌≡◌, ◌≤◌, ◌+◌, Bool, true, false, List, [], ◌∷◌, ◌⊎◌, inl, inr, refl, sym, ap, ◌∙◌, subst, arith}
-use Rattle.std.specs.Prelude.{◌==◌, Some}
+use Rattle.std.proofs.Common.{ℕ, ◌≡◌, ◌≤◌, Bool, true, false, List, [], ◌∷◌, inr, refl, sym, ap, ◌∙◌, subst}
+use Rattle.std.specs.Prelude.{◌==◌}
 use Rattle.std.proofs.lemmas.Bool.{eqb-true}
 use Rattle.smi_grant.specs.declared.Command.{Command}
 use Rattle.smi_grant.specs.declared.Holder.{Holder}
-use Rattle.smi_grant.specs.declared.Holder.TheVariants.{Free, Operator, Domain}
+use Rattle.smi_grant.specs.declared.Holder.TheVariants.{Operator, Domain}
 use Rattle.smi_grant.specs.Holder.{is_free}
-use Rattle.smi_grant.specs.Record.{Standing}
 use Rattle.smi_message.specs.declared.Body.TheVariants as body
 use Rattle.smi_message.specs.Message.{Message}
 use Rattle.smi_tree.specs.Hierarchy.{Hierarchy}
-use Rattle.smi_tree.specs.Lookups.{parent_of}
 use Rattle.smi_command.specs.declared.Link.{Link}
 use Rattle.smi_command.specs.declared.Link.TheVariants.{Out, Taking, Held, Dropping}
 use Rattle.smi_command.specs.Link.{known}
