@@ -33,7 +33,7 @@ pub enum Order {
 pub struct Told {
     pub order: Order,
     /// An outcome 0 to 9 (docs/PROTOCOL.md, "Outcomes"), a refusal 21 to 26 ("Orders"), or a fault
-    /// 31 to 33 ("Steps").
+    /// 31 to 33 ("A step").
     pub code: u16,
     /// The record, where the order was an `Ask` that was answered.
     pub asked: Option<Record>,
