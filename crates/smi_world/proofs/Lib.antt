@@ -19,3 +19,5 @@ pub mod Views
 pub mod Viewed
 pub mod LinkChanges
 pub mod LinkMoves
+pub mod Parents
+pub mod Working

@@ -1,0 +1,26 @@
+-- A domain that another one holds is its child.
+use Rattle.std.proofs.Common.{ℕ, ◌≡◌, List, [], ◌∷◌, inl, inr, refl, sym, ap, ◌∙◌, subst}
+use Rattle.std.specs.Prelude.{Some}
+use Rattle.smi_grant.specs.declared.Holder.TheVariants.{Domain}
+use Rattle.smi_tree.specs.Hierarchy.{Hierarchy}
+use Rattle.smi_tree.specs.Lookups.{parent_of}
+use Rattle.smi_station.specs.declared.Entry.{Entry}
+use Rattle.smi_station.specs.declared.Entry.TheVariants.{Granted}
+use Rattle.smi_world.specs.Known.{record_in}
+use Rattle.smi_world.specs.Safe.{SafeGrants, GrantFits}
+use Rattle.smi_world.specs.Schedule.{World}
+use Rattle.smi_world.specs.Trace.{Stands, epoch_at}
+use Rattle.smi_world.proofs.LinkChanges.{granted_stands}
+use Rattle.smi_world.proofs.Traces.{Safely}
+
+-- whatever stands in a safe trace fits what stood before it
+granted_parent : (h : Hierarchy) (d e q : ℕ) (past : List Entry) → SafeGrants h past → Stands (Granted d e (Domain q)) past → parent_of h d ≡ Some q
+granted_parent h d e q [] safe at = absurd at
+granted_parent h d e q (x ∷ past) safe (inl same) =
+    let a : GrantFits h (Granted d e (Domain q)) past = subst (λ z. GrantFits h z past) (sym same) safe.0 in
+    a.2
+granted_parent h d e q (x ∷ past) safe (inr at) = granted_parent h d e q past safe.2 at
+
+pub held_by_parent : (h : Hierarchy) (past : List Entry) (w : World) → Safely h past w → (d q : ℕ) → (record_in h w d).holder ≡ Domain q → parent_of h d ≡ Some q
+held_by_parent h past w s d q is =
+    granted_parent h d (epoch_at d past) q past s.safe (granted_stands d (Domain q) refl past (s.traces.holder d ∙ is))
