@@ -21,3 +21,6 @@ pub mod LinkChanges
 pub mod LinkMoves
 pub mod Parents
 pub mod Working
+pub mod WorkRuns
+pub mod Started
+pub mod WorkTold
