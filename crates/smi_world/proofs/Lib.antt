@@ -24,3 +24,4 @@ pub mod Working
 pub mod WorkRuns
 pub mod Started
 pub mod WorkTold
+pub mod WorkSteps
