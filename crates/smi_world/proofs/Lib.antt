@@ -25,3 +25,6 @@ pub mod WorkRuns
 pub mod Started
 pub mod WorkTold
 pub mod WorkSteps
+pub mod Displayed
+pub mod Works
+pub mod RunsSound

@@ -94,7 +94,7 @@ fresh_settled r lawful none =
     let b = and_parts (if r.last == 0 then is_settled r.phase && r.outcome == 0 else true) _ a.1 in
     (and_parts (is_settled r.phase) _ (if_true (r.last == 0) (is_settled r.phase && r.outcome == 0) true none b.0)).0
 
-free_settled : (r : Standing) → IsRecord r → is_free r.holder ≡ true → is_settled r.phase ≡ true
+pub free_settled : (r : Standing) → IsRecord r → is_free r.holder ≡ true → is_settled r.phase ≡ true
 free_settled r lawful free =
     let a = and_parts (if is_free r.holder then r.last == 0 else true) _ lawful.coherent in
     fresh_settled r lawful (if_true (is_free r.holder) (r.last == 0) true free a.0)
