@@ -1,25 +1,20 @@
 -- In every run the trace of grants is safe.
-use Rattle.std.proofs.Common.{ℕ, ◌≡◌, true, false, List, [], ◌∷◌, inl, inr, refl, sym, ap, ◌∙◌, subst}
-use Rattle.std.specs.Prelude.{◌++◌, Option, Some, None, map, unwrap_or}
-use Rattle.std.specs.List.{flat_map, range_with_len}
+use Rattle.std.proofs.Common.{ℕ, ◌≡◌, true, false, List, [], inl, inr, refl, sym, ap, ◌∙◌, subst}
+use Rattle.std.specs.Prelude.{Option, Some, None, unwrap_or}
+use Rattle.std.specs.List.{range_with_len}
 use Rattle.smi_grant.specs.declared.Holder.{Holder}
 use Rattle.smi_grant.specs.declared.Holder.TheVariants.{Free}
-use Rattle.smi_grant.specs.declared.Shown.{Shown}
 use Rattle.smi_message.specs.declared.Body.{Body}
 use Rattle.smi_message.specs.declared.Body.TheVariants as body
 use Rattle.smi_message.specs.Message.{Message}
 use Rattle.smi_tree.specs.Hierarchy.{Hierarchy}
 use Rattle.smi_tree.specs.Lookups.{station_count}
 use Rattle.smi_command.proofs.Waiting.{due_drop}
-use Rattle.smi_station.specs.Display.{Station}
-use Rattle.smi_station.specs.Happening.{Happening, told_entries}
-use Rattle.smi_station.specs.GrantsOf.{grant_step}
-use Rattle.smi_station.specs.Showing.{domain_of_happening, passed_in}
-use Rattle.smi_station.specs.Opening.{opened, opening_entries, all_shown, first_opened, saved_only}
+use Rattle.smi_station.specs.Happening.{Happening}
+use Rattle.smi_station.specs.Opening.{opened, opening_entries, saved_only}
 use Rattle.smi_station.specs.Refusals.{refusal_of}
 use Rattle.smi_station.specs.Sending.{MaySay}
-use Rattle.smi_station.specs.Step.{refusal_answers, notice, conditions_after, answered_or, showed_entries, after as after_happening}
-use Rattle.smi_station.specs.declared.Answer.{Answer}
+use Rattle.smi_station.specs.Step.{answered_or, after as after_happening}
 use Rattle.smi_station.specs.declared.Entry.{Entry}
 use Rattle.smi_station.specs.declared.Entry.TheVariants as entry
 use Rattle.smi_world.specs.Known.{holder_home}
@@ -28,46 +23,12 @@ use Rattle.smi_world.specs.Schedule.{World, first_world, opening_of}
 use Rattle.smi_world.specs.Trace.{Stands, epoch_at, holder_at, has_learned}
 use Rattle.smi_world.specs.World.{MayCome, with_station, with_sent, noted, Step, sends, steps, stops, halts, starts, Reaches, opens, goes_on}
 use Rattle.smi_world.proofs.Changes.{same_grant, same_link}
+use Rattle.smi_world.proofs.Displayed.{quiet_display, after_display, opening_display, openings_display}
 use Rattle.smi_world.proofs.GrantKinds.{GrantKind, silently, kind_safely}
-use Rattle.smi_world.proofs.Quiet.{AllQuiet, quiet_both, noted_both}
+use Rattle.smi_world.proofs.Quiet.{noted_both}
 use Rattle.smi_world.proofs.StepKinds.{step_kind}
 use Rattle.smi_world.proofs.Traces.{Traces, Safely, safely_quiet, one_commander}
 use Rattle.smi_world.proofs.Viewed.{Viewed, step_viewed, viewed, sent_or}
-
--- What a step leaves behind its save is quiet.
-
-told_quiet : (answers : List Answer) → AllQuiet (told_entries answers)
-told_quiet [] = tt
-told_quiet (a ∷ answers) = (tt, told_quiet answers)
-
-passed_quiet : (passed : List Shown) → AllQuiet (map entry.Passed passed)
-passed_quiet [] = tt
-passed_quiet (s ∷ passed) = (tt, passed_quiet passed)
-
-showed_quiet : (number : ℕ) (shown : Option Shown) → AllQuiet (showed_entries number shown)
-showed_quiet number None = tt
-showed_quiet number (Some s) = (tt, tt)
-
-all_quiet : (number : ℕ) (shown : Option Shown) (passed : List Shown) (answers : List Answer) → AllQuiet (showed_entries number shown ++ map entry.Passed passed ++ told_entries answers)
-all_quiet number shown passed answers =
-    quiet_both (showed_entries number shown ++ map entry.Passed passed) (told_entries answers)
-    (quiet_both (showed_entries number shown) (map entry.Passed passed) (showed_quiet number shown) (passed_quiet passed))
-    (told_quiet answers)
-
-after_quiet : (h : Hierarchy) (number : ℕ) (s : Station) (what : Happening) (o : Option ℕ) → AllQuiet (answered_or h number s what o).after
-after_quiet h number s what (Some code) = told_quiet (refusal_answers what code)
-after_quiet h number s what None =
-    let g = grant_step h number s.grants what in
-    let n = notice h number s.grants s.display what in
-    let conditions = conditions_after h s g.grants n.display what in
-    all_quiet number n.showed (passed_in h s.grants.boot s.display.conditions conditions (domain_of_happening h what)) (g.answers ++ n.answers)
-
-opening_quiet : (h : Hierarchy) (number : ℕ) (s : Station) → AllQuiet (opening_entries h number s)
-opening_quiet h number s = (tt, passed_quiet (all_shown h s))
-
-openings_quiet : (h : Hierarchy) (numbers : List ℕ) → AllQuiet (flat_map (λ number. opening_entries h number (first_opened h number)) numbers)
-openings_quiet h [] = tt
-openings_quiet h (number ∷ numbers) = quiet_both (opening_entries h number (first_opened h number)) _ (opening_quiet h number (first_opened h number)) (openings_quiet h numbers)
 
 -- What comes to a station.
 
@@ -132,7 +93,7 @@ step_safely h past w new next (steps number what runs may) v n s =
     let o = refusal_of h number (w.stations number).grants what in
     let out = after_happening h number (w.stations number) what in
     subst (λ z. Safely h z (with_station w number out.station)) (sym (noted_both out.kept out.after past))
-    (safely_quiet h (with_station w number out.station) n out.after (noted out.kept past) (after_quiet h number (w.stations number) what o)
+    (safely_quiet h (with_station w number out.station) n out.after (noted out.kept past) (quiet_display out.after (after_display h number (w.stations number) what o))
     (kind_safely h past w number out.station out.kept (kept_kind h w number what may v o refl) v n s))
 step_safely h past w new next (stops number what runs may) v n s =
     let o = refusal_of h number (w.stations number).grants what in
@@ -141,12 +102,12 @@ step_safely h past w new next (halts number) v n s =
     kind_safely h past w number (record (w.stations number) { is_stopped = true }) [] (silently [] tt (λ d. same_grant ((w.stations number).grants.records d)) (λ me d. same_link ((w.stations number).grants.links me d))) v n s
 step_safely h past w new next (starts number boots) v n s =
     let started = opened h number (w.stations number).grants in
-    kind_safely h past w number started (opening_entries h number started) (silently (opening_entries h number started) (opening_quiet h number started) (λ d. same_grant ((w.stations number).grants.records d)) (λ me d. same_link ((w.stations number).grants.links me d))) v n s
+    kind_safely h past w number started (opening_entries h number started) (silently (opening_entries h number started) (quiet_display (opening_entries h number started) (opening_display h number started)) (λ d. same_grant ((w.stations number).grants.records d)) (λ me d. same_link ((w.stations number).grants.links me d))) v n s
 
 pub safely : (h : Hierarchy) (past : List Entry) (w : World) → Reaches h past w → Safely h past w
 safely h past w opens =
     let v = viewed h past w opens in
-    safely_quiet h (first_world h) v (opening_of h) [] (openings_quiet h (range_with_len 1 (station_count h)))
+    safely_quiet h (first_world h) v (opening_of h) [] (quiet_display (opening_of h) (openings_display h (range_with_len 1 (station_count h))))
     (record { traces = first_traces h; safe = one_commander h [] (first_world h) v (first_traces h) })
 safely h past w (goes_on {past = before} {new = new} {w = old} {next = next} run step) =
     let v = viewed h before old run in

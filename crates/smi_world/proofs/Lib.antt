@@ -6,7 +6,6 @@ pub mod HearingKinds
 pub mod KnownFacts
 pub mod Moves
 pub mod OrdersLogged
-pub mod OrdersSound
 pub mod OrderSteps
 pub mod Quiet
 pub mod RecordMoves

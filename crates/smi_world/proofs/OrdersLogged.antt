@@ -1,11 +1,10 @@
 -- In every run what an operator has issued by the trace is what the operator's link says.
 use Rattle.std.proofs.Common.{ℕ, ◌≡◌, ◌≤◌, ◌+◌, true, false, List, [], ◌∷◌, ◌⊎◌, inl, inr, refl, sym, ap, ◌∙◌, subst, arith}
-use Rattle.std.specs.Prelude.{◌==◌, ◌&&◌, ◌++◌, length, Option, Some, None, map, if◌then◌else◌}
-use Rattle.std.specs.List.{flat_map, range_with_len}
+use Rattle.std.specs.Prelude.{◌==◌, ◌&&◌, ◌++◌, length, Option, Some, None, if◌then◌else◌}
+use Rattle.std.specs.List.{range_with_len}
 use Rattle.std.proofs.lemmas.Bool.{and_parts, eqb-true}
 use Rattle.std.proofs.lemmas.Bool.Decides.{nat_tests}
 use Rattle.smi_grant.specs.declared.Holder.TheVariants.{Operator}
-use Rattle.smi_grant.specs.declared.Shown.{Shown}
 use Rattle.smi_tree.specs.Hierarchy.{Hierarchy}
 use Rattle.smi_tree.specs.Lookups.{station_count}
 use Rattle.smi_command.specs.declared.Link.TheVariants.{Out, Held}
@@ -14,59 +13,22 @@ use Rattle.smi_command.proofs.Holders.{either}
 use Rattle.smi_command.proofs.Logs.{Logged, logged_first, logged_quiet, logged_issue}
 use Rattle.smi_station.specs.Display.{Station}
 use Rattle.smi_station.specs.Grants.{put}
-use Rattle.smi_station.specs.GrantsOf.{grant_step}
-use Rattle.smi_station.specs.Happening.{Happening, told_entries}
-use Rattle.smi_station.specs.Opening.{opened, opening_entries, all_shown, first_opened, saved_only}
+use Rattle.smi_station.specs.Happening.{Happening}
+use Rattle.smi_station.specs.Opening.{opened, opening_entries, saved_only}
 use Rattle.smi_station.specs.Refusals.{refusal_of}
-use Rattle.smi_station.specs.Showing.{domain_of_happening, passed_in}
-use Rattle.smi_station.specs.Step.{refusal_answers, notice, conditions_after, answered_or, showed_entries, after as after_happening}
-use Rattle.smi_station.specs.declared.Answer.{Answer}
+use Rattle.smi_station.specs.Step.{answered_or, after as after_happening}
 use Rattle.smi_station.specs.declared.Entry.{Entry}
 use Rattle.smi_station.specs.declared.Entry.TheVariants as entry
 use Rattle.smi_world.specs.Known.{holder_home, link_in}
 use Rattle.smi_world.specs.Schedule.{World, first_world, opening_of}
 use Rattle.smi_world.specs.World.{with_station, noted, Step, sends, steps, stops, halts, starts, Reaches, opens, goes_on}
+use Rattle.smi_world.proofs.Displayed.{orders_display, after_display, opening_display, openings_display}
 use Rattle.smi_world.proofs.GrantKinds.{put_here}
 use Rattle.smi_world.proofs.KnownFacts.{known_in_step}
 use Rattle.smi_world.proofs.Moves.{apart, at_put}
-use Rattle.smi_world.proofs.OrderSteps.{issued_at, issued_same, issued_more, issued_none, NoOrders, no_both, Calm, calm_same, AllCalm, OrderStep, no_order, ordering, step_order}
+use Rattle.smi_world.proofs.OrderSteps.{issued_at, issued_same, issued_more, issued_none, NoOrders, Calm, calm_same, AllCalm, OrderStep, no_order, ordering, step_order}
 use Rattle.smi_world.proofs.Quiet.{noted_both}
 use Rattle.smi_world.proofs.Viewed.{Viewed, viewed}
-
--- No order is given behind a save, nor at a start.
-
-told_no : (answers : List Answer) → NoOrders (told_entries answers)
-told_no [] = tt
-told_no (a ∷ answers) = (tt, told_no answers)
-
-passed_no : (passed : List Shown) → NoOrders (map entry.Passed passed)
-passed_no [] = tt
-passed_no (s ∷ passed) = (tt, passed_no passed)
-
-showed_no : (number : ℕ) (shown : Option Shown) → NoOrders (showed_entries number shown)
-showed_no number None = tt
-showed_no number (Some s) = (tt, tt)
-
-all_no : (number : ℕ) (shown : Option Shown) (passed : List Shown) (answers : List Answer) → NoOrders (showed_entries number shown ++ map entry.Passed passed ++ told_entries answers)
-all_no number shown passed answers =
-    no_both (showed_entries number shown ++ map entry.Passed passed) (told_entries answers)
-    (no_both (showed_entries number shown) (map entry.Passed passed) (showed_no number shown) (passed_no passed))
-    (told_no answers)
-
-after_no : (h : Hierarchy) (number : ℕ) (s : Station) (what : Happening) (o : Option ℕ) → NoOrders (answered_or h number s what o).after
-after_no h number s what (Some code) = told_no (refusal_answers what code)
-after_no h number s what None =
-    let g = grant_step h number s.grants what in
-    let n = notice h number s.grants s.display what in
-    let conditions = conditions_after h s g.grants n.display what in
-    all_no number n.showed (passed_in h s.grants.boot s.display.conditions conditions (domain_of_happening h what)) (g.answers ++ n.answers)
-
-opening_no : (h : Hierarchy) (number : ℕ) (s : Station) → NoOrders (opening_entries h number s)
-opening_no h number s = (tt, passed_no (all_shown h s))
-
-openings_no : (h : Hierarchy) (numbers : List ℕ) → NoOrders (flat_map (λ number. opening_entries h number (first_opened h number)) numbers)
-openings_no h [] = tt
-openings_no h (number ∷ numbers) = no_both (opening_entries h number (first_opened h number)) _ (opening_no h number (first_opened h number)) (openings_no h numbers)
 
 -- Every link of every operator.
 
@@ -159,7 +121,7 @@ step_logged h past w new next (steps number what runs may) v l =
     let o = refusal_of h number (w.stations number).grants what in
     let out = after_happening h number (w.stations number) what in
     subst (λ z. AllLogged h z (with_station w number out.station)) (sym (noted_both out.kept out.after past))
-    (logged_no h (with_station w number out.station) out.after (noted out.kept past) (after_no h number (w.stations number) what o)
+    (logged_no h (with_station w number out.station) out.after (noted out.kept past) (orders_display out.after (after_display h number (w.stations number) what o))
     (logged_step h w number out.station out.kept past (kept_order h w number what v o refl) v l))
 step_logged h past w new next (stops number what runs may) v l =
     let o = refusal_of h number (w.stations number).grants what in
@@ -168,10 +130,10 @@ step_logged h past w new next (halts number) v l =
     logged_step h w number (record (w.stations number) { is_stopped = true }) [] past (no_order [] tt (λ o d. calm_same ((w.stations number).grants.links (Operator o) d))) v l
 step_logged h past w new next (starts number boots) v l =
     let started = opened h number (w.stations number).grants in
-    logged_step h w number started (opening_entries h number started) past (no_order (opening_entries h number started) (opening_no h number started) (λ o d. calm_same ((w.stations number).grants.links (Operator o) d))) v l
+    logged_step h w number started (opening_entries h number started) past (no_order (opening_entries h number started) (orders_display (opening_entries h number started) (opening_display h number started)) (λ o d. calm_same ((w.stations number).grants.links (Operator o) d))) v l
 
 pub logged : (h : Hierarchy) (past : List Entry) (w : World) → Reaches h past w → AllLogged h past w
 logged h past w opens =
-    logged_no h (first_world h) (opening_of h) [] (openings_no h (range_with_len 1 (station_count h)))
+    logged_no h (first_world h) (opening_of h) [] (orders_display (opening_of h) (openings_display h (range_with_len 1 (station_count h))))
     (λ o d. subst (Logged (Out 0)) (sym (issued_none o d)) logged_first)
 logged h past w (goes_on {past = before} {new = new} {w = old} {next = next} run step) = step_logged h before old new next step (viewed h before old run) (logged h before old run)

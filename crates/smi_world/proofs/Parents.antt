@@ -1,8 +1,10 @@
--- A domain that another one holds is its child.
-use Rattle.std.proofs.Common.{ℕ, ◌≡◌, List, [], ◌∷◌, inl, inr, refl, sym, ap, ◌∙◌, subst}
-use Rattle.std.specs.Prelude.{Some}
+-- A domain that another one holds is its child, and parents have lower numbers.
+use Rattle.std.proofs.Common.{ℕ, ◌≡◌, List, [], ◌∷◌, inl, inr, refl, sym, ◌∙◌, subst}
+use Rattle.std.specs.Prelude.{◌<◌, Option, Some, None, option_and_then}
 use Rattle.smi_grant.specs.declared.Holder.TheVariants.{Domain}
-use Rattle.smi_tree.specs.Hierarchy.{Hierarchy}
+use Rattle.smi_tree.specs.declared.row.Domain.{Domain as DomainRow}
+use Rattle.smi_tree.specs.Hierarchy.{Hierarchy, entry}
+use Rattle.smi_tree.specs.Lawful.{IsTree}
 use Rattle.smi_tree.specs.Lookups.{parent_of}
 use Rattle.smi_station.specs.declared.Entry.{Entry}
 use Rattle.smi_station.specs.declared.Entry.TheVariants.{Granted}
@@ -24,3 +26,10 @@ granted_parent h d e q (x ∷ past) safe (inr at) = granted_parent h d e q past 
 pub held_by_parent : (h : Hierarchy) (past : List Entry) (w : World) → Safely h past w → (d q : ℕ) → (record_in h w d).holder ≡ Domain q → parent_of h d ≡ Some q
 held_by_parent h past w s d q is =
     granted_parent h d (epoch_at d past) q past s.safe (granted_stands d (Domain q) refl past (s.traces.holder d ∙ is))
+
+pub parents_are_lower : (h : Hierarchy) → IsTree h → (d p : ℕ) → parent_of h d ≡ Some p → p < d
+parents_are_lower h tree d p is = read (entry h.domains d) refl is
+  where
+    read : (o : Option DomainRow) → entry h.domains d ≡ o → option_and_then (λ (row : DomainRow). row.parent) o ≡ Some p → p < d
+    read None at i = absurd cc
+    read (Some row) at i = ((tree.lawful.domains.each d row at).parent p i).1

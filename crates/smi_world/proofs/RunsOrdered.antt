@@ -1,9 +1,8 @@
 -- Every step of the world keeps runs in order.
 use Rattle.std.proofs.Common.{ℕ, ◌≡◌, ◌+◌, true, List, [], ◌∷◌, refl, sym, ap, ◌∙◌, subst}
-use Rattle.std.specs.Prelude.{◌++◌, Option, Some, None, map}
-use Rattle.std.specs.List.{flat_map, range_with_len}
+use Rattle.std.specs.Prelude.{Option, Some, None}
+use Rattle.std.specs.List.{range_with_len}
 use Rattle.smi_grant.specs.declared.Holder.{Holder}
-use Rattle.smi_grant.specs.declared.Shown.{Shown}
 use Rattle.smi_grant.specs.Keeper.{handed}
 use Rattle.smi_grant.specs.Record.{Standing}
 use Rattle.smi_message.specs.declared.Body.{Body}
@@ -11,60 +10,23 @@ use Rattle.smi_tree.specs.Hierarchy.{Hierarchy}
 use Rattle.smi_tree.specs.Lookups.{station_count}
 use Rattle.smi_station.specs.Display.{Station}
 use Rattle.smi_station.specs.Grants.{put}
-use Rattle.smi_station.specs.GrantsOf.{grant_step}
-use Rattle.smi_station.specs.Happening.{Happening, told_entries}
+use Rattle.smi_station.specs.Happening.{Happening}
 use Rattle.smi_station.specs.Messages.{home}
-use Rattle.smi_station.specs.Opening.{opened, opening_entries, all_shown, first_opened, saved_only}
+use Rattle.smi_station.specs.Opening.{opened, opening_entries, saved_only}
 use Rattle.smi_station.specs.Refusals.{refusal_of}
-use Rattle.smi_station.specs.Showing.{domain_of_happening, passed_in}
-use Rattle.smi_station.specs.Step.{refusal_answers, notice, conditions_after, answered_or, showed_entries, after as after_happening}
-use Rattle.smi_station.specs.declared.Answer.{Answer}
+use Rattle.smi_station.specs.Step.{answered_or, after as after_happening}
 use Rattle.smi_station.specs.declared.Entry.{Entry}
 use Rattle.smi_station.specs.declared.Entry.TheVariants as entry
 use Rattle.smi_world.specs.Known.{record_in}
 use Rattle.smi_world.specs.Safe.{RunsInOrder}
 use Rattle.smi_world.specs.Schedule.{World, first_world, opening_of}
 use Rattle.smi_world.specs.World.{with_station, noted, Step, sends, steps, stops, halts, starts, Reaches, opens, goes_on}
+use Rattle.smi_world.proofs.Displayed.{none_display, after_display, opening_display, openings_display}
 use Rattle.smi_world.proofs.GrantKinds.{put_here}
 use Rattle.smi_world.proofs.Moves.{at_put}
 use Rattle.smi_world.proofs.Quiet.{noted_both}
 use Rattle.smi_world.proofs.RunOrder.{Counted, OneRecord, nothing_under, counted_none, counted_same, counted_handed, counted_run}
-use Rattle.smi_world.proofs.RunSteps.{HasCome, NoRuns, none_both, SameLast, same_last, OthersLast, RunStep, no_run, hands, next_run, step_run}
-
--- No command runs behind a save, nor at a start.
-
-told_none : (answers : List Answer) → NoRuns (told_entries answers)
-told_none [] = tt
-told_none (a ∷ answers) = (tt, told_none answers)
-
-passed_none : (passed : List Shown) → NoRuns (map entry.Passed passed)
-passed_none [] = tt
-passed_none (s ∷ passed) = (tt, passed_none passed)
-
-showed_none : (number : ℕ) (shown : Option Shown) → NoRuns (showed_entries number shown)
-showed_none number None = tt
-showed_none number (Some s) = (tt, tt)
-
-all_none : (number : ℕ) (shown : Option Shown) (passed : List Shown) (answers : List Answer) → NoRuns (showed_entries number shown ++ map entry.Passed passed ++ told_entries answers)
-all_none number shown passed answers =
-    none_both (showed_entries number shown ++ map entry.Passed passed) (told_entries answers)
-    (none_both (showed_entries number shown) (map entry.Passed passed) (showed_none number shown) (passed_none passed))
-    (told_none answers)
-
-pub after_none : (h : Hierarchy) (number : ℕ) (s : Station) (what : Happening) (o : Option ℕ) → NoRuns (answered_or h number s what o).after
-after_none h number s what (Some code) = told_none (refusal_answers what code)
-after_none h number s what None =
-    let g = grant_step h number s.grants what in
-    let n = notice h number s.grants s.display what in
-    let conditions = conditions_after h s g.grants n.display what in
-    all_none number n.showed (passed_in h s.grants.boot s.display.conditions conditions (domain_of_happening h what)) (g.answers ++ n.answers)
-
-pub opening_none : (h : Hierarchy) (number : ℕ) (s : Station) → NoRuns (opening_entries h number s)
-opening_none h number s = (tt, passed_none (all_shown h s))
-
-pub openings_none : (h : Hierarchy) (numbers : List ℕ) → NoRuns (flat_map (λ number. opening_entries h number (first_opened h number)) numbers)
-openings_none h [] = tt
-openings_none h (number ∷ numbers) = none_both (opening_entries h number (first_opened h number)) _ (opening_none h number (first_opened h number)) (openings_none h numbers)
+use Rattle.smi_world.proofs.RunSteps.{HasCome, SameLast, same_last, OthersLast, RunStep, no_run, hands, next_run, step_run}
 
 -- What a station does, said of the world.
 
@@ -127,7 +89,7 @@ step_counted h past w new next (steps number what runs may) c =
     let o = refusal_of h number (w.stations number).grants what in
     let out = after_happening h number (w.stations number) what in
     subst (λ z. Counted h z (with_station w number out.station)) (sym (noted_both out.kept out.after past))
-    (counted_none h (with_station w number out.station) out.after (noted out.kept past) (after_none h number (w.stations number) what o)
+    (counted_none h (with_station w number out.station) out.after (noted out.kept past) (none_display out.after (after_display h number (w.stations number) what o))
     (counted_step h w number out.station (HasCome what) out.kept past (kept_run h w number what o refl) c))
 step_counted h past w new next (stops number what runs may) c =
     let o = refusal_of h number (w.stations number).grants what in
@@ -136,11 +98,11 @@ step_counted h past w new next (halts number) c =
     counted_step h w number (record (w.stations number) { is_stopped = true }) (λ b. ⊥) [] past (no_run [] tt (λ d. same_last ((w.stations number).grants.records d))) c
 step_counted h past w new next (starts number boots) c =
     let started = opened h number (w.stations number).grants in
-    counted_step h w number started (λ b. ⊥) (opening_entries h number started) past (no_run (opening_entries h number started) (opening_none h number started) (λ d. same_last ((w.stations number).grants.records d))) c
+    counted_step h w number started (λ b. ⊥) (opening_entries h number started) past (no_run (opening_entries h number started) (none_display (opening_entries h number started) (opening_display h number started)) (λ d. same_last ((w.stations number).grants.records d))) c
 
 pub counted : (h : Hierarchy) (past : List Entry) (w : World) → Reaches h past w → Counted h past w
 counted h past w opens =
-    counted_none h (first_world h) (opening_of h) [] (openings_none h (range_with_len 1 (station_count h)))
+    counted_none h (first_world h) (opening_of h) [] (none_display (opening_of h) (openings_display h (range_with_len 1 (station_count h))))
     (record { count = λ d. nothing_under d 0; bound = λ d f m k a. absurd a; order = tt })
 counted h past w (goes_on {past = before} {new = new} {w = old} {next = next} run step) = step_counted h before old new next step (counted h before old run)
 

@@ -1,6 +1,6 @@
 -- In every trace each command that runs is backed up to the operator who ordered it.
-use Rattle.std.proofs.Common.{ℕ, zero, suc, ◌≡◌, ◌<◌, ◌+◌, Bool, true, false, List, [], ◌∷◌, inl, inr, refl, sym, ap, ◌∙◌, subst, arith}
-use Rattle.std.specs.Prelude.{◌==◌, ◌&&◌, Option, Some, None}
+use Rattle.std.proofs.Common.{ℕ, zero, suc, ◌≡◌, ◌<◌, ◌+◌, true, false, List, [], ◌∷◌, inl, inr, refl, sym, ap, ◌∙◌, subst, arith}
+use Rattle.std.specs.Prelude.{◌==◌, Some}
 use Rattle.std.specs.List.{range_with_len}
 use Rattle.std.proofs.lemmas.Bool.Decides.{nat_tests}
 use Rattle.smi_grant.specs.declared.Command.{Command}
@@ -21,16 +21,15 @@ use Rattle.smi_stable.specs.Stored.{is_unsettled}
 use Rattle.smi_station.specs.Children.{is_commanded}
 use Rattle.smi_station.specs.Display.{Station}
 use Rattle.smi_station.specs.Happening.{Happening, Comes, Orders, Reports, Ticks}
-use Rattle.smi_station.specs.Messages.{home}
 use Rattle.smi_station.specs.Opening.{opened, opening_entries, saved_only}
 use Rattle.smi_station.specs.Refusals.{refusal_of}
 use Rattle.smi_station.specs.Step.{after as after_happening}
 use Rattle.smi_station.specs.declared.Entry.{Entry}
 use Rattle.smi_station.specs.declared.Entry.TheVariants.{Booted, Granted, Freed, Ordered, Ran, Learned, LetGo, InMode, Settled, Showed, Passed, Told}
 use Rattle.smi_world.specs.Known.{record_in, link_in}
-use Rattle.smi_world.specs.Safe.{Forwards, IsGrantNow, Backed, by_operator, by_parent, SoundRuns}
+use Rattle.smi_world.specs.Safe.{IsGrantNow, Backed, by_operator, by_parent, SoundRuns}
 use Rattle.smi_world.specs.Schedule.{World, opening_of}
-use Rattle.smi_world.specs.Trace.{epoch_at, holder_at, has_learned, orders_of, mode_at, InWork}
+use Rattle.smi_world.specs.Trace.{epoch_at, has_learned, orders_of, mode_at, InWork}
 use Rattle.smi_world.specs.World.{Among as IsSent, MayCome, noted, Step, sends, steps, stops, halts, starts, Reaches, opens, goes_on}
 use Rattle.smi_world.proofs.Displayed.{none_display, after_display, opening_display, openings_display}
 use Rattle.smi_world.proofs.GrantsSafe.{safely}

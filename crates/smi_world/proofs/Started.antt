@@ -3,23 +3,20 @@ use Rattle.std.proofs.Common.{ℕ, suc, zero, ◌≡◌, ◌+◌, ◌-◌, Bool,
 use Rattle.std.specs.Prelude.{◌==◌, ◌||◌, ◌++◌, Option, Some, None, if◌then◌else◌, slice_get, option_and_then}
 use Rattle.std.specs.Option.{option_map_or}
 use Rattle.std.specs.List.{list_any}
-use Rattle.std.proofs.lemmas.Bool.{eqb-true}
 use Rattle.std.proofs.lemmas.Bool.Decides.{nat_tests}
 use Rattle.smi_grant.specs.declared.Command.{Command}
-use Rattle.smi_grant.specs.declared.Holder.{Holder}
 use Rattle.smi_grant.specs.declared.Holder.TheVariants.{Operator, Domain}
 use Rattle.smi_grant.specs.Keeper.{started}
 use Rattle.smi_grant.specs.Record.{Standing, is_settled}
 use Rattle.smi_tree.specs.declared.row.Domain.{Domain as DomainRow}
-use Rattle.smi_tree.specs.Hierarchy.{Hierarchy, entry, is_child_of}
+use Rattle.smi_tree.specs.Hierarchy.{Hierarchy, is_child_of}
 use Rattle.smi_tree.specs.Lookups.{numbers_from, parent_of}
-use Rattle.smi_command.specs.declared.Link.{Link}
 use Rattle.smi_command.specs.declared.Link.TheVariants.{Held}
 use Rattle.smi_command.proofs.Holders.{either}
 use Rattle.smi_stable.specs.declared.Mode.TheVariants as mode
 use Rattle.smi_stable.specs.Ranges.{is_held}
 use Rattle.smi_stable.specs.Stored.{is_unsettled}
-use Rattle.smi_station.specs.Children.{ChildChange, is_commanded, change_of, link_after, mode_after}
+use Rattle.smi_station.specs.Children.{is_commanded, change_of}
 use Rattle.smi_station.specs.Grants.{Grants, put}
 use Rattle.smi_station.specs.GrantStep.{waits_for_children}
 use Rattle.smi_station.specs.Keeping.{commanded, begun, child_entries, settled_at_once}

@@ -1,7 +1,6 @@
 -- What a command that runs does to the children of its domain, and what the trace says of it.
 use Rattle.std.proofs.Common.{ℕ, ◌≡◌, ◌+◌, Bool, true, false, List, [], ◌∷◌, inl, inr, refl, sym, ap, ◌∙◌, subst, arith}
-use Rattle.std.specs.Prelude.{◌==◌, ◌&&◌, ◌++◌, Option, Some, None, Result, Ok, Err, if◌then◌else◌, slice_get}
-use Rattle.std.specs.List.{list_any}
+use Rattle.std.specs.Prelude.{◌==◌, ◌&&◌, ◌++◌, Some, Result, Ok, Err, if◌then◌else◌}
 use Rattle.std.proofs.lemmas.Bool.{and_parts, eqb-true}
 use Rattle.std.proofs.lemmas.Bool.Decides.{nat_tests}
 use Rattle.smi_grant.specs.declared.Command.{Command}
@@ -29,8 +28,7 @@ use Rattle.smi_station.specs.declared.Entry.TheVariants.{Booted, Granted, Freed,
 use Rattle.smi_world.specs.Safe.{Forwards}
 use Rattle.smi_world.specs.Trace.{mode_at, orders_of, InWork}
 use Rattle.smi_world.specs.World.{noted}
-use Rattle.smi_world.proofs.Quiet.{noted_both}
-use Rattle.smi_world.proofs.Working.{Aside, AllAside, aside_both, mode_in}
+use Rattle.smi_world.proofs.Working.{AllAside, aside_both, mode_in}
 
 -- What a command does to one child.
 

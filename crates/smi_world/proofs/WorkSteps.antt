@@ -1,5 +1,5 @@
 -- Whatever comes to a station, its domains stand to the trace as they should.
-use Rattle.std.proofs.Common.{ℕ, zero, suc, ◌≡◌, ◌≤◌, ◌<◌, ◌+◌, Bool, true, false, List, [], ◌∷◌, ◌⊎◌, inl, inr, refl, sym, ap, ◌∙◌, subst, arith}
+use Rattle.std.proofs.Common.{ℕ, zero, suc, ◌≡◌, ◌+◌, Bool, true, false, List, [], ◌∷◌, inl, inr, refl, sym, ap, ◌∙◌, subst, arith}
 use Rattle.std.specs.Prelude.{◌==◌, ◌&&◌, ◌++◌, nat_lt, Option, Some, None, Result, Ok, Err, slice_get, if◌then◌else◌}
 use Rattle.std.proofs.lemmas.Bool.{and_parts, eqb-true}
 use Rattle.std.proofs.lemmas.Bool.Decides.{nat_tests}
@@ -28,21 +28,21 @@ use Rattle.smi_command.specs.Order.{take_begun, drop_begun, command_issued}
 use Rattle.smi_command.proofs.Asked.{admitted}
 use Rattle.smi_command.proofs.Facts.{LinkOk}
 use Rattle.smi_command.proofs.Holders.{either, same_is}
-use Rattle.smi_command.proofs.Orders.{take_begins, drop_begins, command_issues}
+use Rattle.smi_command.proofs.Orders.{command_issues}
 use Rattle.smi_stable.specs.Known.{is_number, is_parent}
 use Rattle.smi_stable.specs.Stored.{is_unsettled}
 use Rattle.smi_station.specs.Children.{links_after, modes_after, own_code}
-use Rattle.smi_station.specs.Grants.{Grants, put, put_link, with_record, with_link}
+use Rattle.smi_station.specs.Grants.{Grants, put, with_record, with_link}
 use Rattle.smi_station.specs.GrantStep.{waits_for_children}
 use Rattle.smi_station.specs.GrantsOf.{datagram_comes, grant_step}
 use Rattle.smi_station.specs.Happening.{Happening, Comes, Orders, Reports, Ticks}
-use Rattle.smi_station.specs.Hearing.{is_heard, listeners, listener, learned, parent_heard, ends, ended, ended_entries, told_to}
-use Rattle.smi_station.specs.Keeping.{decided, commanded, begun, child_entries, settled_at_once, ran, run_comes}
+use Rattle.smi_station.specs.Hearing.{listeners, listener, learned, parent_heard, ends, ended, ended_entries, told_to}
+use Rattle.smi_station.specs.Keeping.{decided, commanded, begun, child_entries, settled_at_once, run_comes}
 use Rattle.smi_station.specs.Messages.{home}
 use Rattle.smi_station.specs.Ordering.{order_entries, obeyed, order_comes}
 use Rattle.smi_station.specs.Refusals.{is_keeper, is_body_of, refusal_of}
 use Rattle.smi_station.specs.declared.Entry.{Entry}
-use Rattle.smi_station.specs.declared.Entry.TheVariants.{Granted, Freed, Ran, Ordered, LetGo, Settled}
+use Rattle.smi_station.specs.declared.Entry.TheVariants.{Granted, Freed, Ran}
 use Rattle.smi_station.specs.declared.Order.{Order}
 use Rattle.smi_station.specs.declared.Order.TheVariants as order
 use Rattle.smi_world.specs.Known.{holder_home, record_in, link_in}
@@ -52,13 +52,12 @@ use Rattle.smi_world.specs.World.{Among as IsSent, MayCome, noted}
 use Rattle.smi_world.proofs.GrantKinds.{put_here}
 use Rattle.smi_world.proofs.HearingKinds.{IsHere, all_found, listeners_here, within_epochs}
 use Rattle.smi_world.proofs.KnownFacts.{view_fits, known_sent, known_in_step}
-use Rattle.smi_world.proofs.LinkChanges.{granted_stands}
 use Rattle.smi_world.proofs.Moves.{apart, at_put, at_put_link, put_link_here}
 use Rattle.smi_world.proofs.OrdersLogged.{AllLogged}
 use Rattle.smi_world.proofs.OrderSteps.{orders_issued}
 use Rattle.smi_world.proofs.Started.{at_started}
 use Rattle.smi_world.proofs.StepKinds.{take_new, drop_new, understood, order_here}
-use Rattle.smi_world.proofs.Traces.{Safely, holds_at}
+use Rattle.smi_world.proofs.Traces.{Safely}
 use Rattle.smi_world.proofs.Viewed.{Viewed, keeper_home}
 use Rattle.smi_world.proofs.Views.{body_in_range, request_in_range}
 use Rattle.smi_world.proofs.Working.{At, AllAside, aside_both, all_aside, SameAt, same_at, moved_at, settles_at, renewed}

@@ -1,11 +1,11 @@
 -- How a domain stands to the trace after one of its children's records was told to it.
 use Rattle.std.proofs.Common.{ℕ, suc, zero, ◌≡◌, ◌≤◌, ◌+◌, Bool, true, false, List, [], ◌∷◌, drop, inl, inr, refl, sym, ap, ◌∙◌, subst, arith}
-use Rattle.std.specs.Prelude.{◌==◌, ◌&&◌, ◌++◌, not, Some, if◌then◌else◌}
+use Rattle.std.specs.Prelude.{◌==◌, ◌++◌, not, Some, if◌then◌else◌}
 use Rattle.std.proofs.lemmas.Bool.{and_parts, eqb-true}
 use Rattle.std.proofs.lemmas.Bool.Decides.{nat_tests}
 use Rattle.smi_grant.specs.declared.Command.{Command}
 use Rattle.smi_grant.specs.declared.Holder.{Holder}
-use Rattle.smi_grant.specs.declared.Holder.TheVariants.{Operator, Domain}
+use Rattle.smi_grant.specs.declared.Holder.TheVariants.{Domain}
 use Rattle.smi_grant.specs.Record.{Standing, is_settled, last_epoch}
 use Rattle.smi_tree.specs.Hierarchy.{Hierarchy}
 use Rattle.smi_tree.specs.Lookups.{parent_of}
@@ -18,8 +18,7 @@ use Rattle.smi_command.proofs.Holders.{either, same_self}
 use Rattle.smi_stable.specs.declared.Mode.TheVariants as mode
 use Rattle.smi_stable.specs.Ranges.{is_held}
 use Rattle.smi_stable.specs.Stored.{is_unsettled}
-use Rattle.smi_station.specs.Children.{is_commanded}
-use Rattle.smi_station.specs.Grants.{Grants, put, put_link}
+use Rattle.smi_station.specs.Grants.{Grants, put_link}
 use Rattle.smi_station.specs.GrantStep.{waits_for_children}
 use Rattle.smi_station.specs.Hearing.{learned, parent_heard, ends, ended, ended_record, ended_entries}
 use Rattle.smi_station.specs.declared.Entry.{Entry}

@@ -1,6 +1,6 @@
 -- In every run every domain stands to the trace as it should.
-use Rattle.std.proofs.Common.{ℕ, ◌≡◌, true, false, List, [], ◌∷◌, inl, inr, refl, sym, ap, subst, arith}
-use Rattle.std.specs.Prelude.{◌==◌, ◌++◌, Option, Some, None}
+use Rattle.std.proofs.Common.{ℕ, ◌≡◌, true, false, List, [], inl, inr, refl, sym, subst, arith}
+use Rattle.std.specs.Prelude.{◌==◌, Option, Some, None}
 use Rattle.std.specs.List.{range_with_len}
 use Rattle.std.proofs.lemmas.Bool.{eqb-true}
 use Rattle.std.proofs.lemmas.Bool.Decides.{nat_tests}
@@ -10,7 +10,6 @@ use Rattle.smi_tree.specs.Hierarchy.{Hierarchy}
 use Rattle.smi_tree.specs.Lookups.{station_count}
 use Rattle.smi_command.proofs.Holders.{either}
 use Rattle.smi_station.specs.Display.{Station}
-use Rattle.smi_station.specs.Grants.{Grants, put}
 use Rattle.smi_station.specs.Happening.{Happening}
 use Rattle.smi_station.specs.Messages.{home}
 use Rattle.smi_station.specs.Opening.{opened, opening_entries, saved_only}
@@ -27,7 +26,7 @@ use Rattle.smi_world.proofs.Quiet.{noted_both}
 use Rattle.smi_world.proofs.Traces.{Safely}
 use Rattle.smi_world.proofs.Viewed.{Viewed, viewed}
 use Rattle.smi_world.proofs.Working.{At, all_aside, SameAt, same_at, moved_at}
-use Rattle.smi_world.proofs.WorkSteps.{Working, Local, step_local}
+use Rattle.smi_world.proofs.WorkSteps.{Working, step_local}
 
 working_display : (h : Hierarchy) (w : World) (new past : List Entry) → AllDisplay new → Working h past w → Working h (noted new past) w
 working_display h w new past d k = record {

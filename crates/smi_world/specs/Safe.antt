@@ -72,13 +72,6 @@ SoundRuns h [] = Unit {0}
 SoundRuns h (Ran d e n c ∷ past) = Backed h (Ran d e n c ∷ past) d e n c × SoundRuns h past
 SoundRuns h (other ∷ past) = SoundRuns h past
 
--- each run of a domain that an operator holds is backed: the operator ordered it, once, and no other command under
--- its number, and the grant is current
-abbrev pub SoundOrders : Hierarchy → List Entry → Type 0
-SoundOrders h [] = Unit {0}
-SoundOrders h (Ran d e n c ∷ past) = ((o : ℕ) → holder_at d past ≡ Operator o → Backed h (Ran d e n c ∷ past) d e n c) × SoundOrders h past
-SoundOrders h (other ∷ past) = SoundOrders h past
-
 -- the runs of a domain rise by epoch and number, and those of an epoch are 1, 2 and so on
 abbrev pub IsBehind : ℕ → ℕ → ℕ → List Entry → Type 0
 IsBehind d e n past = (f m : ℕ) (c : Command) → Stands (Ran d f m c) past → (f < e) ⊎ ((f ≡ e) × (m < n))

@@ -12,11 +12,12 @@ ghost use Rattle.smi_grant.specs.Record.{IsRecord};
 ghost use Rattle.smi_message.specs.declared.Body.TheVariants.{Run};
 ghost use Rattle.smi_message.specs.Message.{Message};
 ghost use Rattle.smi_tree.specs.Hierarchy.{Hierarchy};
+ghost use Rattle.smi_tree.specs.Lawful.{IsTree};
 ghost use Rattle.smi_command.specs.declared.Link.TheVariants.{Held};
 ghost use Rattle.smi_command.specs.KnownGrant.{KnownGrant, InStep, IsSpent, Waits};
 ghost use Rattle.smi_station.specs.declared.Entry.{Entry};
 ghost use Rattle.smi_world.specs.Known.{record_in, link_in};
-ghost use Rattle.smi_world.specs.Safe.{RunsInOrder, SafeGrants, SoundOrders};
+ghost use Rattle.smi_world.specs.Safe.{RunsInOrder, SafeGrants, SoundRuns};
 ghost use Rattle.smi_world.specs.Schedule.{World};
 ghost use Rattle.smi_world.specs.World.{Reaches, Among};
 
@@ -41,14 +42,12 @@ pub fn grants_are_safe()
     ensures { (h : Hierarchy) (past : List Entry) (w : World) → Reaches h past w → SafeGrants h past }
 {}
 
-/// In every trace the runs of each domain rise by epoch and number, and those of one grant are 1, 2 and so
-/// on: none runs twice, and none before its turn.
-pub fn runs_are_in_order()
-    ensures { (h : Hierarchy) (past : List Entry) (w : World) → Reaches h past w → RunsInOrder past }
-{}
-
-/// In every trace each run of a domain that an operator holds is backed: the run is under the current grant,
-/// which the operator holds, and the operator ordered this command under its number, once and no other.
-pub fn ordered_runs_are_backed()
-    ensures { (h : Hierarchy) (past : List Entry) (w : World) → Reaches h past w → SoundOrders h past }
+/// In every trace of a tree the runs of each domain rise by epoch and number, and those of one grant are 1, 2
+/// and so on: none runs twice, and none before its turn. And each run is backed at its moment: it is under the
+/// current grant of its domain, which its holder holds; where that is an operator, the operator ordered this
+/// command under its number, once and no other; where it is the domain's parent, the parent is in this very
+/// command, hands it on to this child, commands the child, and is backed in it itself.
+pub fn runs_are_safe()
+    ensures order { (h : Hierarchy) (past : List Entry) (w : World) → Reaches h past w → RunsInOrder past }
+    ensures backed { (h : Hierarchy) (past : List Entry) (w : World) → IsTree h → Reaches h past w → SoundRuns h past }
 {}
