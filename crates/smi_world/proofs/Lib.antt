@@ -27,3 +27,6 @@ pub mod WorkSteps
 pub mod Displayed
 pub mod Works
 pub mod RunsSound
+pub mod Lists
+pub mod Silent
+pub mod Conditions
