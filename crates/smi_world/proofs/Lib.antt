@@ -30,3 +30,4 @@ pub mod RunsSound
 pub mod Lists
 pub mod Silent
 pub mod Conditions
+pub mod Versions
