@@ -31,3 +31,4 @@ pub mod Lists
 pub mod Silent
 pub mod Conditions
 pub mod Versions
+pub mod Shows
