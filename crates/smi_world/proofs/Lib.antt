@@ -32,3 +32,4 @@ pub mod Silent
 pub mod Conditions
 pub mod Versions
 pub mod Shows
+pub mod ShownStep
