@@ -99,7 +99,7 @@ follows h one other old d x = elim (either (same_members one other)) [
 -- Domains and devices of a tree.
 
 module _ (h : Hierarchy) (tree : IsTree h) where
-  row_within : {X : Type 0} (rows : List X) (n : ℕ) (row : X) → entry rows n ≡ Some row → (1 ≤ n) × (n ≤ length rows)
+  pub row_within : {X : Type 0} (rows : List X) (n : ℕ) (row : X) → entry rows n ≡ Some row → (1 ≤ n) × (n ≤ length rows)
   row_within {X = X} rows n row is = elim (either (n == 0)) [
     | inl t ↦ absurd (not_none (sym (ap (λ b. if b then None else slice_get rows (n - 1)) t) ∙ is))
     | inr f ↦ let at = within rows (n - 1) (sym (ap (λ b. if b then None else slice_get rows (n - 1)) f) ∙ is) in positive f at

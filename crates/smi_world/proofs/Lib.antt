@@ -33,3 +33,6 @@ pub mod Conditions
 pub mod Versions
 pub mod Shows
 pub mod ShownStep
+pub mod ShownNotice
+pub mod ShownStart
+pub mod StatesShown
