@@ -1,33 +1,31 @@
 -- How the states of a station's objects change in a step, and that each change is passed on.
 use Rattle.std.proofs.Common.{ℕ, zero, suc, ◌≡◌, ◌≤◌, ◌<◌, ◌+◌, ◌-◌, Bool, true, false, List, [], ◌∷◌, ◌⊎◌, inl, inr, refl, sym, ap, ◌∙◌, subst, arith}
-use Rattle.std.specs.Prelude.{◌==◌, ◌&&◌, ◌++◌, nat_le, not, Option, Some, None, option_map, option_and_then, map, length, slice_get, if◌then◌else◌}
+use Rattle.std.specs.Prelude.{◌==◌, ◌++◌, nat_le, Option, Some, None, option_map, option_and_then, map, length, slice_get, if◌then◌else◌}
 use Rattle.std.specs.Option.{option_map_or}
 use Rattle.std.proofs.lemmas.Bool.{and_parts, eqb-true, leb-true}
 use Rattle.std.proofs.lemmas.Bool.Decides.{nat_tests}
 use Rattle.smi_grant.specs.declared.Command.{Command}
 use Rattle.smi_grant.specs.declared.Command.TheVariants.{Do, Include, Exclude, Manual, Ignore}
-use Rattle.smi_grant.specs.declared.Shown.{Shown}
 use Rattle.smi_grant.specs.Keeper.{admits}
 use Rattle.smi_message.specs.declared.Body.{Body}
 use Rattle.smi_message.specs.declared.Body.TheVariants as body
-use Rattle.smi_message.specs.Message.{Message}
 use Rattle.smi_tree.specs.declared.row.Domain.{Domain as DomainRow}
 use Rattle.smi_tree.specs.declared.row.Device.{Device as DeviceRow}
 use Rattle.smi_tree.specs.Hierarchy.{Hierarchy, entry, is_device_of}
 use Rattle.smi_tree.specs.Lawful.{IsTree}
-use Rattle.smi_tree.specs.Lookups.{domain_count, device_count, parent_of, station_of, devices_of, accepts, unit_state, moved}
+use Rattle.smi_tree.specs.Lookups.{domain_count, parent_of, station_of, devices_of, accepts, unit_state, moved}
 use Rattle.smi_publish.specs.declared.condition.Condition.{Condition}
-use Rattle.smi_publish.specs.Published.{condition, shown, shown_at, differs, change_at, changes_at}
-use Rattle.smi_publish.specs.Publishing.{domain_of, keeper_of, is_kept_by, come_to, reported, device_objects, is_among, acted, evaluated}
+use Rattle.smi_publish.specs.Published.{condition}
+use Rattle.smi_publish.specs.Publishing.{domain_of, is_kept_by, come_to, reported, device_objects, is_among, acted}
 use Rattle.smi_command.proofs.Holders.{either}
 use Rattle.smi_stable.specs.Known.{is_number}
 use Rattle.smi_station.specs.Display.{Display, Station}
 use Rattle.smi_station.specs.Grants.{Grants}
 use Rattle.smi_station.specs.Happening.{Happening, Comes, Orders, Reports, Ticks}
 use Rattle.smi_station.specs.Refusals.{is_keeper, is_body_of, refusal_of, is_report_here}
-use Rattle.smi_station.specs.Showing.{Member, members_of, same_members, domain_of_body, domain_of_happening, moved_by_command, moved_by_body, moved_by, followed}
+use Rattle.smi_station.specs.Showing.{Member, members_of, same_members, domain_of_body, domain_of_happening, moved_by_command, moved_by_body, followed}
 use Rattle.smi_station.specs.Step.{conditions_by, conditions_after}
-use Rattle.smi_world.proofs.Lists.{In, in_first, in_second, in_both, in_mapped, from_mapped, in_numbers, numbers_above, in_any, Apart, same, apart_numbers, apart_moved, apart_added}
+use Rattle.smi_world.proofs.Lists.{In, in_first, in_second, in_mapped, from_mapped, in_numbers, numbers_above, in_any, Apart, same, apart_numbers, apart_moved, apart_added}
 use Rattle.smi_world.proofs.Parents.{parents_are_lower}
 use Rattle.smi_world.proofs.StepKinds.{understood}
 

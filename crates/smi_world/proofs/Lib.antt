@@ -36,3 +36,5 @@ pub mod ShownStep
 pub mod ShownNotice
 pub mod ShownStart
 pub mod StatesShown
+pub mod SafeRuns
+pub mod AtWork

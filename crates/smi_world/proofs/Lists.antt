@@ -1,7 +1,7 @@
 -- What stands in lists, and in traces to which they were noted.
-use Rattle.std.proofs.Common.{ℕ, zero, suc, ◌≡◌, ◌≤◌, ◌<◌, ◌+◌, ◌-◌, Bool, true, false, List, [], ◌∷◌, ◌⊎◌, inl, inr, refl, sym, ap, ◌∙◌, subst, arith}
-use Rattle.std.specs.Prelude.{◌==◌, ◌||◌, ◌++◌, Option, Some, None, map, length, slice_get, if◌then◌else◌}
-use Rattle.std.specs.List.{cons_option, list_any, filter_map, flat_map, range_with_len}
+use Rattle.std.proofs.Common.{ℕ, zero, suc, ◌≡◌, ◌≤◌, ◌<◌, ◌+◌, Bool, true, false, List, [], ◌∷◌, ◌⊎◌, inl, inr, refl, sym, ap, ◌∙◌, subst, arith}
+use Rattle.std.specs.Prelude.{◌==◌, ◌||◌, ◌++◌, Option, Some, None, map, slice_get, if◌then◌else◌}
+use Rattle.std.specs.List.{cons_option, list_any, filter_map, range_with_len}
 use Rattle.std.proofs.lemmas.Bool.{eqb-true}
 use Rattle.smi_tree.specs.Lookups.{numbers_from}
 use Rattle.smi_command.proofs.Holders.{either}

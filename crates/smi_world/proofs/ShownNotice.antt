@@ -1,6 +1,6 @@
 -- What a station makes of what comes, as far as states go.
-use Rattle.std.proofs.Common.{ℕ, ◌≡◌, ◌≤◌, ◌+◌, Bool, true, false, List, [], ◌∷◌, ◌⊎◌, inl, inr, refl, sym, ap, ◌∙◌, subst, arith}
-use Rattle.std.specs.Prelude.{◌==◌, ◌&&◌, nat_lt, not, Option, Some, None, option_map, map, if◌then◌else◌}
+use Rattle.std.proofs.Common.{ℕ, ◌≡◌, ◌≤◌, ◌+◌, Bool, true, false, List, [], ◌⊎◌, inl, inr, refl, sym, ap, ◌∙◌, subst, arith}
+use Rattle.std.specs.Prelude.{◌==◌, ◌&&◌, nat_lt, not, Option, Some, None, option_map, if◌then◌else◌}
 use Rattle.std.proofs.lemmas.Bool.{eqb-true}
 use Rattle.std.proofs.lemmas.Bool.Decides.{nat_tests}
 use Rattle.smi_grant.specs.declared.Shown.{Shown}
@@ -20,24 +20,23 @@ use Rattle.smi_view.specs.Accepting.{is_newer_than_last, acceptance, last_after}
 use Rattle.smi_watchers.specs.declared.Watcher.{Watcher}
 use Rattle.smi_watchers.specs.Watching.{watcher, listed}
 use Rattle.smi_station.specs.Display.{Display, Station}
-use Rattle.smi_station.specs.Grants.{Grants}
 use Rattle.smi_station.specs.GrantsOf.{grant_step}
 use Rattle.smi_station.specs.Happening.{Happening, Comes, Orders, Reports, Ticks}
 use Rattle.smi_station.specs.Refusals.{is_body_of, refusal_of_message, refusal_of}
 use Rattle.smi_station.specs.Showing.{domain_of_happening, passed_in}
 use Rattle.smi_station.specs.Step.{body_noticed, notice, conditions_after, answered_or}
-use Rattle.smi_station.specs.Watching.{Notice, unnoticed, noticed, is_watched, is_child_unit, watch_comes, unwatch_comes, told_state, showed_if, state_comes, order_noticed}
+use Rattle.smi_station.specs.Watching.{Notice, unnoticed, is_watched, is_child_unit, watch_comes, unwatch_comes, told_state, showed_if, state_comes, order_noticed}
 use Rattle.smi_station.specs.declared.Entry.{Entry}
 use Rattle.smi_station.specs.declared.Entry.TheVariants.{Passed}
 use Rattle.smi_station.specs.declared.Order.{Order}
 use Rattle.smi_station.specs.declared.Order.TheVariants as order
 use Rattle.smi_world.specs.Safe.{IsNewer, NotOlderThanShown}
 use Rattle.smi_world.specs.Schedule.{World}
-use Rattle.smi_world.specs.Trace.{Stands}
+use Rattle.smi_world.specs.Trace.{Stands, before_start}
 use Rattle.smi_world.specs.World.{Among as IsSent, MayCome}
-use Rattle.smi_world.proofs.Conditions.{Changed, MovesAmong, objects_of, Follows, may_change, all_follows}
+use Rattle.smi_world.proofs.Conditions.{Changed, objects_of, Follows, all_follows}
 use Rattle.smi_world.proofs.Lists.{In, in_chosen, from_chosen, Apart, apart_chosen}
-use Rattle.smi_world.proofs.Shows.{before_start, ToldWell, Shows, object_of}
+use Rattle.smi_world.proofs.Shows.{ToldWell, Shows, object_of}
 use Rattle.smi_world.proofs.ShownStep.{Next, Acts}
 use Rattle.smi_world.proofs.Silent.{kept_silent}
 use Rattle.smi_world.proofs.Versions.{newer_than, from_watched, from_unwatched, Somewhere}

@@ -1,8 +1,8 @@
 -- A start keeps what is known of the states that are shown.
 use Rattle.std.proofs.Common.{ℕ, zero, suc, ◌≡◌, ◌≤◌, ◌<◌, ◌+◌, ◌-◌, Bool, true, false, List, [], ◌∷◌, ◌⊎◌, inl, inr, refl, sym, ap, ◌∙◌, subst, arith}
-use Rattle.std.specs.Prelude.{◌==◌, ◌++◌, nat_le, Option, Some, None, option_map, option_and_then, map, length, replicate, slice_get, unwrap_or, if◌then◌else◌}
+use Rattle.std.specs.Prelude.{◌==◌, nat_le, Option, Some, None, option_map, option_and_then, map, replicate, slice_get, unwrap_or, if◌then◌else◌}
 use Rattle.std.specs.Option.{option_map_or}
-use Rattle.std.specs.List.{filter_map, flat_map, range_with_len}
+use Rattle.std.specs.List.{range_with_len}
 use Rattle.std.proofs.lemmas.Bool.{eqb-true, leb-true}
 use Rattle.std.proofs.lemmas.Bool.Decides.{nat_tests}
 use Rattle.smi_grant.specs.declared.Shown.{Shown}
@@ -16,24 +16,23 @@ use Rattle.smi_tree.specs.Lawful.{IsTree}
 use Rattle.smi_tree.specs.Lookups.{domain_count, device_count, station_of, first_state}
 use Rattle.smi_publish.specs.declared.condition.Condition.{Condition}
 use Rattle.smi_publish.specs.Published.{condition, shown, shown_at}
-use Rattle.smi_publish.specs.Publishing.{domain_of, keeper_of, is_kept_by, first_condition}
+use Rattle.smi_publish.specs.Publishing.{is_kept_by, first_condition}
 use Rattle.smi_command.proofs.Holders.{either}
 use Rattle.smi_view.specs.Accepting.{is_newer_than_last}
 use Rattle.smi_watchers.specs.declared.Watcher.{Watcher}
 use Rattle.smi_watchers.specs.Watching.{watcher, listed}
 use Rattle.smi_station.specs.Display.{Station}
-use Rattle.smi_station.specs.Grants.{put}
-use Rattle.smi_station.specs.Opening.{object_count, opened, all_shown, opening_entries}
+use Rattle.smi_station.specs.Opening.{object_count, opened, all_shown}
 use Rattle.smi_station.specs.declared.Entry.{Entry}
 use Rattle.smi_station.specs.declared.Entry.TheVariants as entry_
 use Rattle.smi_station.specs.declared.Entry.TheVariants.{Booted, Passed}
-use Rattle.smi_world.specs.Safe.{IsNewer, IsNotOlder, NotOlderThanShown, NewerThanShown, ShownWell}
+use Rattle.smi_world.specs.Safe.{IsNewer, NotOlderThanShown, NewerThanShown}
 use Rattle.smi_world.specs.Schedule.{World}
 use Rattle.smi_world.specs.Trace.{Stands}
 use Rattle.smi_world.specs.World.{Among as IsSent, with_station, noted}
 use Rattle.smi_world.proofs.Conditions.{row_within}
 use Rattle.smi_world.proofs.Lists.{In, in_mapped, in_chosen, from_chosen, in_range, Apart, apart_range, apart_chosen, stands_noted, stands_new}
-use Rattle.smi_world.proofs.Shows.{before_start, state_of, ToldWell, IsNewest, Shows, object_of, well_passed, before_start_there, before_passed_all, newer_passed_all, from_passed_all}
+use Rattle.smi_world.proofs.Shows.{state_of, ToldWell, IsNewest, Shows, object_of, well_passed, before_start_there, before_passed_all, newer_passed_all, from_passed_all}
 use Rattle.smi_world.proofs.ShownStep.{kept_once}
 use Rattle.smi_world.proofs.Versions.{is_newer_by}
 

@@ -1,6 +1,6 @@
 -- A step of one station keeps what is known of the states that are shown.
-use Rattle.std.proofs.Common.{ℕ, ◌≡◌, ◌≤◌, ◌<◌, ◌+◌, Bool, true, false, List, [], ◌∷◌, ◌⊎◌, inl, inr, refl, sym, ap, ◌∙◌, subst, arith}
-use Rattle.std.specs.Prelude.{◌==◌, ◌++◌, Option, Some, None, option_and_then, map, if◌then◌else◌}
+use Rattle.std.proofs.Common.{ℕ, ◌≡◌, ◌≤◌, ◌+◌, true, false, List, ◌⊎◌, inl, inr, refl, sym, ap, ◌∙◌, subst, arith}
+use Rattle.std.specs.Prelude.{◌==◌, Option, Some, None, map}
 use Rattle.std.specs.Option.{option_map_or}
 use Rattle.std.proofs.lemmas.Bool.{eqb-true}
 use Rattle.std.proofs.lemmas.Bool.Decides.{nat_tests}
@@ -16,17 +16,16 @@ use Rattle.smi_command.proofs.Holders.{either}
 use Rattle.smi_view.specs.Accepting.{is_newer_than_last}
 use Rattle.smi_watchers.specs.Watching.{watcher, listed}
 use Rattle.smi_station.specs.Display.{Station}
-use Rattle.smi_station.specs.Grants.{put}
 use Rattle.smi_station.specs.Step.{showed_entries}
 use Rattle.smi_station.specs.declared.Entry.{Entry}
 use Rattle.smi_station.specs.declared.Entry.TheVariants as entry
 use Rattle.smi_station.specs.declared.Entry.TheVariants.{Showed, Passed}
-use Rattle.smi_world.specs.Safe.{IsNewer, IsNotOlder, NotOlderThanShown, NewerThanShown, ShownWell}
+use Rattle.smi_world.specs.Safe.{IsNewer, NotOlderThanShown, NewerThanShown, ShownWell}
 use Rattle.smi_world.specs.Schedule.{World}
-use Rattle.smi_world.specs.Trace.{Stands}
+use Rattle.smi_world.specs.Trace.{Stands, before_start}
 use Rattle.smi_world.specs.World.{Among as IsSent, with_station, noted}
 use Rattle.smi_world.proofs.Lists.{In, in_mapped, Apart, stands_noted, stands_new}
-use Rattle.smi_world.proofs.Shows.{before_start, state_of, ToldWell, IsNewest, Shows, not_older_at_all, object_of, well_passed, before_passed_all, newer_passed_all, from_passed_all}
+use Rattle.smi_world.proofs.Shows.{state_of, ToldWell, IsNewest, Shows, not_older_at_all, object_of, well_passed, before_passed_all, newer_passed_all, from_passed_all}
 use Rattle.smi_world.proofs.Versions.{is_newer_by, newer_than, Somewhere}
 
 -- an object changes: its next condition

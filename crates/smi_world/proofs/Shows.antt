@@ -1,6 +1,6 @@
 -- What is known, in every run, of the states that stations pass through, tell and are shown.
-use Rattle.std.proofs.Common.{ℕ, ◌≡◌, ◌≤◌, ◌<◌, ◌+◌, Bool, true, false, List, [], ◌∷◌, ◌⊎◌, inl, inr, refl, sym, ap, ◌∙◌, subst, arith}
-use Rattle.std.specs.Prelude.{◌==◌, ◌++◌, Option, Some, None, map, if◌then◌else◌}
+use Rattle.std.proofs.Common.{ℕ, ◌≡◌, ◌≤◌, Bool, true, false, List, [], ◌∷◌, ◌⊎◌, inl, inr, refl, sym, ap, ◌∙◌, subst, arith}
+use Rattle.std.specs.Prelude.{◌==◌, Some, map, if◌then◌else◌}
 use Rattle.std.proofs.lemmas.Bool.{eqb-true}
 use Rattle.std.proofs.lemmas.Bool.Decides.{nat_tests}
 use Rattle.smi_grant.specs.declared.Shown.{Shown}
@@ -10,30 +10,19 @@ use Rattle.smi_message.specs.Message.{Message}
 use Rattle.smi_tree.specs.Hierarchy.{Hierarchy}
 use Rattle.smi_publish.specs.declared.condition.Condition.{Condition}
 use Rattle.smi_publish.specs.Published.{shown}
-use Rattle.smi_publish.specs.Publishing.{keeper_of, is_kept_by}
+use Rattle.smi_publish.specs.Publishing.{is_kept_by}
 use Rattle.smi_command.proofs.Holders.{either}
 use Rattle.smi_view.specs.Accepting.{is_newer_than_last}
-use Rattle.smi_watchers.specs.declared.Watcher.{Watcher}
 use Rattle.smi_watchers.specs.Watching.{watcher, listed}
-use Rattle.smi_station.specs.Display.{Display, Station}
-use Rattle.smi_station.specs.Grants.{put}
-use Rattle.smi_station.specs.Step.{showed_entries}
 use Rattle.smi_station.specs.declared.Entry.{Entry}
 use Rattle.smi_station.specs.declared.Entry.TheVariants as entry
 use Rattle.smi_station.specs.declared.Entry.TheVariants.{Booted, Granted, Freed, Ordered, Ran, Learned, LetGo, InMode, Settled, Showed, Passed, Told}
 use Rattle.smi_world.specs.Safe.{IsNewer, IsNotOlder, NotOlderThanShown, NewerThanShown, StateFits, ShownWell}
 use Rattle.smi_world.specs.Schedule.{World}
-use Rattle.smi_world.specs.Trace.{Stands}
-use Rattle.smi_world.specs.World.{Among as IsSent, with_station, noted}
-use Rattle.smi_world.proofs.Lists.{In, in_mapped, from_mapped, Apart, stands_noted, stands_new, from_noted}
+use Rattle.smi_world.specs.Trace.{Stands, before_start}
+use Rattle.smi_world.specs.World.{Among as IsSent, noted}
+use Rattle.smi_world.proofs.Lists.{In, from_mapped, Apart, from_noted}
 use Rattle.smi_world.proofs.Silent.{IsSilent, AllSilent}
-use Rattle.smi_world.proofs.Versions.{is_newer_by, newer_than, Somewhere}
-
--- the trace before the last start of a station
-unfoldable pub before_start : ℕ → List Entry → List Entry
-before_start s [] = []
-before_start s (Booted t b ∷ past) = if t == s then past else before_start s past
-before_start s (other ∷ past) = before_start s past
 
 -- an object in a state, in a version
 abbrev pub state_of : ℕ → Version → ℕ → Shown

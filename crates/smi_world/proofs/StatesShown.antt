@@ -1,13 +1,11 @@
 -- In every run of a tree what stations are shown was passed through, and never goes back.
-use Rattle.std.proofs.Common.{ℕ, zero, suc, ◌≡◌, ◌≤◌, ◌<◌, ◌+◌, Bool, true, false, List, [], ◌∷◌, ◌⊎◌, inl, inr, refl, sym, ap, ◌∙◌, subst, arith}
-use Rattle.std.specs.Prelude.{◌==◌, ◌++◌, Option, Some, None, option_map, option_and_then, map, replicate, slice_get, unwrap_or, if◌then◌else◌}
+use Rattle.std.proofs.Common.{ℕ, ◌≡◌, ◌≤◌, Bool, true, false, List, [], ◌∷◌, inl, inr, refl, sym, ap, ◌∙◌, subst, arith}
+use Rattle.std.specs.Prelude.{◌==◌, ◌++◌, Option, Some, None, option_map, option_and_then, map, if◌then◌else◌}
 use Rattle.std.specs.Option.{option_map_or}
 use Rattle.std.specs.List.{flat_map, range_with_len}
 use Rattle.std.proofs.lemmas.Bool.{eqb-true}
-use Rattle.std.proofs.lemmas.Bool.Decides.{nat_tests}
 use Rattle.smi_grant.specs.declared.Shown.{Shown}
 use Rattle.smi_grant.specs.declared.Version.{Version}
-use Rattle.smi_message.specs.declared.Body.{Body}
 use Rattle.smi_message.specs.declared.Body.TheVariants as body
 use Rattle.smi_message.specs.Message.{Message}
 use Rattle.smi_tree.specs.declared.row.Domain.{Domain as DomainRow}
@@ -15,12 +13,12 @@ use Rattle.smi_tree.specs.Hierarchy.{Hierarchy, entry}
 use Rattle.smi_tree.specs.Lawful.{IsTree}
 use Rattle.smi_tree.specs.Lookups.{station_count, station_of}
 use Rattle.smi_publish.specs.declared.condition.Condition.{Condition}
-use Rattle.smi_publish.specs.Published.{shown, shown_at}
+use Rattle.smi_publish.specs.Published.{shown}
 use Rattle.smi_publish.specs.Publishing.{domain_of, is_kept_by}
 use Rattle.smi_command.proofs.Holders.{either}
 use Rattle.smi_view.specs.Accepting.{is_newer_than_last}
 use Rattle.smi_watchers.specs.Watching.{watcher, listed}
-use Rattle.smi_station.specs.Display.{Display, Station}
+use Rattle.smi_station.specs.Display.{Station}
 use Rattle.smi_station.specs.Grants.{Grants, no_grants, put}
 use Rattle.smi_station.specs.GrantsOf.{grant_step}
 use Rattle.smi_station.specs.Happening.{Happening, told_entries}
@@ -35,19 +33,18 @@ use Rattle.smi_station.specs.declared.Answer.{Answer}
 use Rattle.smi_station.specs.declared.Entry.{Entry}
 use Rattle.smi_station.specs.declared.Entry.TheVariants as entry_
 use Rattle.smi_station.specs.declared.Entry.TheVariants.{Showed, Passed}
-use Rattle.smi_world.specs.Safe.{IsNotOlder, NotOlderThanShown, NewerThanShown, ShownWell}
+use Rattle.smi_world.specs.Safe.{IsNotOlder}
 use Rattle.smi_world.specs.Schedule.{World, first_world, opening_of}
 use Rattle.smi_world.specs.Trace.{Stands}
-use Rattle.smi_world.specs.World.{Among as IsSent, MayCome, with_station, with_sent, noted, Step, sends, steps, stops, halts, starts, Reaches, opens, goes_on}
-use Rattle.smi_world.proofs.Conditions.{row_within}
+use Rattle.smi_world.specs.World.{MayCome, with_station, with_sent, noted, Step, sends, steps, stops, halts, starts, Reaches, opens, goes_on}
 use Rattle.smi_world.proofs.GrantKinds.{put_here}
 use Rattle.smi_world.proofs.Lists.{In, in_range, Apart, same, apart_range}
 use Rattle.smi_world.proofs.Quiet.{noted_both}
-use Rattle.smi_world.proofs.Shows.{before_start, state_of, ToldWell, IsNewest, Shows, shows_silent, stands_before, showed_passed}
+use Rattle.smi_world.proofs.Shows.{state_of, ToldWell, IsNewest, Shows, shows_silent, stands_before, showed_passed}
 use Rattle.smi_world.proofs.ShownNotice.{acts, rests}
 use Rattle.smi_world.proofs.ShownStart.{first_kept, none_listed, shows_started}
-use Rattle.smi_world.proofs.ShownStep.{Acts, acted}
-use Rattle.smi_world.proofs.Silent.{AllSilent, Silently, kept_silent}
+use Rattle.smi_world.proofs.ShownStep.{acted}
+use Rattle.smi_world.proofs.Silent.{AllSilent, kept_silent}
 use Rattle.smi_world.proofs.Versions.{in_place}
 use Rattle.smi_world.proofs.Viewed.{sent_or}
 

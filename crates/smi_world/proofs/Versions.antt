@@ -1,11 +1,10 @@
 -- Versions are ordered, and who watches an object came by a watch.
-use Rattle.std.proofs.Common.{ℕ, zero, suc, ◌≡◌, ◌≤◌, ◌<◌, ◌+◌, ◌-◌, Bool, true, false, List, [], ◌∷◌, ◌⊎◌, inl, inr, refl, sym, ap, ◌∙◌, subst, arith}
-use Rattle.std.specs.Prelude.{◌==◌, ◌&&◌, ◌||◌, nat_lt, nat_le, max, not, Option, Some, None, map, filter, slice_get, slice_set, unwrap_or, if◌then◌else◌}
+use Rattle.std.proofs.Common.{ℕ, zero, suc, ◌≡◌, ◌<◌, ◌-◌, Bool, true, false, List, [], ◌∷◌, ◌⊎◌, inl, inr, refl, sym, ap, ◌∙◌, subst, arith}
+use Rattle.std.specs.Prelude.{◌==◌, ◌&&◌, ◌||◌, nat_lt, max, not, Option, Some, None, map, filter, slice_get, slice_set, unwrap_or, if◌then◌else◌}
 use Rattle.std.proofs.lemmas.Bool.{and_parts, eqb-true, ltb-true}
 use Rattle.std.proofs.lemmas.Bool.Decides.{nat_tests}
 use Rattle.smi_grant.specs.declared.Version.{Version}
 use Rattle.smi_command.proofs.Holders.{either}
-use Rattle.smi_view.specs.Accepting.{is_newer}
 use Rattle.smi_watchers.specs.declared.Watcher.{Watcher}
 use Rattle.smi_watchers.specs.Watching.{watcher, is_of, others_of, renewed_by, watch_in, is_ended_by, unwatch_in, listed, with_list, watched, unwatched, left_by}
 use Rattle.smi_station.specs.Display.{Display}

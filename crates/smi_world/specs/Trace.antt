@@ -7,7 +7,7 @@ use Rattle.smi_grant.specs.Holder.{same_holder}
 use Rattle.smi_stable.specs.declared.Mode.{Mode}
 use Rattle.smi_stable.specs.declared.Mode.TheVariants.{Included}
 use Rattle.smi_station.specs.declared.Entry.{Entry}
-use Rattle.smi_station.specs.declared.Entry.TheVariants.{Granted, Freed, Ordered, Ran, Learned, LetGo, InMode, Settled}
+use Rattle.smi_station.specs.declared.Entry.TheVariants.{Booted, Granted, Freed, Ordered, Ran, Learned, LetGo, InMode, Settled}
 
 -- the entry stands in the trace
 abbrev pub Stands : Entry → List Entry → Type 0
@@ -69,3 +69,9 @@ unfoldable pub runs_under : ℕ → ℕ → List Entry → ℕ
 runs_under d e [] = 0
 runs_under d e (Ran x f n c ∷ past) = if x == d && f == e then runs_under d e past + 1 else runs_under d e past
 runs_under d e (other ∷ past) = runs_under d e past
+
+-- the trace before the last start of a station
+unfoldable pub before_start : ℕ → List Entry → List Entry
+before_start s [] = []
+before_start s (Booted t b ∷ past) = if t == s then past else before_start s past
+before_start s (other ∷ past) = before_start s past

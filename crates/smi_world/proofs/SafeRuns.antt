@@ -1,0 +1,21 @@
+-- Every run of a tree is safe.
+use Rattle.std.proofs.Common.{List}
+use Rattle.smi_tree.specs.Hierarchy.{Hierarchy}
+use Rattle.smi_tree.specs.Lawful.{IsTree}
+use Rattle.smi_station.specs.declared.Entry.{Entry}
+use Rattle.smi_world.specs.Safe.{Safe}
+use Rattle.smi_world.specs.Schedule.{World}
+use Rattle.smi_world.specs.World.{Reaches}
+use Rattle.smi_world.proofs.GrantsSafe.{safe_grants}
+use Rattle.smi_world.proofs.Parents.{parents_are_lower}
+use Rattle.smi_world.proofs.RunsOrdered.{runs_in_order}
+use Rattle.smi_world.proofs.RunsSound.{sound_runs}
+use Rattle.smi_world.proofs.StatesShown.{shows}
+
+pub run_safe : (h : Hierarchy) → IsTree h → (past : List Entry) (w : World) → Reaches h past w → Safe h past
+run_safe h tree past w run = record {
+  grants = safe_grants h past w run;
+  runs = sound_runs h (parents_are_lower h tree) past w run;
+  order = runs_in_order h past w run;
+  states = (shows h tree past w run).well;
+}
