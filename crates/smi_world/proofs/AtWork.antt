@@ -22,11 +22,11 @@ use Rattle.smi_world.specs.Schedule.{World}
 use Rattle.smi_world.specs.Trace.{mode_at, InWork}
 use Rattle.smi_world.specs.World.{Reaches}
 use Rattle.smi_world.proofs.GrantsSafe.{safely}
-use Rattle.smi_world.proofs.KnownFacts.{view_fits, known_in_step}
+use Rattle.smi_world.proofs.KnownFacts.{known_in_step}
 use Rattle.smi_world.proofs.OrdersLogged.{logged}
 use Rattle.smi_world.proofs.OrderSteps.{orders_issued}
 use Rattle.smi_world.proofs.Parents.{held_by_parent}
-use Rattle.smi_world.proofs.Viewed.{viewed}
+use Rattle.smi_world.proofs.Viewed.{viewed, view_fits}
 use Rattle.smi_world.proofs.Works.{works}
 use Rattle.smi_world.proofs.WorkSteps.{busy_pending, waiting_one}
 

@@ -21,7 +21,7 @@ use Rattle.smi_world.specs.Known.{holder_home}
 use Rattle.smi_world.specs.Safe.{SafeGrants}
 use Rattle.smi_world.specs.Schedule.{World, first_world, opening_of}
 use Rattle.smi_world.specs.Trace.{Stands, epoch_at, holder_at, has_learned}
-use Rattle.smi_world.specs.World.{MayCome, with_station, with_sent, noted, Step, sends, steps, stops, halts, starts, Reaches, opens, goes_on}
+use Rattle.smi_world.specs.World.{MayCome, with_station, with_sent, noted, Step, sends, steps, stops, tells, halts, starts, Reaches, opens, goes_on}
 use Rattle.smi_world.proofs.Changes.{same_grant, same_link}
 use Rattle.smi_world.proofs.Displayed.{quiet_display, after_display, opening_display, openings_display}
 use Rattle.smi_world.proofs.GrantKinds.{GrantKind, silently, kind_safely}
@@ -88,7 +88,7 @@ module _ (h : Hierarchy) (past : List Entry) (w : World) (number : ℕ) (m : Mes
 -- Every step, and every run.
 
 step_safely : (h : Hierarchy) (past : List Entry) (w : World) (new : List Entry) (next : World) → Step h w new next → Viewed h w → Viewed h next → Safely h past w → Safely h (noted new past) next
-step_safely h past w new next (sends number m range may) v n s = record { traces = sent_traces h past w number m may.2 s.traces; safe = s.safe }
+step_safely h past w new next (sends number m may) v n s = record { traces = sent_traces h past w number m may.2 s.traces; safe = s.safe }
 step_safely h past w new next (steps number what runs may) v n s =
     let o = refusal_of h number (w.stations number).grants what in
     let out = after_happening h number (w.stations number) what in
@@ -98,6 +98,7 @@ step_safely h past w new next (steps number what runs may) v n s =
 step_safely h past w new next (stops number what runs may) v n s =
     let o = refusal_of h number (w.stations number).grants what in
     kind_safely h past w number (saved_only h number (w.stations number) what) (after_happening h number (w.stations number) what).kept (kept_kind h w number what may v o refl) v n s
+step_safely h past w new next (tells o what) v n s = safely_quiet h w v new past (tt, tt) s
 step_safely h past w new next (halts number) v n s =
     kind_safely h past w number (record (w.stations number) { is_stopped = true }) [] (silently [] tt (λ d. same_grant ((w.stations number).grants.records d)) (λ me d. same_link ((w.stations number).grants.links me d))) v n s
 step_safely h past w new next (starts number boots) v n s =

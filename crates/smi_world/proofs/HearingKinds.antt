@@ -27,11 +27,10 @@ use Rattle.smi_world.specs.Known.{holder_home, record_in, link_in}
 use Rattle.smi_world.specs.Schedule.{World}
 use Rattle.smi_world.proofs.Changes.{SameGrant, same_grant, SameLink, same_link}
 use Rattle.smi_world.proofs.GrantKinds.{GrantKind, silently, learning, SameRecords}
-use Rattle.smi_world.proofs.KnownFacts.{view_fits}
 use Rattle.smi_world.proofs.Moves.{at_put, at_put_link, put_link_here}
 use Rattle.smi_world.proofs.Quiet.{AllQuiet, quiet_both}
 use Rattle.smi_world.proofs.Traces.{holds_at}
-use Rattle.smi_world.proofs.Viewed.{Viewed, keeper_home}
+use Rattle.smi_world.proofs.Viewed.{Viewed, keeper_home, view_fits}
 
 -- One link.
 

@@ -17,13 +17,7 @@ use Rattle.smi_world.specs.Known.{record_in, link_in}
 use Rattle.smi_world.specs.Schedule.{World}
 use Rattle.smi_world.specs.World.{Among as IsSent}
 use Rattle.smi_world.proofs.Views.{Covers}
-use Rattle.smi_world.proofs.Viewed.{View, Viewed}
-
--- the facts on the pair, said of the world
-pub view_fits : (h : Hierarchy) (w : World) (d : ℕ) (me : Holder) → is_free me ≡ false → (v : View h w d me) → Fits (record_in h w d) me (link_in h w me d) (reached me v.events).sent
-view_fits h w d me party v =
-    subst (λ l. Fits (record_in h w d) me l (reached me v.events).sent) v.link
-    (subst (λ r. Fits r me (reached me v.events).link (reached me v.events).sent) v.kept (reached_well me v.events party).fits)
+use Rattle.smi_world.proofs.Viewed.{View, Viewed, view_fits}
 
 pub known_lawful : (h : Hierarchy) (w : World) (d : ℕ) → Viewed h w → IsRecord (record_in h w d)
 known_lawful h w d v = (view_fits h w d (Operator 1) refl (v.each d (Operator 1))).lawful

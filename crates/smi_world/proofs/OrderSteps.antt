@@ -42,10 +42,9 @@ use Rattle.smi_world.specs.Known.{holder_home, record_in, link_in}
 use Rattle.smi_world.specs.Schedule.{World}
 use Rattle.smi_world.specs.Trace.{orders_of}
 use Rattle.smi_world.proofs.HearingKinds.{IsHere, all_found, listeners_here, within_epochs}
-use Rattle.smi_world.proofs.KnownFacts.{view_fits}
 use Rattle.smi_world.proofs.Moves.{at_put_link, put_link_here}
 use Rattle.smi_world.proofs.StepKinds.{order_here}
-use Rattle.smi_world.proofs.Viewed.{Viewed}
+use Rattle.smi_world.proofs.Viewed.{Viewed, view_fits}
 
 -- the commands that an operator has issued for a domain
 unfoldable pub issued_at : ℕ → ℕ → List Entry → List Job

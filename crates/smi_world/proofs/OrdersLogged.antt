@@ -21,7 +21,7 @@ use Rattle.smi_station.specs.declared.Entry.{Entry}
 use Rattle.smi_station.specs.declared.Entry.TheVariants as entry
 use Rattle.smi_world.specs.Known.{holder_home, link_in}
 use Rattle.smi_world.specs.Schedule.{World, first_world, opening_of}
-use Rattle.smi_world.specs.World.{with_station, noted, Step, sends, steps, stops, halts, starts, Reaches, opens, goes_on}
+use Rattle.smi_world.specs.World.{with_station, noted, Step, sends, steps, stops, tells, halts, starts, Reaches, opens, goes_on}
 use Rattle.smi_world.proofs.Displayed.{orders_display, after_display, opening_display, openings_display}
 use Rattle.smi_world.proofs.GrantKinds.{put_here}
 use Rattle.smi_world.proofs.KnownFacts.{known_in_step}
@@ -116,7 +116,7 @@ kept_order h w number what v (Some code) is = no_order [] tt (λ o d. calm_same 
 kept_order h w number what v None is = step_order h w number what v is
 
 step_logged : (h : Hierarchy) (past : List Entry) (w : World) (new : List Entry) (next : World) → Step h w new next → Viewed h w → AllLogged h past w → AllLogged h (noted new past) next
-step_logged h past w new next (sends number m range may) v l = l
+step_logged h past w new next (sends number m may) v l = l
 step_logged h past w new next (steps number what runs may) v l =
     let o = refusal_of h number (w.stations number).grants what in
     let out = after_happening h number (w.stations number) what in
@@ -126,6 +126,7 @@ step_logged h past w new next (steps number what runs may) v l =
 step_logged h past w new next (stops number what runs may) v l =
     let o = refusal_of h number (w.stations number).grants what in
     logged_step h w number (saved_only h number (w.stations number) what) (after_happening h number (w.stations number) what).kept past (kept_order h w number what v o refl) v l
+step_logged h past w new next (tells o what) v l = logged_no h w new past (tt, tt) l
 step_logged h past w new next (halts number) v l =
     logged_step h w number (record (w.stations number) { is_stopped = true }) [] past (no_order [] tt (λ o d. calm_same ((w.stations number).grants.links (Operator o) d))) v l
 step_logged h past w new next (starts number boots) v l =

@@ -20,7 +20,7 @@ use Rattle.smi_station.specs.declared.Entry.TheVariants as entry
 use Rattle.smi_world.specs.Known.{record_in}
 use Rattle.smi_world.specs.Safe.{RunsInOrder}
 use Rattle.smi_world.specs.Schedule.{World, first_world, opening_of}
-use Rattle.smi_world.specs.World.{with_station, noted, Step, sends, steps, stops, halts, starts, Reaches, opens, goes_on}
+use Rattle.smi_world.specs.World.{with_station, noted, Step, sends, steps, stops, tells, halts, starts, Reaches, opens, goes_on}
 use Rattle.smi_world.proofs.Displayed.{none_display, after_display, opening_display, openings_display}
 use Rattle.smi_world.proofs.GrantKinds.{put_here}
 use Rattle.smi_world.proofs.Moves.{at_put}
@@ -84,7 +84,7 @@ kept_run h w number what None is = step_run h number (w.stations number).grants 
 -- Every step, and every run.
 
 step_counted : (h : Hierarchy) (past : List Entry) (w : World) (new : List Entry) (next : World) → Step h w new next → Counted h past w → Counted h (noted new past) next
-step_counted h past w new next (sends number m range may) c = record { count = c.count; bound = c.bound; order = c.order }
+step_counted h past w new next (sends number m may) c = record { count = c.count; bound = c.bound; order = c.order }
 step_counted h past w new next (steps number what runs may) c =
     let o = refusal_of h number (w.stations number).grants what in
     let out = after_happening h number (w.stations number) what in
@@ -94,6 +94,7 @@ step_counted h past w new next (steps number what runs may) c =
 step_counted h past w new next (stops number what runs may) c =
     let o = refusal_of h number (w.stations number).grants what in
     counted_step h w number (saved_only h number (w.stations number) what) (HasCome what) (after_happening h number (w.stations number) what).kept past (kept_run h w number what o refl) c
+step_counted h past w new next (tells o what) c = counted_none h w new past (tt, tt) c
 step_counted h past w new next (halts number) c =
     counted_step h w number (record (w.stations number) { is_stopped = true }) (λ b. ⊥) [] past (no_run [] tt (λ d. same_last ((w.stations number).grants.records d))) c
 step_counted h past w new next (starts number boots) c =

@@ -30,10 +30,10 @@ use Rattle.smi_world.specs.Known.{record_in, link_in}
 use Rattle.smi_world.specs.Safe.{IsGrantNow, Backed, by_operator, by_parent, SoundRuns}
 use Rattle.smi_world.specs.Schedule.{World, opening_of}
 use Rattle.smi_world.specs.Trace.{epoch_at, has_learned, orders_of, mode_at, InWork}
-use Rattle.smi_world.specs.World.{Among as IsSent, MayCome, noted, Step, sends, steps, stops, halts, starts, Reaches, opens, goes_on}
+use Rattle.smi_world.specs.World.{Among as IsSent, MayCome, noted, Step, sends, steps, stops, tells, halts, starts, Reaches, opens, goes_on}
 use Rattle.smi_world.proofs.Displayed.{none_display, after_display, opening_display, openings_display}
 use Rattle.smi_world.proofs.GrantsSafe.{safely}
-use Rattle.smi_world.proofs.KnownFacts.{view_fits, known_sent}
+use Rattle.smi_world.proofs.KnownFacts.{known_sent}
 use Rattle.smi_world.proofs.OrdersLogged.{AllLogged, logged}
 use Rattle.smi_world.proofs.OrderSteps.{orders_issued}
 use Rattle.smi_world.proofs.Parents.{held_by_parent}
@@ -41,8 +41,8 @@ use Rattle.smi_world.proofs.Quiet.{noted_both, epoch_quiet, holder_quiet, learne
 use Rattle.smi_world.proofs.RunsOrdered.{kept_run}
 use Rattle.smi_world.proofs.RunSteps.{IsNoRun, NoRuns, HasCome, RunStep, no_run, hands, next_run}
 use Rattle.smi_world.proofs.Traces.{Safely, holds_at}
-use Rattle.smi_world.proofs.Viewed.{Viewed, viewed}
-use Rattle.smi_world.proofs.Views.{body_in_range, request_in_range}
+use Rattle.smi_world.proofs.Viewed.{Viewed, viewed, view_fits}
+use Rattle.smi_world.proofs.Views.{Fair, fair_request}
 use Rattle.smi_world.proofs.Works.{works}
 use Rattle.smi_world.proofs.WorkSteps.{Working, Pending, busy_pending, free_settled, waiting_pending, waiting_one}
 
@@ -202,12 +202,12 @@ module _ (h : Hierarchy) (parents : (d p : ℕ) → parent_of h d ≡ Some p →
       run_is_backed =
           let from = came_sent w what (body.Run x ((w.stations number).grants.records x).holder ((w.stations number).grants.records x).epoch n c) may cause in
           let says : from.0.body ≡ body.Run x (record_in h w x).holder (record_in h w x).epoch n c = from.2 ∙ ap (λ (r : Standing). body.Run x r.holder r.epoch n c) same in
-          let party = (request_in_range x (record_in h w x).holder (due.Run (record_in h w x).epoch n c) (subst (λ z. is_body z ≡ true) says (body_in_range from.0 (v.range from.0 from.1)))).held in
+          let party = (fair_request x (record_in h w x).holder (due.Run (record_in h w x).epoch n c) (subst Fair says (v.range from.0 from.1))).held in
           subst (λ (r : Standing). Backed h past x r.epoch n c) (sym same)
           (next_backed h parents past w v t k l x n c from.0 from.1 (numbered ∙ ap (λ (r : Standing). r.last + 1) same) (record_in h w x).holder party refl says)
 
   step_sound : (past : List Entry) (w : World) (new : List Entry) (next : World) → Step h w new next → Viewed h w → Safely h past w → AllLogged h past w → Working h past w → SoundRuns h past → SoundRuns h (noted new past)
-  step_sound past w new next (sends number m range may) v t l k safe = safe
+  step_sound past w new next (sends number m may) v t l k safe = safe
   step_sound past w new next (steps number what runs may) v t l k safe =
       let o = refusal_of h number (w.stations number).grants what in
       let out = after_happening h number (w.stations number) what in
@@ -217,6 +217,7 @@ module _ (h : Hierarchy) (parents : (d p : ℕ) → parent_of h d ≡ Some p →
   step_sound past w new next (stops number what runs may) v t l k safe =
       let o = refusal_of h number (w.stations number).grants what in
       sound_step w number (saved_only h number (w.stations number) what) what (after_happening h number (w.stations number) what).kept past may (kept_run h w number what o refl) v t l k safe
+  step_sound past w new next (tells o what) v t l k safe = safe
   step_sound past w new next (halts number) v t l k safe = safe
   step_sound past w new next (starts number boots) v t l k safe =
       let started = opened h number (w.stations number).grants in

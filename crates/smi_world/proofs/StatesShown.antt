@@ -36,7 +36,7 @@ use Rattle.smi_station.specs.declared.Entry.TheVariants.{Showed, Passed}
 use Rattle.smi_world.specs.Safe.{IsNotOlder}
 use Rattle.smi_world.specs.Schedule.{World, first_world, opening_of}
 use Rattle.smi_world.specs.Trace.{Stands}
-use Rattle.smi_world.specs.World.{MayCome, with_station, with_sent, noted, Step, sends, steps, stops, halts, starts, Reaches, opens, goes_on}
+use Rattle.smi_world.specs.World.{MayCome, with_station, with_sent, noted, Step, sends, steps, stops, tells, halts, starts, Reaches, opens, goes_on}
 use Rattle.smi_world.proofs.GrantKinds.{put_here}
 use Rattle.smi_world.proofs.Lists.{In, in_range, Apart, same, apart_range}
 use Rattle.smi_world.proofs.Quiet.{noted_both}
@@ -273,13 +273,14 @@ module _ (h : Hierarchy) (tree : IsTree h) where
   -- Every step, and every run.
 
   step_shows : (past : List Entry) (w : World) (new : List Entry) (next : World) → Step h w new next → Shows h past w → Shows h (noted new past) next
-  step_shows past w new next (sends number m range may) known = shows_sent h past w number m may.0 may.2 known
+  step_shows past w new next (sends number m may) known = shows_sent h past w number m may.0 may.2 known
   step_shows past w new next (steps number what runs may) known =
       let out = after_happening h number (w.stations number) what in
       subst (λ z. Shows h z (with_station w number out.station)) (sym (noted_both out.kept out.after past))
       (shows_after h tree past w number what may known (refusal_of h number (w.stations number).grants what) refl)
   step_shows past w new next (stops number what runs may) known =
       shows_stopped h tree past w number what may known (refusal_of h number (w.stations number).grants what) (saved_only h number (w.stations number) what) refl refl
+  step_shows past w new next (tells o what) known = shows_silent h w new past (tt, tt) known
   step_shows past w new next (halts number) known =
       shows_rests h past w number (record (w.stations number) { is_stopped = true }) refl refl known
   step_shows past w new next (starts number boots) known = shows_started h tree past w number known

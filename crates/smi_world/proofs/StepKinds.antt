@@ -45,7 +45,7 @@ use Rattle.smi_world.proofs.HearingKinds.{hearing_kind}
 use Rattle.smi_world.proofs.Moves.{at_put, at_put_link, put_link_here}
 use Rattle.smi_world.proofs.Quiet.{AllQuiet, quiet_both}
 use Rattle.smi_world.proofs.Viewed.{Viewed, keeper_home}
-use Rattle.smi_world.proofs.Views.{body_in_range, request_in_range}
+use Rattle.smi_world.proofs.Views.{Fair, fair_request}
 
 -- nothing happens
 nothing : (h : Hierarchy) (number : ℕ) (sent : List Message) (g : Grants) → GrantKind h number sent g g []
@@ -228,7 +228,7 @@ body_kind h w number from m a v (body.Ask x) b ok = nothing h number w.sent (w.s
 body_kind h w number from m a v (body.Take x who s) b ok =
     let parts = and_parts (is_keeper h number x) _ ok in
     let speaks = and_parts (is_holder_of h x who) _ parts.1 in
-    let range = request_in_range x who (Take s) (subst (λ z. is_body z ≡ true) b (body_in_range m (v.range m a))) in
+    let range = fair_request x who (Take s) (subst Fair b (v.range m a)) in
     take_kind h number w.sent (w.stations number).grants from x who s range.held (may_hold h x who range.held speaks.0) parts.0 (take_after ((w.stations number).grants.records x) who s) refl
 body_kind h w number from m a v (body.Drop x who e) b ok =
     let parts = and_parts (is_keeper h number x) _ ok in

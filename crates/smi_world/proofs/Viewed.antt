@@ -1,35 +1,43 @@
 -- In every world that can be reached, each domain and each holder of it is a pair that events have reached.
-use Rattle.std.proofs.Common.{ℕ, ◌≡◌, true, List, [], ◌∷◌, ◌⊎◌, inl, inr, refl, sym, ap, ◌∙◌, subst}
+use Rattle.std.proofs.Common.{ℕ, ◌≡◌, ◌≤◌, arith, true, false, List, [], ◌∷◌, ◌⊎◌, inl, inr, refl, sym, ap, ◌∙◌, subst}
 use Rattle.std.specs.Prelude.{◌++◌, Option, Some, None, unwrap_or}
-use Rattle.std.proofs.lemmas.Bool.{eqb-true}
+use Rattle.std.proofs.lemmas.Bool.{eqb-true, le-leb}
+use Rattle.smi_grant.specs.declared.Command.{Command}
 use Rattle.smi_grant.specs.declared.Holder.{Holder}
-use Rattle.smi_grant.specs.Record.{Standing}
+use Rattle.smi_grant.specs.declared.Holder.TheVariants.{Free, Operator, Domain}
+use Rattle.smi_grant.specs.Holder.{is_free}
+use Rattle.smi_grant.specs.Record.{Standing, last_number}
 use Rattle.smi_message.specs.declared.Body.{Body}
 use Rattle.smi_message.specs.declared.Body.TheVariants as body
-use Rattle.smi_message.specs.Message.{Message, is_message}
+use Rattle.smi_message.specs.Message.{Message}
 use Rattle.smi_tree.specs.Hierarchy.{Hierarchy}
 use Rattle.smi_command.specs.declared.Due.{Due}
 use Rattle.smi_command.specs.declared.Due.TheVariants.{Take, Drop, Run}
 use Rattle.smi_command.specs.Link.{due_of}
 use Rattle.smi_command.specs.OneLink.{Datagram, Asks, Tells, Pair, Event, after, reached, Among}
+use Rattle.smi_command.specs.declared.Link.{Link}
+use Rattle.smi_command.specs.KnownGrant.{Waits}
+use Rattle.smi_command.proofs.Facts.{Fits, LinkOk}
 use Rattle.smi_command.proofs.Holders.{told_apart}
+use Rattle.smi_command.proofs.OneLinkKept.{reached_well}
+use Rattle.smi_command.proofs.Waiting.{due_waits, waiting_number}
 use Rattle.smi_stable.specs.Known.{is_number}
 use Rattle.smi_station.specs.Display.{Station}
 use Rattle.smi_station.specs.Happening.{Happening}
-use Rattle.smi_station.specs.Messages.{home}
+use Rattle.smi_station.specs.Messages.{home, holder_station}
 use Rattle.smi_station.specs.Opening.{opened, saved_only}
 use Rattle.smi_station.specs.Refusals.{refusal_of}
 use Rattle.smi_station.specs.Sending.{IsDue, MaySay}
 use Rattle.smi_station.specs.Step.{answered_or, after as after_happening}
 use Rattle.smi_world.specs.Known.{holder_home, record_in, link_in}
 use Rattle.smi_world.specs.Schedule.{World}
-use Rattle.smi_world.specs.World.{Among as IsSent, MayCome, with_station, with_sent, Step, sends, steps, stops, halts, starts, Reaches, opens, goes_on}
+use Rattle.smi_world.specs.World.{Among as IsSent, MayCome, with_station, with_sent, Step, sends, steps, stops, tells, halts, starts, Reaches, opens, goes_on}
 use Rattle.smi_station.specs.declared.Entry.{Entry}
 use Rattle.smi_world.proofs.Moves as move
 use Rattle.smi_world.proofs.Moves.{RecordMove, LinkMove, apart, at_put}
 use Rattle.smi_world.proofs.RecordMoves.{records_move}
 use Rattle.smi_world.proofs.LinkMoves.{links_move}
-use Rattle.smi_world.proofs.Views.{Covers, covers_more, stepped, recorded, relinks, Said, tells_now, asks_now}
+use Rattle.smi_world.proofs.Views.{Fair, Covers, covers_more, stepped, recorded, relinks, Said, tells_now, asks_now}
 
 -- a domain and a holder are a pair that events have reached, and its datagrams are all that were sent
 pub record View (h : Hierarchy) (w : World) (d : ℕ) (me : Holder) : Type 0 where
@@ -39,8 +47,14 @@ pub record View (h : Hierarchy) (w : World) (d : ℕ) (me : Holder) : Type 0 whe
   pub covers : (m : Message) → IsSent m w.sent → Covers d me (reached me events).sent m.body
 
 pub record Viewed (h : Hierarchy) (w : World) : Type 0 where
-  pub range : (m : Message) → IsSent m w.sent → is_message m ≡ true
+  pub range : (m : Message) → IsSent m w.sent → Fair m.body
   pub each : (d : ℕ) (me : Holder) → View h w d me
+
+-- the facts on the pair, said of the world
+pub view_fits : (h : Hierarchy) (w : World) (d : ℕ) (me : Holder) → is_free me ≡ false → (v : View h w d me) → Fits (record_in h w d) me (link_in h w me d) (reached me v.events).sent
+view_fits h w d me party v =
+    subst (λ l. Fits (record_in h w d) me l (reached me v.events).sent) v.link
+    (subst (λ r. Fits r me (reached me v.events).link (reached me v.events).sent) v.kept (reached_well me v.events party).fits)
 
 abbrev with_event : Option Event → List Event → List Event
 with_event None events = events
@@ -69,7 +83,7 @@ link_moves h w number s d me moves =
     (λ e. subst (λ z. LinkMove w.sent d me ((w.stations z).grants.links me d) (s.grants.links me d)) (sym e) (moves.links me d))
     move.stays
 
-moved_view : (h : Hierarchy) (w : World) (number : ℕ) (s : Station) (d : ℕ) (me : Holder) → ((m : Message) → IsSent m w.sent → is_message m ≡ true) → Moves h w number s → View h w d me → View h (with_station w number s) d me
+moved_view : (h : Hierarchy) (w : World) (number : ℕ) (s : Station) (d : ℕ) (me : Holder) → ((m : Message) → IsSent m w.sent → Fair m.body) → Moves h w number s → View h w d me → View h (with_station w number s) d me
 moved_view h w number s d me range moves v =
     let p = reached me v.events in
     let a = recorded d me p w.sent range v.covers (record_in h (with_station w number s) d)
@@ -194,11 +208,41 @@ sent_view h w number m d me may v =
           (elim (sent_or k m w.sent i) [ inl a ↦ old k a | inr same ↦ subst (λ (z : Message). Covers d me (stepped me p s.event).sent z.body) (sym same) s.covers ]);
     }
 
+-- whoever has a station holds something
+party : (h : Hierarchy) (who : Holder) (number : ℕ) → holder_station h who ≡ Some number → is_free who ≡ false
+party h Free number is = absurd cc
+party h (Operator o) number is = refl
+party h (Domain p) number is = refl
+
+held_within : (r : Standing) (me : Holder) (l : Link) (e n : ℕ) (c : Command) → LinkOk r me l → Waits l e n c → n ≤ last_number
+held_within r me l e n c ok wait =
+    let o = subst (LinkOk r me) wait.is ok in
+    let within = (waiting_number e wait.newest wait.pending e n c o.2.counted (subst (λ z. Waits z e n c) wait.is wait)).1 in
+    let most = o.3 in
+    omega (arith, within, most)
+
+-- what a station may say is fair
+said_fair : (h : Hierarchy) (w : World) (number to : ℕ) → Viewed h w → (b : Body) → MaySay h number (w.stations number) to b → Fair b
+said_fair h w number to v (body.Take d who s) may = record { held = party h who number may.1.0; number = refl }
+said_fair h w number to v (body.Drop d who e) may = record { held = party h who number may.1.0; number = refl }
+said_fair h w number to v (body.Run d who e n c) may =
+    let held = party h who number may.1.0 in
+    let at : holder_home h who ≡ number = ap (λ o. unwrap_or o 0) may.1.0 in
+    let f = view_fits h w d who held (v.each d who) in
+    let link : LinkOk (record_in h w d) who ((w.stations number).grants.links who d) = subst (λ z. LinkOk (record_in h w d) who ((w.stations z).grants.links who d)) at f.link in
+    record { held = held; number = le-leb n last_number (held_within (record_in h w d) who ((w.stations number).grants.links who d) e n c link (due_waits ((w.stations number).grants.links who d) may.1.1.0 e n c may.1.1.1)) }
+said_fair h w number to v (body.Tell d r) may = tt
+said_fair h w number to v (body.Ask d) may = tt
+said_fair h w number to v (body.Watch x echo) may = tt
+said_fair h w number to v (body.State x echo q s) may = tt
+said_fair h w number to v (body.Unwatch x echo) may = tt
+
 -- Every step, and every run.
 
 pub step_viewed : (h : Hierarchy) (w : World) (new : List Entry) (next : World) → Step h w new next → Viewed h w → Viewed h next
-step_viewed h w new next (sends number m range may) v = record {
-  range = λ k i. elim (sent_or k m w.sent i) [ inl a ↦ v.range k a | inr same ↦ subst (λ z. is_message z ≡ true) (sym same) range ];
+step_viewed h w new next (tells o what) v = v
+step_viewed h w new next (sends number m may) v = record {
+  range = λ k i. elim (sent_or k m w.sent i) [ inl a ↦ v.range k a | inr same ↦ subst (λ (z : Message). Fair z.body) (sym same) (said_fair h w number m.to v m.body may.2) ];
   each = λ d me. sent_view h w number m d me may.2 (v.each d me);
 }
 step_viewed h w new next (steps number what runs may) v =

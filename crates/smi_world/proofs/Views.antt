@@ -57,31 +57,27 @@ among_at k [] a = absurd a
 among_at k (x ∷ sent) (inl same) = record { place = zero; is = ap Some (sym same) }
 among_at k (x ∷ sent) (inr a) = let s = among_at k sent a in record { place = suc s.place; is = s.is }
 
--- Datagrams in range.
-
-party_held : (who : Holder) → is_party who ≡ true → is_free who ≡ false
-party_held Free p = absurd cc
-party_held (Operator o) p = refl
-party_held (Domain d) p = refl
-
-pub body_in_range : (m : Message) → is_message m ≡ true → is_body m.body ≡ true
-body_in_range m i = (and_parts (is_addressed m.from m.to m.tree) _ i).1
+-- Requests that a holder may make.
 
 pub record InRange (who : Holder) (due : Due) : Type 0 where
   pub held : is_free who ≡ false
   pub number : has_number due ≡ true
 
-pub request_in_range : (d : ℕ) (who : Holder) (due : Due) → is_body (request d who due) ≡ true → InRange who due
-request_in_range d who (Take s) i =
-    let a = and_parts _ _ i in let b = and_parts (is_party who) _ a.1 in
-    record { held = party_held who b.0; number = refl }
-request_in_range d who (Drop e) i =
-    let a = and_parts _ _ i in let b = and_parts (is_party who) _ a.1 in
-    record { held = party_held who b.0; number = refl }
-request_in_range d who (Run e n c) i =
-    let a = and_parts _ _ i in let b = and_parts (is_party who) _ a.1 in
-    let f = and_parts _ _ b.1 in let g = and_parts _ _ f.1 in let k = and_parts _ _ g.0 in
-    record { held = party_held who b.0; number = k.1 }
+-- a request is a holder's, and its number one that a grant can have
+abbrev pub Fair : Body → Type 0
+Fair (body.Take d who s) = InRange who (Take s)
+Fair (body.Drop d who e) = InRange who (Drop e)
+Fair (body.Run d who e n c) = InRange who (Run e n c)
+Fair (body.Tell d r) = Unit {0}
+Fair (body.Ask d) = Unit {0}
+Fair (body.Watch x echo) = Unit {0}
+Fair (body.State x echo v s) = Unit {0}
+Fair (body.Unwatch x echo) = Unit {0}
+
+pub fair_request : (d : ℕ) (who : Holder) (due : Due) → Fair (request d who due) → InRange who due
+fair_request d who (Take s) f = f
+fair_request d who (Drop e) f = f
+fair_request d who (Run e n c) f = f
 
 -- One event of a pair, or none.
 
@@ -115,7 +111,7 @@ is_strange : (me who : Holder) (due : Due) → InRange who due → same_holder w
 is_strange me who due r f = rw r.held (rw f r.number)
 
 -- a move of the record is an event of the pair
-pub recorded : (d : ℕ) (me : Holder) (p : Pair) (sent : List Message) → ((m : Message) → IsSent m sent → is_message m ≡ true) → ((m : Message) → IsSent m sent → Covers d me p.sent m.body) → (r : Standing) → RecordMove sent d p.kept r → Recorded me p r
+pub recorded : (d : ℕ) (me : Holder) (p : Pair) (sent : List Message) → ((m : Message) → IsSent m sent → Fair m.body) → ((m : Message) → IsSent m sent → Covers d me p.sent m.body) → (r : Standing) → RecordMove sent d p.kept r → Recorded me p r
 recorded d me p sent range covers r move.rests = record { event = None; kept = refl; link = refl; keeps = λ k a. a }
 recorded d me p sent range covers r (move.ends x) = record { event = Some (Settle x); kept = refl; link = refl; keeps = λ k a. a }
 recorded d me p sent range covers r (move.asked m who due a b busy x) = elim (told_apart who me) [
@@ -125,7 +121,7 @@ recorded d me p sent range covers r (move.asked m who due a b busy x) = elim (to
       (asked_by_me me p due busy x (among_at (Asks me due) p.sent (covers_request d me p.sent due c)))
   | inr o ↦
       asked_by_another me p who due busy x
-      (is_strange me who due (request_in_range d who due (subst (λ z. is_body z ≡ true) b (body_in_range m (range m a)))) o.0)
+      (is_strange me who due (fair_request d who due (subst Fair b (range m a))) o.0)
 ]
 
 pub record Relinked (me : Holder) (p : Pair) (l : Link) : Type 0 where

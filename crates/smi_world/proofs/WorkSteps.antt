@@ -51,15 +51,15 @@ use Rattle.smi_world.specs.Trace.{orders_of}
 use Rattle.smi_world.specs.World.{Among as IsSent, MayCome, noted}
 use Rattle.smi_world.proofs.GrantKinds.{put_here}
 use Rattle.smi_world.proofs.HearingKinds.{IsHere, all_found, listeners_here, within_epochs}
-use Rattle.smi_world.proofs.KnownFacts.{view_fits, known_sent, known_in_step}
+use Rattle.smi_world.proofs.KnownFacts.{known_sent, known_in_step}
 use Rattle.smi_world.proofs.Moves.{apart, at_put, at_put_link, put_link_here}
 use Rattle.smi_world.proofs.OrdersLogged.{AllLogged}
 use Rattle.smi_world.proofs.OrderSteps.{orders_issued}
 use Rattle.smi_world.proofs.Started.{at_started}
 use Rattle.smi_world.proofs.StepKinds.{take_new, drop_new, understood, order_here}
 use Rattle.smi_world.proofs.Traces.{Safely}
-use Rattle.smi_world.proofs.Viewed.{Viewed, keeper_home}
-use Rattle.smi_world.proofs.Views.{body_in_range, request_in_range}
+use Rattle.smi_world.proofs.Viewed.{Viewed, keeper_home, view_fits}
+use Rattle.smi_world.proofs.Views.{Fair, fair_request}
 use Rattle.smi_world.proofs.Working.{At, AllAside, aside_both, all_aside, SameAt, same_at, moved_at, settles_at, renewed}
 use Rattle.smi_world.proofs.WorkRuns.{child_aside}
 use Rattle.smi_world.proofs.WorkTold.{at_told, learned_aside, told_aside, told_same}
@@ -427,7 +427,7 @@ module _ (h : Hierarchy) (w : World) (number : ℕ) (past : List Entry) (v : Vie
   body_local from m sent (body.Drop x who e) is ok = drop_local from x who e (drop_after (G.records x) who e) refl
   body_local from m sent (body.Run x who e n c) is ok =
       run_local from x who e n c (keeper_home _ number (and_parts (is_keeper h number x) _ ok).0)
-      (request_in_range x who (due.Run e n c) (subst (λ z. is_body z ≡ true) is (body_in_range m (v.range m sent)))).held m sent is
+      (fair_request x who (due.Run e n c) (subst Fair is (v.range m sent))).held m sent is
   body_local from m sent (body.Tell x r) is ok = tell_local x r (listener h number G x r) (λ who i. all_found (IsHere h number) _ (listeners h number x) who (listeners_here h number x) i)
   body_local from m sent (body.Watch x echo) is ok = unchanged
   body_local from m sent (body.State x echo q u) is ok = unchanged

@@ -18,7 +18,7 @@ use Rattle.smi_station.specs.Step.{answered_or, after as after_happening}
 use Rattle.smi_station.specs.declared.Entry.{Entry}
 use Rattle.smi_world.specs.Known.{record_in}
 use Rattle.smi_world.specs.Schedule.{World, first_world, opening_of}
-use Rattle.smi_world.specs.World.{MayCome, with_station, noted, Step, sends, steps, stops, halts, starts, Reaches, opens, goes_on}
+use Rattle.smi_world.specs.World.{MayCome, with_station, noted, Step, sends, steps, stops, tells, halts, starts, Reaches, opens, goes_on}
 use Rattle.smi_world.proofs.Displayed.{AllDisplay, aside_display, after_display, opening_display, openings_display}
 use Rattle.smi_world.proofs.GrantsSafe.{safely}
 use Rattle.smi_world.proofs.OrdersLogged.{AllLogged, logged}
@@ -64,7 +64,7 @@ kept_works h w number what past may v safe l k None is s same =
     working_with h w number s trace on.next (λ p e. subst (λ z. At h on.next trace z p) (sym same) (on.here p e)) on.there
 
 step_works : (h : Hierarchy) (past : List Entry) (w : World) (new : List Entry) (next : World) → Step h w new next → Viewed h w → Safely h past w → AllLogged h past w → Working h past w → Working h (noted new past) next
-step_works h past w new next (sends number m range may) v safe l k = record { now = k.now; at = k.at }
+step_works h past w new next (sends number m may) v safe l k = record { now = k.now; at = k.at }
 step_works h past w new next (steps number what runs may) v safe l k =
     let o = refusal_of h number (w.stations number).grants what in
     let out = after_happening h number (w.stations number) what in
@@ -74,6 +74,7 @@ step_works h past w new next (steps number what runs may) v safe l k =
 step_works h past w new next (stops number what runs may) v safe l k =
     let o = refusal_of h number (w.stations number).grants what in
     kept_works h w number what past may v safe l k o refl (saved_only h number (w.stations number) what) refl
+step_works h past w new next (tells o what) v safe l k = working_display h w new past (tt, tt) k
 step_works h past w new next (halts number) v safe l k =
     same_grants h w number (record (w.stations number) { is_stopped = true }) past (λ p. same_at h (w.stations number).grants p) k
 step_works h past w new next (starts number boots) v safe l k =

@@ -1,8 +1,10 @@
 -- What may happen next in the world, with every choice open.
 use Rattle.std.specs.Prelude.{ℕ, ◌≡◌, ◌≢◌, ◌⊎◌, true, false, List, [], ◌∷◌, ◌++◌}
-use Rattle.smi_message.specs.Message.{Message, is_message, last_boot}
+use Rattle.smi_message.specs.Message.{Message, last_boot}
 use Rattle.smi_tree.specs.Hierarchy.{Hierarchy}
 use Rattle.smi_station.specs.declared.Entry.{Entry}
+use Rattle.smi_station.specs.declared.Entry.TheVariants as entry
+use Rattle.smi_station.specs.declared.order.Told.{Told}
 use Rattle.smi_station.specs.Display.{Station}
 use Rattle.smi_station.specs.Grants.{put}
 use Rattle.smi_station.specs.Happening.{Happening, Comes, Orders, Reports, Ticks}
@@ -31,7 +33,7 @@ with_sent w m = record { stations = w.stations; sent = w.sent ++ m ∷ [] }
 -- One step, with the entries that it leaves, in their order.
 pub data Step (h : Hierarchy) (w : World) : List Entry → World → Type 0 where
   -- a station sends a datagram that it may send
-  sends : (number : ℕ) (m : Message) → is_message m ≡ true → MaySend h number (w.stations number) m → Step h w [] (with_sent w m)
+  sends : (number : ℕ) (m : Message) → MaySend h number (w.stations number) m → Step h w [] (with_sent w m)
   -- something comes to a station that runs
   steps : (number : ℕ) (what : Happening) → (w.stations number).is_stopped ≡ false → MayCome w what
       → Step h w ((after h number (w.stations number) what).kept ++ (after h number (w.stations number) what).after)
@@ -39,6 +41,8 @@ pub data Step (h : Hierarchy) (w : World) : List Entry → World → Type 0 wher
   -- the stable change of that alone happens, and the station has stopped
   stops : (number : ℕ) (what : Happening) → (w.stations number).is_stopped ≡ false → MayCome w what
       → Step h w (after h number (w.stations number) what).kept (with_station w number (saved_only h number (w.stations number) what))
+  -- an operator is told something, and nothing else happens
+  tells : (o : ℕ) (what : Told) → Step h w (entry.Told o what ∷ []) w
   -- a station stops, and nothing else happens
   halts : (number : ℕ) → Step h w [] (with_station w number (record (w.stations number) { is_stopped = true }))
   -- a station starts again, while boots are left
