@@ -93,11 +93,11 @@ abbrev pub AllOf : {X : Type 0} → (X → Type 0) → List X → Type 0
 AllOf P [] = Unit {0}
 AllOf P (x ∷ xs) = P x × AllOf P xs
 
-all_both : {X : Type 0} (P : X → Type 0) (xs ys : List X) → AllOf P xs → AllOf P ys → AllOf P (xs ++ ys)
+pub all_both : {X : Type 0} (P : X → Type 0) (xs ys : List X) → AllOf P xs → AllOf P ys → AllOf P (xs ++ ys)
 all_both P [] ys a b = b
 all_both P (x ∷ xs) ys a b = (a.0, all_both P xs ys a.1 b)
 
-all_map : {X Y : Type 0} (P : Y → Type 0) (f : X → Y) (xs : List X) → AllOf (λ x. P (f x)) xs → AllOf P (map f xs)
+pub all_map : {X Y : Type 0} (P : Y → Type 0) (f : X → Y) (xs : List X) → AllOf (λ x. P (f x)) xs → AllOf P (map f xs)
 all_map P f [] a = tt
 all_map P f (x ∷ xs) a = (a.0, all_map P f xs a.1)
 
@@ -111,7 +111,7 @@ all_found P test (x ∷ xs) y a is = elim (either (test x)) [
   | inr f ↦ all_found P test xs y a.1 (sym (ap (λ b. if b then Some x else find test xs) f) ∙ is)
 ]
 
-all_numbers : {X : Type 0} (P : ℕ → Type 0) (test : X → Bool) (rows : List X) (k : ℕ) → ((j : ℕ) (row : X) → slice_get rows j ≡ Some row → test row ≡ true → P (j + k)) → AllOf P (numbers_from test k rows)
+pub all_numbers : {X : Type 0} (P : ℕ → Type 0) (test : X → Bool) (rows : List X) (k : ℕ) → ((j : ℕ) (row : X) → slice_get rows j ≡ Some row → test row ≡ true → P (j + k)) → AllOf P (numbers_from test k rows)
 all_numbers {X = X} P test [] k each = tt
 all_numbers {X = X} P test (row ∷ rows) k each = elim (either (test row)) [
   | inl t ↦ rw t (subst P (none k) (each 0 row refl t), all_numbers P test rows (k + 1) later)
@@ -127,7 +127,7 @@ all_numbers {X = X} P test (row ∷ rows) k each = elim (either (test row)) [
     later : (j : ℕ) (other : X) → slice_get rows j ≡ Some other → test other ≡ true → P (j + (k + 1))
     later j other is t = subst P (moved j) (each (suc j) other is t)
 
-entry_next : (rows : List ℕ) (j : ℕ) → entry rows (j + 1) ≡ slice_get rows j
+pub entry_next : (rows : List ℕ) (j : ℕ) → entry rows (j + 1) ≡ slice_get rows j
 entry_next rows j = rw (later j) (ap (slice_get rows) (back j))
   where
     later : (j : ℕ) → (j + 1 == 0) ≡ false

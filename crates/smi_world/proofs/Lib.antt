@@ -38,3 +38,5 @@ pub mod ShownStart
 pub mod StatesShown
 pub mod SafeRuns
 pub mod AtWork
+pub mod SaysGrants
+pub mod Tidy

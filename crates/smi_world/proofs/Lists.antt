@@ -1,7 +1,7 @@
 -- What stands in lists, and in traces to which they were noted.
 use Rattle.std.proofs.Common.{ℕ, zero, suc, ◌≡◌, ◌≤◌, ◌<◌, ◌+◌, Bool, true, false, List, [], ◌∷◌, ◌⊎◌, inl, inr, refl, sym, ap, ◌∙◌, subst, arith}
-use Rattle.std.specs.Prelude.{◌==◌, ◌||◌, ◌++◌, Option, Some, None, map, slice_get, if◌then◌else◌}
-use Rattle.std.specs.List.{cons_option, list_any, filter_map, range_with_len}
+use Rattle.std.specs.Prelude.{◌==◌, ◌||◌, ◌++◌, Option, Some, None, map, take, filter, slice_get, if◌then◌else◌}
+use Rattle.std.specs.List.{cons_option, list_any, filter_map, flat_map, range_with_len}
 use Rattle.std.proofs.lemmas.Bool.{eqb-true}
 use Rattle.smi_tree.specs.Lookups.{numbers_from}
 use Rattle.smi_command.proofs.Holders.{either}
@@ -174,3 +174,48 @@ from_noted y (x ∷ new) past a = elim (from_noted y new (x ∷ past) a) [
   | inl b ↦ inl (inr b)
   | inr b ↦ elim b [ inl is ↦ inl (inl is) | inr c ↦ inr c ]
 ]
+
+-- What is chosen from lists of lists, or cut off, stood there.
+
+pub from_flat : {X Y : Type 0} (f : X → List Y) (y : Y) (xs : List X) → In y (flat_map f xs) → (x : X) × In x xs × In y (f x)
+from_flat f y [] a = absurd a
+from_flat f y (x ∷ xs) a = elim (in_both y (f x) (flat_map f xs) a) [
+  | inl here ↦ (x, inl refl, here)
+  | inr there ↦ let b = from_flat f y xs there in (b.0, inr b.1, b.2)
+]
+
+pub from_taken : {X : Type 0} (y : X) (n : ℕ) (xs : List X) → In y (take n xs) → In y xs
+from_taken y zero xs a = absurd a
+from_taken y (suc n) [] a = absurd a
+from_taken y (suc n) (x ∷ xs) (inl is) = inl is
+from_taken y (suc n) (x ∷ xs) (inr a) = inr (from_taken y n xs a)
+
+pub from_kept : {X : Type 0} (test : X → Bool) (y : X) (xs : List X) → In y (filter test xs) → In y xs
+from_kept test y [] a = absurd a
+from_kept {X = X} test y (x ∷ xs) a = by (test x) a (λ b. from_kept test y xs b)
+  where
+    by : (b : Bool) → In y (if b then x ∷ filter test xs else filter test xs) → (In y (filter test xs) → In y xs) → In y (x ∷ xs)
+    by true (inl is) rest = inl is
+    by true (inr b) rest = inr (rest b)
+    by false b rest = inr (rest b)
+
+-- what stands in a list has a place in it
+pub place_of : {X : Type 0} (y : X) (xs : List X) → In y xs → (i : ℕ) × (slice_get xs i ≡ Some y)
+place_of y [] a = absurd a
+place_of y (x ∷ xs) (inl is) = (zero, ap Some (sym is))
+place_of y (x ∷ xs) (inr a) = let b = place_of y xs a in (suc b.0, b.1)
+
+-- a number that passes a test has its row
+pub from_numbers : {X : Type 0} (test : X → Bool) (rows : List X) (k n : ℕ) → In n (numbers_from test k rows) → (i : ℕ) × (row : X) × (slice_get rows i ≡ Some row) × (test row ≡ true) × (n ≡ i + k)
+from_numbers test [] k n a = absurd a
+from_numbers {X = X} test (row ∷ rows) k n a = by (test row) refl a (λ b. from_numbers test rows (k + 1) n b)
+  where
+    later : ((i : ℕ) × (other : X) × (slice_get rows i ≡ Some other) × (test other ≡ true) × (n ≡ i + (k + 1))) → (i : ℕ) × (other : X) × (slice_get (row ∷ rows) i ≡ Some other) × (test other ≡ true) × (n ≡ i + k)
+    later b = let is = b.4 in (suc b.0, b.1, b.2, b.3, omega (arith, is))
+
+    by : (b : Bool) → test row ≡ b → In n (if b then k ∷ numbers_from test (k + 1) rows else numbers_from test (k + 1) rows)
+        → (In n (numbers_from test (k + 1) rows) → (i : ℕ) × (other : X) × (slice_get rows i ≡ Some other) × (test other ≡ true) × (n ≡ i + (k + 1)))
+        → (i : ℕ) × (other : X) × (slice_get (row ∷ rows) i ≡ Some other) × (test other ≡ true) × (n ≡ i + k)
+    by true t (inl is) rest = (zero, row, refl, t, omega (arith, is))
+    by true t (inr b) rest = later (rest b)
+    by false t b rest = later (rest b)

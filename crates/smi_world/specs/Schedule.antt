@@ -165,3 +165,9 @@ trace_from h w (x ∷ more) = lines_of w (turn h w x) ++ trace_from h (turn h w 
 -- the trace that a schedule makes: the opening, and then the lines of each item
 abbrev pub trace_of : Hierarchy → List Item → List Line
 trace_of h items = opening_lines h ++ trace_from h (first_world h) items
+
+-- the entries of a trace alone
+abbrev pub entries_of : List Line → List Entry
+entries_of [] = []
+entries_of (line.Entry x ∷ more) = x ∷ entries_of more
+entries_of (line.Sent number m ∷ more) = entries_of more
