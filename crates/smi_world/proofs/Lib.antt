@@ -40,3 +40,6 @@ pub mod SafeRuns
 pub mod AtWork
 pub mod SaysGrants
 pub mod Tidy
+pub mod SaysStates
+pub mod Speaking
+pub mod Bridge

@@ -108,7 +108,7 @@ from_list lists x y ws w a =
       | inr old ↦ inr (get_in lists (y - 1) w b.0 old b.2)
     ]
 
-from_left : (station : ℕ) (lists : List (List Watcher)) (j : ℕ) (w : Watcher) → In w (unwrap_or (slice_get (map (others_of station) lists) j) []) → In w (unwrap_or (slice_get lists j) [])
+pub from_left : (station : ℕ) (lists : List (List Watcher)) (j : ℕ) (w : Watcher) → In w (unwrap_or (slice_get (map (others_of station) lists) j) []) → In w (unwrap_or (slice_get lists j) [])
 from_left station [] j w a = by j a
   where
     by : (k : ℕ) → In w (unwrap_or (slice_get [] k) []) → In w (unwrap_or (slice_get [] k) [])
