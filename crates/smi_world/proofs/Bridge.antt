@@ -1,6 +1,6 @@
 -- What a schedule makes of the world is a run, item by item.
-use Rattle.std.proofs.Common.{ℕ, zero, suc, ◌≡◌, ◌≤◌, ◌<◌, ◌+◌, ◌-◌, Bool, true, false, List, [], ◌∷◌, ◌⊎◌, inl, inr, refl, sym, ap, ◌∙◌, subst, append_assoc, append-nil, arith}
-use Rattle.std.specs.Prelude.{◌==◌, ◌≢◌, ◌&&◌, ◌++◌, not, Option, Some, None, option_map, is_some, length, slice_get, map, if◌then◌else◌}
+use Rattle.std.proofs.Common.{ℕ, zero, suc, ◌≡◌, ◌+◌, ◌-◌, Bool, true, false, List, [], ◌∷◌, inl, inr, refl, sym, ap, ◌∙◌, subst, append_assoc, append-nil, arith}
+use Rattle.std.specs.Prelude.{◌==◌, ◌≢◌, ◌++◌, not, Option, Some, None, option_map, is_some, length, slice_get, map, if◌then◌else◌}
 use Rattle.std.proofs.lemmas.Bool.{and_parts, eqb-true}
 use Rattle.std.proofs.lemmas.Bool.Decides.{nat_tests}
 use Rattle.smi_message.specs.Message.{Message, last_boot}
@@ -8,12 +8,11 @@ use Rattle.smi_tree.specs.Hierarchy.{Hierarchy}
 use Rattle.smi_tree.specs.Lawful.{IsTree}
 use Rattle.smi_tree.specs.Lookups.{domain_count, operator_station_of}
 use Rattle.smi_publish.specs.Publishing.{keeper_of}
-use Rattle.smi_command.proofs.Holders.{either}
 use Rattle.smi_stable.specs.declared.Plan.{Plan}
 use Rattle.smi_stable.specs.declared.Plan.TheVariants as plan
 use Rattle.smi_station.specs.Display.{Station}
 use Rattle.smi_station.specs.Grants.{put}
-use Rattle.smi_station.specs.Happening.{Happening, Comes, Orders, Reports, Ticks, answer, told_entry}
+use Rattle.smi_station.specs.Happening.{Happening, Comes, Orders, Reports, Ticks, answer}
 use Rattle.smi_station.specs.Opening.{opened, opening_entries, saved_only}
 use Rattle.smi_station.specs.Sending.{MaySend}
 use Rattle.smi_station.specs.Step.{after, ordered_or_reported}

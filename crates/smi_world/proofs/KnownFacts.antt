@@ -11,13 +11,12 @@ use Rattle.smi_tree.specs.Hierarchy.{Hierarchy}
 use Rattle.smi_command.specs.declared.Link.TheVariants.{Held}
 use Rattle.smi_command.specs.KnownGrant.{KnownGrant, InStep, IsSpent, Waits}
 use Rattle.smi_command.specs.OneLink.{reached}
-use Rattle.smi_command.proofs.Facts.{Fits}
-use Rattle.smi_command.proofs.OneLinkKept.{reached_well, grant_known, grant_in_step, run_sent}
+use Rattle.smi_command.proofs.OneLinkKept.{grant_known, grant_in_step, run_sent}
 use Rattle.smi_world.specs.Known.{record_in, link_in}
 use Rattle.smi_world.specs.Schedule.{World}
 use Rattle.smi_world.specs.World.{Among as IsSent}
 use Rattle.smi_world.proofs.Views.{Covers}
-use Rattle.smi_world.proofs.Viewed.{View, Viewed, view_fits}
+use Rattle.smi_world.proofs.Viewed.{Viewed, view_fits}
 
 pub known_lawful : (h : Hierarchy) (w : World) (d : ℕ) → Viewed h w → IsRecord (record_in h w d)
 known_lawful h w d v = (view_fits h w d (Operator 1) refl (v.each d (Operator 1))).lawful

@@ -10,7 +10,7 @@ use Rattle.smi_grant.specs.Holder.{is_free}
 use Rattle.smi_grant.specs.Record.{Standing, is_settled}
 use Rattle.smi_message.specs.declared.Body.{Body}
 use Rattle.smi_message.specs.declared.Body.TheVariants as body
-use Rattle.smi_message.specs.Message.{Message, is_body}
+use Rattle.smi_message.specs.Message.{Message}
 use Rattle.smi_tree.specs.Hierarchy.{Hierarchy}
 use Rattle.smi_tree.specs.Lookups.{station_count, parent_of}
 use Rattle.smi_command.specs.declared.Due.TheVariants as due

@@ -1,11 +1,13 @@
--- Every run of a tree is safe.
+-- Every run of a tree is safe, and so is every schedule.
 use Rattle.std.proofs.Common.{List}
 use Rattle.smi_tree.specs.Hierarchy.{Hierarchy}
 use Rattle.smi_tree.specs.Lawful.{IsTree}
 use Rattle.smi_station.specs.declared.Entry.{Entry}
+use Rattle.smi_world.specs.declared.item.Item.{Item}
 use Rattle.smi_world.specs.Safe.{Safe}
-use Rattle.smi_world.specs.Schedule.{World}
-use Rattle.smi_world.specs.World.{Reaches}
+use Rattle.smi_world.specs.Schedule.{World, trace_of}
+use Rattle.smi_world.specs.World.{Reaches, past_of}
+use Rattle.smi_world.proofs.Bridge.{schedule_runs}
 use Rattle.smi_world.proofs.GrantsSafe.{safe_grants}
 use Rattle.smi_world.proofs.Parents.{parents_are_lower}
 use Rattle.smi_world.proofs.RunsOrdered.{runs_in_order}
@@ -19,3 +21,6 @@ run_safe h tree past w run = record {
   order = runs_in_order h past w run;
   states = (shows h tree past w run).well;
 }
+
+pub schedule_safe : (h : Hierarchy) → IsTree h → (items : List Item) → Safe h (past_of (trace_of h items))
+schedule_safe h tree items = let end = schedule_runs h tree items in run_safe h tree (past_of (trace_of h items)) end.world end.run

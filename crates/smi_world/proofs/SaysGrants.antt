@@ -1,8 +1,8 @@
 -- What a step sends of grants it may send.
-use Rattle.std.proofs.Common.{ℕ, zero, suc, ◌≡◌, ◌+◌, ◌-◌, Bool, true, false, List, [], ◌∷◌, inl, inr, refl, sym, ap, ◌∙◌, subst, arith}
-use Rattle.std.specs.Prelude.{◌==◌, ◌&&◌, ◌++◌, Option, Some, None, option_map, option_and_then, Result, Ok, Err, slice_get, length, map, unwrap_or, if◌then◌else◌}
+use Rattle.std.proofs.Common.{ℕ, ◌≡◌, ◌+◌, ◌-◌, Bool, true, false, List, [], ◌∷◌, inl, inr, refl, sym, ap, ◌∙◌, subst, arith}
+use Rattle.std.specs.Prelude.{◌==◌, Option, Some, None, option_map, option_and_then, Result, Ok, Err, slice_get, length, map, unwrap_or, if◌then◌else◌}
 use Rattle.std.specs.Option.{option_map_or}
-use Rattle.std.specs.List.{filter_map, flat_map, range_with_len}
+use Rattle.std.specs.List.{range_with_len}
 use Rattle.std.proofs.lemmas.Bool.{and_parts, eqb-true}
 use Rattle.std.proofs.lemmas.Bool.Decides.{nat_tests}
 use Rattle.smi_grant.specs.declared.Command.{Command}
@@ -30,12 +30,12 @@ use Rattle.smi_command.proofs.Holders.{either}
 use Rattle.smi_stable.specs.Known.{is_number, pending_of}
 use Rattle.smi_station.specs.Children.{ChildChange, Stays, Relinked, ComesInto, change_of, link_after, own_code}
 use Rattle.smi_station.specs.Display.{Station}
-use Rattle.smi_station.specs.Grants.{Grants, put, put_link, with_record, with_link}
+use Rattle.smi_station.specs.Grants.{Grants, with_record, with_link}
 use Rattle.smi_station.specs.GrantStep.{waits_for_children}
 use Rattle.smi_station.specs.GrantsOf.{datagram_comes, grant_step}
 use Rattle.smi_station.specs.Happening.{Happening, Comes, Orders, Reports, Ticks}
 use Rattle.smi_station.specs.Hearing.{parent_here, listeners, is_heard, listener, parent_heard, ends, ended, ended_record, ended_sends, told_to}
-use Rattle.smi_station.specs.Keeping.{answered, decided, commanded, begun, child_request, child_requests, ran, run_comes}
+use Rattle.smi_station.specs.Keeping.{answered, decided, commanded, begun, child_request, ran, run_comes}
 use Rattle.smi_station.specs.Messages.{holder_station, tells, tells_holder, requests, all_due, requests_due, newest_due, if_any, request_newest}
 use Rattle.smi_station.specs.Ordering.{obeyed, order_comes}
 use Rattle.smi_station.specs.Refusals.{is_keeper, is_body_of, refusal_by_link, is_order_here, refusal_of}
@@ -44,7 +44,7 @@ use Rattle.smi_station.specs.declared.Entry.{Entry}
 use Rattle.smi_station.specs.declared.Order.{Order}
 use Rattle.smi_station.specs.declared.Order.TheVariants as order
 use Rattle.smi_world.proofs.GrantKinds.{put_here}
-use Rattle.smi_world.proofs.HearingKinds.{AllOf, all_both, all_map, all_found}
+use Rattle.smi_world.proofs.HearingKinds.{AllOf, all_both, all_found}
 use Rattle.smi_world.proofs.Lists.{In, in_both, from_mapped, from_chosen, from_flat, from_numbers}
 use Rattle.smi_world.proofs.Moves.{put_link_here}
 use Rattle.smi_world.proofs.StepKinds.{understood}

@@ -1,28 +1,24 @@
 -- What a step sends of states, watches and questions it may send.
-use Rattle.std.proofs.Common.{ℕ, zero, suc, ◌≡◌, ◌≤◌, ◌<◌, ◌+◌, ◌-◌, Bool, true, false, List, [], ◌∷◌, ◌⊎◌, inl, inr, refl, sym, ap, ◌∙◌, subst, arith}
-use Rattle.std.specs.Prelude.{◌==◌, ◌&&◌, ◌||◌, ◌++◌, nat_lt, max, not, Option, Some, None, option_map, length, map, take, filter, slice_get, slice_set, unwrap_or, if◌then◌else◌}
-use Rattle.std.specs.List.{filter_map, flat_map, range_with_len}
+use Rattle.std.proofs.Common.{ℕ, zero, suc, ◌≡◌, ◌≤◌, ◌<◌, ◌+◌, ◌-◌, Bool, true, false, List, [], ◌∷◌, inl, inr, refl, sym, ap, ◌∙◌, subst, arith}
+use Rattle.std.specs.Prelude.{◌==◌, ◌||◌, ◌++◌, nat_lt, max, not, Option, Some, None, option_map, length, map, slice_get, slice_set, unwrap_or, if◌then◌else◌}
+use Rattle.std.specs.List.{flat_map, range_with_len}
 use Rattle.std.proofs.lemmas.Bool.{eqb-true}
 use Rattle.std.proofs.lemmas.Bool.Decides.{nat_tests}
 use Rattle.smi_grant.specs.declared.Holder.TheVariants.{Operator, Domain}
 use Rattle.smi_grant.specs.declared.Shown.{Shown}
-use Rattle.smi_grant.specs.declared.Version.{Version}
-use Rattle.smi_message.specs.declared.Body.{Body}
-use Rattle.smi_message.specs.declared.Body.TheVariants as body
 use Rattle.smi_message.specs.Message.{Message}
 use Rattle.smi_tree.specs.Hierarchy.{Hierarchy}
 use Rattle.smi_tree.specs.Lawful.{IsTree}
 use Rattle.smi_tree.specs.Lookups.{domain_count, device_count, operators_of, operator_station_of, parent_of, station_of}
 use Rattle.smi_publish.specs.declared.condition.Condition.{Condition}
 use Rattle.smi_publish.specs.Published.{shown, shown_at, change_at, differs}
-use Rattle.smi_publish.specs.Publishing.{is_kept_by, device_objects}
+use Rattle.smi_publish.specs.Publishing.{is_kept_by}
 use Rattle.smi_command.proofs.Holders.{either}
-use Rattle.smi_stable.specs.Known.{is_number}
 use Rattle.smi_view.specs.declared.Acceptance.{Acceptance}
 use Rattle.smi_view.specs.declared.Acceptance.TheVariants.{Accepted, OtherBoot, NotNewer}
 use Rattle.smi_view.specs.Accepting.{acceptance}
 use Rattle.smi_watchers.specs.declared.Watcher.{Watcher}
-use Rattle.smi_watchers.specs.Watching.{watcher, is_of, renewed_by, watch_in, listed, with_list, watched, left_by}
+use Rattle.smi_watchers.specs.Watching.{watcher, is_of, watch_in, listed, with_list, watched, left_by}
 use Rattle.smi_station.specs.Display.{Display, Station}
 use Rattle.smi_station.specs.Grants.{Grants, put}
 use Rattle.smi_station.specs.Happening.{answer}
@@ -32,14 +28,14 @@ use Rattle.smi_station.specs.Refusals.{is_keeper}
 use Rattle.smi_station.specs.Sending.{MaySend}
 use Rattle.smi_station.specs.Showing.{passed_in, shown_to_all}
 use Rattle.smi_station.specs.Ticking.{Owed, owed, number_of_due, most_sent, is_before, domains_of, owed_to_child, owed_to_domain, owed_question, owed_watch, all_owed, owed_from}
-use Rattle.smi_station.specs.Watching.{unnoticed, noticed, is_child_unit, is_watched, lists_before, is_full, lists_after, watch_answer, watch_comes, told_state, showed_if, state_comes, order_noticed}
+use Rattle.smi_station.specs.Watching.{unnoticed, noticed, is_child_unit, is_watched, lists_before, is_full, lists_after, watch_answer, watch_comes, showed_if, state_comes, order_noticed}
 use Rattle.smi_station.specs.declared.Order.{Order}
 use Rattle.smi_station.specs.declared.Order.TheVariants as order
 use Rattle.smi_station.specs.declared.place.Place.TheVariants as place
 use Rattle.smi_world.proofs.Conditions.{objects_of}
 use Rattle.smi_world.proofs.GrantKinds.{put_here}
 use Rattle.smi_world.proofs.Lists.{In, in_both, from_mapped, from_chosen, from_flat, from_taken, from_kept, place_of}
-use Rattle.smi_world.proofs.SaysGrants.{SaysOf, due_says, operator_ours, number_some}
+use Rattle.smi_world.proofs.SaysGrants.{due_says, operator_ours, number_some}
 use Rattle.smi_world.proofs.ShownStart.{kept_within}
 use Rattle.smi_world.proofs.Tidy.{Tidy, length_before}
 use Rattle.smi_world.proofs.Versions.{Somewhere, from_left}

@@ -1,6 +1,6 @@
 -- Whatever a step of a station sends it may send.
-use Rattle.std.proofs.Common.{ℕ, ◌≡◌, true, List, [], ◌∷◌, inl, inr, refl, sym, ap, ◌∙◌, subst}
-use Rattle.std.specs.Prelude.{◌++◌, Option, Some, None, take}
+use Rattle.std.proofs.Common.{ℕ, ◌≡◌, true, List, [], ◌∷◌, inl, inr, refl, ap}
+use Rattle.std.specs.Prelude.{◌++◌, Option, Some, None}
 use Rattle.std.specs.List.{flat_map}
 use Rattle.smi_message.specs.declared.Body.{Body}
 use Rattle.smi_message.specs.declared.Body.TheVariants as body
@@ -8,7 +8,6 @@ use Rattle.smi_message.specs.Message.{Message}
 use Rattle.smi_tree.specs.Hierarchy.{Hierarchy}
 use Rattle.smi_tree.specs.Lawful.{IsTree}
 use Rattle.smi_station.specs.Display.{Display, Station}
-use Rattle.smi_station.specs.GrantStep.{GrantStep}
 use Rattle.smi_station.specs.GrantsOf.{grant_step}
 use Rattle.smi_station.specs.Happening.{Happening, Comes, Orders, Reports, Ticks}
 use Rattle.smi_station.specs.Refusals.{is_body_of, refusal_of}
@@ -16,7 +15,7 @@ use Rattle.smi_station.specs.Sending.{MaySend}
 use Rattle.smi_station.specs.Showing.{domain_of_body, domain_of_happening, moved_by_body, passed_in, shown_to_all}
 use Rattle.smi_station.specs.Step.{body_noticed, notice, conditions_by, answered_or, after}
 use Rattle.smi_station.specs.Ticking.{most_sent}
-use Rattle.smi_station.specs.Watching.{Notice, told_state}
+use Rattle.smi_station.specs.Watching.{told_state}
 use Rattle.smi_station.specs.declared.Entry.{Entry}
 use Rattle.smi_world.specs.Schedule.{World}
 use Rattle.smi_world.specs.World.{Among, MayCome, Reaches}

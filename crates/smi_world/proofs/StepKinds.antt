@@ -13,7 +13,7 @@ use Rattle.smi_grant.specs.Keeper.{handed, take_after, drop_after, admits, start
 use Rattle.smi_grant.specs.Record.{Standing, is_settled, last_epoch}
 use Rattle.smi_message.specs.declared.Body.{Body}
 use Rattle.smi_message.specs.declared.Body.TheVariants as body
-use Rattle.smi_message.specs.Message.{Message, is_body, is_between}
+use Rattle.smi_message.specs.Message.{Message, is_between}
 use Rattle.smi_tree.specs.Hierarchy.{Hierarchy}
 use Rattle.smi_tree.specs.Lookups.{station_count, operator_station_of, parent_of}
 use Rattle.smi_command.specs.declared.Link.{Link}

@@ -1,7 +1,6 @@
 -- In every run the lists of who watches are as many as there are objects, and no echo in them is above the greatest.
-use Rattle.std.proofs.Common.{ℕ, zero, suc, ◌≡◌, ◌≤◌, ◌<◌, ◌+◌, Bool, true, false, List, [], ◌∷◌, ◌⊎◌, inl, inr, refl, sym, ap, ◌∙◌, subst, arith}
-use Rattle.std.specs.Prelude.{◌==◌, nat_lt, not, Option, Some, None, length, map, replicate, slice_set, if◌then◌else◌}
-use Rattle.std.proofs.lemmas.Bool.{eqb-true}
+use Rattle.std.proofs.Common.{ℕ, zero, suc, ◌≡◌, ◌≤◌, Bool, true, false, List, [], ◌∷◌, inl, inr, refl, sym, ap, ◌∙◌, subst, arith}
+use Rattle.std.specs.Prelude.{◌==◌, nat_lt, not, Option, Some, None, length, replicate, slice_set, if◌then◌else◌}
 use Rattle.std.proofs.lemmas.Bool.Decides.{nat_tests}
 use Rattle.smi_grant.specs.declared.Shown.{Shown}
 use Rattle.smi_message.specs.declared.Body.{Body}
@@ -12,14 +11,14 @@ use Rattle.smi_view.specs.declared.Acceptance.{Acceptance}
 use Rattle.smi_view.specs.declared.Acceptance.TheVariants.{Accepted, OtherBoot, NotNewer}
 use Rattle.smi_view.specs.Accepting.{acceptance}
 use Rattle.smi_watchers.specs.declared.Watcher.{Watcher}
-use Rattle.smi_watchers.specs.Watching.{watcher, others_of, watch_in, unwatch_in, listed, with_list, watched, unwatched, left_by}
+use Rattle.smi_watchers.specs.Watching.{watcher, listed, watched, left_by}
 use Rattle.smi_station.specs.Display.{Display, Station}
 use Rattle.smi_station.specs.Grants.{Grants, put}
 use Rattle.smi_station.specs.Happening.{Happening, Comes, Orders, Reports, Ticks}
 use Rattle.smi_station.specs.Opening.{object_count, opened, first_display, saved_only}
 use Rattle.smi_station.specs.Refusals.{refusal_of}
 use Rattle.smi_station.specs.Step.{body_noticed, notice, answered_or, after as after_happening}
-use Rattle.smi_station.specs.Watching.{Notice, unnoticed, noticed, is_watched, is_child_unit, lists_before, is_full, lists_after, watch_comes, unwatch_comes, told_state, showed_if, state_comes, order_noticed}
+use Rattle.smi_station.specs.Watching.{is_watched, is_child_unit, lists_before, is_full, lists_after, watch_comes, unwatch_comes, told_state, showed_if, state_comes, order_noticed}
 use Rattle.smi_station.specs.declared.Entry.{Entry}
 use Rattle.smi_station.specs.declared.Order.{Order}
 use Rattle.smi_station.specs.declared.Order.TheVariants as order
@@ -29,7 +28,7 @@ use Rattle.smi_world.proofs.GrantKinds.{put_here}
 use Rattle.smi_world.proofs.Lists.{In}
 use Rattle.smi_world.proofs.Moves.{at_put}
 use Rattle.smi_world.proofs.ShownStart.{none_listed}
-use Rattle.smi_world.proofs.Versions.{Somewhere, from_watched, from_unwatched}
+use Rattle.smi_world.proofs.Versions.{from_watched, from_unwatched}
 
 pub record Tidy (h : Hierarchy) (s : Display) : Type 0 where
   pub lists : length s.watchers ≡ object_count h

@@ -16,7 +16,7 @@ use Rattle.smi_grant.specs.Keeper.{handed, take_after, drop_after, admits, start
 use Rattle.smi_grant.specs.Record.{Standing, IsRecord, is_settled, last_epoch}
 use Rattle.smi_message.specs.declared.Body.{Body}
 use Rattle.smi_message.specs.declared.Body.TheVariants as body
-use Rattle.smi_message.specs.Message.{Message, is_body}
+use Rattle.smi_message.specs.Message.{Message}
 use Rattle.smi_tree.specs.Hierarchy.{Hierarchy}
 use Rattle.smi_tree.specs.Lookups.{parent_of}
 use Rattle.smi_command.specs.declared.Due.TheVariants as due

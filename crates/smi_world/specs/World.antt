@@ -11,7 +11,8 @@ use Rattle.smi_station.specs.Happening.{Happening, Comes, Orders, Reports, Ticks
 use Rattle.smi_station.specs.Opening.{opened, opening_entries, saved_only}
 use Rattle.smi_station.specs.Sending.{MaySend}
 use Rattle.smi_station.specs.Step.{after}
-use Rattle.smi_world.specs.Schedule.{World, first_world, opening_of}
+use Rattle.smi_world.specs.declared.item.Line.{Line}
+use Rattle.smi_world.specs.Schedule.{World, first_world, opening_of, entries_of}
 
 abbrev pub Among : Message → List Message → Type 0
 Among m [] = ⊥
@@ -58,3 +59,7 @@ noted (x ∷ new) past = noted new (x ∷ past)
 pub data Reaches (h : Hierarchy) : List Entry → World → Type 0 where
   opens : Reaches h (noted (opening_of h) []) (first_world h)
   goes_on : {past new : List Entry} {w next : World} → Reaches h past w → Step h w new next → Reaches h (noted new past) next
+
+-- the entries of a trace, the newest first
+abbrev pub past_of : List Line → List Entry
+past_of lines = noted (entries_of lines) []

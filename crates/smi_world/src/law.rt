@@ -20,11 +20,15 @@ ghost use Rattle.smi_command.specs.declared.Link.TheVariants.{Held};
 ghost use Rattle.smi_command.specs.KnownGrant.{KnownGrant, InStep, IsSpent, Waits};
 ghost use Rattle.smi_station.specs.Children.{is_commanded};
 ghost use Rattle.smi_station.specs.declared.Entry.{Entry};
+ghost use Rattle.smi_station.specs.Happening.{Happening};
+ghost use Rattle.smi_station.specs.Sending.{MaySend};
+ghost use Rattle.smi_station.specs.Step.{after};
+ghost use Rattle.smi_world.specs.declared.item.Item.{Item};
 ghost use Rattle.smi_world.specs.Known.{record_in, link_in};
 ghost use Rattle.smi_world.specs.Safe.{Forwards, NotOlderThanShown, RunsInOrder, Safe, SafeGrants, ShownWell, SoundRuns};
-ghost use Rattle.smi_world.specs.Schedule.{World};
+ghost use Rattle.smi_world.specs.Schedule.{World, turn, trace_of};
 ghost use Rattle.smi_world.specs.Trace.{InWork, before_start, mode_at};
-ghost use Rattle.smi_world.specs.World.{Reaches, Among};
+ghost use Rattle.smi_world.specs.World.{Reaches, Among, MayCome, noted, past_of};
 
 /// Every record is lawful; a record's holder has a link that knows of the grant, and a link that is
 /// held is that of the record's holder, at its epoch; the numbers of pending commands are in step with
@@ -78,10 +82,26 @@ pub fn states_are_safe()
         Among m w.sent → m.body ≡ State x (w.stations m.to).grants.boot v s → NotOlderThanShown m.to x v (before_start m.to past) }
 {}
 
+/// In every world of a tree that can be reached: each datagram that a station sends in a step is one that it
+/// may send when the step is done; and whatever an item of a schedule makes of the world is reached too, with
+/// the entries that it leaves: a step with its datagrams, a restart, a stop before or behind the save, a save
+/// that fails.
+pub fn turns_are_runs()
+    ensures may_send { (h : Hierarchy) (past : List Entry) (w : World) (number : ℕ) (what : Happening) (m : Message) → IsTree h → Reaches h past w → MayCome w what →
+        Among m (after h number (w.stations number) what).out.datagrams → MaySend h number (after h number (w.stations number) what).station m }
+    ensures reached { (h : Hierarchy) (past : List Entry) (w : World) (x : Item) → IsTree h → Reaches h past w → Reaches h (noted (turn h w x).entries past) (turn h w x).world }
+{}
+
 /// Every trace of a tree is safe at every moment, whatever may happen in its world: at most one operator
 /// commands each domain; each command that runs was ordered, runs once and in the order of its numbers, while
 /// every grant between it and its operator is current; and states that are shown were passed through and
 /// never go back.
 pub fn every_run_is_safe()
     ensures { (h : Hierarchy) (past : List Entry) (w : World) → IsTree h → Reaches h past w → Safe h past }
+{}
+
+/// The trace that a schedule makes is safe at every moment, for every tree and every list of items:
+/// deliveries, losses, repeats, orders, reports, restarts, stops and saves that fail, in any order.
+pub fn every_schedule_is_safe()
+    ensures { (h : Hierarchy) (items : List Item) → IsTree h → Safe h (past_of (trace_of h items)) }
 {}
