@@ -13,7 +13,7 @@ use Rattle.smi_command.specs.declared.Due.TheVariants.{Take, Drop, Run}
 use Rattle.smi_command.specs.Link.{due_of}
 use Rattle.smi_command.specs.OneLink.{Datagram, Asks, Tells, Pair, Event, after, reached, Among}
 use Rattle.smi_command.proofs.Holders.{told_apart}
-use Rattle.smi_stable.specs.Known.{is_number}
+use Rattle.smi_rows.specs.Known.{is_number}
 use Rattle.smi_station.specs.Display.{Station}
 use Rattle.smi_station.specs.Happening.{Happening}
 use Rattle.smi_station.specs.Messages.{home}
