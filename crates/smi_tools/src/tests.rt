@@ -1,10 +1,7 @@
 use crate::answer::{Answered, answer};
 use crate::check::check;
-use crate::program::program;
 use crate::rows::{Listed, rows};
-use crate::status::Status;
-use smi_stable::{Key, MemoryStable, Stable};
-use std::alloc::Global;
+use smi_rows::{Key, MemoryStable, Stable};
 use std::cmp::min;
 use std::io::{self, ErrorKind, Read, Write};
 use std::test::Fail;
@@ -209,42 +206,6 @@ fn faults_in_mid_stream(rt: HostRuntime) -> Result<(), Fail> {
         assert_eq!(rt; answer(&mut reader, &mut writer), end);
         let front = min(room, TAKEN.len());
         assert_eq!(rt; writer.written.as_slice(), &TAKEN[..front]);
-    }
-    Ok(())
-}
-
-fn words(alloc: Global, line: &str) -> Result<Vec<String>, Fail> {
-    let mut words = Vec::new(alloc);
-    for word in line.split_whitespace() {
-        words.push(String::from_str(alloc, word)?)?;
-    }
-    Ok(words)
-}
-
-#[test]
-fn command_lines(rt: HostRuntime) -> Result<(), Fail> {
-    let table = [
-        ("smi answer", Status::Done, 0, ""),
-        ("smi", Status::WrongLine, 2, "wrong line\n"),
-        ("smi help", Status::WrongLine, 2, "wrong line\n"),
-        ("smi answer --help", Status::WrongLine, 2, "wrong line\n"),
-        ("smi check", Status::WrongLine, 2, "wrong line\n"),
-        ("smi check no-such-file", Status::Fault, 3, "read fault\n"),
-        ("smi rows", Status::WrongLine, 2, "wrong line\n"),
-        ("smi rows no-such-file", Status::Fault, 3, "store fault\n"),
-    ];
-    for (line, status, code, text) in table {
-        let words = words(rt.alloc(), line)?;
-        let mut faults = Vec::new(rt.alloc());
-        let ended = program(
-            &rt,
-            words.as_slice(),
-            TAKE.as_slice(),
-            Vec::new(rt.alloc()),
-            &mut faults,
-        );
-        assert_eq!(rt; (ended, status.code()), (code, code));
-        assert_eq!(rt; faults.as_slice(), text.as_bytes());
     }
     Ok(())
 }

@@ -2,10 +2,10 @@
 
 ghost use Rattle.std.specs.Prelude.{◌≡◌, ◌/◌, ◌%◌, ◌∷◌, [], ◌<◌, List, ℕ, OnOk};
 ghost use Rattle.std.specs.Io.KnownBytes.{Appends};
-ghost use Rattle.smi_stable.specs.Store.{Saved, IsListing};
-ghost use Rattle.smi.specs.Rows.{hex_digit, hex, hex_text, row_text, rows_text};
+ghost use Rattle.smi_rows.specs.Store.{Saved, IsListing};
+ghost use Rattle.smi_tools.specs.Rows.{hex_digit, hex, hex_text, row_text, rows_text};
 
-use smi_stable::{SavedRow, Stable, StoreFault};
+use smi_rows::{SavedRow, Stable, StoreFault};
 use std::io::{self, Write};
 
 /// How a listing ended.

@@ -1,6 +1,6 @@
 use Rattle.std.proofs.Common.{◌≤◌, ◌<◌, take}
-use Rattle.smi.proofs.Going.{Goes}
-use Rattle.smi.proofs.answer.answer_all.Given as goal
+use Rattle.smi_tools.proofs.Going.{Goes}
+use Rattle.smi_tools.proofs.answer.answer_all.Given as goal
 
 abbrev pub invariant-reads : goal.invariant-reads
 invariant-reads g l =

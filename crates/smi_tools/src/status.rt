@@ -19,7 +19,7 @@ pub enum Status {
 
 impl Status {
     ghost use Rattle.std.specs.Prelude.{◌≡◌};
-    ghost use Rattle.smi.specs.Status.{code_of};
+    ghost use Rattle.smi_tools.specs.Status.{code_of};
 
     /// The exit status, 0 to 4.
     pub fn code(self) -> u8

@@ -1,6 +1,6 @@
 use Rattle.std.proofs.Common.{sym, ◌∙◌}
-use Rattle.smi.proofs.Tellable.{said_tellable}
-use Rattle.smi.proofs.keeper.Keeper.hear.Goals as goal
+use Rattle.smi_tools.proofs.Tellable.{said_tellable}
+use Rattle.smi_tools.proofs.keeper.Keeper.hear.Goals as goal
 
 pub invariant_of-self : goal.invariant_of-self
 invariant_of-self c =

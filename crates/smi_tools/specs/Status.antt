@@ -1,7 +1,7 @@
 -- The exit statuses.
 use Rattle.std.specs.Prelude.{ℕ}
-use Rattle.smi.specs.declared.status.Status.{Status}
-use Rattle.smi.specs.declared.status.Status.TheVariants.{Done, Refused, WrongLine, Fault, NoMemory}
+use Rattle.smi_tools.specs.declared.status.Status.{Status}
+use Rattle.smi_tools.specs.declared.status.Status.TheVariants.{Done, Refused, WrongLine, Fault, NoMemory}
 
 abbrev pub code_of : Status → ℕ
 code_of Done = 0

@@ -7,15 +7,15 @@ use Rattle.std.specs.Io.KnownBytes.{Appends, Consumes, Keeps, IsAtEnd}
 use Rattle.std.proofs.KnownBytes.{Appends-nil, Appends-trans, Appends-kept}
 use Rattle.std.proofs.lemmas.Bool.Decides.{nat_tests}
 use Rattle.smi_grant.specs.Record.{Standing, fresh}
-use Rattle.smi.specs.declared.answer.Answered.{Answered}
-use Rattle.smi.specs.declared.answer.Answered.TheVariants.{Ended, Refused}
-use Rattle.smi.specs.Answer.{IsDone, pieces, answers, ending}
-use Rattle.smi.specs.Keeper.{answer_to}
+use Rattle.smi_tools.specs.declared.answer.Answered.{Answered}
+use Rattle.smi_tools.specs.declared.answer.Answered.TheVariants.{Ended, Refused}
+use Rattle.smi_tools.specs.Answer.{IsDone, pieces, answers, ending}
+use Rattle.smi_tools.specs.Keeper.{answer_to}
 use Rattle.smi_message.specs.Bad.{refusal_code}
 use Rattle.smi_message.specs.declared.Bad.TheVariants as bad
 use Rattle.smi_message.specs.declared.Refusal.{Refusal}
 use Rattle.smi_message.specs.declared.Refusal.TheVariants as refusal
-use Rattle.smi.proofs.Pieces.{pieces_first, pieces_last, pieces_nil}
+use Rattle.smi_tools.proofs.Pieces.{pieces_first, pieces_last, pieces_nil}
 
 -- input is what the reader had, left what it still has, piece the front of the next piece
 pub record Going (input left piece : List ℕ) (r : Standing) (k : ℕ) (w0 w : Option (List ℕ)) : Type 0 where

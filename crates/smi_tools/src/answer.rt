@@ -3,7 +3,7 @@
 ghost use Rattle.std.specs.Prelude.{◌≡◌, ◌≤◌, ◌++◌, List, ℕ, OnOk, IfSome, take};
 ghost use Rattle.std.specs.Io.KnownBytes.{Appends};
 ghost use Rattle.smi_grant.specs.Record.{fresh};
-ghost use Rattle.smi.specs.Answer.{IsDone, answers, ending, first_fault, pieces};
+ghost use Rattle.smi_tools.specs.Answer.{IsDone, answers, ending, first_fault, pieces};
 
 use crate::keeper::Keeper;
 use std::io::{ErrorKind, Read, Write};

@@ -1,9 +1,9 @@
 -- The keeper's record can be told after each datagram.
-use Rattle.std.proofs.Common.{◌≡◌, ℕ, ◌≤◌, Bool, true, false, Result, Ok, Err, refl, sym, ap, subst, ◌∙◌, arith}
+use Rattle.std.proofs.Common.{◌≡◌, ℕ, Bool, true, false, Ok, Err, refl, sym, ap, ◌∙◌}
 use Rattle.std.specs.Prelude.{◌&&◌, ◌==◌, nat_le, nat_lt, if◌then◌else◌}
 use Rattle.std.proofs.lemmas.Bool.{and_from, and_parts}
 use Rattle.smi_grant.specs.declared.Holder.{Holder}
-use Rattle.smi_grant.specs.declared.Holder.TheVariants.{Free, Operator, Domain}
+use Rattle.smi_grant.specs.declared.Holder.TheVariants.{Free}
 use Rattle.smi_grant.specs.declared.Command.{Command}
 use Rattle.smi_grant.specs.declared.Command.TheVariants.{Do, Include, Exclude, Manual, Ignore}
 use Rattle.smi_grant.specs.declared.Verdict.TheVariants.{New, Same}
@@ -12,11 +12,10 @@ use Rattle.smi_grant.specs.Record.{Standing, is_outcome, is_settled, last_epoch}
 use Rattle.smi_grant.specs.Keeper.{take_after, drop_after, admits, handed}
 use Rattle.smi_message.specs.declared.Body.{Body}
 use Rattle.smi_message.specs.declared.Body.TheVariants as body
-use Rattle.smi_message.specs.declared.Refusal.{Refusal}
 use Rattle.smi_message.specs.declared.Refusal.TheVariants as refusal
 use Rattle.smi_message.specs.Message.{is_body, is_domain, is_party}
-use Rattle.smi.specs.Tellable.{is_tellable}
-use Rattle.smi.specs.Keeper.{is_operator, after, outcome_of, run_after, where_known, said_after}
+use Rattle.smi_tools.specs.Tellable.{is_tellable}
+use Rattle.smi_tools.specs.Keeper.{is_operator, after, outcome_of, run_after, where_known, said_after}
 
 -- ---- what each datagram leaves can be told
 

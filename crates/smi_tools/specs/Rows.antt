@@ -2,7 +2,7 @@
 use Rattle.std.specs.Prelude.{ℕ, ◌+◌, ◌/◌, ◌%◌, nat_lt, if◌then◌else◌, List, [], ◌∷◌, ◌++◌}
 use Rattle.std.specs.List.{flat_map}
 use Rattle.std.specs.Fmt.{decimal}
-use Rattle.smi_stable.specs.Store.{Saved}
+use Rattle.smi_rows.specs.Store.{Saved}
 
 -- 0 to 9 and a to f
 abbrev pub hex_digit : ℕ → ℕ

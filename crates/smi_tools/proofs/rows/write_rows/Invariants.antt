@@ -1,7 +1,7 @@
 use Rattle.std.proofs.Common.{take}
 use Rattle.std.specs.Io.KnownBytes.{Appends}
-use Rattle.smi.specs.Rows.{rows_text}
-use Rattle.smi.proofs.rows.write_rows.Given as goal
+use Rattle.smi_tools.specs.Rows.{rows_text}
+use Rattle.smi_tools.proofs.rows.write_rows.Given as goal
 
 -- the rows so far are written
 abbrev pub invariant-loop-row : goal.invariant-loop-row

@@ -1,7 +1,7 @@
 use Rattle.std.proofs.Common.{take}
 use Rattle.std.specs.Io.KnownBytes.{Appends}
-use Rattle.smi.specs.Rows.{hex_text}
-use Rattle.smi.proofs.rows.write_hex.Given as goal
+use Rattle.smi_tools.specs.Rows.{hex_text}
+use Rattle.smi_tools.proofs.rows.write_hex.Given as goal
 
 -- the bytes so far are written
 abbrev pub invariant-loop-byte : goal.invariant-loop-byte

@@ -1,10 +1,10 @@
 -- What is answered to a whole input.
-use Rattle.std.specs.Prelude.{◌≡◌, ℕ, zero, suc, ◌+◌, List, [], ◌∷◌, ◌++◌, length, take, drop, Result, Ok, Err}
+use Rattle.std.specs.Prelude.{ℕ, zero, suc, ◌+◌, List, [], ◌∷◌, ◌++◌, length, take, drop, Ok, Err}
 use Rattle.smi_grant.specs.Record.{Standing}
 use Rattle.smi_message.specs.Bad.{refusal_code}
-use Rattle.smi.specs.declared.answer.Answered.{Answered}
-use Rattle.smi.specs.declared.answer.Answered.TheVariants.{Ended, Refused, ReadFault, WriteFault, Memory}
-use Rattle.smi.specs.Keeper.{answer_to}
+use Rattle.smi_tools.specs.declared.answer.Answered.{Answered}
+use Rattle.smi_tools.specs.declared.answer.Answered.TheVariants.{Ended, Refused, ReadFault, WriteFault, Memory}
+use Rattle.smi_tools.specs.Keeper.{answer_to}
 
 -- 44 bytes each; the last piece may be shorter
 abbrev pub cut : ℕ → List ℕ → List (List ℕ)

@@ -1,10 +1,9 @@
-use Rattle.std.proofs.Common.{rules, ◌≡◌, ℕ, take, ◌+◌, length, arith, ap, sym, subst, ◌∙◌}
+use Rattle.std.proofs.Common.{rules, ◌≡◌, ℕ, take, ◌+◌, length, arith, sym, subst}
 use Rattle.std.proofs.lemmas.List.{length-take}
-use Rattle.smi_message.specs.Bad.{refusal_code}
-use Rattle.smi.specs.declared.answer.Answered.TheVariants.{Ended, Refused}
-use Rattle.smi.proofs.Going.{Goes, Finishes, read_some, read_all, read_none, short, refused, ended_here, filled_long, accepted, front_more, done_of, read_failed}
-use Rattle.smi.proofs.answer.answer_all.Goals as goal
-use Rattle.smi.proofs.answer.answer_all.Goals.{in-Ok+then-at-eq44+in-Ok-answer+in-Ok-write_whole, in-Ok+else-at-eq44, in-Err+else-ne}
+use Rattle.smi_tools.specs.declared.answer.Answered.TheVariants.{Ended, Refused}
+use Rattle.smi_tools.proofs.Going.{Goes, Finishes, read_some, read_all, read_none, short, refused, ended_here, filled_long, accepted, front_more, done_of, read_failed}
+use Rattle.smi_tools.proofs.answer.answer_all.Goals as goal
+use Rattle.smi_tools.proofs.answer.answer_all.Goals.{in-Ok+then-at-eq44+in-Ok-answer+in-Ok-write_whole, in-Ok+else-at-eq44, in-Err+else-ne}
 
 pub returns-then-at-ne0-clause-done : goal.returns-then-at-ne0-clause-done
 returns-then-at-ne0-clause-done g c =

@@ -1,9 +1,9 @@
 use Rattle.std.proofs.Common.{rules, ℕ, take, ◌+◌, arith, sym, subst}
 use Rattle.std.specs.Io.KnownBytes.{Appends}
 use Rattle.std.proofs.KnownBytes.{Appends-kept}
-use Rattle.smi.proofs.Written.{more_written}
-use Rattle.smi.proofs.answer.write_whole.Goals as goal
-use Rattle.smi.proofs.answer.write_whole.Goals.{in-Ok+else-at-eq44, in-Err+else-ne}
+use Rattle.smi_tools.proofs.Written.{more_written}
+use Rattle.smi_tools.proofs.answer.write_whole.Goals as goal
+use Rattle.smi_tools.proofs.answer.write_whole.Goals.{in-Ok+else-at-eq44, in-Err+else-ne}
 
 pub returns-then-at-eq44-clause-front : goal.returns-then-at-eq44-clause-front
 returns-then-at-eq44-clause-front g c =

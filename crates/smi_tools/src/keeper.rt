@@ -2,7 +2,7 @@
 
 ghost use Rattle.std.specs.Prelude.{◌≡◌, ◌≤◌, true, MatchResult, Ok, Err};
 ghost use Rattle.smi_message.specs.Message.{is_body, tell};
-ghost use Rattle.smi.specs.Keeper as spec;
+ghost use Rattle.smi_tools.specs.Keeper as spec;
 
 use smi_grant::{Command, Holder, LAST_NUMBER, Record, Verdict};
 use smi_message::{Body, Datagram, Refusal, decode, encode};
@@ -26,7 +26,7 @@ pub struct Keeper {
 impl Model for Keeper {
     ghost use Rattle.std.specs.Prelude.{◌≡◌, true};
     ghost use Rattle.smi_grant.specs.Record.{Standing};
-    ghost use Rattle.smi.specs.Tellable.{is_tellable};
+    ghost use Rattle.smi_tools.specs.Tellable.{is_tellable};
 
     ghost Value = { Standing };
 
