@@ -1,24 +1,16 @@
 //! `smi`: the program of the control hierarchy.
 //!
-//! [`answer::answer`] is the keeper of one domain over a reader and a writer: what is written is what
-//! the keeper's rules say of the datagrams read. [`check::check`] tells what a tree file declares, and
-//! [`rows::rows`] lists the stable rows of a store.
-//! `program` reads the command line, opens files and makes the buffers, and `main` has the runtime.
+//! What its commands do is proved in `smi_tools`: [`answer`], [`check`] and [`rows`]. `program` reads
+//! the command line, opens files and makes the buffers, and `main` has the runtime.
 #![tactic(auto)]
 
-mod answer;
-mod check;
-mod keeper;
 mod line;
 mod program;
-mod rows;
-mod status;
 mod store;
-#[cfg(test)]
-mod tests;
 
+use crate::status::no_memory;
 use program::program;
-use status::no_memory;
+pub use smi_tools::{answer, check, rows, status};
 use std::process::ExitCode;
 use std::{env, io};
 

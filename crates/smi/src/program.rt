@@ -1,11 +1,11 @@
 //! The commands, over any files, input and outputs.
 
-use crate::answer::{Answered, answer};
-use crate::check::check;
 use crate::line::{Line, line_of};
-use crate::rows::Listed;
-use crate::status::{Status, no_memory, read_fault, store_fault, write_fault, wrong_line};
 use crate::store::Stores;
+use smi_tools::answer::{Answered, answer};
+use smi_tools::check::check;
+use smi_tools::rows::Listed;
+use smi_tools::status::{Status, no_memory, read_fault, store_fault, write_fault, wrong_line};
 use std::alloc::Global;
 use std::fs;
 use std::io::{self, BufReader, BufWriter, ErrorKind, Read, Write};

@@ -1,7 +1,7 @@
 //! Where the stable rows of a station are kept: a file of SQLite.
 
-use crate::rows::{Listed, rows};
 use smi_stable::{SqliteStable, StoreFault};
+use smi_tools::rows::{Listed, rows};
 use sqlite::{Connection, Error, ErrorCode, File, FileStore};
 use std::fs;
 use std::io::{self, ErrorKind, Write};

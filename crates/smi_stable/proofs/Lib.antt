@@ -1,8 +1,3 @@
-pub mod Appended
-pub mod Cutting
-pub mod Again
-pub mod Laws
-pub mod Keys
 pub mod SqlTexts
 pub mod SqlSaves
 pub mod SqlReplaced

@@ -1,10 +1,9 @@
 -- What is known of a connection that was taken over.
-use Rattle.std.proofs.Common.{◌≡◌, ◌⊎◌, inl, inr, false, [], IsTrue, sym, ap, subst, ◌∙◌}
+use Rattle.std.proofs.Common.{inl, inr, sym, ap, ◌∙◌}
 use Rattle.sqlite.specs.Effect.{Database}
 use Rattle.sqlite.specs.State.{State, HasCleanDisk, IsUnchanged}
-use Rattle.smi_stable.specs.SqlTable.{stable_schema, no_schema}
 use Rattle.smi_stable.specs.SqlRows.{IsKeyed}
-use Rattle.smi_stable.specs.SqlReady.{IsAdopted, IsReady, IsAtRest}
+use Rattle.smi_stable.specs.SqlReady.{IsAdopted, IsReady}
 
 -- a call that changes nothing leaves it so
 pub adopted-still : (a b c : State) → IsAdopted a b → IsUnchanged b c → IsAdopted a c

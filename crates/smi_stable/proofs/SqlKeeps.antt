@@ -1,5 +1,5 @@
 -- What a save keeps of a connection.
-use Rattle.std.proofs.Common.{◌≡◌, ◌⊎◌, inl, inr, ℕ, ◌≤◌, ℤ, pos, List, Bool, true, false, true≢false, if◌then◌else◌, Option, Some, Ok, Err, Result, IsTrue, refl, sym, ap, subst, ◌∙◌, arith}
+use Rattle.std.proofs.Common.{◌≡◌, ◌⊎◌, inl, inr, ℕ, pos, List, false, true≢false, if◌then◌else◌, Option, Some, Ok, Err, IsTrue, refl, sym, ap, subst, ◌∙◌, arith}
 use Rattle.std.proofs.lemmas.Bool.{cases_Bool}
 use Rattle.sqlite.specs.Order.{Row}
 use Rattle.std.proofs.Common.{[], ◌∷◌}
@@ -12,11 +12,11 @@ use Rattle.sqlite.specs.Command.{Command}
 use Rattle.sqlite.specs.Command.TheVariants.{Select, Insert, InsertOr, Update, Delete, CreateTable, CreateIndex, DropTable, DropIndex, Begin, Commit, Rollback, Savepoint as Save, Release, RollbackTo, Nothing, CreateView, DropView, Rows}
 use Rattle.sqlite_schema.specs.declared.command.Returning.{Returning}
 use Rattle.sqlite.specs.State.{State, HasCleanDisk, Runs, IsUnchanged, IsRolledBack, Survives, Executes, ExecutesIn, IsNotRun, CommitsBy, shows_rows}
-use Rattle.smi_stable.specs.declared.key.Key.{Key}
-use Rattle.smi_stable.specs.SqlTable.{replace_text, stable_schema}
+use Rattle.smi_rows.specs.declared.key.Key.{Key}
+use Rattle.smi_stable.specs.SqlTable.{replace_text}
 use Rattle.smi_stable.specs.SqlRows.{IsKeyed}
-use Rattle.smi_stable.specs.Store.{IsSame, with_row}
-use Rattle.smi_stable.specs.SqlReady.{IsAtRest, IsReady, rows_in, rows_of, LeavesEither}
+use Rattle.smi_rows.specs.Store.{IsSame, with_row}
+use Rattle.smi_stable.specs.SqlReady.{IsAtRest, rows_in, rows_of, LeavesEither}
 use Rattle.smi_stable.proofs.SqlKeys.{key-agrees}
 use Rattle.smi_stable.proofs.SqlSaves.{Replaces, values, replaces, commits}
 use Rattle.smi_stable.proofs.SqlReplaced.{replaced, still_keyed}

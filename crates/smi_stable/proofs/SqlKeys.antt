@@ -5,14 +5,14 @@ use Rattle.std.specs.Ordering.{is_eq, int_cmp}
 use Rattle.std.proofs.Math.Seq.{drop-cons}
 use Rattle.sqlite_value.proofs.OrderLemmas.{value_cmp-Int}
 use Rattle.std.proofs.lemmas.Bool.Decides.{nat_tests}
-use Rattle.sqlite.specs.declared.types.Value.TheVariants.{Null, Int}
+use Rattle.sqlite.specs.declared.types.Value.TheVariants.{Int}
 use Rattle.sqlite.specs.Collation.TheVariants.{Binary}
 use Rattle.sqlite.specs.Order.{Row, value_cmp, column, bytes}
 use Rattle.sqlite_sql.specs.Ops.{binary, is_true, from_truth}
-use Rattle.sqlite_schema.specs.Rules.{agree, equal}
-use Rattle.sqlite_value.specs.Keys.{plain, first_key}
-use Rattle.smi_stable.specs.declared.key.Key.{Key}
-use Rattle.smi_stable.specs.Store.{Saved, same_key, found_in}
+use Rattle.sqlite_schema.specs.Rules.{equal}
+use Rattle.sqlite_value.specs.Keys.{first_key}
+use Rattle.smi_rows.specs.declared.key.Key.{Key}
+use Rattle.smi_rows.specs.Store.{Saved, same_key, found_in}
 use Rattle.smi_stable.specs.SqlListing.{shown_key, listed_at}
 use Rattle.smi_stable.specs.SqlShown.{IsShownAs, or_else}
 use Rattle.smi_stable.specs.SqlRows.{has_key}

@@ -1,8 +1,7 @@
 -- A save leaves each key's bytes but those of its own.
-use Rattle.std.proofs.Common.{◌≡◌, ◌⊎◌, inl, inr, ℕ, ℤ, pos, List, [], ◌∷◌, ◌++◌, map, filter, find, Bool, true, false, cond, not, ◌&&◌, ◌||◌, Option, Some, None, option_map, Ordering, Less, Equal, Greater, refl, sym, ap, subst, ◌∙◌, true≢false}
-use Rattle.std.specs.List.{AllByRecursion, list_any}
+use Rattle.std.proofs.Common.{◌≡◌, ◌⊎◌, inl, inr, ℕ, ℤ, List, [], ◌∷◌, map, filter, find, Bool, true, false, cond, not, Option, Some, None, option_map, Ordering, Less, Equal, Greater, refl, sym, ap, subst, ◌∙◌, true≢false}
 use Rattle.std.specs.Ordering.{is_eq, match_ordering}
-use Rattle.std.proofs.lemmas.Bool.{and_parts, and_from, or_parts, or_from, or_cases, or_left, or_right, not-true, cases_Bool, false_from_ne_true}
+use Rattle.std.proofs.lemmas.Bool.{and_parts, or_parts, or_cases, or_left, or_right, not-true}
 use Rattle.std.proofs.lemmas.Cmp.{tied_itself}
 use Rattle.sqlite_value.proofs.OrderLemmas.{value_cmp_total}
 use Rattle.sqlite_rules.proofs.PlaceLemmas.{tied_same, next_is_free}
@@ -11,7 +10,7 @@ use Rattle.sqlite.specs.declared.types.Value.TheVariants.{Null, Int, Real, Text,
 use Rattle.sqlite.specs.Collation.TheVariants.{Binary}
 use Rattle.sqlite.specs.Rowids.TheVariants.{Chosen}
 use Rattle.sqlite_sql.specs.Ops.{binary, is_true, from_truth}
-use Rattle.sqlite.specs.Order.{Row, column, value_cmp}
+use Rattle.sqlite.specs.Order.{Row, value_cmp}
 use Rattle.sqlite_value.specs.Keys.{plain, first_key}
 use Rattle.sqlite_schema.specs.Rules.{agree, equal}
 use Rattle.sqlite_rules.specs.Lists.{Has}

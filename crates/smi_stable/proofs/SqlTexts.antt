@@ -1,16 +1,16 @@
-use Rattle.std.proofs.Common.{◌≡◌, ℕ, pos, negsuc, List, [], ◌∷◌, codes, false, true, Some, None, Ok, refl}
-use Rattle.sqlite.specs.declared.types.Value.TheVariants.{Null, Int}
+use Rattle.std.proofs.Common.{◌≡◌, List, [], ◌∷◌, Ok, refl}
+use Rattle.sqlite.specs.declared.types.Value.TheVariants.{Null}
 use Rattle.sqlite.specs.Command.{Command}
-use Rattle.sqlite.specs.Command.TheVariants.{Insert, InsertOr, Select, CreateTable}
+use Rattle.sqlite.specs.Command.TheVariants.{InsertOr, CreateTable}
 use Rattle.sqlite.specs.Source.TheVariants.{Values}
-use Rattle.sqlite_schema.specs.declared.command.Conflict.TheVariants.{Abort, Replace}
+use Rattle.sqlite_schema.specs.declared.command.Conflict.TheVariants.{Replace}
 use Rattle.sqlite.specs.Term.{Term, lit, col}
 use Rattle.sqlite.specs.Compile.{table_defined_by}
 use Rattle.sqlite.specs.Change.{created}
 use Rattle.sqlite_tied.specs.Compute.{everything}
-use Rattle.sqlite.specs.Listing.{understood, reads_listing}
-use Rattle.sqlite.proofs.Callers.{IsPlain, command_of, statement_of}
-use Rattle.smi_stable.specs.SqlTable.{create_text, upsert_text, replace_text, select_text, stable_table, stable_schema, no_schema}
+use Rattle.sqlite.specs.Listing.{understood}
+use Rattle.sqlite.proofs.Callers.{IsPlain, command_of}
+use Rattle.smi_stable.specs.SqlTable.{create_text, replace_text, stable_table, stable_schema, no_schema}
 
 pub defined : table_defined_by create_text ≡ Ok stable_table
 unfolding understood everything

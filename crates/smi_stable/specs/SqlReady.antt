@@ -1,14 +1,12 @@
 -- What a connection over the table of stable rows keeps.
-use Rattle.std.specs.Prelude.{◌≡◌, ◌⊎◌, ℕ, pos, Bool, false, List, [], ◌∷◌, Option, Some, if◌then◌else◌, IsTrue}
+use Rattle.std.specs.Prelude.{◌≡◌, ◌⊎◌, ℕ, pos, Bool, false, List, [], ◌∷◌, Option, IsTrue}
 use Rattle.sqlite.specs.declared.types.Value.TheVariants.{Null, Int, Blob}
 use Rattle.sqlite.specs.Order.{Row}
 use Rattle.sqlite.specs.Tree.{Trees}
-use Rattle.sqlite_trees.specs.declared.store.Store.{Ghosts}
 use Rattle.sqlite.specs.State.{State, HasCleanDisk}
-use Rattle.sqlite.specs.Held.{Held, state}
-use Rattle.smi_stable.specs.declared.key.Key.{Key}
+use Rattle.smi_rows.specs.declared.key.Key.{Key}
 use Rattle.smi_stable.specs.SqlTable.{stable_schema, no_schema}
-use Rattle.smi_stable.specs.Store.{IsSame, with_row}
+use Rattle.smi_rows.specs.Store.{IsSame, with_row}
 use Rattle.smi_stable.specs.SqlRows.{at_key, has_key, IsKeyed}
 
 -- the rows of a database, by their keys

@@ -1,9 +1,9 @@
 -- A row of the table as a saved row.
-use Rattle.std.specs.Prelude.{ℕ, ◌≡◌, pos, List, [], ◌∷◌, Option, Some, None, true, Bool}
+use Rattle.std.specs.Prelude.{ℕ, ◌≡◌, pos, List, Option, Some, None, true}
 use Rattle.sqlite.specs.declared.types.Value.TheVariants.{Int, Blob}
 use Rattle.sqlite.specs.Order.{Row, column}
-use Rattle.smi_stable.specs.declared.key.Key.{Key}
-use Rattle.smi_stable.specs.Store.{Saved, found_in, rises, rises_after}
+use Rattle.smi_rows.specs.declared.key.Key.{Key}
+use Rattle.smi_rows.specs.Store.{Saved, found_in, rises}
 use Rattle.smi_stable.specs.SqlListing.{listed_at}
 
 -- the four columns are the key and the bytes
@@ -17,11 +17,6 @@ pub record IsShownAs (r : Row) (s : Saved) : Type 0 where
 abbrev pub or_else : Option (List ℕ) → Option (List ℕ) → Option (List ℕ)
 or_else None other = other
 or_else (Some b) other = Some b
-
--- the keys rise, from this one on if there is one
-abbrev pub rises_from : Option Key → List Saved → Bool
-rises_from None xs = rises xs
-rises_from (Some key) xs = rises_after key xs
 
 -- the list has each key's bytes, and its keys rise
 pub record ShowsAll (rows : List Row) (list : List Saved) : Type 0 where

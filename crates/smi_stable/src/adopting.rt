@@ -8,9 +8,9 @@ ghost use Rattle.smi_stable.specs.SqlRows.{IsKeyed};
 
 use crate::schema_shape::{is_empty, is_stable};
 use crate::sqlite_stable::SqliteStable;
-use crate::stable::StoreFault;
 use crate::statement::{fault_of, make_table, test_open};
 use core::snapshot::Snapshot;
+use smi_rows::StoreFault;
 use smi_tally::Tally;
 use sqlite::{Alter, Connection};
 

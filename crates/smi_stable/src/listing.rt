@@ -4,7 +4,7 @@ ghost use Rattle.std.specs.Prelude.{◌≡◌, IsTrue, IfOk, OnOk, pos};
 ghost use Rattle.sqlite.specs.State.{HasCleanDisk, IsUnchanged, IsRolledBack};
 ghost use Rattle.sqlite.specs.Held.{state};
 ghost use Rattle.std.specs.Prelude.{◌⊎◌};
-ghost use Rattle.smi_stable.specs.declared.key.Key.{Key};
+ghost use Rattle.smi_rows.specs.declared.key.Key.{Key};
 ghost use Rattle.smi_stable.specs.SqlListing.{listed_at};
 ghost use Rattle.smi_stable.specs.SqlReady.{IsReady, rows_of};
 

@@ -8,16 +8,14 @@ ghost use Rattle.sqlite.specs.Tree.{Trees};
 ghost use Rattle.sqlite.specs.Effect.{Database};
 ghost use Rattle.smi_stable.specs.SqlReady.{IsReady, IsInUse, rows_in, rows_of};
 ghost use Rattle.smi_stable.specs.SqlRows.{IsKeyed};
-ghost use Rattle.smi_stable.specs.Store.{IsSame, IsListing, IfSure};
+ghost use Rattle.smi_rows.specs.Store.{IsSame, IsListing, IfSure};
 ghost use Rattle.smi_stable.specs.SqlShown.{ShowsAll};
 
-use crate::key::Key;
 use crate::listing::list_rows;
-use crate::saved::SavedRow;
-use crate::shown::{is_rising, saved_rows};
+use crate::shown::saved_rows;
 use crate::sqlite_stable::SqliteStable;
-use crate::stable::{Stable, StoreFault};
 use crate::statement::{fault_of, save_surely, test_open};
+use smi_rows::{Key, SavedRow, Stable, StoreFault, is_rising};
 use sqlite::{Alter, Connection};
 
 /// The saved rows in an answer of the database.

@@ -3,17 +3,13 @@
 ghost use Rattle.std.specs.Prelude.{◌≡◌, ℕ, IfOk, pos, List};
 ghost use Rattle.sqlite.specs.declared.types.Value.TheVariants.{Int};
 ghost use Rattle.sqlite.specs.Order.{column};
-ghost use Rattle.smi_stable.specs.declared.key.Key.{Key};
+ghost use Rattle.smi_rows.specs.declared.key.Key.{Key};
 ghost use Rattle.smi_stable.specs.SqlListing.{listed_at};
 ghost use Rattle.smi_stable.specs.SqlShown.{IsShownAs};
-ghost use Rattle.smi_stable.specs.Store.{found_in};
-ghost use Rattle.smi_stable.specs.Store as store;
+ghost use Rattle.smi_rows.specs.Store.{found_in};
 
-use crate::key::Key;
-use crate::memory::is_before;
-use crate::saved::SavedRow;
-use crate::stable::StoreFault;
 use crate::statement::fault_of;
+use smi_rows::{Key, SavedRow, StoreFault};
 use sqlite::Row;
 
 /// The number in a column, if it is one that a key can have.
@@ -65,20 +61,4 @@ pub(crate) fn saved_rows(rows: &Vec<Row>) -> Result<Vec<SavedRow>, StoreFault>
         }
     }
     Ok(list)
-}
-
-/// Whether the keys rise.
-pub(crate) fn is_rising(list: &[SavedRow]) -> bool
-    ensures { result ≡ store.rises list.now }
-{
-    let mut last = None;
-    for row in list {
-        if let Some(before) = last {
-            if !is_before(before, row.key) {
-                return false;
-            }
-        }
-        last = Some(row.key);
-    }
-    true
 }

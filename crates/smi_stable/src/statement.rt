@@ -3,12 +3,11 @@
 ghost use Rattle.std.specs.Prelude.{◌≡◌, [], OnOk, OnErr, IfOk, IsTrue, pos};
 ghost use Rattle.sqlite.specs.State.{HasCleanDisk, Executes, Survives, CommitsBy, IsUnchanged};
 ghost use Rattle.sqlite.specs.Held.{state};
-ghost use Rattle.smi_stable.specs.Store.{IsSame, with_row, IfNotSaved, IfUnsure};
+ghost use Rattle.smi_rows.specs.Store.{IsSame, with_row, IfNotSaved, IfUnsure};
 ghost use Rattle.smi_stable.specs.SqlReady.{IsReady, rows_of, LeavesEither, key_values};
 ghost use Rattle.smi_stable.specs.SqlTable.{replace_text, create_text};
 
-use crate::key::Key;
-use crate::stable::StoreFault;
+use smi_rows::{Key, StoreFault};
 use sqlite::{Alter, Connection, Error, ErrorCode, params};
 
 const SAVE: &str =

@@ -1,21 +1,11 @@
-//! Rows and stores, by values from docs/FORMATS.md.
+//! Stores, by rows as docs/FORMATS.md writes them.
 
-use crate::{Key, Row, RowFault, write_boot};
-use smi_tree::Tree;
-use std::alloc::Global;
-use std::test::Fail;
+use crate::Key;
 
 mod disks;
 mod growths;
-mod planned;
-mod replaced;
-mod rows;
 mod saved;
 mod stopped;
-
-// Stations A 1 and B 2, operators ANN 1 at A and BOB 2 at B, domains DCS 1 at A and TPC 2 at B under it.
-const TREE: &[u8] =
-    b"tree 17\nstate OFF\naction CONFIGURE\naction START\nstation A 127.0.0.1:9001\nstation B 127.0.0.1:9002\noperator ANN A\noperator BOB B\nunitclass UNIT OFF\ndomain DCS A UNIT -\ndomain TPC B UNIT DCS\n";
 
 const fn key(station: u16, domain: u16, operator: u16) -> Key {
     Key {
@@ -43,45 +33,3 @@ const WORKING: &[u8] = &[
 const HELD: &[u8] = &[
     3, 0, 0, 1, 0, 2, 2, 0, 0, 0, 0, 0, 0, 0, 0, 1, 0, 0, 0, 0, 0, 0, 0, 0,
 ];
-
-// BOB holds TPC at epoch 1, and CONFIGURE is pending.
-const OLDEST: &[u8] = &[
-    3, 0, 0, 1, 0, 2, 3, 0, 0, 0, 0, 0, 0, 0, 0, 1, 0, 0, 0, 1, 0, 1, 0, 1,
-];
-
-// BOB holds TPC at epoch 1, and CONFIGURE and START are pending.
-const PENDING: &[u8] = &[
-    3, 0, 0, 1, 0, 2, 5, 0, 0, 0, 0, 0, 0, 0, 0, 1, 0, 0, 0, 2, 0, 1, 0, 1, 0, 1, 0, 1, 0, 2,
-];
-
-// TPC is held at an even epoch.
-const EVEN: &[u8] = &[
-    3, 0, 0, 1, 0, 2, 2, 0, 0, 0, 0, 0, 0, 0, 0, 2, 0, 0, 0, 0, 0, 0, 0, 0,
-];
-
-/// 0 for a row that is read.
-fn fault(alloc: Global, tree: &Tree, key: Key, bytes: &[u8]) -> u16 {
-    match Row::read(alloc, tree, key, bytes) {
-        Ok(_) => 0,
-        Err(RowFault::Code(number)) => number,
-        Err(RowFault::Memory) => 99,
-    }
-}
-
-/// The bytes in which what the row says is written.
-fn rewritten(alloc: Global, tree: &Tree, key: Key, bytes: &[u8]) -> Result<Vec<u8>, RowFault> {
-    match Row::read(alloc, tree, key, bytes)? {
-        Row::Boot(boot) => Ok(write_boot(alloc, boot)?),
-        Row::Domain(domain) if domain.links.len() < 65536 => Ok(domain.write(alloc)?),
-        Row::Operator(operator) if operator.links.len() < 65536 => Ok(operator.write(alloc)?),
-        // More links than a row can have.
-        _ => Err(RowFault::Code(0)),
-    }
-}
-
-/// The bytes with another one at this place.
-fn with_byte(alloc: Global, bytes: &[u8], place: usize, value: u8) -> Result<Vec<u8>, Fail> {
-    let mut row = Vec::from_slice(alloc, bytes)?;
-    *row.get_mut(place).ok_or("no such byte")? = value;
-    Ok(row)
-}

@@ -5,8 +5,8 @@ use Rattle.smi_grant.specs.Holder.{same_holder}
 use Rattle.smi_grant.specs.Record.{Standing, fresh}
 use Rattle.smi_command.specs.declared.Link.{Link}
 use Rattle.smi_command.specs.declared.Link.TheVariants.{Out}
-use Rattle.smi_stable.specs.declared.Mode.{Mode}
-use Rattle.smi_stable.specs.declared.Mode.TheVariants.{Included}
+use Rattle.smi_rows.specs.declared.Mode.{Mode}
+use Rattle.smi_rows.specs.declared.Mode.TheVariants.{Included}
 
 -- Tables by number: the boot; of its domains the records and the codes gathered while they are busy; the
 -- links of its operators and domains, by holder and domain; and in which modes its domains hold their children.

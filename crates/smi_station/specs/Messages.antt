@@ -16,7 +16,7 @@ use Rattle.smi_command.specs.declared.Due.{Due}
 use Rattle.smi_command.specs.declared.Due.TheVariants.{Take, Drop, Run}
 use Rattle.smi_command.specs.Link.{due_of}
 use Rattle.smi_command.specs.Pending.{most_pending}
-use Rattle.smi_stable.specs.Known.{pending_of}
+use Rattle.smi_rows.specs.Known.{pending_of}
 
 -- the station of a domain
 abbrev pub home : Hierarchy → ℕ → ℕ

@@ -4,7 +4,7 @@ use Rattle.smi_message.specs.declared.Body.{Body}
 use Rattle.smi_message.specs.declared.Body.TheVariants as body
 use Rattle.smi_message.specs.Message.{Message}
 use Rattle.smi_tree.specs.Hierarchy.{Hierarchy}
-use Rattle.smi_stable.specs.Store.{Saved}
+use Rattle.smi_rows.specs.Store.{Saved}
 use Rattle.smi_station.specs.Display.{Station}
 use Rattle.smi_station.specs.Grants.{put}
 use Rattle.smi_station.specs.Happening.{Happening, Comes, Orders, Reports, Ticks}

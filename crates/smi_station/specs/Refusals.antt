@@ -13,8 +13,8 @@ use Rattle.smi_tree.specs.Lookups.{station_count, state_count, action_count, dom
 use Rattle.smi_publish.specs.Publishing.{is_kept_by}
 use Rattle.smi_command.specs.declared.Link.{Link}
 use Rattle.smi_command.specs.Order.{take_begun, drop_begun, command_issued}
-use Rattle.smi_stable.specs.Known.{is_number, is_holder_of, is_command_of}
-use Rattle.smi_stable.specs.Stored.{is_out}
+use Rattle.smi_rows.specs.Known.{is_number, is_holder_of, is_command_of}
+use Rattle.smi_rows.specs.Stored.{is_out}
 use Rattle.smi_station.specs.Grants.{Grants}
 use Rattle.smi_station.specs.Messages.{holder_station}
 use Rattle.smi_station.specs.Happening.{Happening, Comes, Orders, Reports, Ticks}

@@ -6,17 +6,17 @@ use Rattle.smi_tree.specs.Hierarchy.{Hierarchy}
 use Rattle.smi_tree.specs.Lookups.{domain_count, children_of}
 use Rattle.smi_command.specs.declared.Link.{Link}
 use Rattle.smi_command.specs.declared.Link.TheVariants.{Out, Taking, Held, Dropping}
-use Rattle.smi_stable.specs.declared.Key.{Key}
-use Rattle.smi_stable.specs.declared.Mode.{Mode}
-use Rattle.smi_stable.specs.declared.Mode.TheVariants as mode
-use Rattle.smi_stable.specs.declared.RowKind.TheVariants as kind
-use Rattle.smi_stable.specs.declared.StoredLink.{StoredLink}
-use Rattle.smi_stable.specs.declared.Row.{Row}
-use Rattle.smi_stable.specs.declared.Row.TheVariants as row
-use Rattle.smi_stable.specs.Layout.{row_bytes}
-use Rattle.smi_stable.specs.Schema.{newest}
-use Rattle.smi_stable.specs.Store.{Saved, saved}
-use Rattle.smi_stable.specs.Stored.{stored}
+use Rattle.smi_rows.specs.declared.Key.{Key}
+use Rattle.smi_rows.specs.declared.Mode.{Mode}
+use Rattle.smi_rows.specs.declared.Mode.TheVariants as mode
+use Rattle.smi_rows.specs.declared.RowKind.TheVariants as kind
+use Rattle.smi_rows.specs.declared.StoredLink.{StoredLink}
+use Rattle.smi_rows.specs.declared.Row.{Row}
+use Rattle.smi_rows.specs.declared.Row.TheVariants as row
+use Rattle.smi_rows.specs.Layout.{row_bytes}
+use Rattle.smi_rows.specs.Schema.{newest}
+use Rattle.smi_rows.specs.Store.{Saved, saved}
+use Rattle.smi_rows.specs.Stored.{stored}
 use Rattle.smi_station.specs.Grants.{Grants}
 use Rattle.smi_station.specs.GrantStep.{Touched, OfDomain, OfOperator}
 

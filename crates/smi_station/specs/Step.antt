@@ -10,7 +10,7 @@ use Rattle.smi_message.specs.Message.{Message}
 use Rattle.smi_message.specs.Spelling.{reading}
 use Rattle.smi_tree.specs.Hierarchy.{Hierarchy}
 use Rattle.smi_publish.specs.declared.condition.Condition.{Condition}
-use Rattle.smi_stable.specs.Store.{Saved}
+use Rattle.smi_rows.specs.Store.{Saved}
 use Rattle.smi_station.specs.Grants.{Grants}
 use Rattle.smi_station.specs.Display.{Display, Station}
 use Rattle.smi_station.specs.Happening.{Happening, Comes, Orders, Reports, Ticks, answer, told_entries}

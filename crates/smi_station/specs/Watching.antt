@@ -7,7 +7,7 @@ use Rattle.smi_message.specs.Message.{Message}
 use Rattle.smi_tree.specs.Hierarchy.{Hierarchy}
 use Rattle.smi_tree.specs.Lookups.{operators_of, parent_of}
 use Rattle.smi_publish.specs.Published.{shown_at}
-use Rattle.smi_stable.specs.Known.{is_number}
+use Rattle.smi_rows.specs.Known.{is_number}
 use Rattle.smi_view.specs.declared.Acceptance.{Acceptance}
 use Rattle.smi_view.specs.declared.Acceptance.TheVariants.{Accepted}
 use Rattle.smi_view.specs.Accepting.{acceptance, last_after}

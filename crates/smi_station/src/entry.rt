@@ -1,6 +1,6 @@
 use crate::order::Told;
 use smi_grant::{Command, Holder, Shown};
-use smi_stable::Mode;
+use smi_rows::Mode;
 
 /// What an event leaves in a trace. Domains, stations and operators have their numbers of the tree.
 #[derive(Clone, Copy, Debug, PartialEq, Eq)]

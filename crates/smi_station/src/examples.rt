@@ -4,7 +4,7 @@
 
 ghost use Rattle.std.specs.Prelude.{◌≡◌, [], ◌∷◌, ◌++◌, map, Some};
 ghost use Rattle.smi_grant.specs.declared.Command.TheVariants as command;
-ghost use Rattle.smi_stable.specs.Store.{saved};
+ghost use Rattle.smi_rows.specs.Store.{saved};
 ghost use Rattle.smi_station.specs.Happening.{answer_command, mark};
 ghost use Rattle.smi_station.specs.Opening.{first_opened, opening_entries};
 ghost use Rattle.smi_station.specs.Played.{Plays, turn_after, Deliver, StopAfter};

@@ -5,7 +5,7 @@
 ghost use Rattle.std.specs.Prelude.{◌≡◌, [], ◌∷◌};
 ghost use Rattle.smi_grant.specs.declared.Command.TheVariants as command;
 ghost use Rattle.smi_command.specs.declared.Link.TheVariants.{Out, Taking, Held, Dropping};
-ghost use Rattle.smi_stable.specs.declared.Mode.TheVariants as mode;
+ghost use Rattle.smi_rows.specs.declared.Mode.TheVariants as mode;
 ghost use Rattle.smi_station.specs.Happening.{Orders, Reports};
 ghost use Rattle.smi_station.specs.Opening.{first_opened};
 ghost use Rattle.smi_station.specs.Step.{after};

@@ -8,8 +8,8 @@ use Rattle.smi_tree.specs.Hierarchy.{Hierarchy}
 use Rattle.smi_tree.specs.Lawful.{IsTree}
 use Rattle.smi_tree.specs.Lookups.{domain_count, operator_station_of}
 use Rattle.smi_publish.specs.Publishing.{keeper_of}
-use Rattle.smi_stable.specs.declared.Plan.{Plan}
-use Rattle.smi_stable.specs.declared.Plan.TheVariants as plan
+use Rattle.smi_rows.specs.declared.Plan.{Plan}
+use Rattle.smi_rows.specs.declared.Plan.TheVariants as plan
 use Rattle.smi_station.specs.Display.{Station}
 use Rattle.smi_station.specs.Grants.{put}
 use Rattle.smi_station.specs.Happening.{Happening, Comes, Orders, Reports, Ticks, answer}

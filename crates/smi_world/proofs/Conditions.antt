@@ -18,7 +18,7 @@ use Rattle.smi_publish.specs.declared.condition.Condition.{Condition}
 use Rattle.smi_publish.specs.Published.{condition}
 use Rattle.smi_publish.specs.Publishing.{domain_of, is_kept_by, come_to, reported, device_objects, is_among, acted}
 use Rattle.smi_command.proofs.Holders.{either}
-use Rattle.smi_stable.specs.Known.{is_number}
+use Rattle.smi_rows.specs.Known.{is_number}
 use Rattle.smi_station.specs.Display.{Display, Station}
 use Rattle.smi_station.specs.Grants.{Grants}
 use Rattle.smi_station.specs.Happening.{Happening, Comes, Orders, Reports, Ticks}

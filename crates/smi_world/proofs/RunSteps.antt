@@ -19,7 +19,7 @@ use Rattle.smi_command.specs.Order.{take_begun, drop_begun, command_issued}
 use Rattle.smi_command.specs.Hearing.{told_link}
 use Rattle.smi_command.proofs.Asked.{admitted}
 use Rattle.smi_command.proofs.Holders.{either}
-use Rattle.smi_stable.specs.Known.{is_parent}
+use Rattle.smi_rows.specs.Known.{is_parent}
 use Rattle.smi_station.specs.Grants.{Grants, put}
 use Rattle.smi_station.specs.Children.{ChildChange, Stays, Relinked, ComesInto, change_of, own_code}
 use Rattle.smi_station.specs.GrantStep.{waits_for_children}

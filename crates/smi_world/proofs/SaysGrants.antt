@@ -27,7 +27,7 @@ use Rattle.smi_command.specs.Link.{due_of}
 use Rattle.smi_command.specs.Order.{take_begun, drop_begun, command_issued}
 use Rattle.smi_command.specs.Pending.{most_pending}
 use Rattle.smi_command.proofs.Holders.{either}
-use Rattle.smi_stable.specs.Known.{is_number, pending_of}
+use Rattle.smi_rows.specs.Known.{is_number, pending_of}
 use Rattle.smi_station.specs.Children.{ChildChange, Stays, Relinked, ComesInto, change_of, link_after, own_code}
 use Rattle.smi_station.specs.Display.{Station}
 use Rattle.smi_station.specs.Grants.{Grants, with_record, with_link}

@@ -13,9 +13,9 @@ use Rattle.smi_tree.specs.Hierarchy.{Hierarchy, is_child_of}
 use Rattle.smi_tree.specs.Lookups.{numbers_from, parent_of}
 use Rattle.smi_command.specs.declared.Link.TheVariants.{Held}
 use Rattle.smi_command.proofs.Holders.{either}
-use Rattle.smi_stable.specs.declared.Mode.TheVariants as mode
-use Rattle.smi_stable.specs.Ranges.{is_held}
-use Rattle.smi_stable.specs.Stored.{is_unsettled}
+use Rattle.smi_rows.specs.declared.Mode.TheVariants as mode
+use Rattle.smi_rows.specs.Ranges.{is_held}
+use Rattle.smi_rows.specs.Stored.{is_unsettled}
 use Rattle.smi_station.specs.Children.{is_commanded, change_of}
 use Rattle.smi_station.specs.Grants.{Grants, put}
 use Rattle.smi_station.specs.GrantStep.{waits_for_children}

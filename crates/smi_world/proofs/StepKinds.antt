@@ -21,7 +21,7 @@ use Rattle.smi_command.specs.declared.Due.TheVariants.{Take}
 use Rattle.smi_command.specs.Order.{take_begun, drop_begun, command_issued}
 use Rattle.smi_command.proofs.Holders.{either, same_is}
 use Rattle.smi_command.proofs.Orders.{take_begins, drop_begins, command_issues}
-use Rattle.smi_stable.specs.Known.{is_number, is_holder_of}
+use Rattle.smi_rows.specs.Known.{is_number, is_holder_of}
 use Rattle.smi_station.specs.Grants.{Grants, put, with_link}
 use Rattle.smi_station.specs.Children.{own_code}
 use Rattle.smi_station.specs.GrantStep.{waits_for_children}

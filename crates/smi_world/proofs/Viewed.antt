@@ -21,7 +21,7 @@ use Rattle.smi_command.proofs.Facts.{Fits, LinkOk}
 use Rattle.smi_command.proofs.Holders.{told_apart}
 use Rattle.smi_command.proofs.OneLinkKept.{reached_well}
 use Rattle.smi_command.proofs.Waiting.{due_waits, waiting_number}
-use Rattle.smi_stable.specs.Known.{is_number}
+use Rattle.smi_rows.specs.Known.{is_number}
 use Rattle.smi_station.specs.Display.{Station}
 use Rattle.smi_station.specs.Happening.{Happening}
 use Rattle.smi_station.specs.Messages.{home, holder_station}

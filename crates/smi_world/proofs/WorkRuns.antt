@@ -15,11 +15,11 @@ use Rattle.smi_command.specs.declared.Link.TheVariants.{Out, Taking, Held, Dropp
 use Rattle.smi_command.specs.Order.{take_begun, drop_begun, command_issued}
 use Rattle.smi_command.proofs.Holders.{either, same_self}
 use Rattle.smi_command.proofs.Orders.{take_begins, drop_begins, command_issues}
-use Rattle.smi_stable.specs.declared.Mode.{Mode}
-use Rattle.smi_stable.specs.declared.Mode.TheVariants as mode
-use Rattle.smi_stable.specs.Known.{is_number, is_parent}
-use Rattle.smi_stable.specs.Ranges.{is_held}
-use Rattle.smi_stable.specs.Stored.{is_unsettled}
+use Rattle.smi_rows.specs.declared.Mode.{Mode}
+use Rattle.smi_rows.specs.declared.Mode.TheVariants as mode
+use Rattle.smi_rows.specs.Known.{is_number, is_parent}
+use Rattle.smi_rows.specs.Ranges.{is_held}
+use Rattle.smi_rows.specs.Stored.{is_unsettled}
 use Rattle.smi_station.specs.Children.{ChildChange, Stays, Relinked, ComesInto, relinked_or, is_commanded, same_mode, comes_into, handed_on, aimed_at, targeted, child_change, change_of, link_after, mode_after, links_after, modes_after}
 use Rattle.smi_station.specs.Grants.{Grants}
 use Rattle.smi_station.specs.Keeping.{let_go_of, mode_changed, entries_at, child_entries}

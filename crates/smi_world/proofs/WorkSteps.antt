@@ -29,8 +29,8 @@ use Rattle.smi_command.proofs.Asked.{admitted}
 use Rattle.smi_command.proofs.Facts.{LinkOk}
 use Rattle.smi_command.proofs.Holders.{either, same_is}
 use Rattle.smi_command.proofs.Orders.{command_issues}
-use Rattle.smi_stable.specs.Known.{is_number, is_parent}
-use Rattle.smi_stable.specs.Stored.{is_unsettled}
+use Rattle.smi_rows.specs.Known.{is_number, is_parent}
+use Rattle.smi_rows.specs.Stored.{is_unsettled}
 use Rattle.smi_station.specs.Children.{links_after, modes_after, own_code}
 use Rattle.smi_station.specs.Grants.{Grants, put, with_record, with_link}
 use Rattle.smi_station.specs.GrantStep.{waits_for_children}

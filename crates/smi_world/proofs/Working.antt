@@ -11,10 +11,10 @@ use Rattle.smi_tree.specs.Lookups.{parent_of}
 use Rattle.smi_command.specs.declared.Link.{Link}
 use Rattle.smi_command.specs.declared.Link.TheVariants.{Held}
 use Rattle.smi_command.proofs.Holders.{either, same_is}
-use Rattle.smi_stable.specs.declared.Mode.{Mode}
-use Rattle.smi_stable.specs.declared.Mode.TheVariants.{Included}
-use Rattle.smi_stable.specs.Ranges.{is_held}
-use Rattle.smi_stable.specs.Stored.{is_unsettled}
+use Rattle.smi_rows.specs.declared.Mode.{Mode}
+use Rattle.smi_rows.specs.declared.Mode.TheVariants.{Included}
+use Rattle.smi_rows.specs.Ranges.{is_held}
+use Rattle.smi_rows.specs.Stored.{is_unsettled}
 use Rattle.smi_station.specs.Children.{is_commanded}
 use Rattle.smi_station.specs.Grants.{Grants, put}
 use Rattle.smi_station.specs.declared.Entry.{Entry}

@@ -1,7 +1,7 @@
 -- Worked examples of saves that fail, and of an empty schedule.
 use Rattle.std.specs.Prelude.{List, [], ◌∷◌, map}
 use Rattle.smi_grant.specs.declared.Holder.TheVariants.{Operator}
-use Rattle.smi_stable.specs.declared.Plan.TheVariants as plan
+use Rattle.smi_rows.specs.declared.Plan.TheVariants as plan
 use Rattle.smi_station.specs.declared.Entry.TheVariants.{Booted, Granted}
 use Rattle.smi_station.specs.declared.Order.TheVariants.{Take}
 use Rattle.smi_station.specs.Played.{sends, TAKE, TELL}

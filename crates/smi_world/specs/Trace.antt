@@ -4,8 +4,8 @@ use Rattle.smi_grant.specs.declared.Command.{Command}
 use Rattle.smi_grant.specs.declared.Holder.{Holder}
 use Rattle.smi_grant.specs.declared.Holder.TheVariants.{Free}
 use Rattle.smi_grant.specs.Holder.{same_holder}
-use Rattle.smi_stable.specs.declared.Mode.{Mode}
-use Rattle.smi_stable.specs.declared.Mode.TheVariants.{Included}
+use Rattle.smi_rows.specs.declared.Mode.{Mode}
+use Rattle.smi_rows.specs.declared.Mode.TheVariants.{Included}
 use Rattle.smi_station.specs.declared.Entry.{Entry}
 use Rattle.smi_station.specs.declared.Entry.TheVariants.{Booted, Granted, Freed, Ordered, Ran, Learned, LetGo, InMode, Settled}
 

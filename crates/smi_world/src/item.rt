@@ -1,5 +1,5 @@
 use smi_message::Datagram;
-use smi_stable::Plan;
+use smi_rows::Plan;
 use smi_station::{Entry, Order};
 
 /// What may come to a station. Stations, operators and devices have their numbers of the tree.

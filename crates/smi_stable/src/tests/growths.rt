@@ -2,9 +2,8 @@
 //! that ample memory suffices.
 
 use super::disks::{blank, close, open};
-use super::{BOOT, HELD, PENDING, TAKEN, TREE, WORKING, fault, key, rewritten};
+use super::{BOOT, TAKEN, WORKING, key};
 use crate::{MemoryStable, PlannedStable, SavedRow, Stable, StoreFault};
-use smi_tree::Tree;
 use std::test::Fail;
 
 /// All rows, at the second try where the first had no memory.
@@ -70,42 +69,4 @@ fn saves_over_sql(rt: HostRuntime) -> Result<(), Fail> {
         }
         Err(_) => Err("the files are not opened")?,
     }
-}
-
-#[test]
-fn rows_read(rt: HostRuntime) {
-    let Ok(tree) = Tree::read(rt.alloc(), TREE) else {
-        return;
-    };
-    for (key, bytes) in [
-        (key(1, 0, 0), BOOT),
-        (key(1, 1, 0), WORKING),
-        (key(2, 0, 2), PENDING),
-    ] {
-        match fault(rt.alloc(), &tree, key, bytes) {
-            // Want of memory, which is over at the next try.
-            99 => assert_eq!(rt; fault(rt.alloc(), &tree, key, bytes), 0),
-            code => assert_eq!(rt; code, 0),
-        }
-    }
-}
-
-#[test]
-fn rows_written(rt: HostRuntime) -> Result<(), Fail> {
-    let Ok(tree) = Tree::read(rt.alloc(), TREE) else {
-        return Ok(());
-    };
-    for (key, bytes) in [
-        (key(1, 0, 0), BOOT),
-        (key(1, 1, 0), WORKING),
-        (key(2, 0, 2), HELD),
-        (key(2, 0, 2), PENDING),
-    ] {
-        let written = match rewritten(rt.alloc(), &tree, key, bytes) {
-            Ok(row) => row,
-            Err(_) => rewritten(rt.alloc(), &tree, key, bytes)?,
-        };
-        assert_eq!(rt; written.as_slice(), bytes);
-    }
-    Ok(())
 }

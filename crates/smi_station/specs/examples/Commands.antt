@@ -3,7 +3,7 @@ use Rattle.std.specs.Prelude.{ℕ, ◌+◌, List, [], ◌∷◌, ◌++◌, map, 
 use Rattle.std.specs.List.{range_with_len}
 use Rattle.smi_grant.specs.declared.Command.TheVariants as command
 use Rattle.smi_grant.specs.declared.Holder.TheVariants.{Operator, Domain}
-use Rattle.smi_stable.specs.declared.Mode.TheVariants as mode
+use Rattle.smi_rows.specs.declared.Mode.TheVariants as mode
 use Rattle.smi_station.specs.Played.{Deliver, Restart, StopAfter, Tick, Line, line, sends, TAKE, RUN, TELL, WATCH, STATE}
 use Rattle.smi_station.specs.declared.order.Order.TheVariants.{Take, Drop, Do, Include, Manual, Ignore}
 use Rattle.smi_station.specs.declared.entry.Entry.{Entry}

@@ -8,7 +8,7 @@ use Rattle.smi_grant.specs.Record.{standing}
 use Rattle.smi_message.specs.declared.Body.TheVariants as body
 use Rattle.smi_tree.specs.Hierarchy.{Hierarchy}
 use Rattle.smi_command.specs.declared.Link.{Link}
-use Rattle.smi_stable.specs.declared.Mode.{Mode}
+use Rattle.smi_rows.specs.declared.Mode.{Mode}
 use Rattle.smi_station.specs.Grants.{put, with_record, with_link}
 use Rattle.smi_station.specs.Display.{Station}
 use Rattle.smi_station.specs.Happening.{Comes, Orders}

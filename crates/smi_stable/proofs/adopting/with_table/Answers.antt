@@ -1,6 +1,6 @@
-use Rattle.std.proofs.Common.{rules, ◌≡◌, [], false, inr, IsTrue, refl, sym, ◌∙◌}
+use Rattle.std.proofs.Common.{rules, ◌≡◌, false, inr, refl, ◌∙◌}
 use Rattle.sqlite.specs.Held.{state}
-use Rattle.smi_stable.specs.SqlTable.{stable_schema, no_schema}
+use Rattle.smi_stable.specs.SqlTable.{no_schema}
 use Rattle.smi_stable.proofs.SqlMakes.{creates}
 use Rattle.smi_stable.proofs.adopting.with_table.Goals as goal
 

@@ -1,6 +1,5 @@
-use Rattle.std.proofs.Common.{◌⊎◌, inl, inr, IfOk, IfErr, OnOk, Result, Ok, Err, pos, subst}
+use Rattle.std.proofs.Common.{inl, inr, IfOk, IfErr, OnOk, Result, Ok, Err, pos, subst}
 use Rattle.sqlite.specs.Held.{state}
-use Rattle.sqlite.specs.State.{HasCleanDisk}
 use Rattle.sqlite_schema.specs.Rules.{Keeps}
 use Rattle.sqlite_schema.specs.declared.schema.Constraint.TheVariants.{Unique}
 use Rattle.smi_stable.proofs.SqlLoads.{loads, load-unchanged, load-open, load-fails, load-commits}

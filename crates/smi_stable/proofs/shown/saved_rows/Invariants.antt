@@ -1,8 +1,8 @@
 use Rattle.std.proofs.Common.{◌≡◌, pos, drop}
-use Rattle.smi_stable.specs.declared.key.Key.{Key}
+use Rattle.smi_rows.specs.declared.key.Key.{Key}
 use Rattle.smi_stable.specs.SqlListing.{listed_at}
 use Rattle.smi_stable.specs.SqlShown.{or_else}
-use Rattle.smi_stable.specs.Store.{found_in}
+use Rattle.smi_rows.specs.Store.{found_in}
 use Rattle.smi_stable.proofs.shown.saved_rows.Given as goal
 
 -- a key's bytes are among the rows so far, or else among those that are left

@@ -1,9 +1,7 @@
-use Rattle.std.proofs.Common.{◌≡◌, ℕ, refl, sym, subst, ap, ◌∙◌, IsTrue}
-use Rattle.sqlite.specs.Tree.{Trees}
+use Rattle.std.proofs.Common.{ap}
 use Rattle.sqlite.specs.Effect.{Database}
 use Rattle.smi_stable.specs.SqlReady.{rows_in}
 use Rattle.sqlite.specs.Held.{state}
-use Rattle.sqlite.specs.State.{HasCleanDisk}
 use Rattle.smi_stable.proofs.SqlKeeps.{fails, still, clean_before, saves, crashes}
 use Rattle.smi_stable.proofs.statement.save_row.Goals as goal
 

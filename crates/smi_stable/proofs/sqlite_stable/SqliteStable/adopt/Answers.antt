@@ -1,8 +1,5 @@
-use Rattle.std.proofs.Common.{refl}
 use Rattle.sqlite.specs.Held.{state}
-use Rattle.sqlite.specs.State.{HasCleanDisk}
-use Rattle.smi_stable.specs.SqlReady.{IsAdopted}
-use Rattle.smi_stable.proofs.SqlAdopts.{adopted-still, adopted-ready}
+use Rattle.smi_stable.proofs.SqlAdopts.{adopted-still}
 use Rattle.smi_stable.proofs.sqlite_stable.SqliteStable.adopt.Goals as goal
 
 pub returns-clause-adopted : goal.returns-clause-adopted

@@ -1,8 +1,0 @@
-use Rattle.std.proofs.Common.{take}
-use Rattle.std.specs.Io.KnownBytes.{Appends}
-use Rattle.smi.specs.Rows.{hex_text}
-use Rattle.smi.proofs.rows.write_hex.Given as goal
-
--- the bytes so far are written
-abbrev pub invariant-loop-byte : goal.invariant-loop-byte
-invariant-loop-byte g l = Appends (g.W.Write.contents l.fn.writer) (g.W.Write.contents l.writer) (hex_text (take l.byte-index l.bytes))

@@ -1,0 +1,5 @@
+pub mod Appended
+pub mod Cutting
+pub mod Again
+pub mod Laws
+pub mod Keys

@@ -1,0 +1,12 @@
+pub mod Fault
+pub mod Key
+pub mod Known
+pub mod Layout
+pub mod Listed
+pub mod Planned
+pub mod Ranges
+pub mod Reading
+pub mod Schema
+pub mod Store
+pub mod Stored
+pub mod Written

@@ -1,0 +1,70 @@
+use std::alloc::{AllocError, AllocFailed};
+
+/// What is wrong with a row: the first of these tests that it fails.
+#[derive(Clone, Copy, Debug, PartialEq, Eq)]
+pub enum Fault {
+    /// It is empty, or has a byte too few or too many for what it says.
+    Length = 1,
+    /// There is no such schema of such rows.
+    Schema,
+    /// No row that is written so has values in their ranges.
+    Range,
+    /// It names a domain, an operator, a holder, a link, an action or a target that the tree does
+    /// not have there, or its key does.
+    Unknown,
+}
+
+impl Fault {
+    ghost use Rattle.std.specs.Prelude.{◌≡◌};
+    ghost use Rattle.smi_rows.specs.Fault.{fault_number};
+
+    /// The number of the test, 1 to 4.
+    pub fn number(self) -> u16
+        ensures { result ≡ fault_number self }
+    {
+        u16::from(self as u8)
+    }
+}
+
+/// Why a row was not read.
+#[derive(Clone, Copy, Debug, PartialEq, Eq)]
+pub enum RowFault {
+    /// The [number](Fault::number) of the first test that the row fails.
+    Code(u16),
+    /// Memory ran out.
+    Memory,
+}
+
+impl From<Fault> for RowFault {
+    ghost use Rattle.std.specs.Prelude.{◌≡◌};
+    ghost use Rattle.smi_rows.specs.declared.fault.RowFault.TheVariants as row_fault;
+    ghost use Rattle.smi_rows.specs.Fault.{fault_number};
+
+    ghost from_gives = { λ fault row. row ≡ row_fault.Code (fault_number fault) };
+
+    fn from(fault: Fault) -> RowFault {
+        RowFault::Code(fault.number())
+    }
+}
+
+impl From<AllocError> for RowFault {
+    ghost use Rattle.std.specs.Prelude.{◌≡◌};
+    ghost use Rattle.smi_rows.specs.declared.fault.RowFault.TheVariants as row_fault;
+
+    ghost from_gives = { λ _ row. row ≡ row_fault.Memory };
+
+    fn from(_refused: AllocError) -> RowFault {
+        RowFault::Memory
+    }
+}
+
+impl<T: Drop> From<AllocFailed<T>> for RowFault {
+    ghost use Rattle.std.specs.Prelude.{◌≡◌};
+    ghost use Rattle.smi_rows.specs.declared.fault.RowFault.TheVariants as row_fault;
+
+    ghost from_gives = { λ _ row. row ≡ row_fault.Memory };
+
+    fn from(_refused: AllocFailed<T>) -> RowFault {
+        RowFault::Memory
+    }
+}

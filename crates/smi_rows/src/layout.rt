@@ -1,0 +1,214 @@
+//! Rows as bytes.
+
+ghost use Rattle.std.specs.Prelude.{◌≡◌, ◌++◌, ◌<◌, ◌≤◌, ◌^◌, length, IfOk, OnOk};
+ghost use Rattle.smi_rows.specs.Layout as spec;
+ghost use Rattle.smi_rows.specs.Schema.{newest};
+ghost use Rattle.smi_command.specs.declared.Link.{Link};
+
+use crate::key::RowKind;
+use crate::mode::Mode;
+use crate::row::{DomainRow, OperatorRow, Row, StoredLink};
+use smi_command::{Link, Pending};
+use smi_grant::{Command, Record};
+use std::alloc::{AllocError, Global};
+
+/// The bytes of the row of a boot.
+///
+/// Want of memory is answered where a growth was refused, and nowhere else.
+pub fn write_boot(alloc: Global, boot: u32) -> Result<Vec<u8>, AllocError>
+    ensures { IfOk result (λ row. row.items ≡ spec.boot_bytes (newest RowKind.Boot) boot) }
+{
+    boot_in(alloc, RowKind::Boot.newest_schema(), boot)
+}
+
+impl DomainRow {
+    ghost use Rattle.std.specs.Prelude.{◌≡◌, ◌<◌, ◌^◌, length, IfOk};
+    ghost use Rattle.smi_rows.specs.Layout as spec;
+    ghost use Rattle.smi_rows.specs.Schema.{newest};
+
+    /// The bytes of the row.
+    ///
+    /// Want of memory is answered where a growth was refused, and nowhere else.
+    pub fn write(&self, alloc: Global) -> Result<Vec<u8>, AllocError>
+        requires { length self.now.links < 2 ^ 16 }
+        ensures { IfOk result (λ row. row.items ≡ spec.domain_bytes (newest RowKind.Domain) self.now) }
+    {
+        domain_in(alloc, RowKind::Domain.newest_schema(), self)
+    }
+}
+
+impl OperatorRow {
+    ghost use Rattle.std.specs.Prelude.{◌≡◌, ◌<◌, ◌^◌, length, IfOk};
+    ghost use Rattle.smi_rows.specs.Layout as spec;
+    ghost use Rattle.smi_rows.specs.Schema.{newest};
+
+    /// The bytes of the row.
+    ///
+    /// Want of memory is answered where a growth was refused, and nowhere else.
+    pub fn write(&self, alloc: Global) -> Result<Vec<u8>, AllocError>
+        requires { length self.now < 2 ^ 16 }
+        ensures { IfOk result (λ row. row.items ≡ spec.operator_bytes (newest RowKind.Operator) self.now) }
+    {
+        operator_in(alloc, RowKind::Operator.newest_schema(), self)
+    }
+}
+
+/// The bytes of a row in a schema of this number.
+pub(crate) fn row_in(alloc: Global, schema: u8, row: &Row) -> Result<Vec<u8>, AllocError>
+    requires { spec.HasFewLinks row.now }
+    ensures { IfOk result (λ bytes. bytes.items ≡ spec.row_bytes schema row.now) }
+{
+    match row {
+        Row::Boot(boot) => boot_in(alloc, schema, *boot),
+        Row::Domain(domain) => domain_in(alloc, schema, domain),
+        Row::Operator(operator) => operator_in(alloc, schema, operator),
+    }
+}
+
+fn boot_in(alloc: Global, schema: u8, boot: u32) -> Result<Vec<u8>, AllocError>
+    ensures { IfOk result (λ row. row.items ≡ spec.boot_bytes schema boot) }
+{
+    let mut row = Vec::from_slice(alloc, &[schema, 0, 0, 0])?;
+    row.extend_from_slice(&boot.to_be_bytes())?;
+    Ok(row)
+}
+
+fn domain_in(alloc: Global, schema: u8, domain: &DomainRow) -> Result<Vec<u8>, AllocError>
+    requires { length domain.now.links < 2 ^ 16 }
+    ensures { IfOk result (λ row. row.items ≡ spec.domain_bytes schema domain.now) }
+{
+    let mut row = Vec::new(alloc);
+    put_holder(&mut row, schema, &domain.standing)?;
+    put_work(&mut row, &domain.standing, domain.gathered)?;
+    row.extend_from_slice(&(domain.links.len() as u16).to_be_bytes())?;
+    put_links(&mut row, &domain.links)?;
+    Ok(row)
+}
+
+fn operator_in(alloc: Global, schema: u8, operator: &OperatorRow) -> Result<Vec<u8>, AllocError>
+    requires { length operator.now < 2 ^ 16 }
+    ensures { IfOk result (λ row. row.items ≡ spec.operator_bytes schema operator.now) }
+{
+    let mut row = Vec::from_slice(alloc, &[schema, 0])?;
+    row.extend_from_slice(&(operator.links.len() as u16).to_be_bytes())?;
+    put_links(&mut row, &operator.links)?;
+    Ok(row)
+}
+
+// Who holds a domain, and since when.
+fn put_holder(row: &mut Vec<u8>, schema: u8, standing: &Record) -> Result<(), AllocError>
+    ensures { OnOk result (row.new.items ≡ row.old.items ++ spec.holder_bytes schema standing.now) }
+{
+    row.extend_from_slice(&[schema, standing.holder.kind()])?;
+    row.extend_from_slice(&standing.holder.number().to_be_bytes())?;
+    row.extend_from_slice(&standing.epoch.to_be_bytes())
+}
+
+// How far its commands have come.
+fn put_work(row: &mut Vec<u8>, standing: &Record, gathered: u16) -> Result<(), AllocError>
+    ensures { OnOk result (row.new.items ≡ row.old.items ++ spec.work_bytes standing.now gathered) }
+{
+    row.extend_from_slice(&standing.last.to_be_bytes())?;
+    row.extend_from_slice(&[standing.phase.number(), 0])?;
+    row.extend_from_slice(&standing.outcome.to_be_bytes())?;
+    row.extend_from_slice(&gathered.to_be_bytes())
+}
+
+fn put_links(row: &mut Vec<u8>, links: &[StoredLink]) -> Result<(), AllocError>
+    ensures { OnOk result (row.new.items ≡ row.old.items ++ spec.links_bytes links.now) }
+{
+    for stored in links {
+        put_link(row, stored)?;
+    }
+    Ok(())
+}
+
+fn put_link(row: &mut Vec<u8>, stored: &StoredLink) -> Result<(), AllocError>
+    ensures { OnOk result (row.new.items ≡ row.old.items ++ spec.link_bytes stored.now) }
+{
+    let (domain, mode) = (stored.domain, stored.mode);
+    match &stored.link {
+        Link::Out(known) => put_idle(row, domain, 0, mode, *known, 0),
+        Link::Taking(seen) => put_idle(row, domain, 1, mode, *seen, 0),
+        Link::Dropping(epoch) => put_idle(row, domain, 4, mode, *epoch, 0),
+        Link::Held {
+            epoch,
+            number,
+            pending,
+        } => put_held(row, domain, mode, *epoch, *number, pending),
+    }
+}
+
+// A link without a command.
+fn put_idle(
+    row: &mut Vec<u8>,
+    domain: u16,
+    form: u8,
+    mode: Mode,
+    epoch: u64,
+    number: u32,
+) -> Result<(), AllocError>
+    ensures { OnOk result (row.new.items ≡ row.old.items ++ (spec.front_bytes domain form mode epoch number ++ spec.no_command)) }
+{
+    put_front(row, domain, form, mode, epoch, number)?;
+    row.extend_from_slice(&[0, 0, 0, 0])
+}
+
+fn put_held(
+    row: &mut Vec<u8>,
+    domain: u16,
+    mode: Mode,
+    epoch: u64,
+    number: u32,
+    pending: &Pending,
+) -> Result<(), AllocError>
+    ensures { OnOk result (row.new.items ≡ row.old.items ++ spec.grant_bytes domain mode (Link.Held epoch number pending.now)) }
+{
+    let commands = pending.as_slice();
+    match commands {
+        [] => put_idle(row, domain, 2, mode, epoch, number),
+        [only] => {
+            put_front(row, domain, 3, mode, epoch, number)?;
+            put_command(row, *only)
+        }
+        [oldest, _, ..] => {
+            put_front(row, domain, 5, mode, epoch, number)?;
+            put_command(row, *oldest)?;
+            let count = pending.len() as u16 - 1;
+            row.extend_from_slice(&count.to_be_bytes())?;
+            put_commands(row, &commands[1..])
+        }
+    }
+}
+
+fn put_front(
+    row: &mut Vec<u8>,
+    domain: u16,
+    form: u8,
+    mode: Mode,
+    epoch: u64,
+    number: u32,
+) -> Result<(), AllocError>
+    ensures { OnOk result (row.new.items ≡ row.old.items ++ spec.front_bytes domain form mode epoch number) }
+{
+    row.extend_from_slice(&domain.to_be_bytes())?;
+    row.extend_from_slice(&[form, mode.number()])?;
+    row.extend_from_slice(&epoch.to_be_bytes())?;
+    row.extend_from_slice(&number.to_be_bytes())
+}
+
+fn put_commands(row: &mut Vec<u8>, commands: &[Command]) -> Result<(), AllocError>
+    ensures { OnOk result (row.new.items ≡ row.old.items ++ spec.commands_bytes commands.now) }
+{
+    for command in commands {
+        put_command(row, *command)?;
+    }
+    Ok(())
+}
+
+fn put_command(row: &mut Vec<u8>, command: Command) -> Result<(), AllocError>
+    ensures { OnOk result (row.new.items ≡ row.old.items ++ spec.command_bytes command) }
+{
+    row.extend_from_slice(&command.verb().to_be_bytes())?;
+    row.extend_from_slice(&command.argument().to_be_bytes())
+}

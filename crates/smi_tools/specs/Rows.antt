@@ -1,0 +1,23 @@
+-- The lines of a store's rows.
+use Rattle.std.specs.Prelude.{ℕ, ◌+◌, ◌/◌, ◌%◌, nat_lt, if◌then◌else◌, List, [], ◌∷◌, ◌++◌}
+use Rattle.std.specs.List.{flat_map}
+use Rattle.std.specs.Fmt.{decimal}
+use Rattle.smi_rows.specs.Store.{Saved}
+
+-- 0 to 9 and a to f
+abbrev pub hex_digit : ℕ → ℕ
+hex_digit digit = if nat_lt digit 10 then 48 + digit else 87 + digit
+
+abbrev pub hex : ℕ → List ℕ
+hex byte = hex_digit (byte / 16) ∷ hex_digit (byte % 16) ∷ []
+
+abbrev pub hex_text : List ℕ → List ℕ
+hex_text bytes = flat_map hex bytes
+
+-- a row: station, domain and operator, and the bytes in hexadecimal
+abbrev pub row_text : Saved → List ℕ
+row_text row =
+    decimal row.key.station ++ 32 ∷ decimal row.key.domain ++ 32 ∷ decimal row.key.operator ++ 32 ∷ hex_text row.bytes ++ 10 ∷ []
+
+abbrev pub rows_text : List Saved → List ℕ
+rows_text rows = flat_map row_text rows
