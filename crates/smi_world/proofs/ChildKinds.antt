@@ -2,7 +2,6 @@
 use Rattle.std.proofs.Common.{ℕ, ◌≡◌, ◌+◌, Bool, true, false, List, [], ◌∷◌, inl, inr, refl, sym, ap, ◌∙◌, subst, arith}
 use Rattle.std.specs.Prelude.{◌==◌, ◌&&◌, ◌++◌, Result, Ok, Err, if◌then◌else◌}
 use Rattle.std.proofs.lemmas.Bool.{and_parts, eqb-true}
-use Rattle.std.proofs.lemmas.Bool.Decides.{nat_tests}
 use Rattle.smi_grant.specs.declared.Command.{Command}
 use Rattle.smi_grant.specs.declared.Command.TheVariants.{Do, Include, Exclude, Manual, Ignore}
 use Rattle.smi_grant.specs.declared.Holder.{Holder}
@@ -24,7 +23,7 @@ use Rattle.smi_station.specs.Grants.{Grants}
 use Rattle.smi_station.specs.Keeping.{let_go_of, mode_changed, entries_at, child_entries}
 use Rattle.smi_station.specs.declared.Entry.TheVariants.{LetGo}
 use Rattle.smi_world.proofs.Changes.{SameLink, same_link}
-use Rattle.smi_world.proofs.Moves.{apart}
+use Rattle.smi_world.proofs.Moves.{apart, number_self}
 use Rattle.smi_world.proofs.Quiet.{AllQuiet, quiet_both}
 
 -- a link that holds the same grant, or none before and after
@@ -126,9 +125,6 @@ pub data RunKind (h : Hierarchy) (g : Grants) (d : ℕ) (c : Command) : Type 0 w
   quietly : AllQuiet (child_entries h g d c) → ((me : Holder) (x : ℕ) → SameLink (g.links me x) (links_after h g d c me x)) → RunKind h g d c
   excludes : (t e n : ℕ) → g.links (Domain d) t ≡ Held e n [] → links_after h g d c (Domain d) t ≡ Dropping e → child_entries h g d c ≡ LetGo (Domain d) t e ∷ []
       → ((me : Holder) (x : ℕ) → (me ≡ Domain d → x ≡ t → ⊥) → SameLink (g.links me x) (links_after h g d c me x)) → RunKind h g d c
-
-number_self : (n : ℕ) → (n == n) ≡ true
-number_self n = grind (arith, nat_tests)
 
 excluded : (h : Hierarchy) (g : Grants) (d t : ℕ) (res : Result Link ℕ) → drop_begun (g.links (Domain d) t) ≡ res → is_parent h t d ≡ true → RunKind h g d (Exclude t)
 excluded h g d t (Ok new) is parent =

@@ -1,7 +1,6 @@
 -- The kinds of change that a station's grants can go through in one step, and that each keeps the trace safe.
-use Rattle.std.proofs.Common.{ℕ, ◌≡◌, ◌+◌, true, false, List, [], ◌∷◌, refl, sym, ap, ◌∙◌, subst, arith}
-use Rattle.std.specs.Prelude.{◌==◌, ◌++◌}
-use Rattle.std.proofs.lemmas.Bool.Decides.{nat_tests}
+use Rattle.std.proofs.Common.{ℕ, ◌≡◌, ◌+◌, false, List, [], ◌∷◌, refl, sym, ap, ◌∙◌, subst}
+use Rattle.std.specs.Prelude.{◌++◌}
 use Rattle.smi_grant.specs.declared.Command.{Command}
 use Rattle.smi_grant.specs.declared.Holder.{Holder}
 use Rattle.smi_grant.specs.declared.Holder.TheVariants.{Free}
@@ -24,7 +23,7 @@ use Rattle.smi_world.specs.Schedule.{World}
 use Rattle.smi_world.specs.World.{Among as IsSent, with_station, noted}
 use Rattle.smi_world.proofs.Changes.{SameGrant, same_grant, SameLink, same_link, Silent, silent, Handed, handed_entry, granted_fits, freed_fits, handed_safely}
 use Rattle.smi_world.proofs.LinkChanges.{LinkChange, learned_safely, left_safely}
-use Rattle.smi_world.proofs.Moves.{at_put}
+use Rattle.smi_world.proofs.Moves.{at_put, number_self}
 use Rattle.smi_world.proofs.Quiet.{AllQuiet, noted_both}
 use Rattle.smi_world.proofs.Traces.{Safely, safely_quiet}
 use Rattle.smi_world.proofs.Viewed.{Viewed}
@@ -56,10 +55,7 @@ pub data GrantKind (h : Hierarchy) (number : ℕ) (sent : List Message) (g k : G
 -- the same of the whole world
 
 pub put_here : {X : Type 0} (table : ℕ → X) (n : ℕ) (v : X) → put table n v n ≡ v
-put_here table n v = rw (self n) refl
-  where
-    self : (n : ℕ) → (n == n) ≡ true
-    self n = grind (arith, nat_tests)
+put_here table n v = rw (number_self n) refl
 
 module _ (h : Hierarchy) (w : World) (number : ℕ) (s : Station) where
   world_records : SameRecords (w.stations number).grants s.grants → (d : ℕ) → SameGrant (record_in h w d) (record_in h (with_station w number s) d)

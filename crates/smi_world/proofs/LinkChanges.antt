@@ -21,7 +21,7 @@ use Rattle.smi_world.specs.Trace.{Stands, epoch_at, holder_at, has_learned, is_g
 use Rattle.smi_world.specs.World.{Among as IsSent}
 use Rattle.smi_world.proofs.Changes.{SameGrant, SameLink}
 use Rattle.smi_world.proofs.KnownFacts.{known_grant}
-use Rattle.smi_world.proofs.Moves.{apart}
+use Rattle.smi_world.proofs.Moves.{apart, number_self}
 use Rattle.smi_world.proofs.Quiet.{epoch_quiet, holder_quiet}
 use Rattle.smi_world.proofs.Traces.{Traces, Safely, holds_at, one_commander}
 use Rattle.smi_world.proofs.Viewed.{Viewed}
@@ -43,9 +43,6 @@ it_or me who d x = elim (apart d x) [
   | inl i ↦ elim (told_apart me who) [ inl j ↦ inl (record { holder = j.1; domain = i }) | inr o ↦ inr (λ a b. o.1 a) ]
   | inr o ↦ inr (λ a b. o b)
 ]
-
-number_self : (n : ℕ) → (n == n) ≡ true
-number_self n = grind (arith, nat_tests)
 
 turned_about : (m n : ℕ) → (m == n) ≡ (n == m)
 turned_about m n = grind (arith, nat_tests)

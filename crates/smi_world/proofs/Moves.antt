@@ -37,6 +37,10 @@ pub data LinkMove (sent : List Message) (d : ℕ) (me : Holder) (l : Link) : Lin
 pub apart : (m n : ℕ) → (m ≡ n) ⊎ (m ≡ n → ⊥)
 apart m n = grind arith
 
+-- a number is itself by the test
+pub number_self : (n : ℕ) → (n == n) ≡ true
+number_self n = grind (arith, nat_tests)
+
 -- what holds of each value holds of a table with another value at one number
 pub at_put : {X : Type 0} (P : X → Type 0) (table : ℕ → X) (x : ℕ) (v : X) (d : ℕ) → (d ≡ x → P v) → P (table d) → P (put table x v d)
 at_put P table x v d here other = elim (either (d == x)) [ inl t ↦ rw t (here (eqb-true d x t)) | inr f ↦ rw f other ]
@@ -48,7 +52,4 @@ at_put_link P links who x l me d here other = elim (either (d == x && same_holde
 ]
 
 pub put_link_here : (links : Holder → ℕ → Link) (who : Holder) (x : ℕ) (l : Link) → put_link links who x l who x ≡ l
-put_link_here links who x l = rw (self x) (rw (same_self who) refl)
-  where
-    self : (n : ℕ) → (n == n) ≡ true
-    self n = grind (arith, nat_tests)
+put_link_here links who x l = rw (number_self x) (rw (same_self who) refl)

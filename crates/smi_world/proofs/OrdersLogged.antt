@@ -1,9 +1,8 @@
 -- In every run what an operator has issued by the trace is what the operator's link says.
-use Rattle.std.proofs.Common.{ℕ, ◌≡◌, ◌≤◌, ◌+◌, true, false, List, [], ◌∷◌, ◌⊎◌, inl, inr, refl, sym, ap, ◌∙◌, subst, arith}
+use Rattle.std.proofs.Common.{ℕ, ◌≡◌, ◌≤◌, ◌+◌, true, false, List, [], ◌∷◌, ◌⊎◌, inl, inr, refl, sym, ap, ◌∙◌, subst}
 use Rattle.std.specs.Prelude.{◌==◌, ◌&&◌, ◌++◌, length, Option, Some, None, if◌then◌else◌}
 use Rattle.std.specs.List.{range_with_len}
 use Rattle.std.proofs.lemmas.Bool.{and_parts, eqb-true}
-use Rattle.std.proofs.lemmas.Bool.Decides.{nat_tests}
 use Rattle.smi_grant.specs.declared.Holder.TheVariants.{Operator}
 use Rattle.smi_tree.specs.Hierarchy.{Hierarchy}
 use Rattle.smi_tree.specs.Lookups.{station_count}
@@ -25,7 +24,7 @@ use Rattle.smi_world.specs.World.{with_station, noted, Step, sends, steps, stops
 use Rattle.smi_world.proofs.Displayed.{orders_display, after_display, opening_display, openings_display}
 use Rattle.smi_world.proofs.GrantKinds.{put_here}
 use Rattle.smi_world.proofs.KnownFacts.{known_in_step}
-use Rattle.smi_world.proofs.Moves.{apart, at_put}
+use Rattle.smi_world.proofs.Moves.{apart, at_put, number_self}
 use Rattle.smi_world.proofs.OrderSteps.{issued_at, issued_same, issued_more, issued_none, NoOrders, Calm, calm_same, AllCalm, OrderStep, no_order, ordering, step_order}
 use Rattle.smi_world.proofs.Quiet.{noted_both}
 use Rattle.smi_world.proofs.Viewed.{Viewed, viewed}
@@ -63,9 +62,6 @@ module _ (h : Hierarchy) (w : World) (number : ℕ) (s : Station) where
 
 logged_calm : (h : Hierarchy) (w next : World) (past : List Entry) (o d : ℕ) → Calm (link_in h w (Operator o) d) (link_in h next (Operator o) d) → Logged (link_in h w (Operator o) d) (issued_at o d past) → Logged (link_in h next (Operator o) d) (issued_at o d past)
 logged_calm h w next past o d calm l = logged_quiet (link_in h w (Operator o) d) (link_in h next (Operator o) d) (issued_at o d past) calm.known calm.quiet l
-
-number_self : (n : ℕ) → (n == n) ≡ true
-number_self n = grind (arith, nat_tests)
 
 record IsIt (b o d x : ℕ) : Type 0 where
   operator : b ≡ o

@@ -2,7 +2,6 @@
 use Rattle.std.proofs.Common.{ℕ, zero, suc, ◌≡◌, ◌<◌, ◌+◌, true, false, List, [], ◌∷◌, inl, inr, refl, sym, ap, ◌∙◌, subst, arith}
 use Rattle.std.specs.Prelude.{◌==◌, Some}
 use Rattle.std.specs.List.{range_with_len}
-use Rattle.std.proofs.lemmas.Bool.Decides.{nat_tests}
 use Rattle.smi_grant.specs.declared.Command.{Command}
 use Rattle.smi_grant.specs.declared.Holder.{Holder}
 use Rattle.smi_grant.specs.declared.Holder.TheVariants.{Free, Operator, Domain}
@@ -45,6 +44,7 @@ use Rattle.smi_world.proofs.Viewed.{Viewed, viewed, view_fits}
 use Rattle.smi_world.proofs.Views.{Fair, fair_request}
 use Rattle.smi_world.proofs.Works.{works}
 use Rattle.smi_world.proofs.WorkSteps.{Working, Pending, busy_pending, free_settled, waiting_pending, waiting_one}
+use Rattle.smi_world.proofs.Moves.{number_self}
 
 -- A run entry leaves what is backed so.
 
@@ -73,9 +73,6 @@ backed_ran h past x f m k d e n c (by_operator o grant ordered) = by_operator o 
 backed_ran h past x f m k d e n c (by_parent p g i grant parent commanded work forwards backed) =
     by_parent p g i (grant_ran d e (Domain p) x f m k past grant) parent (ap is_commanded (mode_ran (Domain p) d e x f m k past) ∙ commanded)
     (work_ran p g i c x f m k past work) forwards (backed_ran h past x f m k p g i c backed)
-
-number_self : (n : ℕ) → (n == n) ≡ true
-number_self n = grind (arith, nat_tests)
 
 -- What is pending on a holder's link is backed, all the way up.
 

@@ -46,12 +46,9 @@ use Rattle.smi_station.specs.declared.Order.TheVariants as order
 use Rattle.smi_world.proofs.GrantKinds.{put_here}
 use Rattle.smi_world.proofs.HearingKinds.{AllOf, all_both, all_found}
 use Rattle.smi_world.proofs.Lists.{In, in_both, from_mapped, from_chosen, from_flat, from_numbers}
-use Rattle.smi_world.proofs.Moves.{put_link_here}
+use Rattle.smi_world.proofs.Moves.{put_link_here, number_self}
 use Rattle.smi_world.proofs.StepKinds.{understood}
 use Rattle.smi_world.proofs.WorkRuns.{link_child}
-
-number_self : (n : ℕ) → (n == n) ≡ true
-number_self n = grind (arith, nat_tests)
 
 entry_of : {X : Type 0} (rows : List X) (i : ℕ) (row : X) → slice_get rows i ≡ Some row → entry rows (i + 1) ≡ Some row
 entry_of rows i row is = rw (later i) (ap (slice_get rows) (back i) ∙ is)

@@ -29,6 +29,7 @@ use Rattle.smi_world.proofs.GrantKinds.{put_here}
 use Rattle.smi_world.proofs.Quiet.{noted_both}
 use Rattle.smi_world.proofs.WorkRuns.{Kid, kid, child_kind, mode_by, link_child, mode_child, child_mild, work_mild, orders_mild, child_modes}
 use Rattle.smi_world.proofs.Working.{HandedOn, At}
+use Rattle.smi_world.proofs.Moves.{number_self}
 
 -- Where no child is waited for, no link to a child waits.
 
@@ -66,9 +67,6 @@ record IsRow (h : Hierarchy) (x d : ℕ) : Type 0 where
   read : slice_get h.domains (x - 1) ≡ Some row
   child : is_child_of d row ≡ true
   number : x - 1 + 1 ≡ x
-
-number_self : (n : ℕ) → (n == n) ≡ true
-number_self n = grind (arith, nat_tests)
 
 row_of : (h : Hierarchy) (x d : ℕ) → parent_of h x ≡ Some d → IsRow h x d
 row_of h x d is = elim (either (x == 0)) [

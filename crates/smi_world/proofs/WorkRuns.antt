@@ -1,8 +1,7 @@
 -- What a command that runs does to the children of its domain, and what the trace says of it.
-use Rattle.std.proofs.Common.{ℕ, ◌≡◌, ◌+◌, Bool, true, false, List, [], ◌∷◌, inl, inr, refl, sym, ap, ◌∙◌, subst, arith}
+use Rattle.std.proofs.Common.{ℕ, ◌≡◌, ◌+◌, Bool, true, false, List, [], ◌∷◌, inl, inr, refl, sym, ap, ◌∙◌, subst}
 use Rattle.std.specs.Prelude.{◌==◌, ◌&&◌, ◌++◌, Some, Result, Ok, Err, if◌then◌else◌}
 use Rattle.std.proofs.lemmas.Bool.{and_parts, eqb-true}
-use Rattle.std.proofs.lemmas.Bool.Decides.{nat_tests}
 use Rattle.smi_grant.specs.declared.Command.{Command}
 use Rattle.smi_grant.specs.declared.Command.TheVariants.{Do, Include, Exclude, Manual, Ignore}
 use Rattle.smi_grant.specs.declared.Holder.{Holder}
@@ -29,6 +28,7 @@ use Rattle.smi_world.specs.Safe.{Forwards}
 use Rattle.smi_world.specs.Trace.{mode_at, orders_of, InWork}
 use Rattle.smi_world.specs.World.{noted}
 use Rattle.smi_world.proofs.Working.{AllAside, aside_both, mode_in}
+use Rattle.smi_world.proofs.Moves.{number_self}
 
 -- What a command does to one child.
 
@@ -160,9 +160,6 @@ module _ (h : Hierarchy) (d : ℕ) (c : Command) (x : ℕ) (l : Link) (m : Mode)
   }
 
 -- The links and modes of children after a command.
-
-number_self : (n : ℕ) → (n == n) ≡ true
-number_self n = grind (arith, nat_tests)
 
 pub parent_is : (h : Hierarchy) (x d : ℕ) → parent_of h x ≡ Some d → is_parent h x d ≡ true
 parent_is h x d is = ap (λ o. is_number o d) is ∙ number_self d

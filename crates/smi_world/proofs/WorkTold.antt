@@ -27,7 +27,7 @@ use Rattle.smi_world.specs.Trace.{mode_at, orders_of, InWork, is_grant_of}
 use Rattle.smi_world.specs.World.{noted}
 use Rattle.smi_world.proofs.GrantKinds.{put_here}
 use Rattle.smi_world.proofs.HearingKinds.{ToldKind, learns, remains, told_kind}
-use Rattle.smi_world.proofs.Moves.{at_put, at_put_link}
+use Rattle.smi_world.proofs.Moves.{at_put, at_put_link, number_self}
 use Rattle.smi_world.proofs.Quiet.{AllQuiet, noted_both}
 use Rattle.smi_world.proofs.Started.{settled_children, mode_settled}
 use Rattle.smi_world.proofs.Traces.{holds_at}
@@ -86,9 +86,6 @@ module _ (me : Holder) (r : Standing) where
   told_unheld (Taking s) = λ is. refl
   told_unheld (Held f m p) = by_row_held (λ l k. is_held k ≡ false → is_held l ≡ false) me r f m p (λ at is. absurd cc) (λ is. absurd cc)
   told_unheld (Dropping f) = λ is. refl
-
-number_self : (n : ℕ) → (n == n) ≡ true
-number_self n = grind (arith, nat_tests)
 
 -- where no grant is learned there is no entry
 learned_none : (who : Holder) (d : ℕ) (l new : Link) → AllQuiet (learned who d l new) → learned who d l new ≡ []
