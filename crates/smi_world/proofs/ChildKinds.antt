@@ -1,6 +1,6 @@
 -- What a command does to the links of a domain's children: one is given up at most, and all others hold what they held.
-use Rattle.std.proofs.Common.{ℕ, ◌≡◌, ◌+◌, Bool, true, false, List, [], ◌∷◌, inl, inr, refl, sym, ap, ◌∙◌, subst, arith}
-use Rattle.std.specs.Prelude.{◌==◌, ◌&&◌, ◌++◌, Result, Ok, Err, if◌then◌else◌}
+use Rattle.std.proofs.Common.{ℕ, ◌≡◌, ◌+◌, true, false, List, [], ◌∷◌, inl, inr, refl, sym, ap, ◌∙◌, subst, arith}
+use Rattle.std.specs.Prelude.{◌==◌, ◌&&◌, ◌++◌, Result, Ok, Err}
 use Rattle.std.proofs.lemmas.Bool.{and_parts, eqb-true}
 use Rattle.smi_grant.specs.declared.Command.{Command}
 use Rattle.smi_grant.specs.declared.Command.TheVariants.{Do, Include, Exclude, Manual, Ignore}
@@ -23,7 +23,7 @@ use Rattle.smi_station.specs.Grants.{Grants}
 use Rattle.smi_station.specs.Keeping.{let_go_of, mode_changed, entries_at, child_entries}
 use Rattle.smi_station.specs.declared.Entry.TheVariants.{LetGo}
 use Rattle.smi_world.proofs.Changes.{SameLink, same_link}
-use Rattle.smi_world.proofs.Moves.{apart, number_self}
+use Rattle.smi_world.proofs.Moves.{apart, number_self, choice}
 use Rattle.smi_world.proofs.Quiet.{AllQuiet, quiet_both}
 
 -- a link that holds the same grant, or none before and after
@@ -53,10 +53,6 @@ stays l code = record { link = same_link l; quiet = λ d x. tt }
 
 into : (l : Link) (m : Mode) → Same l (ComesInto m)
 into l m = record { link = same_link l; quiet = λ d x. tt }
-
-choice : {X : Type 0} (P : X → Type 0) (b : Bool) (one other : X) → P one → P other → P (if b then one else other)
-choice P true a b p q = p
-choice P false a b p q = q
 
 module _ (l : Link) where
   issued : (code : ℕ) (c : Command) (res : Result Link ℕ) → command_issued l c ≡ res → Same l (relinked_or code res)

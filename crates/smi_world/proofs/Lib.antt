@@ -43,3 +43,4 @@ pub mod Tidy
 pub mod SaysStates
 pub mod Speaking
 pub mod Bridge
+pub mod Stations

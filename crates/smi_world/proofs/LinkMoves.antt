@@ -37,13 +37,9 @@ use Rattle.smi_station.specs.declared.Order.TheVariants as order
 use Rattle.smi_world.specs.World.{Among, MayCome}
 use Rattle.smi_world.specs.Schedule.{World}
 use Rattle.smi_world.proofs.Moves as move
-use Rattle.smi_world.proofs.Moves.{LinkMove, at_put_link}
+use Rattle.smi_world.proofs.Moves.{LinkMove, at_put_link, choice}
 
 -- What a command does to a link to a child.
-
-choice : {X : Type 0} (P : X → Type 0) (b : Bool) (yes_ no_ : X) → P yes_ → P no_ → P (if b then yes_ else no_)
-choice P true a b p q = p
-choice P false a b p q = q
 
 module _ (sent : List Message) (x : ℕ) (me : Holder) (l : Link) where
   abbrev Goes : ChildChange → Type 0

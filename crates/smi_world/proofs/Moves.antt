@@ -1,6 +1,6 @@
 -- What a step does to one record and to one link.
-use Rattle.std.proofs.Common.{ℕ, refl, ◌≡◌, Bool, true, List, ◌⊎◌, inl, inr, arith}
-use Rattle.std.specs.Prelude.{◌==◌, ◌&&◌, Ok}
+use Rattle.std.proofs.Common.{ℕ, refl, ◌≡◌, Bool, true, false, List, ◌⊎◌, inl, inr, arith}
+use Rattle.std.specs.Prelude.{◌==◌, ◌&&◌, Ok, if◌then◌else◌}
 use Rattle.std.proofs.lemmas.Bool.{and_parts, eqb-true}
 use Rattle.std.proofs.lemmas.Bool.Decides.{nat_tests}
 use Rattle.smi_grant.specs.declared.Command.{Command}
@@ -36,6 +36,11 @@ pub data LinkMove (sent : List Message) (d : ℕ) (me : Holder) (l : Link) : Lin
 -- two numbers are one, or are not
 pub apart : (m n : ℕ) → (m ≡ n) ⊎ (m ≡ n → ⊥)
 apart m n = grind arith
+
+-- what holds of both holds of the one that a test chooses
+pub choice : {X : Type 0} (P : X → Type 0) (b : Bool) (one other : X) → P one → P other → P (if b then one else other)
+choice P true a b p q = p
+choice P false a b p q = q
 
 -- a number is itself by the test
 pub number_self : (n : ℕ) → (n == n) ≡ true

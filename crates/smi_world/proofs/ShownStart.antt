@@ -31,6 +31,7 @@ use Rattle.smi_world.specs.Schedule.{World}
 use Rattle.smi_world.specs.Trace.{Stands}
 use Rattle.smi_world.specs.World.{Among as IsSent, with_station, noted}
 use Rattle.smi_world.proofs.Conditions.{row_within}
+use Rattle.smi_world.proofs.Stations.{at_stations}
 use Rattle.smi_world.proofs.Lists.{In, in_mapped, in_chosen, from_chosen, in_range, Apart, apart_range, apart_chosen, stands_noted, stands_new}
 use Rattle.smi_world.proofs.Shows.{state_of, ToldWell, IsNewest, Shows, object_of, well_passed, before_start_there, before_passed_all, newer_passed_all, from_passed_all}
 use Rattle.smi_world.proofs.ShownStep.{kept_once}
@@ -114,13 +115,7 @@ module _ (h : Hierarchy) (tree : IsTree h) (past : List Entry) (w : World) (numb
   trace = noted (map entry_.Passed vs) middle
 
   each : (P : ℕ → Station → Type 0) → P number started → ((m : ℕ) → (m ≡ number → ⊥) → P m (w.stations m)) → (m : ℕ) → P m (next.stations m)
-  each P here there m = elim (either (m == number)) [
-    | inl t ↦ rw t (subst (λ z. P z started) (sym (eqb-true m number t)) here)
-    | inr f ↦ rw f (there m (other m f))
-  ]
-    where
-      other : (k : ℕ) → (k == number) ≡ false → k ≡ number → ⊥
-      other k f i = grind (arith, nat_tests)
+  each = at_stations w.stations number started
 
   boots : (m : ℕ) → (w.stations m).grants.boot ≤ (next.stations m).grants.boot
   boots = each (λ m z. (w.stations m).grants.boot ≤ z.grants.boot) (omega arith) (λ m o. omega arith)

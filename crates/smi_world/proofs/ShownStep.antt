@@ -3,7 +3,6 @@ use Rattle.std.proofs.Common.{ℕ, ◌≡◌, ◌≤◌, ◌+◌, true, false, L
 use Rattle.std.specs.Prelude.{◌==◌, Option, Some, None, map}
 use Rattle.std.specs.Option.{option_map_or}
 use Rattle.std.proofs.lemmas.Bool.{eqb-true}
-use Rattle.std.proofs.lemmas.Bool.Decides.{nat_tests}
 use Rattle.smi_grant.specs.declared.Shown.{Shown}
 use Rattle.smi_grant.specs.declared.Version.{Version}
 use Rattle.smi_message.specs.declared.Body.TheVariants as body
@@ -12,7 +11,6 @@ use Rattle.smi_tree.specs.Hierarchy.{Hierarchy}
 use Rattle.smi_publish.specs.declared.condition.Condition.{Condition}
 use Rattle.smi_publish.specs.Published.{shown}
 use Rattle.smi_publish.specs.Publishing.{keeper_of, is_kept_by}
-use Rattle.smi_command.proofs.Holders.{either}
 use Rattle.smi_view.specs.Accepting.{is_newer_than_last}
 use Rattle.smi_watchers.specs.Watching.{watcher, listed}
 use Rattle.smi_station.specs.Display.{Station}
@@ -24,6 +22,7 @@ use Rattle.smi_world.specs.Safe.{IsNewer, NotOlderThanShown, NewerThanShown, Sho
 use Rattle.smi_world.specs.Schedule.{World}
 use Rattle.smi_world.specs.Trace.{Stands, before_start}
 use Rattle.smi_world.specs.World.{Among as IsSent, with_station, noted}
+use Rattle.smi_world.proofs.Stations.{at_stations}
 use Rattle.smi_world.proofs.Lists.{In, in_mapped, Apart, stands_noted, stands_new}
 use Rattle.smi_world.proofs.Shows.{state_of, ToldWell, IsNewest, Shows, not_older_at_all, object_of, well_passed, before_passed_all, newer_passed_all, from_passed_all}
 use Rattle.smi_world.proofs.Versions.{is_newer_by, newer_than, Somewhere}
@@ -91,13 +90,7 @@ module _ (h : Hierarchy) (past : List Entry) (w : World) (number : ℕ) (s : Sta
 
   -- what holds of this station and of each other one
   each : (P : ℕ → Station → Type 0) → P number s → ((m : ℕ) → (m ≡ number → ⊥) → P m (w.stations m)) → (m : ℕ) → P m (next.stations m)
-  each P here there m = elim (either (m == number)) [
-    | inl t ↦ rw t (subst (λ z. P z s) (sym (eqb-true m number t)) here)
-    | inr f ↦ rw f (there m (other m f))
-  ]
-    where
-      other : (k : ℕ) → (k == number) ≡ false → k ≡ number → ⊥
-      other k f i = grind (arith, nat_tests)
+  each = at_stations w.stations number s
 
   boots : (m : ℕ) → (next.stations m).grants.boot ≡ (w.stations m).grants.boot
   boots = each (λ m z. z.grants.boot ≡ (w.stations m).grants.boot) a.boot (λ m o. refl)
