@@ -42,15 +42,17 @@ last_waits r e n p l step busy epoch is =
     let past_base : base_of n p < r.last = beyond in
     let a = step.not_beyond in
     let b = step.counted in
-    let at = at_place p (r.last - (base_of n p + 1)) (omega (arith, past_base, a, b)) in
-    (at.0, record {
-      newest = n;
-      pending = p;
-      at = r.last - (base_of n p + 1);
-      is = is ∙ ap (λ z. Held z n p) (sym epoch);
-      command = at.1;
-      counts = omega (arith, past_base);
-    })
+    let at = at_place p (r.last - (base_of n p + 1)) (omega (arith, past_base, a, b)) in (
+      at.0,
+      record {
+        newest = n;
+        pending = p;
+        at = r.last - (base_of n p + 1);
+        is = is ∙ ap (λ z. Held z n p) (sym epoch);
+        command = at.1;
+        counts = omega (arith, past_base);
+      },
+    )
   where
     apart_or : (i j : ℕ) → j ≤ i → (i ≡ j → ⊥) → j < i
     apart_or i j l o = grind (arith, l, o)

@@ -266,15 +266,15 @@ from_world : (h : Hierarchy) → IsTree h → (items : List Item) (past : List E
 from_world h tree [] past w run = record { world = w; run = run }
 from_world h tree (x ∷ items) past w run =
     subst (Ends h) (sym (
-      ap (λ z. noted z past) (entries_both (lines_of w (turn h w x)) (trace_from h (turn h w x).world items) ∙ ap (λ z. z ++ entries_of (trace_from h (turn h w x).world items)) (entries_lines w (turn h w x)))
-      ∙ noted_both (turn h w x).entries (entries_of (trace_from h (turn h w x).world items)) past
+    ap (λ z. noted z past) (entries_both (lines_of w (turn h w x)) (trace_from h (turn h w x).world items) ∙ ap (λ z. z ++ entries_of (trace_from h (turn h w x).world items)) (entries_lines w (turn h w x)))
+    ∙ noted_both (turn h w x).entries (entries_of (trace_from h (turn h w x).world items)) past
     ))
     (from_world h tree items (noted (turn h w x).entries past) (turn h w x).world (turned h tree past w run x))
 
 pub schedule_runs : (h : Hierarchy) → IsTree h → (items : List Item) → Ends h (noted (entries_of (trace_of h items)) [])
 schedule_runs h tree items =
     subst (Ends h) (sym (
-      ap (λ z. noted z []) (entries_both (map line.Entry (opening_of h)) (trace_from h (first_world h) items) ∙ ap (λ z. z ++ entries_of (trace_from h (first_world h) items)) (entries_mapped (opening_of h)))
-      ∙ noted_both (opening_of h) (entries_of (trace_from h (first_world h) items)) []
+    ap (λ z. noted z []) (entries_both (map line.Entry (opening_of h)) (trace_from h (first_world h) items) ∙ ap (λ z. z ++ entries_of (trace_from h (first_world h) items)) (entries_mapped (opening_of h)))
+    ∙ noted_both (opening_of h) (entries_of (trace_from h (first_world h) items)) []
     ))
     (from_world h tree items (noted (opening_of h) []) (first_world h) opens)

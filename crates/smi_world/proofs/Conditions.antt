@@ -146,8 +146,12 @@ module _ (h : Hierarchy) (tree : IsTree h) where
           let within = row_within h.devices n row at in
           let on : (n == 0) ≡ false = positive n within.0 in
           let read : slice_get h.devices (n - 1) ≡ Some row = sym (ap (λ b. if b then None else slice_get h.devices (n - 1)) on) ∙ at in
-          inr (row.domain, refl, (tree.lawful.devices.each n row at).domain.most,
-          subst (λ z. In z (devices_of h row.domain)) (back n within.0) (in_numbers (is_device_of row.domain) h.devices 1 (n - 1) row read (self row.domain)))
+          inr (
+            row.domain,
+            refl,
+            (tree.lawful.devices.each n row at).domain.most,
+            subst (λ z. In z (devices_of h row.domain)) (back n within.0) (in_numbers (is_device_of row.domain) h.devices 1 (n - 1) row read (self row.domain)),
+          )
         where
           positive : (m : ℕ) → 1 ≤ m → (m == 0) ≡ false
           positive m l = grind (arith, nat_tests)
@@ -228,7 +232,7 @@ module _ (h : Hierarchy) (tree : IsTree h) where
         let kept = (and_parts (is_kept_by h number (domain_count h + device)) _ parts.1).0 in
         let at : domain_of h (domain_count h + device) ≡ option_map (λ (row : DeviceRow). row.domain) (entry h.devices device)
         = ap (λ b. if b then Some (domain_count h + device) else option_map (λ (row : DeviceRow). row.domain) (entry h.devices (domain_count h + device - domain_count h))) (beyond (domain_count h) device positive)
-            ∙ ap (λ z. option_map (λ (row : DeviceRow). row.domain) (entry h.devices z)) (back (domain_count h) device) in
+        ∙ ap (λ z. option_map (λ (row : DeviceRow). row.domain) (entry h.devices z)) (back (domain_count h) device) in
         elim (device_domain device) [
           | inl none ↦ absurd (not_kept (ap (λ o. option_map_or (λ keeper. keeper == number) (option_and_then (station_of h) o) false) (sym (at ∙ none)) ∙ kept))
           | inr some ↦ subst (λ o. Follows old (conditions_by h s g display (reported old (domain_count h + device) state) o) o) (sym (at ∙ some.1))

@@ -50,7 +50,6 @@ none_among {X = X} test counts (other ∷ rows) k zero row none is yes_ =
   where
     begins : (m : ℕ) → m ≡ 0 + m
     begins m = omega arith
-
 none_among {X = X} test counts (other ∷ rows) k (suc i) row none is yes_ =
     subst (λ z. test z ≡ false) (moved i k) (none_among test counts rows (k + 1) i row (later (counts other) none) is yes_)
   where

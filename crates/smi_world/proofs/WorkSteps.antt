@@ -200,10 +200,10 @@ module _ (h : Hierarchy) (w : World) (number : ℕ) (past : List Entry) (v : Vie
             (ap (λ z. is_settled (put G.records x r z).phase) same ∙ ap (λ (z : Standing). is_settled z.phase) (put_here G.records x r) ∙ is)
             (a.rest (ap (λ z. is_settled (G.records z).phase) same ∙ was)) a
         | inr o ↦ moved_at h working.now (note ∷ past) G (with_record G x r) p (record {
-            record_ = at_put (λ z. z ≡ G.records p) G.records x r p (λ i. absurd (o i)) refl;
-            links = λ y. refl;
-            modes = λ y child. refl;
-          }) a
+          record_ = at_put (λ z. z ≡ G.records p) G.records x r p (λ i. absurd (o i)) refl;
+          links = λ y. refl;
+          modes = λ y child. refl;
+        }) a
       ]
 
   lawful : (x : ℕ) → home h x ≡ number → IsRecord (G.records x)

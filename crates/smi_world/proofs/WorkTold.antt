@@ -58,10 +58,10 @@ module _ (me : Holder) (r : Standing) where
       (λ at mine is. absurd cc) (λ free at is. absurd cc) (λ free less is. absurd cc) (λ held other less is. absurd cc) (λ is. is)
   told_pending (Held f m p) one e n c more = by_row_held (λ l k. k ≡ Held e n (c ∷ more) → l ≡ Held e n (c ∷ more)) me r f m p
       (λ at is.
-        let a : f ≡ e = cc in
-        let b : m ≡ n = cc in
-        let d : drop (settled_count m p r) p ≡ c ∷ more = cc in
-        ap (λ z. Held z m p) a ∙ ap (λ z. Held e z p) b ∙ ap (Held e n) (fewer (settled_count m p r) p c more (λ k rest i. one f m k rest (ap (Held f m) i)) d))
+      let a : f ≡ e = cc in
+      let b : m ≡ n = cc in
+      let d : drop (settled_count m p r) p ≡ c ∷ more = cc in
+      ap (λ z. Held z m p) a ∙ ap (λ z. Held e z p) b ∙ ap (Held e n) (fewer (settled_count m p r) p c more (λ k rest i. one f m k rest (ap (Held f m) i)) d))
       (λ is. is)
   told_pending (Dropping f) one e n c more = by_row_dropping (λ l m. m ≡ Held e n (c ∷ more) → l ≡ Held e n (c ∷ more)) me r f (λ less is. absurd cc) (λ is. is)
 
