@@ -1,44 +1,46 @@
 //! Growths that are refused: for a run in which each allocation is refused in turn. Without a refusal these tests say
 //! that ample memory suffices.
 
-use super::{BOOT, HELD, PENDING, TREE, WORKING, fault, key, rewritten};
+use super::{examples, fault, rewritten};
+use crate::{Key, RowFault};
 use smi_tree::Tree;
-use std::test::Fail;
+use std::alloc::Global;
 
-#[test]
-fn rows_read(rt: HostRuntime) {
-    let Ok(tree) = Tree::read(rt.alloc(), TREE) else {
-        return;
-    };
-    for (key, bytes) in [
-        (key(1, 0, 0), BOOT),
-        (key(1, 1, 0), WORKING),
-        (key(2, 0, 2), PENDING),
-    ] {
-        match fault(rt.alloc(), &tree, key, bytes) {
-            // Want of memory, which is over at the next try.
-            99 => assert_eq!(rt; fault(rt.alloc(), &tree, key, bytes), 0),
-            code => assert_eq!(rt; code, 0),
-        }
+/// The fault of a row, at the second try where the first had no memory.
+fn fault_at_last(alloc: Global, tree: &Tree, key: Key, bytes: &[u8]) -> u16 {
+    match fault(alloc, tree, key, bytes) {
+        99 => fault(alloc, tree, key, bytes),
+        code => code,
     }
 }
 
-#[test]
-fn rows_written(rt: HostRuntime) -> Result<(), Fail> {
-    let Ok(tree) = Tree::read(rt.alloc(), TREE) else {
-        return Ok(());
-    };
-    for (key, bytes) in [
-        (key(1, 0, 0), BOOT),
-        (key(1, 1, 0), WORKING),
-        (key(2, 0, 2), HELD),
-        (key(2, 0, 2), PENDING),
-    ] {
-        let written = match rewritten(rt.alloc(), &tree, key, bytes) {
-            Ok(row) => row,
-            Err(_) => rewritten(rt.alloc(), &tree, key, bytes)?,
-        };
-        assert_eq!(rt; written.as_slice(), bytes);
+/// The row written anew, at the second try where the first had no memory.
+fn written_at_last(
+    alloc: Global,
+    tree: &Tree,
+    key: Key,
+    bytes: &[u8],
+) -> Result<Vec<u8>, RowFault> {
+    match rewritten(alloc, tree, key, bytes) {
+        Err(_) => rewritten(alloc, tree, key, bytes),
+        row => row,
     }
-    Ok(())
+}
+
+pub(super) fn are_read_at_last(alloc: Global, tree: &Tree) -> bool {
+    for (key, bytes) in examples() {
+        if fault_at_last(alloc, tree, key, bytes) != 0 {
+            return false;
+        }
+    }
+    true
+}
+
+pub(super) fn are_written_at_last(alloc: Global, tree: &Tree) -> Result<bool, RowFault> {
+    for (key, bytes) in examples() {
+        if written_at_last(alloc, tree, key, bytes)?.as_slice() != bytes {
+            return Ok(false);
+        }
+    }
+    Ok(true)
 }

@@ -1,6 +1,6 @@
 //! Saves that fail as planned.
 
-use super::{BOOT, HELD, PENDING, key};
+use super::{BOOT, PENDING, key};
 use crate::law::saved_is_loaded;
 use crate::{MemoryStable, Plan, PlannedStable, Stable, StoreFault};
 
@@ -9,6 +9,10 @@ fn loaded(store: &mut PlannedStable<MemoryStable>) -> usize {
         Ok(list) => list.len(),
         Err(_) => 0,
     }
+}
+
+fn save<S: Stable>(store: &mut S) -> Result<(), StoreFault> {
+    store.save(key(2, 0, 2), PENDING)
 }
 
 #[test]
@@ -20,7 +24,7 @@ fn saves_fail_as_planned(rt: HostRuntime) {
         (Plan::After, StoreFault::Unsure, 2),
     ] {
         store.plan(1, plan);
-        assert_eq!(rt; store.save(key(2, 0, 2), PENDING), Err(wanted));
+        assert_eq!(rt; save(&mut store), Err(wanted));
         assert_eq!(rt; loaded(&mut store), rows);
     }
 }
@@ -31,7 +35,7 @@ fn a_later_save_fails(rt: HostRuntime) {
     let mut store = PlannedStable::new(MemoryStable::new(rt.alloc()));
     store.plan(3, Plan::Device);
     for wanted in [Ok(()), Ok(()), Err(StoreFault::Device), Ok(())] {
-        assert_eq!(rt; store.save(key(2, 0, 2), HELD), wanted);
+        assert_eq!(rt; save(&mut store), wanted);
     }
 }
 
@@ -41,11 +45,11 @@ fn plans_are_replaced_and_taken_away(rt: HostRuntime) {
     let mut store = PlannedStable::new(MemoryStable::new(rt.alloc()));
     store.plan(1, Plan::Device);
     store.plan(2, Plan::Before);
-    assert_eq!(rt; store.save(key(2, 0, 2), HELD), Ok(()));
-    assert_eq!(rt; store.save(key(2, 0, 2), HELD), Err(StoreFault::Unsure));
+    assert_eq!(rt; save(&mut store), Ok(()));
+    assert_eq!(rt; save(&mut store), Err(StoreFault::Unsure));
     store.plan(1, Plan::After);
     store.unplan();
-    assert_eq!(rt; store.save(key(2, 0, 2), HELD), Ok(()));
+    assert_eq!(rt; save(&mut store), Ok(()));
     let mut below = store.into_inner();
     let rows = below.load().map_or(0, |list| list.len());
     assert_eq!(rt; rows, 1);

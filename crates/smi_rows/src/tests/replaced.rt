@@ -1,32 +1,33 @@
 //! Rows with too few bytes or too many, and rows of which one byte is another.
 
-use super::{BOOT, HELD, PENDING, TAKEN, TREE, WORKING, fault, key, with_byte};
+use super::{BOOT, HELD, TAKEN, examples, fault, key, with_byte};
+use crate::{Key, RowKind};
 use smi_tree::Tree;
+use std::alloc::Global;
 use std::test::Fail;
 
-#[test]
-fn each_other_length(rt: HostRuntime) -> Result<(), Fail> {
-    let tree = Tree::read(rt.alloc(), TREE)?;
-    let table = [
-        (key(1, 0, 0), BOOT),
-        (key(1, 1, 0), TAKEN),
-        (key(1, 1, 0), WORKING),
-        (key(2, 0, 2), HELD),
-        (key(2, 0, 2), PENDING),
-    ];
-    for (key, bytes) in table {
-        for length in 0..bytes.len() {
-            assert_eq!(rt;
-                fault(rt.alloc(), &tree, key, &bytes[..length]),
-                1,
-                "{length}"
-            );
+/// The first other length, up to one byte more, in which the row is not refused for it.
+fn taken_length(alloc: Global, tree: &Tree, key: Key, bytes: &[u8]) -> Result<Option<usize>, Fail> {
+    for length in 0..bytes.len() {
+        if fault(alloc, tree, key, &bytes[..length]) != 1 {
+            return Ok(Some(length));
         }
-        let mut longer = Vec::from_slice(rt.alloc(), bytes)?;
-        longer.push(0)?;
-        assert_eq!(rt; fault(rt.alloc(), &tree, key, &longer), 1);
     }
-    Ok(())
+    let mut longer = Vec::from_slice(alloc, bytes)?;
+    longer.push(0)?;
+    if fault(alloc, tree, key, &longer) != 1 {
+        return Ok(Some(longer.len()));
+    }
+    Ok(None)
+}
+
+pub(super) fn has_no_other_length(alloc: Global, tree: &Tree) -> Result<bool, Fail> {
+    for (key, bytes) in examples() {
+        if taken_length(alloc, tree, key, bytes)?.is_some() {
+            return Ok(false);
+        }
+    }
+    Ok(true)
 }
 
 /// What the layout says of the boot row with this value at one place.
@@ -41,19 +42,6 @@ fn boot_fault(place: usize, value: u8) -> u16 {
         (7, 0) => 3,
         _ => 0,
     }
-}
-
-#[test]
-fn each_other_byte_of_a_boot(rt: HostRuntime) -> Result<(), Fail> {
-    let tree = Tree::read(rt.alloc(), TREE)?;
-    for place in 0..BOOT.len() {
-        for value in 0..=255u8 {
-            let row = with_byte(rt.alloc(), BOOT, place, value)?;
-            let code = fault(rt.alloc(), &tree, key(1, 0, 0), &row);
-            assert_eq!(rt; code, boot_fault(place, value), "{value} at {place}");
-        }
-    }
-    Ok(())
 }
 
 /// What the layout says of the row of a domain that operator 2 took, with this value at one place.
@@ -81,19 +69,6 @@ fn domain_fault(place: usize, value: u8) -> u16 {
         (22 | 23, 1..) => 1,
         _ => 0,
     }
-}
-
-#[test]
-fn each_other_byte_of_a_domain(rt: HostRuntime) -> Result<(), Fail> {
-    let tree = Tree::read(rt.alloc(), TREE)?;
-    for place in 0..TAKEN.len() {
-        for value in 0..=255u8 {
-            let row = with_byte(rt.alloc(), TAKEN, place, value)?;
-            let code = fault(rt.alloc(), &tree, key(1, 1, 0), &row);
-            assert_eq!(rt; code, domain_fault(place, value), "{value} at {place}");
-        }
-    }
-    Ok(())
 }
 
 /// What the layout says of the row of an operator that holds domain 2, with this value at one place.
@@ -125,15 +100,48 @@ fn operator_fault(place: usize, value: u8) -> u16 {
     }
 }
 
-#[test]
-fn each_other_byte_of_an_operator(rt: HostRuntime) -> Result<(), Fail> {
-    let tree = Tree::read(rt.alloc(), TREE)?;
-    for place in 0..HELD.len() {
+/// What the layout says of such a row with this value at one place.
+fn layout_fault(kind: RowKind, place: usize, value: u8) -> u16 {
+    match kind {
+        RowKind::Boot => boot_fault(place, value),
+        RowKind::Domain => domain_fault(place, value),
+        RowKind::Operator => operator_fault(place, value),
+    }
+}
+
+/// The first place at which some value makes another fault of the row than the layout says.
+fn misread_byte(
+    alloc: Global,
+    tree: &Tree,
+    key: Key,
+    kind: RowKind,
+    bytes: &[u8],
+) -> Result<Option<usize>, Fail> {
+    for place in 0..bytes.len() {
         for value in 0..=255u8 {
-            let row = with_byte(rt.alloc(), HELD, place, value)?;
-            let code = fault(rt.alloc(), &tree, key(2, 0, 2), &row);
-            assert_eq!(rt; code, operator_fault(place, value), "{value} at {place}");
+            let row = with_byte(alloc, bytes, place, value)?;
+            if fault(alloc, tree, key, &row) != layout_fault(kind, place, value) {
+                return Ok(Some(place));
+            }
         }
     }
-    Ok(())
+    Ok(None)
+}
+
+/// A boot, a domain that operator 2 took, and an operator that holds domain 2.
+fn replaced_rows() -> [(Key, RowKind, &'static [u8]); 3] {
+    [
+        (key(1, 0, 0), RowKind::Boot, BOOT),
+        (key(1, 1, 0), RowKind::Domain, TAKEN),
+        (key(2, 0, 2), RowKind::Operator, HELD),
+    ]
+}
+
+pub(super) fn has_no_other_byte(alloc: Global, tree: &Tree) -> Result<bool, Fail> {
+    for (key, kind, bytes) in replaced_rows() {
+        if misread_byte(alloc, tree, key, kind, bytes)?.is_some() {
+            return Ok(false);
+        }
+    }
+    Ok(true)
 }

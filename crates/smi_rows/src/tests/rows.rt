@@ -1,19 +1,17 @@
 //! Rows as they are written, and the fault of each that is not.
 
 use super::{
-    BOOT, EVEN, HELD, OLDEST, PENDING, TAKEN, TREE, WORKING, fault, key, rewritten, with_byte,
+    BOOT, EVEN, HELD, OLDEST, PENDING, TAKEN, WORKING, examples, fault, key, rewritten, with_byte,
 };
-use crate::{Key, Mode, Row, StoredLink};
+use crate::{DomainRow, Key, Mode, Row, StoredLink};
 use smi_command::{Link, Pending};
 use smi_grant::{Command, Holder, Phase, Record};
 use smi_tree::Tree;
 use std::alloc::Global;
 use std::test::Fail;
 
-#[test]
-fn faults(rt: HostRuntime) -> Result<(), Fail> {
-    let tree = Tree::read(rt.alloc(), TREE)?;
-    let table = [
+fn faulty_rows() -> [(Key, &'static [u8], u16); 8] {
+    [
         (key(1, 0, 0), b"".as_slice(), 1),
         (key(2, 0, 2), b"\x04".as_slice(), 2),
         (key(1, 1, 0), PENDING, 2),
@@ -22,35 +20,29 @@ fn faults(rt: HostRuntime) -> Result<(), Fail> {
         (key(1, 0, 2), PENDING, 4),
         (key(3, 0, 0), BOOT, 4),
         (key(1, 1, 1), b"".as_slice(), 4),
-    ];
-    for (key, bytes, wanted) in table {
-        assert_eq!(rt; fault(rt.alloc(), &tree, key, bytes), wanted);
-    }
-    Ok(())
+    ]
 }
 
-#[test]
-fn rows_are_written_as_they_were_read(rt: HostRuntime) -> Result<(), Fail> {
-    let tree = Tree::read(rt.alloc(), TREE)?;
-    let table = [
-        (key(1, 0, 0), BOOT),
-        (key(1, 1, 0), TAKEN),
-        (key(1, 1, 0), WORKING),
-        (key(2, 0, 2), HELD),
-        (key(2, 0, 2), PENDING),
-    ];
-    for (key, bytes) in table {
-        let again = rewritten(rt.alloc(), &tree, key, bytes)?;
-        assert_eq!(rt; again.as_slice(), bytes);
+pub(super) fn have_their_faults(alloc: Global, tree: &Tree) -> bool {
+    for (key, bytes, wanted) in faulty_rows() {
+        if fault(alloc, tree, key, bytes) != wanted {
+            return false;
+        }
     }
-    Ok(())
+    true
 }
 
-/// Rows of older schemas are read, and what they say is written in the newest.
-#[test]
-fn older_schemas(rt: HostRuntime) -> Result<(), Fail> {
-    let tree = Tree::read(rt.alloc(), TREE)?;
-    let table = [
+pub(super) fn are_written_as_they_were_read(alloc: Global, tree: &Tree) -> Result<bool, Fail> {
+    for (key, bytes) in examples() {
+        if rewritten(alloc, tree, key, bytes)?.as_slice() != bytes {
+            return Ok(false);
+        }
+    }
+    Ok(true)
+}
+
+fn older_rows() -> [(Key, u8, &'static [u8]); 7] {
+    [
         (key(1, 0, 0), 1, BOOT),
         (key(1, 1, 0), 1, TAKEN),
         (key(1, 1, 0), 1, WORKING),
@@ -58,35 +50,61 @@ fn older_schemas(rt: HostRuntime) -> Result<(), Fail> {
         (key(2, 0, 2), 2, HELD),
         (key(2, 0, 2), 1, OLDEST),
         (key(2, 0, 2), 2, OLDEST),
-    ];
-    for (key, schema, bytes) in table {
-        let older = with_byte(rt.alloc(), bytes, 0, schema)?;
-        let again = rewritten(rt.alloc(), &tree, key, &older)?;
-        assert_eq!(rt; again.as_slice(), bytes);
-    }
-    Ok(())
+    ]
 }
 
-/// What only a later schema can say is out of range before it.
-#[test]
-fn said_too_early(rt: HostRuntime) -> Result<(), Fail> {
-    let tree = Tree::read(rt.alloc(), TREE)?;
-    // The mode of the child, and the verb of the oldest command.
-    let table = [
+/// Rows of older schemas are read, and what they say is written in the newest.
+pub(super) fn are_written_in_the_newest(alloc: Global, tree: &Tree) -> Result<bool, Fail> {
+    for (key, schema, bytes) in older_rows() {
+        let older = with_byte(alloc, bytes, 0, schema)?;
+        if rewritten(alloc, tree, key, &older)?.as_slice() != bytes {
+            return Ok(false);
+        }
+    }
+    Ok(true)
+}
+
+fn fault_in(alloc: Global, tree: &Tree, key: Key, bytes: &[u8], schema: u8) -> Result<u16, Fail> {
+    let row = with_byte(alloc, bytes, 0, schema)?;
+    Ok(fault(alloc, tree, key, &row))
+}
+
+/// Whether the row has these faults in the schemas 1, 2 and 3.
+fn has_faults(
+    alloc: Global,
+    tree: &Tree,
+    key: Key,
+    bytes: &[u8],
+    wanted: [u16; 3],
+) -> Result<bool, Fail> {
+    let [first, second, third] = wanted;
+    Ok(
+        fault_in(alloc, tree, key, bytes, 1)? == first
+            && fault_in(alloc, tree, key, bytes, 2)? == second
+            && fault_in(alloc, tree, key, bytes, 3)? == third,
+    )
+}
+
+/// The mode of the child, and the verb of the oldest command: a row, a value at one place, and the faults by schema.
+fn early_rows() -> [(Key, &'static [u8], usize, u8, [u16; 3]); 5] {
+    [
         (key(1, 1, 0), WORKING, 27, 1, [3, 0, 2]),
         (key(1, 1, 0), WORKING, 41, 4, [3, 0, 2]),
         (key(2, 0, 2), OLDEST, 21, 5, [3, 0, 0]),
         (key(2, 0, 2), OLDEST, 7, 1, [3, 3, 3]),
         (key(2, 0, 2), PENDING, 1, 0, [1, 1, 0]),
-    ];
-    for (key, bytes, place, value, wanted) in table {
-        for (schema, fault_of) in [1, 2, 3].into_iter().zip(wanted) {
-            let newer = with_byte(rt.alloc(), bytes, place, value)?;
-            let row = with_byte(rt.alloc(), &newer, 0, schema)?;
-            assert_eq!(rt; fault(rt.alloc(), &tree, key, &row), fault_of);
+    ]
+}
+
+/// What only a later schema can say is out of range before it.
+pub(super) fn are_not_said_too_early(alloc: Global, tree: &Tree) -> Result<bool, Fail> {
+    for (key, bytes, place, value, wanted) in early_rows() {
+        let row = with_byte(alloc, bytes, place, value)?;
+        if !has_faults(alloc, tree, key, &row, wanted)? {
+            return Ok(false);
         }
     }
-    Ok(())
+    Ok(true)
 }
 
 fn links_of(alloc: Global, tree: &Tree, key: Key, bytes: &[u8]) -> Result<Vec<StoredLink>, Fail> {
@@ -97,38 +115,57 @@ fn links_of(alloc: Global, tree: &Tree, key: Key, bytes: &[u8]) -> Result<Vec<St
     }
 }
 
-#[test]
-fn links_as_they_are_read(rt: HostRuntime) -> Result<(), Fail> {
-    let tree = Tree::read(rt.alloc(), TREE)?;
+/// Domain 2, held at epoch 1, with so many commands pending: do action 1, 2 and so on.
+fn held(count: u16) -> StoredLink {
     let mut pending = Pending::new();
-    for (bytes, number) in [(HELD, 0), (OLDEST, 1), (PENDING, 2)] {
-        if number > 0 && !pending.is_full() {
-            pending.push(Command::Do(number));
+    for action in 1..=count {
+        if !pending.is_full() {
+            pending.push(Command::Do(action));
         }
-        let links = links_of(rt.alloc(), &tree, key(2, 0, 2), bytes)?;
-        let wanted = StoredLink {
-            domain: 2,
-            link: Link::Held {
-                epoch: 1,
-                number: u32::from(number),
-                pending,
-            },
-            mode: Mode::Included,
-        };
-        assert_eq!(rt; links.as_slice(), [wanted].as_slice());
     }
-    Ok(())
+    StoredLink {
+        domain: 2,
+        link: Link::Held {
+            epoch: 1,
+            number: u32::from(count),
+            pending,
+        },
+        mode: Mode::Included,
+    }
 }
 
-#[test]
-fn a_domain_as_it_is_read(rt: HostRuntime) -> Result<(), Fail> {
-    let tree = Tree::read(rt.alloc(), TREE)?;
-    let Row::Domain(domain) = Row::read(rt.alloc(), &tree, key(1, 1, 0), WORKING)? else {
-        return Err("no domain")?;
-    };
+fn is_only(links: &[StoredLink], wanted: StoredLink) -> bool {
+    match links {
+        [only] => *only == wanted,
+        _ => false,
+    }
+}
+
+/// Rows of operators, and how many commands are pending.
+fn held_rows() -> [(&'static [u8], u16); 3] {
+    [(HELD, 0), (OLDEST, 1), (PENDING, 2)]
+}
+
+pub(super) fn have_their_links(alloc: Global, tree: &Tree) -> Result<bool, Fail> {
+    for (bytes, count) in held_rows() {
+        let links = links_of(alloc, tree, key(2, 0, 2), bytes)?;
+        if !is_only(&links, held(count)) {
+            return Ok(false);
+        }
+    }
+    Ok(true)
+}
+
+/// What the row of the domain at work says.
+fn working(alloc: Global, tree: &Tree) -> Result<DomainRow, Fail> {
+    match Row::read(alloc, tree, key(1, 1, 0), WORKING)? {
+        Row::Domain(domain) => Ok(domain),
+        _ => Err("no domain")?,
+    }
+}
+
+pub(super) fn has_its_record(alloc: Global, tree: &Tree) -> Result<bool, Fail> {
+    let domain = working(alloc, tree)?;
     let wanted = Record::checked(1, Holder::Operator(1), 2, Phase::Busy, 0);
-    assert_eq!(rt; Some(domain.standing), wanted);
-    assert_eq!(rt; domain.gathered, 0);
-    assert_eq!(rt; domain.links.len(), 1);
-    Ok(())
+    Ok(Some(domain.standing) == wanted && domain.gathered == 0 && domain.links.len() == 1)
 }
