@@ -30,18 +30,46 @@ fn socket(rt: &HostRuntime) -> io::Result<UdpSocket> {
     UdpSocket::bind(rt, "127.0.0.1:0")
 }
 
-fn over_links(rt: &HostRuntime, rounds: u32) -> io::Result<u32> {
+fn sockets(rt: &HostRuntime) -> io::Result<(UdpSocket, UdpSocket)> {
     let here = socket(rt)?;
     let there = socket(rt)?;
-    let addresses = (here.local_addr()?, there.local_addr()?);
-    let mut here = UdpLink::over(here, both(rt, addresses)?)?;
-    let mut there = UdpLink::over(there, both(rt, addresses)?)?;
+    Ok((here, there))
+}
+
+fn addresses(here: &UdpSocket, there: &UdpSocket) -> io::Result<(SocketAddr, SocketAddr)> {
+    Ok((here.local_addr()?, there.local_addr()?))
+}
+
+fn link(
+    rt: &HostRuntime,
+    socket: UdpSocket,
+    addresses: (SocketAddr, SocketAddr),
+) -> io::Result<UdpLink> {
+    let peers = both(rt, addresses)?;
+    UdpLink::over(socket, peers)
+}
+
+fn links(rt: &HostRuntime) -> io::Result<(UdpLink, UdpLink)> {
+    let (here, there) = sockets(rt)?;
+    let addresses = addresses(&here, &there)?;
+    let here = link(rt, here, addresses)?;
+    let there = link(rt, there, addresses)?;
+    Ok((here, there))
+}
+
+fn over_links(rt: &HostRuntime, rounds: u32) -> io::Result<u32> {
+    let (mut here, mut there) = links(rt)?;
+    Ok(passed(&mut here, &mut there, rounds))
+}
+
+/// How many datagrams come to the other link.
+fn passed(here: &mut UdpLink, there: &mut UdpLink, rounds: u32) -> u32 {
     let mut whole: u32 = 0;
     for _ in 0..rounds {
-        whole = whole.wrapping_add(u32::from(passes(&mut here, &mut there, 2)));
-        whole = whole.wrapping_add(u32::from(passes(&mut there, &mut here, 1)));
+        whole = whole.wrapping_add(u32::from(passes(here, there, 2)));
+        whole = whole.wrapping_add(u32::from(passes(there, here, 1)));
     }
-    Ok(whole)
+    whole
 }
 
 fn both(
@@ -63,13 +91,17 @@ fn passes(from: &mut UdpLink, to: &mut UdpLink, station: u16) -> bool {
 }
 
 fn over_sockets(rt: &HostRuntime, rounds: u32) -> io::Result<u32> {
-    let here = socket(rt)?;
-    let there = socket(rt)?;
-    let addresses = (here.local_addr()?, there.local_addr()?);
+    let (here, there) = sockets(rt)?;
+    gone(&here, &there, rounds)
+}
+
+/// How many datagrams come to the other socket.
+fn gone(here: &UdpSocket, there: &UdpSocket, rounds: u32) -> io::Result<u32> {
+    let addresses = addresses(here, there)?;
     let mut whole: u32 = 0;
     for _ in 0..rounds {
-        whole = whole.wrapping_add(u32::from(goes(&here, &there, addresses.1)));
-        whole = whole.wrapping_add(u32::from(goes(&there, &here, addresses.0)));
+        whole = whole.wrapping_add(u32::from(goes(here, there, addresses.1)));
+        whole = whole.wrapping_add(u32::from(goes(there, here, addresses.0)));
     }
     Ok(whole)
 }

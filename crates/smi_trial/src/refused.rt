@@ -175,17 +175,28 @@ fn view(alloc: Global) -> Outcome {
 const WORKED: &[u8] =
     b"tree 17\nstate OFF\naction START\nstation A 127.0.0.1:9001\noperator ANN A\ndevclass DEV OFF\nunitclass UNIT OFF\ndomain DCS A UNIT -\ndevice HV DCS DEV\n";
 
+// Each place that drops a tree is dear to prove, so there is one.
 fn publish(alloc: Global) -> Outcome {
-    let (tree, read) = match Tree::read(alloc, WORKED) {
-        Ok(tree) => (tree, Outcome::Whole),
-        Err(_) => match Tree::read(alloc, WORKED) {
-            Ok(tree) => (tree, Outcome::Kept),
-            Err(_) => return Outcome::Changed,
-        },
-    };
-    match Publisher::new(alloc, &tree, 1, 1) {
-        Ok(publisher) => read.and(Outcome::of(publisher.current(2).is_some())),
-        Err(_) => match Publisher::new(alloc, &tree, 1, 1) {
+    match read_tree(alloc) {
+        Some((tree, read)) => read.and(publisher(alloc, &tree)),
+        None => Outcome::Changed,
+    }
+}
+
+fn read_tree(alloc: Global) -> Option<(Tree, Outcome)> {
+    if let Ok(tree) = Tree::read(alloc, WORKED) {
+        return Some((tree, Outcome::Whole));
+    }
+    match Tree::read(alloc, WORKED) {
+        Ok(tree) => Some((tree, Outcome::Kept)),
+        Err(_) => None,
+    }
+}
+
+fn publisher(alloc: Global, tree: &Tree) -> Outcome {
+    match Publisher::new(alloc, tree, 1, 1) {
+        Ok(publisher) => Outcome::of(publisher.current(2).is_some()),
+        Err(_) => match Publisher::new(alloc, tree, 1, 1) {
             Ok(publisher) => Outcome::again(publisher.current(2).is_some(), true),
             Err(_) => Outcome::Changed,
         },

@@ -14,38 +14,69 @@ const STATIONS: u16 = 64;
 /// An entry of a plain list: a station and its echo.
 type Entry = (u16, u32);
 
+/// How many microseconds the watches and the leaving took, and how many entries came and went.
+type Taken = (u128, u128, usize);
+
 /// Prints for one round how long 640 times 64 watches take, and then the leaving of the 64 stations,
 /// beside the same in lists without any rule.
 pub(crate) fn measure(rt: &HostRuntime, rounds: u32) -> io::Result<()> {
-    let mut micros = [0u128; 4];
-    let mut entries: usize = 0;
+    let mut watched = (0, 0, 0);
+    let mut plain = (0, 0, 0);
     for _ in 0..rounds {
-        let mut watchers = Watchers::new(rt.alloc(), OBJECTS)?;
-        let start = Instant::now(rt)?;
-        entries = entries.wrapping_add(fill(&mut watchers));
-        micros[0] = micros[0].wrapping_add(start.elapsed(rt)?.as_micros());
-        let start = Instant::now(rt)?;
-        entries = entries.wrapping_add(empty(&mut watchers));
-        micros[1] = micros[1].wrapping_add(start.elapsed(rt)?.as_micros());
-        let mut lists = plain_lists(rt.alloc())?;
-        let start = Instant::now(rt)?;
-        entries = entries.wrapping_add(fill_plain(&mut lists)?);
-        micros[2] = micros[2].wrapping_add(start.elapsed(rt)?.as_micros());
-        let start = Instant::now(rt)?;
-        entries = entries.wrapping_add(empty_plain(&mut lists));
-        micros[3] = micros[3].wrapping_add(start.elapsed(rt)?.as_micros());
+        watched = sum(watched, round(rt)?);
+        plain = sum(plain, plain_round(rt)?);
     }
     let rounds = u128::from(rounds.max(1));
     println!(rt;
         "watchers: {} us and {} us to leave, plain lists {} us and {} us",
-        micros[0] / rounds,
-        micros[1] / rounds,
-        micros[2] / rounds,
-        micros[3] / rounds
+        watched.0 / rounds,
+        watched.1 / rounds,
+        plain.0 / rounds,
+        plain.1 / rounds
     )?;
     // All counts are written, so that no round can be left out.
-    eprintln!(rt; "{entries} entries")?;
+    eprintln!(rt; "{} and {} entries", watched.2, plain.2)?;
     Ok(())
+}
+
+fn sum(some: Taken, more: Taken) -> Taken {
+    (
+        some.0.wrapping_add(more.0),
+        some.1.wrapping_add(more.1),
+        some.2.wrapping_add(more.2),
+    )
+}
+
+fn round(rt: &HostRuntime) -> io::Result<Taken> {
+    let mut watchers = Watchers::new(rt.alloc(), OBJECTS)?;
+    taken(rt, &mut watchers)
+}
+
+fn taken(rt: &HostRuntime, watchers: &mut Watchers) -> io::Result<Taken>
+    requires { length watchers.old ≡ 640 }
+{
+    let start = Instant::now(rt)?;
+    let made = fill(watchers);
+    let filled = start.elapsed(rt)?.as_micros();
+    let start = Instant::now(rt)?;
+    let gone = empty(watchers);
+    let emptied = start.elapsed(rt)?.as_micros();
+    Ok((filled, emptied, made.wrapping_add(gone)))
+}
+
+fn plain_round(rt: &HostRuntime) -> io::Result<Taken> {
+    let mut lists = plain_lists(rt.alloc())?;
+    plain_taken(rt, &mut lists)
+}
+
+fn plain_taken(rt: &HostRuntime, lists: &mut Vec<Vec<Entry>>) -> io::Result<Taken> {
+    let start = Instant::now(rt)?;
+    let made = fill_plain(lists)?;
+    let filled = start.elapsed(rt)?.as_micros();
+    let start = Instant::now(rt)?;
+    let gone = empty_plain(lists);
+    let emptied = start.elapsed(rt)?.as_micros();
+    Ok((filled, emptied, made.wrapping_add(gone)))
 }
 
 /// Each station watches each object; how many entries were made.
