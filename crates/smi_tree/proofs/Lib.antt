@@ -13,3 +13,4 @@ pub mod ActionLemmas
 pub mod NamedLemmas
 pub mod FileLemmas
 pub mod NameBytes
+pub mod Grouping

@@ -15,5 +15,6 @@ pub mod Named
 pub mod Lawful
 pub mod Indexed
 pub mod MoveIndex
+pub mod DeviceCounts
 pub mod NameIndex
 pub mod ActionIndex

@@ -6,7 +6,7 @@ use crate::number::{Address, number_within};
 use crate::text::{Word, first_word};
 
 /// The word that a line begins with.
-#[derive(Clone, Copy, Debug, PartialEq, Eq)]
+#[derive(Clone, Copy)]
 pub(crate) enum Keyword {
     Tree,
     State,
@@ -40,7 +40,7 @@ pub enum Quantifier {
 }
 
 /// What one line declares, with its names as they are written.
-#[derive(Debug, Drop)]
+#[derive(Drop)]
 pub(crate) enum Declaration<'a> {
     Tree(u16),
     State(Name<'a>),

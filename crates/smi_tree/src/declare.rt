@@ -2,7 +2,7 @@
 //! of the other kind, and a limit last.
 
 ghost use Rattle.std.specs.Prelude.{◌≡◌, ◌==◌, ◌+◌, ◌<◌, length, count_by, is_some};
-ghost use Rattle.smi_tree.specs.Hierarchy.{is_child_of, is_device_of, move_in, parent_in, ancestors, depth_in};
+ghost use Rattle.smi_tree.specs.Hierarchy.{is_child_of, move_in, parent_in, ancestors, depth_in};
 ghost use Rattle.smi_tree.specs.Additions.{known};
 
 use crate::declaration::{ClassKind, Declaration, Keyword, Quantifier};
@@ -61,25 +61,13 @@ fn count_of_children(domains: &[Domain], parent: u16) -> usize
         .count()
 }
 
-pub(crate) fn is_child_of(parent: u16, row: &Domain) -> bool
+fn is_child_of(parent: u16, row: &Domain) -> bool
     ensures { result ≡ is_child_of parent row.now }
 {
     match row.parent {
         Some(above) => above == parent,
         None => false,
     }
-}
-
-fn count_of_devices(devices: &[Device], domain: u16) -> usize
-    ensures { result ≡ count_by (is_device_of domain) devices.now }
-{
-    let mut count = 0;
-    for row in devices {
-        if row.domain == domain {
-            count += 1;
-        }
-    }
-    count
 }
 
 /// The domain above a domain.
@@ -408,7 +396,7 @@ impl Tables {
             return Err(Refusal::Faulty(Fault::OtherKind));
         }
         if self.device_names.len() >= MOST_DEVICES
-            || count_of_devices(&self.devices, domain) >= MOST_DEVICES_OF_A_DOMAIN
+            || self.devices.count_in(domain) >= MOST_DEVICES_OF_A_DOMAIN
         {
             return Err(Refusal::Faulty(Fault::OverLimit));
         }

@@ -60,7 +60,7 @@ impl Fault {
 }
 
 /// Why a line was not taken.
-#[derive(Debug, Drop)]
+#[derive(Drop)]
 pub(crate) enum Refusal {
     Faulty(Fault),
     Memory,

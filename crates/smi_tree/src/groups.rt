@@ -1,35 +1,34 @@
 //! Rows by what they belong to.
 
-use crate::declare::is_child_of;
 use crate::row::{Device, Domain};
 use std::alloc::{AllocError, Global};
 
-/// A row that belongs to something that has a number.
+/// A row that may belong to something that has a number.
 pub(crate) trait Belongs {
     ghost belongs: { ℕ → Self → Bool };
 
-    fn belongs_to(&self, owner: u16) -> bool
-        ensures { result ≡ belongs owner self.now };
+    /// The number of what the row belongs to.
+    fn owner(&self) -> Option<u16>
+        ensures { (owner : ℕ) → belongs owner self.now ≡ is_number_of result owner };
 }
 
-ghost use Rattle.std.specs.Prelude.{ℕ, ◌≡◌, ◌==◌, ◌+◌, ◌<◌, ◌≤◌, ◌^◌, Bool, length, IfOk};
+ghost use Rattle.std.specs.Prelude.{ℕ, ◌≡◌, ◌==◌, ◌<◌, ◌^◌, Bool, length, IfOk, OnOk};
 ghost use Rattle.smi_tree.specs.Hierarchy.{is_child_of, is_device_of};
-ghost use Rattle.smi_tree.specs.Lookups.{numbers_from};
-ghost use Rattle.smi_tree.specs.Grouped.{IsGrouped};
+ghost use Rattle.smi_tree.specs.Grouped.{IsGrouped, IsEmpty, IsPut, is_number_of};
 
 impl Belongs for Domain {
     ghost belongs = { is_child_of };
 
-    fn belongs_to(&self, owner: u16) -> bool {
-        is_child_of(owner, self)
+    fn owner(&self) -> Option<u16> {
+        self.parent
     }
 }
 
 impl Belongs for Device {
     ghost belongs = { is_device_of };
 
-    fn belongs_to(&self, owner: u16) -> bool {
-        self.domain == owner
+    fn owner(&self) -> Option<u16> {
+        Some(self.domain)
     }
 }
 
@@ -37,23 +36,31 @@ impl Belongs for Device {
 impl Belongs for u16 {
     ghost belongs = { λ station home. home == station };
 
-    fn belongs_to(&self, owner: u16) -> bool {
-        *self == owner
+    fn owner(&self) -> Option<u16> {
+        Some(*self)
     }
 }
 
-/// The numbers of the rows that belong to an owner.
-fn numbers_of<T: Belongs>(alloc: Global, rows: &[T], owner: u16) -> Result<Vec<u16>, AllocError>
-    requires { length rows.now < 2 ^ 16 }
-    ensures { IfOk result (λ numbers. numbers.items ≡ numbers_from (T.belongs owner) 1 rows.now) }
+/// A group for each of so many owners, with no numbers.
+fn empty_groups(alloc: Global, owners: u16) -> Result<Vec<Vec<u16>>, AllocError>
+    ensures { IfOk result (λ groups. IsEmpty owners groups.items) }
 {
-    let mut numbers = Vec::new(alloc);
-    for (place, row) in rows.iter().enumerate() {
-        if row.belongs_to(owner) {
-            numbers.push(place as u16 + 1)?;
-        }
+    let mut groups = Vec::new(alloc);
+    for owner in 0..owners {
+        groups.push(Vec::new(alloc))?;
     }
-    Ok(numbers)
+    Ok(groups)
+}
+
+/// One number more for an owner, where it has a group.
+fn put(groups: &mut Vec<Vec<u16>>, owner: u16, number: u16) -> Result<(), AllocError>
+    ensures { OnOk result (IsPut groups.old.items owner number groups.new.items) }
+{
+    let place = usize::from(owner);
+    if 0 < place && place <= groups.len() {
+        groups[place - 1].push(number)?;
+    }
+    Ok(())
 }
 
 /// The numbers of the rows of each owner, of which there are so many.
@@ -65,9 +72,11 @@ pub(crate) fn grouped<T: Belongs>(
     requires { length rows.now < 2 ^ 16 }
     ensures { IfOk result (λ groups. IsGrouped T.belongs owners rows.now groups.items) }
 {
-    let mut groups = Vec::new(alloc);
-    for owner in 0..owners {
-        groups.push(numbers_of(alloc, rows, owner + 1)?)?;
+    let mut groups = empty_groups(alloc, owners)?;
+    for (place, row) in rows.iter().enumerate() {
+        if let Some(owner) = row.owner() {
+            put(&mut groups, owner, place as u16 + 1)?;
+        }
     }
     Ok(groups)
 }

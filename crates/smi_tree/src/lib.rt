@@ -13,6 +13,7 @@
 mod actions;
 mod declaration;
 mod declare;
+mod devices;
 mod fault;
 mod groups;
 pub mod law;

@@ -134,14 +134,14 @@ impl Tree {
         requires most { device ≤ device_count self.now }
         ensures { entry self.now.devices device ≡ Some result }
     {
-        self.tables.devices[usize::from(device) - 1]
+        self.tables.devices.rows()[usize::from(device) - 1]
     }
 
     /// The state to which an action moves a device: its own where its class has no row for the two.
     pub fn moved(&self, device: u16, state: u16, action: u16) -> u16
         ensures { result ≡ moved self.now device state action }
     {
-        let Some(row) = entry(&self.tables.devices, device) else {
+        let Some(row) = entry(self.tables.devices.rows(), device) else {
             return state;
         };
         match self.tables.moves.find(row.class, state, action) {
@@ -162,7 +162,7 @@ impl Tree {
     fn class_of_device(&self, device: u16) -> Option<&Class>
         ensures { option_copied result ≡ class_of_device self.now device }
     {
-        let row = entry(&self.tables.devices, device)?;
+        let row = entry(self.tables.devices.rows(), device)?;
         entry(&self.tables.classes, row.class)
     }
 

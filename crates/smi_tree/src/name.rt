@@ -17,7 +17,7 @@ use std::marker::Model;
 const MOST_BYTES: usize = 16;
 
 /// A text that is looked up among names, or read as one.
-#[derive(Debug, Drop)]
+#[derive(Drop)]
 pub(crate) struct Name<'a> {
     text: &'a [u8],
 }

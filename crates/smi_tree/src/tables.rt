@@ -1,9 +1,10 @@
 //! A hierarchy while its lines are read.
 
+use crate::devices::Devices;
 use crate::moves::Moves;
 use crate::names::Names;
 use crate::number::Address;
-use crate::row::{Class, Device, Domain};
+use crate::row::{Class, Domain};
 use std::alloc::Global;
 use std::marker::Model;
 
@@ -25,7 +26,7 @@ pub(crate) struct Tables {
     pub(crate) domain_names: Names,
     pub(crate) domains: Vec<Domain>,
     pub(crate) device_names: Names,
-    pub(crate) devices: Vec<Device>,
+    pub(crate) devices: Devices,
 }
 
 impl Model for Tables {
@@ -47,7 +48,7 @@ impl Model for Tables {
       domain_names = t.domain_names;
       domains = t.domains.items;
       device_names = t.device_names;
-      devices = t.devices.items;
+      devices = t.devices;
     } };
 }
 
@@ -73,7 +74,7 @@ impl Tables {
             domain_names: Names::new(alloc),
             domains: Vec::new(alloc),
             device_names: Names::new(alloc),
-            devices: Vec::new(alloc),
+            devices: Devices::new(alloc),
         }
     }
 }

@@ -11,7 +11,7 @@ use crate::name::is_name_byte;
 use std::marker::Model;
 
 /// What a text is cut at.
-#[derive(Clone, Copy, Debug, PartialEq, Eq)]
+#[derive(Clone, Copy)]
 pub(crate) enum Mark {
     LineFeed,
     /// A space or a tab.
@@ -83,7 +83,7 @@ fn without_return(line: &[u8]) -> &[u8]
 }
 
 /// A word of a line, and whether each of its bytes is one of a name's.
-#[derive(Debug, Drop)]
+#[derive(Drop)]
 pub(crate) struct Word<'a> {
     text: &'a [u8],
     has_name_bytes_alone: bool,

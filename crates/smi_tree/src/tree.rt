@@ -40,6 +40,26 @@ impl Model for Tree {
     ghost invariant = { λ t. IsIndexed t.tables t.children.items t.devices.items t.operators.items };
 }
 
+/// Numbers, grouped by what they belong to.
+type Lists = Vec<Vec<u16>>;
+
+ghost use Rattle.std.specs.Prelude.{IfOk};
+ghost use Rattle.smi_tree.specs.Lawful.{IsTree};
+ghost use Rattle.smi_tree.specs.Indexed.{IsIndexed};
+
+/// The children and the devices of each domain, and the operators of each station.
+fn lists_of(alloc: Global, tables: &Tables) -> Result<(Lists, Lists, Lists), AllocError>
+    requires { IsTree tables.now }
+    ensures { IfOk result (λ lists. IsIndexed tables.now lists.0.items lists.1.items lists.2.items) }
+{
+    let domains = tables.domains.len() as u16;
+    let stations = tables.addresses.len() as u16;
+    let children = grouped(alloc, domains, &tables.domains)?;
+    let devices = grouped(alloc, domains, tables.devices.rows())?;
+    let operators = grouped(alloc, stations, &tables.homes)?;
+    Ok((children, devices, operators))
+}
+
 impl Tree {
     ghost use Rattle.std.specs.Prelude.{◌≡◌, ◌+◌, ◌≤◌, IfOk, IfSome, Some};
     ghost use Rattle.smi_tree.specs.Name.{number_of};
@@ -75,15 +95,12 @@ impl Tree {
         Ok(Tree::new(alloc, tables)?)
     }
 
+    // Each place that drops tables is dear to prove, so there is one.
     fn new(alloc: Global, tables: Tables) -> Result<Tree, AllocError>
         requires { IsTree tables }
         ensures { IfOk result (λ tree. tree ≡ tables) }
     {
-        let domains = tables.domains.len() as u16;
-        let stations = tables.addresses.len() as u16;
-        let children = grouped(alloc, domains, &tables.domains)?;
-        let devices = grouped(alloc, domains, &tables.devices)?;
-        let operators = grouped(alloc, stations, &tables.homes)?;
+        let (children, devices, operators) = lists_of(alloc, &tables)?;
         Ok(Tree {
             tables,
             children,

@@ -1,6 +1,6 @@
-use Rattle.smi_tree.specs.Grouped.{IsGrouped}
+use Rattle.smi_tree.proofs.Grouping.{SoFar}
 use Rattle.smi_tree.proofs.groups.grouped.Given as goal
 
--- the owners so far have theirs
-abbrev pub invariant-loop-owner : goal.invariant-loop-owner
-invariant-loop-owner g l = IsGrouped g.T.Belongs.belongs l.owner l.rows l.groups.items
+-- the groups so far, and the rows that are left
+abbrev pub invariant-loop-place : goal.invariant-loop-place
+invariant-loop-place g l = SoFar g.T.Belongs.belongs l.owners l.rows l.place l.groups.items
