@@ -2,6 +2,7 @@
 
 use crate::{Address, Device, Domain, Tree, TreeFault};
 use std::alloc::Global;
+use std::process::Abort;
 use std::test::Fail;
 
 /// Two stations, a domain on each, one below the other, and a device in the lower one.
@@ -117,28 +118,31 @@ fn has_the_classes(tree: &Tree) -> bool {
         && tree.moved(1, 3, 3) == 3
 }
 
-#[test]
-fn the_worked_file(rt: HostRuntime) -> Result<(), Fail> {
-    let tree = Tree::read(rt.alloc(), WORKED)?;
-    assert!(rt; has_the_counts(&tree));
-    assert!(rt; finds_the_names(&tree));
-    assert!(rt; has_the_names(&tree));
-    assert!(rt; has_the_names_of_objects(&tree));
-    assert!(rt; has_the_stations(&tree));
-    assert!(rt; has_the_domains(&tree));
-    assert!(rt; has_the_ways(&tree));
-    assert!(rt; has_the_classes(&tree));
-    Ok(())
+fn is_the_worked_tree<R: Abort>(rt: &R, tree: &Tree) {
+    assert!(rt; has_the_counts(tree));
+    assert!(rt; finds_the_names(tree));
+    assert!(rt; has_the_names(tree));
+    assert!(rt; has_the_names_of_objects(tree));
+    assert!(rt; has_the_stations(tree));
+    assert!(rt; has_the_domains(tree));
+    assert!(rt; has_the_ways(tree));
+    assert!(rt; has_the_classes(tree));
 }
 
-#[test]
-fn rules_in_their_order(rt: HostRuntime) -> Result<(), Fail> {
-    let tree = Tree::read(rt.alloc(), WORKED)?;
+fn goes_by_its_rules<R: Abort>(rt: &R, tree: &Tree) {
     assert_eq!(rt; tree.unit_state(1, 1, &[2]), 2);
     assert_eq!(rt; tree.unit_state(1, 1, &[2, 3]), 1);
     assert_eq!(rt; tree.unit_state(1, 1, &[3, 4]), 4, "any before all");
     assert_eq!(rt; tree.unit_state(1, 2, &[]), 2, "all of nobody");
     assert_eq!(rt; tree.unit_state(1, 3, &[2, 0]), 3, "one is not known");
+}
+
+// One function owns the tree, and drops it in one place: each place is dear to prove.
+#[test]
+fn the_worked_file(rt: HostRuntime) -> Result<(), Fail> {
+    let tree = Tree::read(rt.alloc(), WORKED)?;
+    is_the_worked_tree(&rt, &tree);
+    goes_by_its_rules(&rt, &tree);
     Ok(())
 }
 
