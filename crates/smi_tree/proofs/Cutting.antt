@@ -4,8 +4,8 @@ use Rattle.std.proofs.lemmas.Bool.Decides.{nat_tests}
 use Rattle.std.proofs.lemmas.List.{at_drop_more, at_drop_all}
 use Rattle.std.specs.List.{slice_split, position_or_len}
 use Rattle.std.specs.Str.Lines.{lines, lines_of_parts, strip_carriage_return}
-use Rattle.smi_tree.specs.Text.{cuts, words, is_empty}
-use Rattle.smi_tree.specs.declared.text.Mark.TheVariants.{LineFeed, Blank}
+use Rattle.smi_tree.specs.Text.{cuts, is_line_feed, words, is_empty}
+use Rattle.smi_tree.specs.declared.text.Mark.TheVariants.{Blank}
 
 pub either : (b : Bool) → (b ≡ true) ⊎ (b ≡ false)
 either true = inl refl
@@ -75,17 +75,17 @@ words-at line i within on =
     ∙ sym (at_drop_more first_and_later line i 0 within)
 
 lines_of_two : (part text : List ℕ) →
-    lines_of_parts (part ∷ slice_split (cuts LineFeed) text) ≡ strip_carriage_return part ∷ lines text
-lines_of_two part text = rw (slice_split-front (cuts LineFeed) text) refl
+    lines_of_parts (part ∷ slice_split is_line_feed text) ≡ strip_carriage_return part ∷ lines text
+lines_of_two part text = rw (slice_split-front is_line_feed text) refl
 
 -- the lines of a text that has a line feed
-pub lines-front : (text : List ℕ) → position_or_len (cuts LineFeed) text < length text →
-    lines text ≡ strip_carriage_return (take (position_or_len (cuts LineFeed) text) text)
-    ∷ lines (drop (position_or_len (cuts LineFeed) text + 1) text)
+pub lines-front : (text : List ℕ) → position_or_len is_line_feed text < length text →
+    lines text ≡ strip_carriage_return (take (position_or_len is_line_feed text) text)
+    ∷ lines (drop (position_or_len is_line_feed text + 1) text)
 lines-front text within =
-    let end = position_or_len (cuts LineFeed) text in
-    ap lines_of_parts (slice_split-front (cuts LineFeed) text
-    ∙ ap (λ (later : List (List ℕ)). take end text ∷ later) (at_drop_more (later_parts (cuts LineFeed)) text end 0 within))
+    let end = position_or_len is_line_feed text in
+    ap lines_of_parts (slice_split-front is_line_feed text
+    ∙ ap (λ (later : List (List ℕ)). take end text ∷ later) (at_drop_more (later_parts is_line_feed) text end 0 within))
     ∙ lines_of_two (take end text) (drop (end + 1) text)
 
 one_line : (text : List ℕ) → 0 < length text → lines_of_parts (text ∷ []) ≡ text ∷ []
@@ -93,11 +93,11 @@ one_line [] some = absurd (omega arith)
 one_line (b ∷ bs) some = grind (arith, nat_tests)
 
 -- the one line of a text that has none
-pub lines-last : (text : List ℕ) → length text ≤ position_or_len (cuts LineFeed) text → 0 < length text →
+pub lines-last : (text : List ℕ) → length text ≤ position_or_len is_line_feed text → 0 < length text →
     lines text ≡ text ∷ []
 lines-last text none some =
-    let end = position_or_len (cuts LineFeed) text in
-    ap lines_of_parts (slice_split-front (cuts LineFeed) text
-    ∙ ap (λ (later : List (List ℕ)). take end text ∷ later) (at_drop_all (later_parts (cuts LineFeed)) text end none)
+    let end = position_or_len is_line_feed text in
+    ap lines_of_parts (slice_split-front is_line_feed text
+    ∙ ap (λ (later : List (List ℕ)). take end text ∷ later) (at_drop_all (later_parts is_line_feed) text end none)
     ∙ ap (λ (part : List ℕ). part ∷ []) (take_all end text none))
     ∙ one_line text some

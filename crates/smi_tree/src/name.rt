@@ -8,7 +8,7 @@ ghost use Rattle.std.specs.Cmp.Rules.{hashing};
 ghost use Rattle.std.proofs.Common.{rules};
 
 use crate::text::Word;
-use std::alloc::{AllocError, Global};
+use arrayvec::ArrayVec;
 use std::collections::hash_map::Equivalent;
 use std::hash::{Hash, Hasher};
 use std::marker::Model;
@@ -16,24 +16,40 @@ use std::marker::Model;
 /// The most bytes of a name.
 const MOST_BYTES: usize = 16;
 
-/// A text that is looked up among names, or read as one.
+/// A name as a file has it.
 #[derive(Drop)]
 pub(crate) struct Name<'a> {
     text: &'a [u8],
 }
 
 impl<'a> Model for Name<'a> {
-    ghost use Rattle.std.specs.Prelude.{ℕ, List};
+    ghost use Rattle.std.specs.Prelude.{ℕ, List, length, ◌≤◌};
 
     ghost Value = { List ℕ };
 
     ghost view = { λ n. n.text.now };
+
+    ghost invariant = { λ n. length n.text.now ≤ 16 };
 }
 
-/// A name that is kept.
+/// A text that is looked up among names.
+#[derive(Drop)]
+pub(crate) struct Sought<'a> {
+    text: &'a [u8],
+}
+
+impl<'a> Model for Sought<'a> {
+    ghost use Rattle.std.specs.Prelude.{ℕ, List};
+
+    ghost Value = { List ℕ };
+
+    ghost view = { λ s. s.text.now };
+}
+
+/// A name that is kept, in the value itself.
 #[derive(Debug, Drop)]
 pub(crate) struct NameBuf {
-    text: Vec<u8>,
+    text: ArrayVec<u8, MOST_BYTES>,
 }
 
 impl Model for NameBuf {
@@ -44,21 +60,21 @@ impl Model for NameBuf {
     ghost view = { λ n. n.text.items };
 }
 
-impl<'a> PartialEq for Name<'a> {
+impl<'a> PartialEq for Sought<'a> {
     ghost eq = { bytes_eq };
 
     ghost laws = { partial_equiv_from_equiv nat_list_eq_equiv };
 
-    fn eq(&self, other: &Name<'a>) -> bool {
+    fn eq(&self, other: &Sought<'a>) -> bool {
         self.text == other.text
     }
 }
 
-impl<'a> Eq for Name<'a> {
+impl<'a> Eq for Sought<'a> {
     ghost laws = { nat_list_eq_equiv };
 }
 
-impl<'a> Hash for Name<'a> {
+impl<'a> Hash for Sought<'a> {
     ghost hash_input = { λ n. n ∷ [] };
 
     ghost respects_eq = { Prim.search (hashing, rules) };
@@ -92,28 +108,31 @@ impl Hash for NameBuf {
     }
 }
 
-impl<'a, 'b> Equivalent<NameBuf> for &'b Name<'a> {
-    ghost equivalent = { λ name. bytes_eq name.now };
+impl<'a, 'b> Equivalent<NameBuf> for &'b Sought<'a> {
+    ghost equivalent = { λ sought. bytes_eq sought.now };
 
     ghost respects_hash = { Prim.search (hashing, rules) };
 
-    ghost respects_eq = { λ name. nat_list_eq_equiv.congr name.now };
+    ghost respects_eq = { λ sought. nat_list_eq_equiv.congr sought.now };
 
     fn equivalent(&self, key: &NameBuf) -> bool {
         self.text == key.text()
     }
 }
 
-impl<'a> Name<'a> {
-    ghost use Rattle.std.specs.Prelude.{◌≡◌, IfOk};
-    ghost use Rattle.smi_tree.specs.Name.{name_of};
+impl<'a> Sought<'a> {
+    ghost use Rattle.std.specs.Prelude.{◌≡◌};
 
-    /// Any text.
-    pub(crate) fn of(text: &'a [u8]) -> Name<'a>
+    pub(crate) fn of(text: &'a [u8]) -> Sought<'a>
         ensures { result ≡ text.now }
     {
-        Name { text }
+        Sought { text }
     }
+}
+
+impl<'a> Name<'a> {
+    ghost use Rattle.std.specs.Prelude.{◌≡◌};
+    ghost use Rattle.smi_tree.specs.Name.{name_of};
 
     /// The name that a word is, where it is one: 1 to 16 bytes of `A` to `Z`, `0` to `9` and `_`, the first a letter.
     #[inline(always)]
@@ -121,19 +140,28 @@ impl<'a> Name<'a> {
         ensures { result ≡ name_of word.entry }
     {
         if is_name(&word) {
-            Some(Name::of(word.text()))
+            Some(Name { text: word.text() })
         } else {
             None
         }
     }
 
-    /// The same name, to be kept.
-    pub(crate) fn to_owned(&self, alloc: Global) -> Result<NameBuf, AllocError>
-        ensures { IfOk result (λ kept. kept ≡ self.now) }
+    /// The same text, to be looked up.
+    #[inline(always)]
+    pub(crate) fn sought(&self) -> Sought<'a>
+        ensures { result ≡ self.now }
     {
-        Ok(NameBuf {
-            text: self.text.to_vec(alloc)?,
-        })
+        Sought { text: self.text }
+    }
+
+    /// The same name, to be kept.
+    pub(crate) fn to_owned(&self) -> NameBuf
+        ensures { result ≡ self.now }
+    {
+        let mut text = ArrayVec::new();
+        // A name has at most as many bytes as that has room for.
+        let _ = text.try_extend_from_slice(self.text);
+        NameBuf { text }
     }
 }
 

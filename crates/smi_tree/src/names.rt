@@ -6,7 +6,7 @@ ghost use Rattle.smi_tree.specs.Fault.{Becomes};
 ghost use Rattle.smi_tree.specs.Name.{number_of};
 
 use crate::fault::{Fault, Refusal};
-use crate::name::{Name, NameBuf};
+use crate::name::{Name, NameBuf, Sought};
 use std::alloc::{AllocError, Global};
 use std::collections::HashMap;
 use std::marker::Model;
@@ -58,7 +58,15 @@ impl Names {
         ensures place { result ≡ number_of self.now name.now }
         ensures within { IfSome result (IsBetween 1 (length self.now)) }
     {
-        self.numbers.get(name).copied()
+        self.find(&name.sought())
+    }
+
+    /// The number of the name that a text is, where it is one of these.
+    pub(crate) fn find(&self, sought: &Sought) -> Option<u16>
+        ensures place { result ≡ number_of self.now sought.now }
+        ensures within { IfSome result (IsBetween 1 (length self.now)) }
+    {
+        self.numbers.get(sought).copied()
     }
 
     /// The name of a number.
@@ -91,12 +99,9 @@ impl Names {
         requires absent { number_of self.old name.now ≡ None }
         ensures { OnOk result (self.new ≡ self.old ++ name.now ∷ []) }
     {
-        let alloc = *self.names.allocator();
-        let key = name.to_owned(alloc)?;
-        let kept = name.to_owned(alloc)?;
-        self.names.push(kept)?;
+        self.names.push(name.to_owned())?;
         let number = self.names.len() as u16;
-        if let Err(refused) = self.numbers.insert(key, number) {
+        if let Err(refused) = self.numbers.insert(name.to_owned(), number) {
             self.names.pop();
             return Err(refused.into());
         }

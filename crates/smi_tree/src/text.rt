@@ -3,17 +3,17 @@
 ghost use Rattle.std.specs.Prelude.{◌≡◌, ◌<◌, ◌≤◌, [], ◌∷◌, length, take, MatchOption};
 ghost use Rattle.std.specs.List.{position_or_len, list_all};
 ghost use Rattle.std.specs.Str.Lines.{lines, strip_carriage_return};
-ghost use Rattle.smi_tree.specs.Text.{cuts, words};
+ghost use Rattle.smi_tree.specs.Text.{cuts, is_line_feed, words};
 ghost use Rattle.smi_tree.specs.Name.{is_name_byte};
 ghost use Rattle.smi_tree.specs.declared.text.Mark.TheVariants.{Blank};
 
 use crate::name::is_name_byte;
+use memchr::memchr;
 use std::marker::Model;
 
-/// What a text is cut at.
+/// What a line is cut at.
 #[derive(Clone, Copy)]
 pub(crate) enum Mark {
-    LineFeed,
     /// A space or a tab.
     Blank,
     Dot,
@@ -29,7 +29,6 @@ impl Mark {
         ensures { result ≡ cuts self byte }
     {
         match self {
-            Mark::LineFeed => byte == b'\n',
             // Most bytes lie above both.
             Mark::Blank => byte <= b' ' && (byte == b' ' || byte == b'\t'),
             Mark::Dot => byte == b'.',
@@ -52,6 +51,18 @@ pub(crate) fn length_before(text: &[u8], mark: Mark) -> usize
     text.len()
 }
 
+/// How many bytes stand before the first line feed of a text, all where there is none.
+#[inline(always)]
+fn length_of_line(text: &[u8]) -> usize
+    ensures place { result ≡ position_or_len is_line_feed text.now }
+    ensures within { result ≤ length text.now }
+{
+    match memchr(b'\n', text) {
+        Some(place) => place,
+        None => text.len(),
+    }
+}
+
 /// The first line of a text, and what follows it.
 ///
 /// A carriage return before the line feed is no part of the line.
@@ -59,7 +70,7 @@ pub(crate) fn first_line(text: &[u8]) -> Option<(&[u8], &[u8])>
     ensures { MatchOption result (lines text.now ≡ [])
         (λ cut. (lines text.now ≡ cut.0.now ∷ lines cut.1.now) × (length cut.1.now < length text.now)) }
 {
-    let end = length_before(text, Mark::LineFeed);
+    let end = length_of_line(text);
     if end < text.len() {
         let (line, _) = text.split_at(end);
         let (_, rest) = text.split_at(end + 1);

@@ -2,7 +2,7 @@
 
 use crate::fault::{Fault, TreeFault};
 use crate::groups::grouped;
-use crate::name::Name;
+use crate::name::Sought;
 use crate::read::read_lines;
 use crate::tables::Tables;
 use std::alloc::{AllocError, Global};
@@ -245,7 +245,7 @@ impl Tree {
         ensures number { result ≡ number_of self.now.state_names name.now }
         ensures within { IfSome result (IsBetween 1 (state_count self.now)) }
     {
-        self.tables.state_names.number(&Name::of(name))
+        self.tables.state_names.find(&Sought::of(name))
     }
 
     /// The number of an action by its name.
@@ -253,7 +253,7 @@ impl Tree {
         ensures number { result ≡ number_of self.now.action_names name.now }
         ensures within { IfSome result (IsBetween 1 (action_count self.now)) }
     {
-        self.tables.action_names.number(&Name::of(name))
+        self.tables.action_names.find(&Sought::of(name))
     }
 
     /// The number of a station by its name.
@@ -261,7 +261,7 @@ impl Tree {
         ensures number { result ≡ number_of self.now.station_names name.now }
         ensures within { IfSome result (IsBetween 1 (station_count self.now)) }
     {
-        self.tables.station_names.number(&Name::of(name))
+        self.tables.station_names.find(&Sought::of(name))
     }
 
     /// The number of an operator by its name.
@@ -269,7 +269,7 @@ impl Tree {
         ensures number { result ≡ number_of self.now.operator_names name.now }
         ensures within { IfSome result (IsBetween 1 (operator_count self.now)) }
     {
-        self.tables.operator_names.number(&Name::of(name))
+        self.tables.operator_names.find(&Sought::of(name))
     }
 
     /// The number of a domain by its name.
@@ -277,7 +277,7 @@ impl Tree {
         ensures number { result ≡ number_of self.now.domain_names name.now }
         ensures within { IfSome result (IsBetween 1 (domain_count self.now)) }
     {
-        self.tables.domain_names.number(&Name::of(name))
+        self.tables.domain_names.find(&Sought::of(name))
     }
 
     /// The number of a device by its name.
@@ -285,7 +285,7 @@ impl Tree {
         ensures number { result ≡ number_of self.now.device_names name.now }
         ensures within { IfSome result (IsBetween 1 (device_count self.now)) }
     {
-        self.tables.device_names.number(&Name::of(name))
+        self.tables.device_names.find(&Sought::of(name))
     }
 
     /// The number of a unit or a device by its name.

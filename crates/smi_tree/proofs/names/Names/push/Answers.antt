@@ -13,10 +13,10 @@ invariant_of-self-in_default c =
     let absent : number_of names name ≡ None = rw c.self.view_is c.requires.absent in
     let few : length names + 1 < 2 ^ 16 = rw c.self.view_is c.requires.few in
     let items : c.push.new.self.items ≡ names ++ name ∷ [] =
-    c.in_ok-push.ensures.items ∙ ap (λ (kept : List ℕ). names ++ kept ∷ []) c.in_ok-kept.ensures in
+    c.in_ok-push.ensures.items ∙ ap (λ (kept : List ℕ). names ++ kept ∷ []) c.to_owned.ensures in
     let number : c.len-number.result ≡ length (names ++ name ∷ []) = search rules in
     rw items
     (IsNameIndex-push names name old c.insert.new.self c.self.invariant absent few
     (λ q. c.in_default.ensures.updates.0 q
-    ∙ ap (λ (key : List ℕ). cond (bytes_eq key q) (Some c.len-number.result) (get bytes_eq old q)) c.in_ok-key.ensures
+    ∙ ap (λ (key : List ℕ). cond (bytes_eq key q) (Some c.len-number.result) (get bytes_eq old q)) c.to_owned-2.ensures
     ∙ ap (λ (n : ℕ). cond (bytes_eq name q) (Some n) (get bytes_eq old q)) number))
