@@ -127,9 +127,9 @@ impl Tables {
     ) -> Result<(), Refusal>
         ensures { Becomes self.new result (with_words_of self.old keyword (words text.now)) }
     {
-        match Declaration::read(keyword, text) {
-            Ok(declaration) => self.declare(alloc, &declaration),
-            Err(fault) => Err(Refusal::Faulty(fault)),
+        match &Declaration::read(keyword, text) {
+            Ok(declaration) => self.declare(alloc, declaration),
+            Err(fault) => Err(Refusal::Faulty(*fault)),
         }
     }
 
