@@ -86,12 +86,16 @@ def write_tree(path, size):
 
 def trees(bench, folder):
     """How long a long and a short tree file take to read, beside a plain loop over the same bytes."""
+    reading = []
     for size, rounds in [(256 * 1024, 100), (64 * 1024, 400)]:
         path = os.path.join(folder, "tree")
         write_tree(path, size)
-        lines = [subprocess.run([bench, path, str(rounds)], stdout=subprocess.PIPE, stderr=subprocess.DEVNULL, check=True).stdout.decode()
-                 for _ in range(ROUNDS)]
-        print("tree: " + min(lines, key=lambda line: int(line.split()[3])).strip())
+        runs = [subprocess.run([bench, path, str(rounds)], stdout=subprocess.PIPE, stderr=subprocess.DEVNULL, check=True).stdout.split()
+                for _ in range(ROUNDS)]
+        read, plain = min(int(words[3]) for words in runs), min(int(words[7]) for words in runs)
+        reading.append(read)
+        print("tree: %d bytes, read %d us, plain loop %d us, %.1f times as long" % (int(runs[0][0]), read, plain, read / plain))
+    print("tree: the longer file takes %.1f times as long" % (reading[0] / reading[1]))
 
 
 def row_bytes(save):
