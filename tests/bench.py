@@ -1,6 +1,6 @@
 """How fast the program works, beside a plain measure of the same data in the same run.
 
-Each figure is the best of five rounds, of the program and of the plain measure alike.
+Each figure is the best of five rounds, of trees the best of twenty, of the program and of the plain measure alike.
 
 usage: bench.py SMI SMI_BENCH SMI_TRIAL
 """
@@ -15,10 +15,13 @@ import tempfile
 import time
 
 ROUNDS = 5
+# A tree is read in a millisecond, which other work on the machine disturbs more.
+TREE_ROUNDS = 20
 GRANTS = 500_000
 COMMANDS = 8
 SAVES = 10_000
-KEYS = 128
+# How many rows the stores have: those of one station's domains, and of all stations'.
+KEPT = [128, 128 * 128]
 
 
 def datagram(kind, code=0, epoch=0, number=0, argument=0):
@@ -87,11 +90,11 @@ def write_tree(path, size):
 def trees(bench, folder):
     """How long a long and a short tree file take to read, beside a plain loop over the same bytes."""
     reading = []
-    for size, rounds in [(256 * 1024, 100), (64 * 1024, 400)]:
+    for size, times in [(256 * 1024, 25), (64 * 1024, 100)]:
         path = os.path.join(folder, "tree")
         write_tree(path, size)
-        runs = [subprocess.run([bench, path, str(rounds)], stdout=subprocess.PIPE, stderr=subprocess.DEVNULL, check=True).stdout.split()
-                for _ in range(ROUNDS)]
+        runs = [subprocess.run([bench, path, str(times)], stdout=subprocess.PIPE, stderr=subprocess.DEVNULL, check=True).stdout.split()
+                for _ in range(TREE_ROUNDS)]
         read, plain = min(int(words[3]) for words in runs), min(int(words[7]) for words in runs)
         reading.append(read)
         print("tree: %d bytes, read %d us, plain loop %d us, %.1f times as long" % (int(runs[0][0]), read, plain, read / plain))
@@ -103,31 +106,49 @@ def row_bytes(save):
     return struct.pack(">BBHQIBBHHH", 2, 1, 2, 1, save, 0, 0, 0, 0, 0)
 
 
-def check_store(path):
+def check_store(path, kept):
     """The store as Python's own SQLite reads it: whole, and of each domain the row that was saved last."""
-    last = {save % KEYS + 1: save for save in range(SAVES)}
+    # Each row once, and then the saves.
+    last = {place: place for place in range(kept)}
+    last.update({save % kept: save for save in range(SAVES)})
     with sqlite3.connect(path) as file:
         rows = file.execute("SELECT * FROM stable_rows ORDER BY station, domain, operator").fetchall()
         whole = file.execute("PRAGMA integrity_check").fetchall()
     file.close()
     assert whole == [("ok",)], whole
-    assert rows == [(1, domain, 0, row_bytes(save)) for domain, save in sorted(last.items())], path
+    assert rows == [(place // 128 + 1, place % 128 + 1, 0, row_bytes(save)) for place, save in sorted(last.items())], path
+
+
+def counting(folder):
+    """The library that counts how often a file is handed to the device."""
+    path = os.path.join(folder, "syncs.so")
+    source = os.path.join(os.path.dirname(os.path.abspath(__file__)), "syncs.c")
+    subprocess.run(["cc", "-shared", "-fPIC", "-O1", "-o", path, source], check=True)
+    return path
+
+
+def saves_over(bench, kept):
+    """So many saves to a store with so many rows: saves and plain writes a second, and syncs a save."""
+    # On the disk that the repository is on, as a folder for temporary files may be in memory.
+    with tempfile.TemporaryDirectory(dir=os.path.dirname(bench)) as folder:
+        store, syncs = os.path.join(folder, "store"), os.path.join(folder, "syncs")
+        command = [bench, store, os.path.join(folder, "plain"), str(SAVES), str(kept)]
+        settings = dict(os.environ, LD_PRELOAD=counting(folder), SYNCS=syncs)
+        words = subprocess.run(command, stdout=subprocess.PIPE, check=True, env=settings).stdout.split()
+        check_store(store, kept)
+        with open(syncs, encoding="ascii") as file:
+            # Each plain write is handed to the device once.
+            count = int(file.read()) - SAVES
+    return SAVES * 1e6 / int(words[3]), SAVES * 1e6 / int(words[7]), count / (kept + SAVES)
 
 
 def saves(bench):
     """Saves of stable rows, beside the same bytes written one row after the other and handed to the device."""
-    stored, written = [], []
-    for _ in range(ROUNDS):
-        # On the disk that the repository is on, as a folder for temporary files may be in memory.
-        with tempfile.TemporaryDirectory(dir=os.path.dirname(bench)) as folder:
-            store = os.path.join(folder, "store")
-            command = [bench, store, os.path.join(folder, "plain"), str(SAVES)]
-            words = subprocess.run(command, stdout=subprocess.PIPE, check=True).stdout.decode().split()
-            check_store(store)
-        stored.append(SAVES * 1e6 / int(words[3]))
-        written.append(SAVES * 1e6 / int(words[7]))
-    print("stable rows: %d saves, %.0f a second (least %.0f); plain writes %.0f (least %.0f); ratio %.2f"
-          % (SAVES, max(stored), min(stored), max(written), min(written), max(stored) / max(written)))
+    for kept in KEPT:
+        runs = [saves_over(bench, kept) for _ in range(ROUNDS)]
+        stored, written, syncs = ([run[place] for run in runs] for place in range(3))
+        print("stable rows: %d saves to %d rows, %.0f a second (least %.0f); plain writes %.0f (least %.0f); ratio %.2f; %.2f syncs a save"
+              % (SAVES, kept, max(stored), min(stored), max(written), min(written), max(stored) / max(written), max(syncs)))
 
 
 LAYERS = [["board", "1", "2000000"], ["board", "3", "2000000"], ["link", "20000"], ["watchers", "20"]]

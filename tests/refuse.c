@@ -1,5 +1,5 @@
 /* Refuses one growth: the call of malloc, calloc, realloc or aligned_alloc whose number is in REFUSE, from 1.
-   Loaded before the C library by tests/refused_growths.py. */
+   Loaded before the C library by tests/growths.py. */
 #include <errno.h>
 #include <stddef.h>
 #include <stdlib.h>

@@ -1,8 +1,9 @@
 //! Measures what the program's commands can't measure themselves, beside plain work on the same bytes.
 //!
 //! `smi_bench FILE ROUNDS` prints for one round the microseconds of `Tree::read` and of a loop that
-//! only finds the lines and words. `smi_bench STORE PLAIN SAVES` prints the microseconds of so many
-//! saves to a new store and of as many writes to a new file. Without words it measures nothing.
+//! only finds the lines and words. `smi_bench STORE PLAIN SAVES ROWS` prints the microseconds of so
+//! many saves to a new store that has so many rows, each there before, and of as many writes to a new
+//! file. Without words it measures nothing.
 #![tactic(auto)]
 
 mod stores;
@@ -18,11 +19,12 @@ fn main(rt: HostRuntime) -> io::Result<()> {
     }
     match words.as_slice() {
         [_, path, rounds] => trees(&rt, path.as_str(), number(rounds.as_str())),
-        [_, store, plain, saves] => saves_in(
+        [_, store, plain, saves, rows] => saves_in(
             &rt,
             store.as_str(),
             plain.as_str(),
             number(saves.as_str()),
+            number(rows.as_str()),
         ),
         _ => Ok(()),
     }
@@ -33,8 +35,8 @@ fn number(word: &str) -> u32 {
     word.parse::<u32>().unwrap_or(1).max(1)
 }
 
-fn saves_in(rt: &HostRuntime, store: &str, plain: &str, saves: u32) -> io::Result<()> {
-    let saved = stores::save_time(rt, store, saves)?;
+fn saves_in(rt: &HostRuntime, store: &str, plain: &str, saves: u32, rows: u32) -> io::Result<()> {
+    let saved = stores::save_time(rt, store, saves, rows)?;
     let written = stores::write_time(rt, plain, saves)?;
     println!(rt;
         "{saves} saves: store {} us, plain writes {} us",

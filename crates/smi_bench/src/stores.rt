@@ -11,11 +11,15 @@ const ROW: [u8; 24] = [
     2, 1, 0, 2, 0, 0, 0, 0, 0, 0, 0, 1, 0, 0, 0, 0, 0, 0, 0, 0, 0, 0, 0, 0,
 ];
 
-/// The row's key in the nth save: the domains of one station in turn.
-fn key(nth: u32) -> Key {
+/// How many domains a station may have rows of.
+const DOMAINS: u32 = 128;
+
+/// The row's key in the nth save of so many rows: the domains of one station in turn, then the next one's.
+fn key(nth: u32, rows: u32) -> Key {
+    let place = nth % rows.max(1);
     Key {
-        station: 1,
-        domain: (nth % 128) as u16 + 1,
+        station: (place / DOMAINS % 128) as u16 + 1,
+        domain: (place % DOMAINS) as u16 + 1,
         operator: 0,
     }
 }
@@ -31,19 +35,19 @@ fn store_fault<E: Drop>(_error: E) -> io::Error {
     io::Error::other("the store failed")
 }
 
-fn save_all<S: Stable>(store: &mut S, saves: u32) -> Result<(), StoreFault> {
+fn save_all<S: Stable>(store: &mut S, saves: u32, rows: u32) -> Result<(), StoreFault> {
     for nth in 0..saves {
-        store.save(key(nth), &bytes(nth))?;
+        store.save(key(nth, rows), &bytes(nth))?;
     }
     Ok(())
 }
 
-/// How long so many saves take over SQL, in a store that has each key once.
-pub fn save_time(rt: &HostRuntime, path: &str, saves: u32) -> io::Result<Duration> {
+/// How long so many saves take over SQL, in a store that has each of so many keys once.
+pub fn save_time(rt: &HostRuntime, path: &str, saves: u32, rows: u32) -> io::Result<Duration> {
     let connection = Connection::open(rt, path).map_err(store_fault)?;
     match SqliteStable::adopt(connection) {
         Ok(mut store) => {
-            let time = timed(rt, &mut store, saves);
+            let time = timed(rt, &mut store, saves, rows);
             store.release().close().map_err(store_fault)?;
             time
         }
@@ -58,10 +62,11 @@ fn timed(
     rt: &HostRuntime,
     store: &mut SqliteStable<FileStore<File>>,
     saves: u32,
+    rows: u32,
 ) -> io::Result<Duration> {
-    save_all(store, 128).map_err(store_fault)?;
+    save_all(store, rows, rows).map_err(store_fault)?;
     let start = Instant::now(rt)?;
-    save_all(store, saves).map_err(store_fault)?;
+    save_all(store, saves, rows).map_err(store_fault)?;
     start.elapsed(rt)
 }
 
