@@ -16,5 +16,4 @@ pub mod Lawful
 pub mod Indexed
 pub mod MoveIndex
 pub mod DeviceCounts
-pub mod NameIndex
 pub mod ActionIndex

@@ -9,7 +9,7 @@ ghost use Rattle.std.proofs.Common.{rules};
 
 use crate::text::Word;
 use arrayvec::ArrayVec;
-use std::collections::hash_map::Equivalent;
+use indexmap::Equivalent;
 use std::hash::{Hash, Hasher};
 use std::marker::Model;
 

@@ -7,27 +7,24 @@ ghost use Rattle.smi_tree.specs.Name.{number_of};
 
 use crate::fault::{Fault, Refusal};
 use crate::name::{Name, NameBuf, Sought};
+use indexmap::IndexSet;
 use std::alloc::{AllocError, Global};
-use std::collections::HashMap;
 use std::marker::Model;
 
 /// Names, numbered from 1 in the order in which they came, each there once.
 #[derive(Debug, Drop)]
 pub(crate) struct Names {
-    names: Vec<NameBuf>,
-    numbers: HashMap<NameBuf, u16>,
+    names: IndexSet<NameBuf>,
 }
 
 impl Model for Names {
-    ghost use Rattle.std.specs.Prelude.{ℕ, List};
+    ghost use Rattle.std.specs.Prelude.{ℕ, List, length, ◌<◌, ◌^◌};
 
     ghost Value = { List (List ℕ) };
 
-    ghost view = { λ n. n.names.items };
+    ghost view = { λ n. n.names.keys };
 
-    ghost use Rattle.smi_tree.specs.NameIndex.{IsNameIndex};
-
-    ghost invariant = { λ n. IsNameIndex n.names.items n.numbers };
+    ghost invariant = { λ n. length n.names.keys < 2 ^ 16 };
 }
 
 impl Names {
@@ -41,8 +38,7 @@ impl Names {
         ensures { result ≡ [] }
     {
         Names {
-            names: Vec::new(alloc),
-            numbers: HashMap::new(alloc),
+            names: IndexSet::new(alloc),
         }
     }
 
@@ -66,7 +62,8 @@ impl Names {
         ensures place { result ≡ number_of self.now sought.now }
         ensures within { IfSome result (IsBetween 1 (length self.now)) }
     {
-        self.numbers.get(sought).copied()
+        let place = self.names.get_index_of(sought)?;
+        Some(place as u16 + 1)
     }
 
     /// The name of a number.
@@ -75,7 +72,7 @@ impl Names {
         requires within { number ≤ length self.now }
         ensures { Some result.now ≡ entry self.now number }
     {
-        self.names[usize::from(number) - 1].text()
+        self.names.as_slice()[usize::from(number) - 1].text()
     }
 
     /// Puts a name at the end, where it is new and there is room for one more.
@@ -99,12 +96,7 @@ impl Names {
         requires absent { number_of self.old name.now ≡ None }
         ensures { OnOk result (self.new ≡ self.old ++ name.now ∷ []) }
     {
-        self.names.push(name.to_owned())?;
-        let number = self.names.len() as u16;
-        if let Err(refused) = self.numbers.insert(name.to_owned(), number) {
-            self.names.pop();
-            return Err(refused.into());
-        }
+        self.names.insert(name.to_owned())?;
         Ok(())
     }
 }
