@@ -7,6 +7,8 @@
 mod line;
 mod program;
 mod store;
+#[cfg(test)]
+mod tests;
 
 use crate::status::no_memory;
 use program::program;

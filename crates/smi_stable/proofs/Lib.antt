@@ -7,3 +7,4 @@ pub mod SqlLoads
 pub mod SqlUnique
 pub mod SqlKeys
 pub mod SqlAdopts
+pub mod SqlGiven

@@ -16,3 +16,4 @@ pub mod SqlReady
 pub mod SqlListing
 pub mod SqlKept
 pub mod SqlShown
+pub mod SqlGivenBack

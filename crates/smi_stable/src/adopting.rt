@@ -1,10 +1,12 @@
 //! A connection is taken over, and given back.
 
-ghost use Rattle.std.specs.Prelude.{◌≡◌, IfOk, IsTrue};
+ghost use Rattle.std.specs.Prelude.{◌≡◌, ◌≢◌, Err, IfOk, IfErr, IsTrue, false};
 ghost use Rattle.sqlite.specs.State.{HasCleanDisk};
 ghost use Rattle.sqlite.specs.Held.{state};
+ghost use Rattle.smi_stable.specs.SqlGivenBack.{IsGivenBack, MayBeMade};
 ghost use Rattle.smi_stable.specs.SqlReady.{IsReady, IsAdopted};
 ghost use Rattle.smi_stable.specs.SqlRows.{IsKeyed};
+ghost use Rattle.smi_stable.specs.SqlTable.{stable_schema, no_schema};
 
 use crate::schema_shape::{is_empty, is_stable};
 use crate::sqlite_stable::SqliteStable;
@@ -16,7 +18,11 @@ use sqlite::{Alter, Connection};
 
 /// The table of stable rows is there, and is made where there is none.
 fn with_table<S: Alter>(conn: Connection<S>) -> Result<Connection<S>, (StoreFault, Connection<S>)>
-    ensures { IfOk result (λ c. HasCleanDisk (state S.Store c) → IsAdopted (state S.Store conn) (state S.Store c)) }
+    ensures adopted { IfOk result (λ c. HasCleanDisk (state S.Store c) → IsAdopted (state S.Store conn) (state S.Store c)) }
+    ensures outside { IfOk result (λ c. (conn.in_transaction ≡ false) × (HasCleanDisk (state S.Store c) → IsGivenBack (state S.Store conn) (state S.Store c))) }
+    ensures in_transaction { IsTrue conn.in_transaction → result ≡ Err (StoreFault.Unsure, conn) }
+    ensures other_tables { conn.schema ≢ stable_schema → conn.schema ≢ no_schema → result ≡ Err (StoreFault.Unsure, conn) }
+    ensures given_back { IfErr result (λ e. HasCleanDisk (state S.Store e.1) → IsGivenBack (state S.Store conn) (state S.Store e.1)) }
 {
     let mut conn = conn;
     if !conn.is_autocommit() {
@@ -35,10 +41,12 @@ fn with_table<S: Alter>(conn: Connection<S>) -> Result<Connection<S>, (StoreFaul
 }
 
 impl<S: Alter> SqliteStable<S> {
-    ghost use Rattle.std.specs.Prelude.{◌≡◌, IfOk};
+    ghost use Rattle.std.specs.Prelude.{◌≡◌, ◌≢◌, Err, IfOk, IfErr, IsTrue};
     ghost use Rattle.sqlite.specs.State.{HasCleanDisk};
     ghost use Rattle.sqlite.specs.Held.{state};
+    ghost use Rattle.smi_stable.specs.SqlGivenBack.{IsGivenBack};
     ghost use Rattle.smi_stable.specs.SqlReady.{IsAdopted, IsInUse};
+    ghost use Rattle.smi_stable.specs.SqlTable.{stable_schema, no_schema};
 
     /// Takes over a connection, and makes the table where there is none.
     ///
@@ -48,6 +56,9 @@ impl<S: Alter> SqliteStable<S> {
         ensures adopted { IfOk result (λ s. HasCleanDisk (state S.Store s.held) → IsAdopted (state S.Store connection) (state S.Store s.held)) }
         ensures open { IfOk result (λ s. HasCleanDisk (state S.Store s.held) → IsInUse (state S.Store s.held)) }
         ensures begun { IfOk result (λ s. s.begun ≡ s.held) }
+        ensures in_transaction { IsTrue connection.in_transaction → result ≡ Err (StoreFault.Unsure, connection) }
+        ensures other_tables { connection.schema ≢ stable_schema → connection.schema ≢ no_schema → result ≡ Err (StoreFault.Unsure, connection) }
+        ensures given_back { IfErr result (λ e. HasCleanDisk (state S.Store e.1) → IsGivenBack (state S.Store connection) (state S.Store e.1)) }
     {
         let mut conn = with_table(connection)?;
         match test_open(&mut conn) {

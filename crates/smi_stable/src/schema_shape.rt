@@ -1,5 +1,5 @@
 //! Whether the schema of a file is that of the stable rows.
-ghost use Rattle.std.specs.Prelude.{◌≡◌, [], ◌∷◌, IsTrue, None, false};
+ghost use Rattle.std.specs.Prelude.{◌≡◌, ◌↔◌, [], ◌∷◌, IsTrue, None, false};
 ghost use Rattle.sqlite_value.specs.Keys.{plain};
 ghost use Rattle.smi_stable.specs.SqlTable.{stable_schema, stable_table, stable_columns, key_index, column, no_schema};
 
@@ -10,13 +10,13 @@ use sqlite_value::keys::{Collation, Order};
 use sqlite_value::value::Value;
 
 fn is_bare(terms: &Terms) -> bool
-    ensures { IsTrue result → terms.now ≡ [] }
+    ensures { IsTrue result ↔ (terms.now ≡ []) }
 {
     terms.roots.is_empty()
 }
 
 fn is_column(it: &Column, name: &[u8], kind: Kind) -> bool
-    ensures { IsTrue result → it.now ≡ column name.now kind }
+    ensures { IsTrue result ↔ (it.now ≡ column name.now kind) }
 {
     it.name.as_slice() == name
         && it.kind == kind
@@ -27,13 +27,13 @@ fn is_column(it: &Column, name: &[u8], kind: Kind) -> bool
 }
 
 pub(crate) fn is_empty(schema: &Schema) -> bool
-    ensures { IsTrue result → schema.now ≡ no_schema }
+    ensures { IsTrue result ↔ (schema.now ≡ no_schema) }
 {
     schema.tables.is_empty() && schema.indexes.is_empty() && schema.views.is_empty()
 }
 
 fn is_index(it: &Index) -> bool
-    ensures { IsTrue result → it.now ≡ key_index }
+    ensures { IsTrue result ↔ (it.now ≡ key_index) }
 {
     it.name.as_slice() == b"sqlite_autoindex_stable_rows_1".as_slice()
         && it.tree == 1
@@ -44,7 +44,7 @@ fn is_index(it: &Index) -> bool
 }
 
 fn has_columns(columns: &[Column]) -> bool
-    ensures { IsTrue result → columns.now ≡ stable_columns }
+    ensures { IsTrue result ↔ (columns.now ≡ stable_columns) }
 {
     match columns {
         [station, domain, operator, bytes] => {
@@ -58,13 +58,13 @@ fn has_columns(columns: &[Column]) -> bool
 }
 
 fn is_key(places: &Items<usize>) -> bool
-    ensures { IsTrue result → places.now ≡ 1 ∷ 2 ∷ 3 ∷ [] }
+    ensures { IsTrue result ↔ (places.now ≡ 1 ∷ 2 ∷ 3 ∷ []) }
 {
     places.as_slice() == [1, 2, 3].as_slice()
 }
 
 fn is_one_key(uniques: &[Items<usize>]) -> bool
-    ensures { IsTrue result → uniques.now ≡ (1 ∷ 2 ∷ 3 ∷ []) ∷ [] }
+    ensures { IsTrue result ↔ (uniques.now ≡ (1 ∷ 2 ∷ 3 ∷ []) ∷ []) }
 {
     match uniques {
         [only] => is_key(only),
@@ -73,7 +73,7 @@ fn is_one_key(uniques: &[Items<usize>]) -> bool
 }
 
 fn is_one_order(orders: &[Order]) -> bool
-    ensures { IsTrue result → orders.now ≡ plain ∷ [] }
+    ensures { IsTrue result ↔ (orders.now ≡ plain ∷ []) }
 {
     match orders {
         [only] => only.digits == 0,
@@ -82,7 +82,7 @@ fn is_one_order(orders: &[Order]) -> bool
 }
 
 fn has_keys(it: &Table) -> bool
-    ensures { IsTrue result → (it.now.key ≡ None) × (it.now.primary ≡ 1 ∷ 2 ∷ 3 ∷ []) × (it.now.uniques ≡ (1 ∷ 2 ∷ 3 ∷ []) ∷ []) × (it.now.orders ≡ plain ∷ []) }
+    ensures { IsTrue result ↔ ((it.now.key ≡ None) × (it.now.primary ≡ 1 ∷ 2 ∷ 3 ∷ []) × (it.now.uniques ≡ (1 ∷ 2 ∷ 3 ∷ []) ∷ []) × (it.now.orders ≡ plain ∷ [])) }
 {
     it.key.is_none()
         && is_key(&it.primary)
@@ -91,7 +91,7 @@ fn has_keys(it: &Table) -> bool
 }
 
 fn is_plain(it: &Table) -> bool
-    ensures { IsTrue result → (it.now.checks ≡ []) × (it.now.references ≡ []) × (it.now.computed ≡ []) × (it.now.stamps.places ≡ []) × (it.now.stamps.terms ≡ []) × (it.now.stamps.formats ≡ []) × (it.now.is_counted ≡ false) }
+    ensures { IsTrue result ↔ ((it.now.checks ≡ []) × (it.now.references ≡ []) × (it.now.computed ≡ []) × (it.now.stamps.places ≡ []) × (it.now.stamps.terms ≡ []) × (it.now.stamps.formats ≡ []) × (it.now.is_counted ≡ false)) }
 {
     is_bare(&it.checks)
         && it.references.is_empty()
@@ -103,7 +103,7 @@ fn is_plain(it: &Table) -> bool
 }
 
 fn is_table(it: &Table) -> bool
-    ensures { IsTrue result → it.now ≡ stable_table }
+    ensures { IsTrue result ↔ (it.now ≡ stable_table) }
 {
     it.name.as_slice() == b"stable_rows".as_slice()
         && it.tree == 0
@@ -113,7 +113,7 @@ fn is_table(it: &Table) -> bool
 }
 
 fn is_one_table(tables: &[Table]) -> bool
-    ensures { IsTrue result → tables.now ≡ stable_table ∷ [] }
+    ensures { IsTrue result ↔ (tables.now ≡ stable_table ∷ []) }
 {
     match tables {
         [only] => is_table(only),
@@ -122,7 +122,7 @@ fn is_one_table(tables: &[Table]) -> bool
 }
 
 fn is_one_index(indexes: &[Index]) -> bool
-    ensures { IsTrue result → indexes.now ≡ key_index ∷ [] }
+    ensures { IsTrue result ↔ (indexes.now ≡ key_index ∷ []) }
 {
     match indexes {
         [only] => is_index(only),
@@ -131,7 +131,7 @@ fn is_one_index(indexes: &[Index]) -> bool
 }
 
 pub(crate) fn is_stable(schema: &Schema) -> bool
-    ensures { IsTrue result → schema.now ≡ stable_schema }
+    ensures { IsTrue result ↔ (schema.now ≡ stable_schema) }
 {
     is_one_table(schema.tables.as_slice())
         && is_one_index(schema.indexes.as_slice())

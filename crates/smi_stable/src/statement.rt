@@ -1,7 +1,7 @@
 //! The statements of a store over SQL, each alone in a call.
 
-ghost use Rattle.std.specs.Prelude.{◌≡◌, [], OnOk, OnErr, IfOk, IsTrue, pos};
-ghost use Rattle.sqlite.specs.State.{HasCleanDisk, Executes, Survives, CommitsBy, IsUnchanged};
+ghost use Rattle.std.specs.Prelude.{◌≡◌, ◌⊎◌, [], OnOk, OnErr, IfOk, IsTrue, pos};
+ghost use Rattle.sqlite.specs.State.{HasCleanDisk, Executes, Survives, CommitsBy, IsUnchanged, IsRolledBack};
 ghost use Rattle.sqlite.specs.Held.{state};
 ghost use Rattle.smi_rows.specs.Store.{IsSame, with_row, IfNotSaved, IfUnsure};
 ghost use Rattle.smi_stable.specs.SqlReady.{IsReady, rows_of, LeavesEither, key_values};
@@ -71,6 +71,7 @@ pub(crate) fn test_open<S: Alter>(conn: &mut Connection<S>) -> Result<(), StoreF
     ensures clean { HasCleanDisk (state S.Store conn.new) → HasCleanDisk (state S.Store conn.old) }
     ensures still { IsReady (state S.Store conn.old) → HasCleanDisk (state S.Store conn.new) → IsTrue (state S.Store conn.new).is_open → IsTrue (state S.Store conn.old).is_open × ((state S.Store conn.new).now ≡ (state S.Store conn.old).now) }
     ensures unchanged { HasCleanDisk (state S.Store conn.new) → OnOk result (IsUnchanged (state S.Store conn.old) (state S.Store conn.new)) }
+    ensures undone { HasCleanDisk (state S.Store conn.new) → OnErr result (IsUnchanged (state S.Store conn.old) (state S.Store conn.new) ⊎ IsRolledBack (state S.Store conn.old) (state S.Store conn.new)) }
     ensures crash { HasCleanDisk (state S.Store conn.new) → (db : _) → (state S.Store conn.new).may_leave db → (state S.Store conn.old).may_leave db }
 {
     if let Err(error) = conn.prepare(SAVE) {

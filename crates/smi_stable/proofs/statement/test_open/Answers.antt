@@ -19,3 +19,6 @@ returns-in-Err-clause-still g c before clean live =
     let h = not_run old new _ [] c.in-Err.error (c.in-Err.ensures.err clean []) in
     let s = still old new b.0 b.1 h in
     (opened old new h live, (s.1 live).1)
+
+pub returns-in-Err-clause-undone : goal.returns-in-Err-clause-undone
+returns-in-Err-clause-undone g c clean = not_run (state g.S.Store c.args.conn.now) (state g.S.Store c.prepare.new.self) _ [] c.in-Err.error (c.in-Err.ensures.err clean [])
