@@ -1,7 +1,7 @@
 //! What a layer above can count on, over any store.
 
-ghost use Rattle.std.specs.Prelude.{◌≡◌, ◌+◌, IfOk, OnOk};
-ghost use Rattle.smi_rows.specs.Store.{IsListing, IsSame, ListsAfter, with_row};
+ghost use Rattle.std.specs.Prelude.{◌≡◌, ◌+◌, ◌<◌, ◌≤◌, IfOk, OnOk};
+ghost use Rattle.smi_rows.specs.Store.{IfFailed, IsListing, IsSame, ListsAfter, with_row};
 
 use crate::key::Key;
 use crate::saved::SavedRow;
@@ -20,6 +20,8 @@ pub fn saved_is_loaded<S: Stable>(
     ensures kept { S.is_honest store.new → OnOk result (S.is_open store.new × IsSame (S.rows store.new) (with_row key bytes.now (S.rows store.old))) }
     ensures honest { S.is_honest store.new → S.is_honest store.old }
     ensures saves { S.saves store.new ≡ S.saves store.old + 1 }
+    ensures failures { S.failures store.old ≤ S.failures store.new }
+    ensures cause { IfFailed result (S.failures store.old < S.failures store.new) }
 {
     store.save(key, bytes)?;
     store.load()
@@ -35,6 +37,8 @@ pub fn loaded_is_as_told<S: Stable>(
     ensures loaded { S.is_honest store.new → S.is_open store.old → IfOk result (λ r. ListsAfter r.0 (S.rows store.old) (with_row key bytes.now (S.rows store.old)) r.1.items) }
     ensures honest { S.is_honest store.new → S.is_honest store.old }
     ensures saves { S.saves store.new ≡ S.saves store.old + 1 }
+    ensures failures { S.failures store.old ≤ S.failures store.new }
+    ensures cause { IfFailed result (S.failures store.old < S.failures store.new) }
 {
     let saved = store.save(key, bytes);
     let rows = store.load()?;
@@ -50,7 +54,10 @@ pub fn a_failure_leaves_what_was_saved<S: Stable>(
     later: &[u8],
 ) -> Result<Aftermath, StoreFault>
     ensures loaded { S.is_honest store.new → IfOk result (λ r. ListsAfter r.0 (with_row key bytes.now (S.rows store.old)) (with_row key later.now (with_row key bytes.now (S.rows store.old))) r.1.items) }
+    ensures honest { S.is_honest store.new → S.is_honest store.old }
     ensures saves { OnOk result (S.saves store.new ≡ S.saves store.old + 2) }
+    ensures failures { S.failures store.old ≤ S.failures store.new }
+    ensures cause { IfFailed result (S.failures store.old < S.failures store.new) }
 {
     saved_is_loaded(store, key, bytes)?;
     loaded_is_as_told(store, key, later)
