@@ -1,5 +1,5 @@
 -- A database without a table does not refuse the table of stable rows.
-use Rattle.std.proofs.Common.{◌≡◌, ◌⊎◌, inl, inr, ℕ, ◌+◌, ◌*◌, ◌^◌, ◌≤◌, List, [], ◌∷◌, length, codes, Bool, true, false, true≢false, ◌==◌, Option, Some, None, Ok, Err, refl, sym, ap, subst, ◌∙◌, arith}
+use Rattle.std.proofs.Common.{◌≡◌, ◌⊎◌, inl, inr, ℕ, ◌+◌, ◌*◌, ◌^◌, ◌≤◌, List, [], ◌∷◌, length, codes, true, false, true≢false, Option, Some, None, Ok, Err, refl, sym, ap, subst, ◌∙◌, arith}
 use lib.Ieee.{is_nan, lt}
 use lib.Utf8.{encode}
 use Rattle.std.specs.Str.{IsUtf8, chars, is_utf8}

@@ -1,8 +1,9 @@
 //! A connection is taken over, and given back.
 
-ghost use Rattle.std.specs.Prelude.{◌≡◌, ◌≢◌, Err, IfOk, IfErr, IsTrue, false};
+ghost use Rattle.std.specs.Prelude.{◌≡◌, ◌≢◌, ◌≤◌, Err, IfOk, IfErr, IsTrue, false};
 ghost use Rattle.sqlite.specs.State.{HasCleanDisk};
 ghost use Rattle.sqlite.specs.Held.{state};
+ghost use Rattle.smi_stable.specs.SqlFault.{CanBeTaken, HasReason};
 ghost use Rattle.smi_stable.specs.SqlGivenBack.{IsGivenBack, MayBeMade};
 ghost use Rattle.smi_stable.specs.SqlReady.{IsReady, IsAdopted};
 ghost use Rattle.smi_stable.specs.SqlRows.{IsKeyed};
@@ -23,6 +24,8 @@ fn with_table<S: Alter>(conn: Connection<S>) -> Result<Connection<S>, (StoreFaul
     ensures in_transaction { IsTrue conn.in_transaction → result ≡ Err (StoreFault.Unsure, conn) }
     ensures other_tables { conn.schema ≢ stable_schema → conn.schema ≢ no_schema → result ≡ Err (StoreFault.Unsure, conn) }
     ensures given_back { IfErr result (λ e. HasCleanDisk (state S.Store e.1) → IsGivenBack (state S.Store conn) (state S.Store e.1)) }
+    ensures live { IfOk result (λ c. HasCleanDisk (state S.Store c) → IsTrue (state S.Store conn).is_open → IsTrue (state S.Store c).is_open × ((state S.Store conn).faults ≤ (state S.Store c).faults)) }
+    ensures reason { IfErr result (λ e. HasCleanDisk (state S.Store e.1) → IsTrue (state S.Store conn).is_open → CanBeTaken (state S.Store conn) → HasReason (state S.Store conn) (state S.Store e.1) e.0) }
 {
     let mut conn = conn;
     if !conn.is_autocommit() {
@@ -44,6 +47,7 @@ impl<S: Alter> SqliteStable<S> {
     ghost use Rattle.std.specs.Prelude.{◌≡◌, ◌≢◌, Err, IfOk, IfErr, IsTrue};
     ghost use Rattle.sqlite.specs.State.{HasCleanDisk};
     ghost use Rattle.sqlite.specs.Held.{state};
+    ghost use Rattle.smi_stable.specs.SqlFault.{CanBeTaken, HasReason};
     ghost use Rattle.smi_stable.specs.SqlGivenBack.{IsGivenBack};
     ghost use Rattle.smi_stable.specs.SqlReady.{IsAdopted, IsInUse};
     ghost use Rattle.smi_stable.specs.SqlTable.{stable_schema, no_schema};
@@ -59,6 +63,7 @@ impl<S: Alter> SqliteStable<S> {
         ensures in_transaction { IsTrue connection.in_transaction → result ≡ Err (StoreFault.Unsure, connection) }
         ensures other_tables { connection.schema ≢ stable_schema → connection.schema ≢ no_schema → result ≡ Err (StoreFault.Unsure, connection) }
         ensures given_back { IfErr result (λ e. HasCleanDisk (state S.Store e.1) → IsGivenBack (state S.Store connection) (state S.Store e.1)) }
+        ensures reason { IfErr result (λ e. HasCleanDisk (state S.Store e.1) → IsTrue (state S.Store connection).is_open → CanBeTaken (state S.Store connection) → HasReason (state S.Store connection) (state S.Store e.1) e.0) }
     {
         let mut conn = with_table(connection)?;
         match test_open(&mut conn) {

@@ -1,6 +1,6 @@
-use Rattle.std.proofs.Common.{rules, ◌≡◌, [], sym, subst}
+use Rattle.std.proofs.Common.{[], sym, subst}
 use Rattle.sqlite.specs.Held.{state}
-use Rattle.smi_stable.specs.SqlFault.{fault_of, HasReason}
+use Rattle.smi_stable.specs.SqlFault.{HasReason}
 use Rattle.smi_stable.proofs.SqlCauses.{prepared}
 use Rattle.smi_stable.proofs.SqlKeeps.{still, not_run, clean_before, opened}
 use Rattle.smi_stable.proofs.statement.test_open.Goals as goal
