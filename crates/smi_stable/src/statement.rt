@@ -1,6 +1,6 @@
 //! The statements of a store over SQL, each alone in a call.
 
-ghost use Rattle.std.specs.Prelude.{◌≡◌, ◌⊎◌, [], OnOk, OnErr, IfOk, IfErr, IsTrue, pos};
+ghost use Rattle.std.specs.Prelude.{◌≡◌, ◌≢◌, ◌⊎◌, [], OnOk, OnErr, IfOk, IfErr, IsTrue, pos};
 ghost use Rattle.sqlite.specs.State.{HasCleanDisk, Executes, Survives, CommitsBy, IsUnchanged, IsRolledBack};
 ghost use Rattle.sqlite.specs.Held.{state};
 ghost use Rattle.smi_rows.specs.Store.{IsSame, with_row, IfNotSaved, IfUnsure};
@@ -19,7 +19,8 @@ const MAKE: &str =
 
 /// What an error of the database means to the store.
 pub(crate) fn fault_of(error: Error) -> StoreFault
-    ensures { result ≡ fault_of error }
+    ensures value { result ≡ fault_of error }
+    ensures no_device { result ≢ StoreFault.Device }
 {
     match error {
         Error::SqliteFailure(ErrorCode::OutOfMemory) => StoreFault::Memory,
@@ -77,6 +78,7 @@ pub(crate) fn test_open<S: Alter>(conn: &mut Connection<S>) -> Result<(), StoreF
     ensures undone { HasCleanDisk (state S.Store conn.new) → OnErr result (IsUnchanged (state S.Store conn.old) (state S.Store conn.new) ⊎ IsRolledBack (state S.Store conn.old) (state S.Store conn.new)) }
     ensures crash { HasCleanDisk (state S.Store conn.new) → (db : _) → (state S.Store conn.new).may_leave db → (state S.Store conn.old).may_leave db }
     ensures reason { HasCleanDisk (state S.Store conn.new) → IsTrue (state S.Store conn.old).is_open → conn.old.schema ≡ stable_schema → IfErr result (HasReason (state S.Store conn.old) (state S.Store conn.new)) }
+    ensures no_device { IfErr result (λ fault. fault ≢ StoreFault.Device) }
 {
     if let Err(error) = conn.prepare(SAVE) {
         return Err(fault_of(error));

@@ -47,4 +47,4 @@ returns-in-Err-clause-reason g c clean live can =
     let old = state g.S.Store c.args.conn in
     let new = state g.S.Store c.make_table.new.conn in
     let has : c.args.conn.schema ≡ no_schema = search rules in
-    subst (HasReason old new) (sym c.fault_of.ensures) (made_or old new c.in-Err.error has live (c.in-Err.ensures.runs clean))
+    subst (HasReason old new) (sym c.fault_of.ensures.value) (made_or old new c.in-Err.error has live (c.in-Err.ensures.runs clean))

@@ -29,4 +29,4 @@ pub returns-in-Err-clause-reason : goal.returns-in-Err-clause-reason
 returns-in-Err-clause-reason g c clean live has =
     let old = state g.S.Store c.args.conn.now in
     let new = state g.S.Store c.prepare.new.self in
-    subst (HasReason old new) (sym c.fault_of.ensures) (prepared old new c.in-Err.error has live (c.in-Err.ensures.err clean))
+    subst (HasReason old new) (sym c.fault_of.ensures.value) (prepared old new c.in-Err.error has live (c.in-Err.ensures.err clean))
