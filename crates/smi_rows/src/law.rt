@@ -54,7 +54,9 @@ pub fn a_failure_leaves_what_was_saved<S: Stable>(
     later: &[u8],
 ) -> Result<Aftermath, StoreFault>
     ensures loaded { S.is_honest store.new → IfOk result (λ r. ListsAfter r.0 (with_row key bytes.now (S.rows store.old)) (with_row key later.now (with_row key bytes.now (S.rows store.old))) r.1.items) }
+    ensures honest { S.is_honest store.new → S.is_honest store.old }
     ensures saves { OnOk result (S.saves store.new ≡ S.saves store.old + 2) }
+    ensures failures { S.failures store.old ≤ S.failures store.new }
     ensures cause { IfFailed result (S.failures store.old < S.failures store.new) }
 {
     saved_is_loaded(store, key, bytes)?;

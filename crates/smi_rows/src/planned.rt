@@ -1,7 +1,7 @@
 //! A store whose saves fail as planned.
 
-ghost use Rattle.std.specs.Prelude.{◌≡◌, ◌+◌, ◌<◌, ◌≤◌, ◌⊎◌, OnOk, IsErr, Some, Err};
-ghost use Rattle.smi_rows.specs.Store.{Rows, IsSame, IfNotSaved, IfUnsure, IfFailed, with_row};
+ghost use Rattle.std.specs.Prelude.{◌≡◌, ◌+◌, ◌<◌, ◌≤◌, ◌⊎◌, IfOk, OnOk, IsErr, Some, Err};
+ghost use Rattle.smi_rows.specs.Store.{Rows, IsSame, IsListing, IfSure, IfNotSaved, IfUnsure, IfFailed, with_row};
 ghost use Rattle.smi_rows.specs.Planned.{due_of, left_of};
 
 use crate::key::Key;
@@ -157,7 +157,19 @@ impl<S: Stable> Stable for PlannedStable<S> {
         }
     }
 
-    fn load(&mut self) -> Result<Vec<SavedRow>, StoreFault> {
+    fn load(&mut self) -> Result<Vec<SavedRow>, StoreFault>
+        ensures loaded { S.is_honest self.new.store → IfOk result (λ list. S.is_open self.old.store × IsListing (S.rows self.old.store) list.items) }
+        ensures open { S.is_honest self.new.store → S.is_open self.old.store → IfSure result (S.is_open self.new.store) }
+        ensures kept { S.is_honest self.new.store → S.is_open self.old.store → S.is_open self.new.store → IsSame (S.rows self.new.store) (S.rows self.old.store) }
+        ensures crash { S.is_honest self.new.store → S.is_open self.old.store → (r : Rows) → S.may_find self.new.store r → IsSame r (S.rows self.old.store) }
+        ensures honest { S.is_honest self.new.store → S.is_honest self.old.store }
+        ensures saves { self.new.saves.count ≡ self.old.saves.count }
+        ensures failures { S.failures self.old.store + self.old.struck.count ≤ S.failures self.new.store + self.new.struck.count }
+        ensures cause { IfFailed result (S.failures self.old.store + self.old.struck.count < S.failures self.new.store + self.new.struck.count) }
+        // No plan strikes, and none is spent.
+        ensures passed_on { (self.new.struck.count ≡ self.old.struck.count) × (S.saves self.new.store ≡ S.saves self.old.store) }
+        ensures left { self.new.planned ≡ self.old.planned }
+    {
         self.store.load()
     }
 }

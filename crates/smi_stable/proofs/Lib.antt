@@ -8,3 +8,5 @@ pub mod SqlUnique
 pub mod SqlKeys
 pub mod SqlAdopts
 pub mod SqlGiven
+pub mod SqlCauses
+pub mod SqlRefuses

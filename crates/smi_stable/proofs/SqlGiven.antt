@@ -1,10 +1,8 @@
 -- What is known of a connection that was not taken over.
-use Rattle.std.proofs.Common.{◌≡◌, ◌⊎◌, inl, inr, ℕ, [], false, Ok, IsTrue, refl, sym, ap, ◌∙◌}
-use Rattle.sqlite.specs.Effect.{Database}
+use Rattle.std.proofs.Common.{◌≡◌, ◌⊎◌, inl, inr, ℕ, [], false, Ok, IsTrue, sym, ◌∙◌}
 use Rattle.sqlite.specs.Tree.{Trees}
 use Rattle.sqlite.specs.State.{State, HasCleanDisk, IsUnchanged, IsRolledBack, Survives, Executes, CommitsBy}
 use Rattle.smi_stable.specs.SqlTable.{create_text, no_schema}
-use Rattle.smi_stable.specs.SqlReady.{IsAdopted}
 use Rattle.smi_stable.specs.SqlGivenBack.{IsGivenBack, MayBeMade}
 use Rattle.smi_stable.proofs.SqlKeeps.{clean_before, opened}
 use Rattle.smi_stable.proofs.SqlMakes.{creates, may_make}
@@ -16,9 +14,6 @@ same-mode old new auto (inr h) = h.autocommit ∙ sym auto
 same-now : (old new : State) → (IsTrue old.is_open → old.now ≡ old.committed) → IsUnchanged old new ⊎ IsRolledBack old new → IsTrue new.is_open → new.now ≡ old.now
 same-now old new settled (inl h) live = h.0.now_is
 same-now old new settled (inr h) live = (h.undone live).0 ∙ sym (settled (h.was_open live))
-
-pub itself : (s : State) → HasCleanDisk s → IsGivenBack s s
-itself s clean = record { clean = clean; mode = refl; was_open = λ live. live; kept = λ _. inl refl; crash = λ db may. inl may }
 
 left : (old new : State) → old.now.schema ≡ no_schema → HasCleanDisk new → Survives old new (CommitsBy create_text [] old) → (db : Trees) → new.may_leave db → old.may_leave db ⊎ MayBeMade old db
 left old new has clean s db may = elim (s.crash clean db may) [ inl before ↦ inl before | inr after ↦ inr (has, may_make old db has after) ]
@@ -46,20 +41,3 @@ was-made old new count has clean h s =
       kept = λ _. inr (has, m.1, m.2);
       crash = left old new has clean s;
     }
-
--- a call that changes nothing, or that fails, keeps it so
-pub given-on : (a b c : State) → a.in_transaction ≡ false → IsAdopted a b → IsGivenBack a b → IsUnchanged b c ⊎ IsRolledBack b c
-    → ((db : Trees) → c.may_leave db → b.may_leave db) → IsGivenBack a c
-given-on a b c auto h given undone crash = record {
-  clean = given.clean;
-  mode = same-mode b c h.0 undone ∙ given.mode;
-  was_open = λ live. given.was_open (opened b c undone live);
-  kept = λ live.
-      let before = opened b c undone live in
-      let now : c.now ≡ b.now = same-now b c (λ on. sym (h.3 on)) undone live in
-      elim (given.kept before) [
-        | inl it ↦ inl (now ∙ it)
-        | inr it ↦ inr (it.0, ap (λ (d : Database). d.schema) now ∙ it.1, ap (λ (d : Database). d.trees 0) now ∙ it.2)
-      ];
-  crash = λ db may. given.crash db (crash db may);
-}

@@ -16,11 +16,11 @@ use Rattle.smi_stable.specs.SqlTable.{create_text, stable_table, stable_schema, 
 use Rattle.smi_stable.proofs.SqlTexts.{defined, made, create_is}
 use Rattle.smi_stable.proofs.SqlSaves.{went}
 
-create_plain : IsPlain (understood no_schema create_text)
+pub create_plain : IsPlain (understood no_schema create_text)
 unfolding understood everything
 create_plain = (refl, refl)
 
-create_text_is : statement_of create_text (understood no_schema create_text) ≡ create_text
+pub create_text_is : statement_of create_text (understood no_schema create_text) ≡ create_text
 unfolding understood everything
 create_text_is = refl
 

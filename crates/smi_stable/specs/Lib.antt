@@ -17,3 +17,4 @@ pub mod SqlListing
 pub mod SqlKept
 pub mod SqlShown
 pub mod SqlGivenBack
+pub mod SqlFault

@@ -1,11 +1,12 @@
 //! The statements of a store over SQL, each alone in a call.
 
-ghost use Rattle.std.specs.Prelude.{◌≡◌, ◌⊎◌, [], OnOk, OnErr, IfOk, IsTrue, pos};
+ghost use Rattle.std.specs.Prelude.{◌≡◌, ◌≢◌, ◌⊎◌, [], OnOk, OnErr, IfOk, IfErr, IsTrue, pos};
 ghost use Rattle.sqlite.specs.State.{HasCleanDisk, Executes, Survives, CommitsBy, IsUnchanged, IsRolledBack};
 ghost use Rattle.sqlite.specs.Held.{state};
 ghost use Rattle.smi_rows.specs.Store.{IsSame, with_row, IfNotSaved, IfUnsure};
 ghost use Rattle.smi_stable.specs.SqlReady.{IsReady, rows_of, LeavesEither, key_values};
-ghost use Rattle.smi_stable.specs.SqlTable.{replace_text, create_text};
+ghost use Rattle.smi_stable.specs.SqlFault.{fault_of, HasReason};
+ghost use Rattle.smi_stable.specs.SqlTable.{replace_text, create_text, stable_schema};
 
 use smi_rows::{Key, StoreFault};
 use sqlite::{Alter, Connection, Error, ErrorCode, params};
@@ -17,7 +18,10 @@ const MAKE: &str =
     "CREATE TABLE stable_rows (station INTEGER NOT NULL, domain INTEGER NOT NULL, operator INTEGER NOT NULL, bytes BLOB NOT NULL, PRIMARY KEY (station, domain, operator)) STRICT";
 
 /// What an error of the database means to the store.
-pub(crate) fn fault_of(error: Error) -> StoreFault {
+pub(crate) fn fault_of(error: Error) -> StoreFault
+    ensures value { result ≡ fault_of error }
+    ensures no_device { result ≢ StoreFault.Device }
+{
     match error {
         Error::SqliteFailure(ErrorCode::OutOfMemory) => StoreFault::Memory,
         _ => StoreFault::Unsure,
@@ -73,6 +77,8 @@ pub(crate) fn test_open<S: Alter>(conn: &mut Connection<S>) -> Result<(), StoreF
     ensures unchanged { HasCleanDisk (state S.Store conn.new) → OnOk result (IsUnchanged (state S.Store conn.old) (state S.Store conn.new)) }
     ensures undone { HasCleanDisk (state S.Store conn.new) → OnErr result (IsUnchanged (state S.Store conn.old) (state S.Store conn.new) ⊎ IsRolledBack (state S.Store conn.old) (state S.Store conn.new)) }
     ensures crash { HasCleanDisk (state S.Store conn.new) → (db : _) → (state S.Store conn.new).may_leave db → (state S.Store conn.old).may_leave db }
+    ensures reason { HasCleanDisk (state S.Store conn.new) → IsTrue (state S.Store conn.old).is_open → conn.old.schema ≡ stable_schema → IfErr result (HasReason (state S.Store conn.old) (state S.Store conn.new)) }
+    ensures no_device { IfErr result (λ fault. fault ≢ StoreFault.Device) }
 {
     if let Err(error) = conn.prepare(SAVE) {
         return Err(fault_of(error));

@@ -1,8 +1,8 @@
 //! Stores over SQL on disks in memory.
 
-use crate::SqliteStable;
+use crate::{SavedRow, SqliteStable, Stable};
 use sqlite::{Connection, FileStore, Files, Options};
-use sqlite_disk::{Disk, Fuse, Memory};
+use sqlite_disk::{Crash, Disk, Fuse, Memory};
 use std::alloc::Global;
 use std::test::Fail;
 
@@ -54,5 +54,25 @@ pub(super) fn opened(alloc: Global) -> Result<Store, Fail> {
     match open(alloc, blank(alloc)) {
         Ok(store) => Ok(store),
         Err(_) => Err("the files are not opened")?,
+    }
+}
+
+/// The files once the machine is back.
+pub(super) fn back(files: Disks) -> Disks {
+    let mut files = files;
+    files.log.crash();
+    files.db.crash();
+    files
+}
+
+/// The rows that the next open finds, once the machine is back.
+pub(super) fn found(alloc: Global, files: Disks) -> Result<Vec<SavedRow>, Fail> {
+    match open(alloc, back(files)) {
+        Ok(mut store) => {
+            let list = store.load();
+            drop(close(store));
+            Ok(list?)
+        }
+        Err(_) => Err("the files are not opened again")?,
     }
 }

@@ -1,10 +1,9 @@
 //! Saves over SQL on disks that stop after so many calls: the next open finds the row as before or as saved.
 
-use super::disks::{Disks, close, disk, open, opened};
+use super::disks::{Disks, close, disk, found, open, opened};
 use super::{BOOT, TAKEN, key};
 use crate::{SavedRow, Stable, StoreFault};
 use sqlite::Files;
-use sqlite_disk::Crash;
 use std::alloc::Global;
 use std::process::Abort;
 use std::test::Fail;
@@ -28,21 +27,6 @@ fn save_on(alloc: Global, files: Disks) -> (End, Disks) {
             (end, close(store))
         }
         Err(files) => (End::NotOpened, files),
-    }
-}
-
-/// The rows that the next open finds, once the machine is back.
-fn found(alloc: Global, files: Disks) -> Result<Vec<SavedRow>, Fail> {
-    let mut files = files;
-    files.log.crash();
-    files.db.crash();
-    match open(alloc, files) {
-        Ok(mut store) => {
-            let list = store.load();
-            drop(close(store));
-            Ok(list?)
-        }
-        Err(_) => Err("the files are not opened again")?,
     }
 }
 

@@ -1,7 +1,9 @@
-use Rattle.std.proofs.Common.{rules, ◌≡◌, false, inr, IsTrue, refl, ◌∙◌}
+use Rattle.std.proofs.Common.{rules, ◌≡◌, false, inr, IsTrue, refl, sym, subst, ◌∙◌}
 use Rattle.sqlite.specs.Held.{state}
 use Rattle.smi_stable.specs.SqlTable.{no_schema}
 use Rattle.smi_stable.proofs.SqlMakes.{creates}
+use Rattle.smi_stable.specs.SqlFault.{HasReason}
+use Rattle.smi_stable.proofs.SqlCauses.{made_or}
 use Rattle.smi_stable.proofs.SqlKeeps.{fails}
 use Rattle.smi_stable.proofs.SqlGiven.{was-made, not-made}
 use Rattle.smi_stable.proofs.adopting.with_table.Goals as goal
@@ -32,3 +34,17 @@ returns-in-Err-clause-given_back g c clean =
     let settled : IsTrue old.is_open → old.now ≡ old.committed = c.is_autocommit.ensures.settled (search rules) in
     let has : c.args.conn.schema ≡ no_schema = search rules in
     not-made old new auto settled has clean (fails old new _ _ c.in-Err.error (c.in-Err.ensures.runs clean)) c.make_table.ensures.survives
+
+pub returns-in-Ok-clause-live : goal.returns-in-Ok-clause-live
+returns-in-Ok-clause-live g c clean live =
+    let old = state g.S.Store c.args.conn in
+    let new = state g.S.Store c.make_table.new.conn in
+    let has : c.args.conn.schema ≡ no_schema = search rules in
+    ((creates old new c.in-Ok.field-0 has (c.in-Ok.ensures.runs clean)).0.shown.is_open, c.make_table.ensures.survives.counts)
+
+pub returns-in-Err-clause-reason : goal.returns-in-Err-clause-reason
+returns-in-Err-clause-reason g c clean live can =
+    let old = state g.S.Store c.args.conn in
+    let new = state g.S.Store c.make_table.new.conn in
+    let has : c.args.conn.schema ≡ no_schema = search rules in
+    subst (HasReason old new) (sym c.fault_of.ensures.value) (made_or old new c.in-Err.error has live (c.in-Err.ensures.runs clean))

@@ -1,5 +1,7 @@
-use Rattle.std.proofs.Common.{[]}
+use Rattle.std.proofs.Common.{[], sym, subst}
 use Rattle.sqlite.specs.Held.{state}
+use Rattle.smi_stable.specs.SqlFault.{HasReason}
+use Rattle.smi_stable.proofs.SqlCauses.{prepared}
 use Rattle.smi_stable.proofs.SqlKeeps.{still, not_run, clean_before, opened}
 use Rattle.smi_stable.proofs.statement.test_open.Goals as goal
 
@@ -22,3 +24,9 @@ returns-in-Err-clause-still g c before clean live =
 
 pub returns-in-Err-clause-undone : goal.returns-in-Err-clause-undone
 returns-in-Err-clause-undone g c clean = not_run (state g.S.Store c.args.conn.now) (state g.S.Store c.prepare.new.self) _ [] c.in-Err.error (c.in-Err.ensures.err clean [])
+
+pub returns-in-Err-clause-reason : goal.returns-in-Err-clause-reason
+returns-in-Err-clause-reason g c clean live has =
+    let old = state g.S.Store c.args.conn.now in
+    let new = state g.S.Store c.prepare.new.self in
+    subst (HasReason old new) (sym c.fault_of.ensures.value) (prepared old new c.in-Err.error has live (c.in-Err.ensures.err clean))
