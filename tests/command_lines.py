@@ -135,7 +135,8 @@ def main():
         cases += tree_cases(folder)
         cases += store_cases(folder)
         done = [holds(program, case) for case in cases]
-        grown = list(growths.refused_cases(program, folder)) + list(growths.layer_cases(trial, folder))
+        grown = list(growths.refused_cases(program, folder)) + list(growths.store_cases(program, folder))
+        grown += growths.layer_cases(trial, folder)
         for name, held in grown:
             done.append(held)
             if not held:

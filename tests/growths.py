@@ -1,11 +1,15 @@
 """Each growth of a run refused in turn.
 
-The program says so and ends with status 4. A layer's object is after each as it was before, and the same call then
-does what it does otherwise (crates/smi_trial).
+The program says so and ends with status 4, and a store that it lists is left as it was. A layer's object is after each
+as it was before, and the same call then does what it does otherwise (crates/smi_trial).
 """
 
 import os
+import shutil
+import sqlite3
 import subprocess
+
+import stores
 
 HERE = os.path.dirname(os.path.abspath(__file__))
 EXAMPLES = os.path.join(HERE, "..", "examples")
@@ -52,6 +56,43 @@ def refused_cases(program, folder):
                 yield "%s: %d growths" % (name, growth - 1), growth > 1 and status == 0
                 break
             yield "%s: growth %d" % (name, growth), (whole[0].startswith(out), err, status) == (True, b"no memory\n", 4)
+
+
+def rows_in(path):
+    """The rows of a store that the other program finds whole, none where there is no table."""
+    with sqlite3.connect(path) as file:
+        assert file.execute("PRAGMA integrity_check").fetchall() == [("ok",)]
+        tables = file.execute("SELECT name FROM sqlite_master WHERE type = 'table'").fetchall()
+        rows = file.execute("SELECT * FROM stable_rows ORDER BY station, domain, operator").fetchall() if tables else []
+    file.close()
+    return rows
+
+
+def store_cases(program, folder):
+    """Of a listing of a store, and of a file in which the table is still to be made, and of each of their growths: a
+    name, and whether the program did as it should and left the rows as they were."""
+    refusing = library(folder)
+    kept, path = os.path.join(folder, "kept"), os.path.join(folder, "listed")
+    for name, rows in [("rows", stores.ROWS), ("rows to come", None)]:
+        if os.path.exists(kept):
+            os.remove(kept)
+        if rows is None:
+            open(kept, "wb").close()
+        else:
+            stores.store(kept, stores.TABLE, rows)
+        wanted = rows_in(kept)
+        text = stores.listing(rows or []).encode()
+        for growth in range(1, MOST_GROWTHS):
+            for left in [path, path + "-wal", path + "-shm"]:
+                if os.path.exists(left):
+                    os.remove(left)
+            shutil.copyfile(kept, path)
+            out, err, status = run(program, ["rows", path], os.devnull, {"LD_PRELOAD": refusing, "REFUSE": str(growth)})
+            if (out, err, status) == (text, b"", 0):
+                yield "%s: %d growths" % (name, growth - 1), growth > 1 and rows_in(path) == wanted
+                break
+            told = (text.startswith(out), err, status) == (True, b"no memory\n", 4)
+            yield "%s: growth %d" % (name, growth), told and rows_in(path) == wanted
 
 
 def layer_cases(trial, folder):
