@@ -5,7 +5,6 @@ use smi_tree::Tree;
 use std::alloc::Global;
 use std::test::Fail;
 
-mod growths;
 mod planned;
 mod replaced;
 mod rows;
@@ -147,19 +146,4 @@ fn rows_of_a_small_tree(rt: HostRuntime) -> Result<(), Fail> {
         assert!(rt; holds(case, rt.alloc())?, "{case:?}");
     }
     Ok(())
-}
-
-// A tree that is not read for want of memory says nothing of rows.
-fn holds_at_last(alloc: Global) -> Result<bool, RowFault> {
-    match Tree::read(alloc, TREE) {
-        Ok(tree) => Ok(
-            growths::are_read_at_last(alloc, &tree) && growths::are_written_at_last(alloc, &tree)?,
-        ),
-        Err(_) => Ok(true),
-    }
-}
-
-#[test]
-fn rows_with_growths_refused(rt: HostRuntime) {
-    assert_eq!(rt; holds_at_last(rt.alloc()), Ok(true));
 }

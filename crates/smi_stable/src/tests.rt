@@ -3,7 +3,6 @@
 use crate::Key;
 
 mod disks;
-mod growths;
 mod saved;
 mod stopped;
 
@@ -21,12 +20,6 @@ const BOOT: &[u8] = &[2, 0, 0, 0, 0, 0, 0, 2];
 // BOB holds DCS at epoch 1.
 const TAKEN: &[u8] = &[
     2, 1, 0, 2, 0, 0, 0, 0, 0, 0, 0, 1, 0, 0, 0, 0, 0, 0, 0, 0, 0, 0, 0, 0,
-];
-
-// ANN holds DCS at epoch 1; its command 2 is at work, and CONFIGURE is pending at TPC as command 1.
-const WORKING: &[u8] = &[
-    2, 1, 0, 1, 0, 0, 0, 0, 0, 0, 0, 1, 0, 0, 0, 2, 1, 0, 0, 0, 0, 0, 0, 1, // the domain
-    0, 2, 3, 0, 0, 0, 0, 0, 0, 0, 0, 1, 0, 0, 0, 1, 0, 1, 0, 1,
 ];
 
 // BOB holds TPC at epoch 1, and no command is issued.

@@ -1,6 +1,6 @@
 //! What a tree file declares, in one line.
 
-ghost use Rattle.std.specs.Prelude.{◌≡◌, ◌⊎◌, IsErr, IsOk};
+ghost use Rattle.std.specs.Prelude.{◌≡◌, ◌≢◌, ◌⊎◌, IsErr, IsOk};
 ghost use Rattle.smi_tree.specs.File.{tree_of};
 
 use crate::status::{Status, no_memory, write_fault};
@@ -19,14 +19,36 @@ pub fn check<W: Write, F: Write>(alloc: Global, bytes: &[u8], writer: &mut W, fa
     ensures unwritten { result ≡ 3 → IsOk (tree_of bytes.now) }
     ensures other { (result ≡ 0) ⊎ (result ≡ 1) ⊎ (result ≡ 3) ⊎ (result ≡ 4) }
 {
-    let tree = match Tree::read(alloc, bytes) {
-        Ok(tree) => tree,
+    checked(alloc, bytes, writer, faults).code()
+}
+
+// It drops the tree in one place: each is dear to prove.
+fn checked<W: Write, F: Write>(
+    alloc: Global,
+    bytes: &[u8],
+    writer: &mut W,
+    faults: &mut F,
+) -> Status
+    ensures accepted { result ≡ Status.Done → IsOk (tree_of bytes.now) }
+    ensures refused { result ≡ Status.Refused → IsErr (tree_of bytes.now) }
+    ensures unwritten { result ≡ Status.Fault → IsOk (tree_of bytes.now) }
+    ensures line { result ≢ Status.WrongLine }
+{
+    match Tree::read(alloc, bytes) {
+        Ok(tree) => told(&tree, writer, faults),
         Err(TreeFault::Line(line, fault)) => {
             let _ = writeln!(faults, "tree line {line} fault {fault}");
-            return Status::Refused.code();
+            Status::Refused
         }
-        Err(TreeFault::Memory) => return no_memory(faults).code(),
-    };
+        Err(TreeFault::Memory) => no_memory(faults),
+    }
+}
+
+/// Tells what the tree has.
+fn told<W: Write, F: Write>(tree: &Tree, writer: &mut W, faults: &mut F) -> Status
+    ensures refused { result ≢ Status.Refused }
+    ensures line { result ≢ Status.WrongLine }
+{
     let written = writeln!(
         writer,
         "tree {} stations {} operators {} domains {} devices {}",
@@ -37,7 +59,7 @@ pub fn check<W: Write, F: Write>(alloc: Global, bytes: &[u8], writer: &mut W, fa
         tree.device_count()
     );
     if written.is_err() || writer.flush().is_err() {
-        return write_fault(faults).code();
+        return write_fault(faults);
     }
-    Status::Done.code()
+    Status::Done
 }

@@ -16,6 +16,8 @@ mod board;
 mod links;
 mod outcome;
 mod refused;
+mod rows;
+mod stores;
 mod watching;
 
 use std::{env, io};

@@ -3,6 +3,7 @@
 ghost use Rattle.std.specs.Prelude.{◌≡◌, ◌≤◌, ◌<◌, length, IfSome};
 
 use crate::outcome::Outcome;
+use crate::{rows, stores};
 use smi_grant::{Shown, Version};
 use smi_link::{DatagramLink, MemoryLink, Reception};
 use smi_publish::Publisher;
@@ -17,8 +18,10 @@ pub(crate) fn of<R: Wait>(rt: &R, alloc: Global, layer: &str) -> Outcome {
         "watchers" => watchers(alloc),
         "link" => link(alloc),
         "view" => view(alloc),
-        "publish" => publish(alloc),
+        "publish" | "rows" => over_tree(alloc, layer),
         "board" => board(rt, alloc),
+        "memory" => stores::memory(alloc),
+        "sql" => stores::sql(alloc),
         _ => Outcome::Changed,
     }
 }
@@ -172,22 +175,31 @@ fn view(alloc: Global) -> Outcome {
     }
 }
 
-const WORKED: &[u8] =
-    b"tree 17\nstate OFF\naction START\nstation A 127.0.0.1:9001\noperator ANN A\ndevclass DEV OFF\nunitclass UNIT OFF\ndomain DCS A UNIT -\ndevice HV DCS DEV\n";
+// Stations A 1 and B 2, operators ANN 1 at A and BOB 2 at B, domains DCS 1 at A and TPC 2 at B under it, and
+// device HV 3 of DCS.
+const TREE: &[u8] =
+    b"tree 17\nstate OFF\naction CONFIGURE\naction START\nstation A 127.0.0.1:9001\nstation B 127.0.0.1:9002\noperator ANN A\noperator BOB B\ndevclass DEV OFF\nunitclass UNIT OFF\ndomain DCS A UNIT -\ndomain TPC B UNIT DCS\ndevice HV DCS DEV\n";
 
 // Each place that drops a tree is dear to prove, so there is one.
-fn publish(alloc: Global) -> Outcome {
+fn over_tree(alloc: Global, layer: &str) -> Outcome {
     match read_tree(alloc) {
-        Some((tree, read)) => read.and(publisher(alloc, &tree)),
+        Some((tree, read)) => read.and(of_tree(alloc, &tree, layer)),
         None => Outcome::Changed,
     }
 }
 
+fn of_tree(alloc: Global, tree: &Tree, layer: &str) -> Outcome {
+    match layer {
+        "rows" => rows::of(alloc, tree),
+        _ => publisher(alloc, tree),
+    }
+}
+
 fn read_tree(alloc: Global) -> Option<(Tree, Outcome)> {
-    if let Ok(tree) = Tree::read(alloc, WORKED) {
+    if let Ok(tree) = Tree::read(alloc, TREE) {
         return Some((tree, Outcome::Whole));
     }
-    match Tree::read(alloc, WORKED) {
+    match Tree::read(alloc, TREE) {
         Ok(tree) => Some((tree, Outcome::Kept)),
         Err(_) => None,
     }
@@ -195,9 +207,9 @@ fn read_tree(alloc: Global) -> Option<(Tree, Outcome)> {
 
 fn publisher(alloc: Global, tree: &Tree) -> Outcome {
     match Publisher::new(alloc, tree, 1, 1) {
-        Ok(publisher) => Outcome::of(publisher.current(2).is_some()),
+        Ok(publisher) => Outcome::of(publisher.current(3).is_some()),
         Err(_) => match Publisher::new(alloc, tree, 1, 1) {
-            Ok(publisher) => Outcome::again(publisher.current(2).is_some(), true),
+            Ok(publisher) => Outcome::again(publisher.current(3).is_some(), true),
             Err(_) => Outcome::Changed,
         },
     }

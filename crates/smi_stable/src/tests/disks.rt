@@ -42,7 +42,7 @@ pub(super) fn close(store: Store) -> Disks {
 }
 
 /// Empty files that never stop.
-pub(super) fn blank(alloc: Global) -> Disks {
+fn blank(alloc: Global) -> Disks {
     Files {
         log: Fuse::new(Memory::new(alloc), u64::MAX),
         db: Fuse::new(Memory::new(alloc), u64::MAX),
@@ -58,7 +58,7 @@ pub(super) fn opened(alloc: Global) -> Result<Store, Fail> {
 }
 
 /// The files once the machine is back.
-pub(super) fn back(files: Disks) -> Disks {
+fn back(files: Disks) -> Disks {
     let mut files = files;
     files.log.crash();
     files.db.crash();
