@@ -9,8 +9,9 @@ directory` reads the standard input from a directory, `to full` writes to a devi
 for the path of the worked tree file and for a path where there is none.
 
 After the table, a take is tried with each other value of each byte and in each length, against the
-layout in layout.py, each tree file of trees.py is checked, each store of stores.py listed, and each growth of some runs, and of the
-layers' objects in SMI_TRIAL, is refused in turn (growths.py). The last line is 'N passed, M failed'.
+layout in layout.py, each tree file of trees.py is checked, each store of stores.py listed, a store that SMI_TRIAL saved
+is read by others, and each growth of some runs, and of the layers' objects in SMI_TRIAL, is refused in turn (growths.py).
+The last line is 'N passed, M failed'.
 """
 
 import os
@@ -135,9 +136,11 @@ def main():
         cases += tree_cases(folder)
         cases += store_cases(folder)
         done = [holds(program, case) for case in cases]
-        grown = list(growths.refused_cases(program, folder)) + list(growths.store_cases(program, folder))
-        grown += growths.layer_cases(trial, folder)
-        for name, held in grown:
+        others = list(stores.ours(program, trial, folder))
+        others += growths.refused_cases(program, folder)
+        others += growths.store_cases(program, folder)
+        others += growths.layer_cases(trial, folder)
+        for name, held in others:
             done.append(held)
             if not held:
                 print("FAILED " + name)

@@ -6,7 +6,6 @@ as it was before, and the same call then does what it does otherwise (crates/smi
 
 import os
 import shutil
-import sqlite3
 import subprocess
 
 import stores
@@ -58,16 +57,6 @@ def refused_cases(program, folder):
             yield "%s: growth %d" % (name, growth), (whole[0].startswith(out), err, status) == (True, b"no memory\n", 4)
 
 
-def rows_in(path):
-    """The rows of a store that the other program finds whole, none where there is no table."""
-    with sqlite3.connect(path) as file:
-        assert file.execute("PRAGMA integrity_check").fetchall() == [("ok",)]
-        tables = file.execute("SELECT name FROM sqlite_master WHERE type = 'table'").fetchall()
-        rows = file.execute("SELECT * FROM stable_rows ORDER BY station, domain, operator").fetchall() if tables else []
-    file.close()
-    return rows
-
-
 def store_cases(program, folder):
     """Of a listing of a store, and of a file in which the table is still to be made, and of each of their growths: a
     name, and whether the program did as it should and left the rows as they were."""
@@ -80,7 +69,7 @@ def store_cases(program, folder):
             open(kept, "wb").close()
         else:
             stores.store(kept, stores.TABLE, rows)
-        wanted = rows_in(kept)
+        wanted = stores.rows_in(kept)
         text = stores.listing(rows or []).encode()
         for growth in range(1, MOST_GROWTHS):
             for left in [path, path + "-wal", path + "-shm"]:
@@ -89,10 +78,10 @@ def store_cases(program, folder):
             shutil.copyfile(kept, path)
             out, err, status = run(program, ["rows", path], os.devnull, {"LD_PRELOAD": refusing, "REFUSE": str(growth)})
             if (out, err, status) == (text, b"", 0):
-                yield "%s: %d growths" % (name, growth - 1), growth > 1 and rows_in(path) == wanted
+                yield "%s: %d growths" % (name, growth - 1), growth > 1 and stores.rows_in(path) == wanted
                 break
             told = (text.startswith(out), err, status) == (True, b"no memory\n", 4)
-            yield "%s: growth %d" % (name, growth), told and rows_in(path) == wanted
+            yield "%s: growth %d" % (name, growth), told and stores.rows_in(path) == wanted
 
 
 def layer_cases(trial, folder):

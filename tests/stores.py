@@ -1,7 +1,9 @@
 """Stores of stable rows and what `smi rows` says of them, written down from docs/FORMATS.md, "Stable rows"."""
 
 import os
+import shutil
 import sqlite3
+import subprocess
 
 TABLE = ("CREATE TABLE stable_rows (station INTEGER NOT NULL, domain INTEGER NOT NULL, operator INTEGER NOT NULL, "
          "bytes BLOB NOT NULL, PRIMARY KEY (station, domain, operator)) STRICT")
@@ -25,6 +27,30 @@ def store(path, table, rows):
 
 def listing(rows):
     return "".join("%d %d %d %s\n" % (key + (text,)) for key, text in sorted(rows))
+
+
+def rows_in(path):
+    """The rows of a store that the other program finds whole, none where there is no table."""
+    with sqlite3.connect(path) as file:
+        assert file.execute("PRAGMA integrity_check").fetchall() == [("ok",)]
+        tables = file.execute("SELECT name FROM sqlite_master WHERE type = 'table'").fetchall()
+        rows = file.execute("SELECT * FROM stable_rows ORDER BY station, domain, operator").fetchall() if tables else []
+    file.close()
+    return [(row[:3], row[3].hex()) for row in rows]
+
+
+def ours(program, trial, folder):
+    """A store that our own code saved and closed: what was done, and whether others read the rows there."""
+    path = os.path.join(folder, "ours")
+    subprocess.run([trial, "store", path], check=True)
+    listed = subprocess.run([program, "rows", path], stdout=subprocess.PIPE, check=False).stdout.decode()
+    yield "our store: listed", listed == listing(ROWS)
+    yield "our store: read by Python's sqlite3", rows_in(path) == ROWS
+    line = shutil.which("sqlite3")
+    if line:
+        query = "SELECT station, domain, operator, lower(hex(bytes)) FROM stable_rows ORDER BY 1, 2, 3"
+        read = subprocess.run([line, "-separator", " ", path, query], stdout=subprocess.PIPE, check=False).stdout.decode()
+        yield "our store: read by the command line of sqlite3", read == listing(ROWS)
 
 
 def all_stores(folder):

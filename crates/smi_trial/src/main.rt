@@ -5,6 +5,8 @@
 //! prints `whole` where no growth was refused, `kept` where all was as it should be after one that was,
 //! and `changed` else. The growths are refused from outside (tests/refuse.c).
 //!
+//! `smi_trial store PATH` saves three rows in a file, for other programs to read.
+//!
 //! `smi_trial board READERS READS`, `smi_trial link ROUNDS` and `smi_trial watchers ROUNDS` print how
 //! long the board, two links over UDP and the watcher lists take, beside a plain measure. Without words
 //! it does nothing.
@@ -13,6 +15,7 @@
 ghost use Rattle.std.specs.Prelude.{◌≤◌};
 
 mod board;
+mod file;
 mod links;
 mod outcome;
 mod refused;
@@ -31,6 +34,7 @@ fn main(rt: HostRuntime) -> io::Result<()> {
         [_, what, layer] if what.as_str() == "refused" => {
             println!(rt; "{}", refused::of(&rt, rt.alloc(), layer.as_str()).word())
         }
+        [_, what, path] if what.as_str() == "store" => file::save_rows(&rt, path.as_str()),
         [_, what, readers, reads] if what.as_str() == "board" => {
             board::measure(&rt, number(readers.as_str()), number(reads.as_str()))
         }

@@ -13,7 +13,7 @@ use std::io;
 /// A row under its key.
 type Saved = (Key, &'static [u8]);
 
-const fn key(domain: u16) -> Key {
+pub(crate) const fn key(domain: u16) -> Key {
     Key {
         station: 1,
         domain,
@@ -22,10 +22,10 @@ const fn key(domain: u16) -> Key {
 }
 
 // The boot 2 of a station.
-const BOOT: &[u8] = &[2, 0, 0, 0, 0, 0, 0, 2];
+pub(crate) const BOOT: &[u8] = &[2, 0, 0, 0, 0, 0, 0, 2];
 
 // Operator 2 holds the domain at epoch 1.
-const TAKEN: &[u8] = &[
+pub(crate) const TAKEN: &[u8] = &[
     2, 1, 0, 2, 0, 0, 0, 0, 0, 0, 0, 1, 0, 0, 0, 0, 0, 0, 0, 0, 0, 0, 0, 0,
 ];
 
