@@ -1,0 +1,5 @@
+pub mod Fronts
+pub mod Changing
+pub mod Firsts
+pub mod Desks
+pub mod Pushes

@@ -1,0 +1,78 @@
+//! The desk, at which a station serves its seats.
+
+ghost use Rattle.std.specs.Prelude.{◌≡◌, ◌<◌, length, IsTrue, IfSome, Some, slice_get, option_map, true};
+ghost use Rattle.smi_operator.specs.Working.{may_join};
+ghost use Rattle.smi_operator.specs.Sides.{Steps, Gives, Answers, Marks, post_at, seat_count, work_of, left, room, IsEndedAt, Met, Stays};
+
+use crate::ends::{Desk, Finished};
+use crate::work::Work;
+use smi_grant::Record;
+use smi_station::{Mark, Order};
+
+impl Desk {
+    /// How many seats the desk has. Their numbers begin at 0.
+    pub fn seat_count(&self) -> usize
+        ensures { result ≡ seat_count self.now }
+    {
+        self.posts.len()
+    }
+
+    /// The next order of a seat, which is then in work.
+    ///
+    /// There is none where the seat submitted none, where no place for its answer is free, or where it may not
+    /// join the orders in work: all have to be commands on one domain, and eight at most.
+    pub fn next(&mut self, seat: usize) -> Option<Order>
+        requires { seat < seat_count self.old }
+        ensures step { Steps self.old self.new seat (Gives result) }
+        ensures succeeds { IfSome (post_at self.old seat) (λ p. IfSome (slice_get (left p) 0) (λ o. may_join (work_of p) o ≡ true → length (work_of p) < room p → result ≡ Some o)) }
+    {
+        self.posts[seat].next()
+    }
+
+    /// Ends the order of a seat that is in work at this place, the oldest at 0, with a code, and a record where
+    /// it asked for one. An order that had ended stays as it was.
+    ///
+    /// The seat is told once all its older orders have ended too; until then the order stays in work.
+    pub fn answer(&mut self, seat: usize, place: usize, code: u16, asked: Option<Record>)
+        requires seat { seat < seat_count self.old }
+        requires work { IfSome (post_at self.old seat) (λ p. place < length (work_of p)) }
+        ensures { Steps self.old self.new seat (Answers place code asked) }
+    {
+        self.posts[seat].answer(place, code, asked);
+    }
+
+    /// Notes which command the newest order in work of a seat became.
+    pub fn mark(&mut self, seat: usize, domain: u16, epoch: u64, number: u32)
+        requires seat { seat < seat_count self.old }
+        requires work { IfSome (post_at self.old seat) (λ p. 0 < length (work_of p)) }
+        ensures { Steps self.old self.new seat (Marks (record { domain = domain; epoch = epoch; number = number })) }
+    {
+        self.posts[seat].mark(Mark {
+            domain,
+            epoch,
+            number,
+        });
+    }
+
+    /// The order of a seat that is in work at this place, the oldest at 0, and the command that it became.
+    pub fn in_work(&self, seat: usize, place: usize) -> Option<Work>
+        requires { seat < seat_count self.now }
+        ensures { IfSome (post_at self.now seat) (λ p. result ≡ option_map (λ e. e.work) (slice_get (work_of p) place)) }
+    {
+        self.posts[seat].in_work(place)
+    }
+
+    /// Compares the lists of a seat that has ended with those of the desk: whether the orders given begin those
+    /// submitted, and what the seat was told begins what was answered.
+    ///
+    /// From then on the desk has seen every order that is left, and knows which places are free.
+    pub fn meet(&mut self, seat: usize, finished: &mut Finished) -> bool
+        requires seat { seat < seat_count self.old }
+        requires ended { IsEndedAt finished.old self.old seat }
+        ensures met { IsTrue result → IfSome (post_at self.new seat) (Met finished.new) }
+        ensures step { Steps self.old self.new seat (Stays finished.old finished.new) }
+        ensures ended { IsEndedAt finished.new self.new seat }
+    {
+        self.posts[seat].meet(finished)
+    }
+}

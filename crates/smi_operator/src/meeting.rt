@@ -1,0 +1,69 @@
+//! Seats are opened, and meet the desk again when they have ended.
+
+ghost use Rattle.std.specs.Prelude.{◌≡◌, ◌≤◌, IsTrue, IfOk, [], length};
+ghost use Rattle.smi_operator.specs.Sides.{IsFinishedAt, Met, Stays, SamePost, IsFresh, IsDeskOf, seat_count};
+
+use crate::ends::{Desk, Finished, Post, Seat};
+use arrayvec::ArrayVec;
+use rtrb::RingBuffer;
+use std::alloc::{AllocError, Global};
+
+/// How many orders wait for the desk, and how many answers for the seat.
+const RING: usize = 16;
+
+impl Post {
+    /// Compares the lists of a seat that has ended with those of its post.
+    pub(crate) fn meet(&mut self, finished: &mut Finished) -> bool
+        requires { IsFinishedAt finished.old self.old }
+        ensures met { IsTrue result → Met finished.new self.new }
+        ensures stays { Stays finished.old finished.new self.old self.new }
+        ensures ring { SamePost self.old self.new }
+        ensures ended { IsFinishedAt finished.new self.new }
+    {
+        let Some(orders) = &mut finished.orders else {
+            return false;
+        };
+        self.orders.slots_after(orders);
+        finished.answers.slots_beside(&mut self.answers);
+        self.answers.slots_beside(&mut finished.answers);
+        true
+    }
+}
+
+fn open_seat(alloc: Global) -> Result<(Seat, Post), AllocError>
+    ensures { IfOk result (λ opened. IsFresh opened.0 opened.1) }
+{
+    let (asking, orders) = RingBuffer::new(alloc, RING)?;
+    let (telling, answers) = RingBuffer::new(alloc, RING)?;
+    let seat = Seat {
+        orders: asking,
+        answers,
+    };
+    let post = Post {
+        orders,
+        answers: telling,
+        work: ArrayVec::new(),
+    };
+    Ok((seat, post))
+}
+
+/// Opens so many seats, 1 to 9, and their desk. Nothing was submitted, given, answered or told yet.
+///
+/// Its error is want of memory.
+#[tactic(auto, using(crate::proofs::Pushes::seats_push))]
+pub fn open_seats(alloc: Global, count: usize) -> Result<(Vec<Seat>, Desk), AllocError>
+    requires least { 1 ≤ count }
+    requires most { count ≤ 9 }
+    ensures seats { IfOk result (λ opened. IsDeskOf opened.1 opened.0.items) }
+    ensures count { IfOk result (λ opened. length opened.0.items ≡ count) }
+    ensures desk { IfOk result (λ opened. seat_count opened.1 ≡ count) }
+{
+    let mut seats = Vec::with_capacity(alloc, count)?;
+    let mut posts = Vec::with_capacity(alloc, count)?;
+    for _ in 0..count {
+        let (seat, post) = open_seat(alloc)?;
+        seats.push(seat)?;
+        posts.push(post)?;
+    }
+    Ok((seats, Desk { posts }))
+}

@@ -1,0 +1,66 @@
+//! The station's end of one seat.
+
+ghost use Rattle.std.specs.Prelude.{◌≡◌, ◌<◌, ◌++◌, ◌∷◌, [], length, true, slice_get, Some, IfSome, IfNone, option_map};
+ghost use Rattle.smi_operator.specs.Working.{begun, ending, may_join, ended_at, newest_marked, handed_out, still_in_work};
+ghost use Rattle.smi_operator.specs.Sides.{given, answered, left, room, SamePost};
+
+use crate::ends::Post;
+use crate::handing::hand_out;
+use crate::work::{Ending, Entry, Work, end_at, mark_newest, may_join};
+use smi_grant::Record;
+use smi_station::{Mark, Order};
+
+impl Post {
+    /// Takes the next order into work, where it may join those that are and a place for its answer is free.
+    pub(crate) fn next(&mut self) -> Option<Order>
+        ensures ring { SamePost self.old self.new }
+        ensures may { IfSome result (λ o. may_join self.old.work.items o ≡ true) }
+        ensures work { IfSome result (λ o. self.new.work.items ≡ self.old.work.items ++ begun o ∷ []) }
+        ensures given { IfSome result (λ o. given self.new ≡ given self.old ++ o ∷ []) }
+        ensures none { IfNone result ((self.new.work.items ≡ self.old.work.items) × (given self.new ≡ given self.old)) }
+        ensures answered { answered self.new ≡ answered self.old }
+        ensures succeeds { IfSome (slice_get (left self.old) 0) (λ o. may_join self.old.work.items o ≡ true → length self.old.work.items < room self.old → result ≡ Some o) }
+    {
+        if self.orders.slots() == 0 || self.answers.slots() <= self.work.len() {
+            return None;
+        }
+        let order = *self.orders.peek_known();
+        if !may_join(self.work.as_slice(), order) {
+            return None;
+        }
+        let order = self.orders.pop_known();
+        self.work.push(Entry::begun(order));
+        Some(order)
+    }
+
+    /// The order at this place ends, unless it had. What can be handed out, is.
+    pub(crate) fn answer(&mut self, place: usize, code: u16, asked: Option<Record>)
+        requires { place < length self.old.work.items }
+        ensures ring { SamePost self.old self.new }
+        ensures work { self.new.work.items ≡ still_in_work (ended_at self.old.work.items place (ending code asked)) }
+        ensures answered { answered self.new ≡ answered self.old ++ handed_out (ended_at self.old.work.items place (ending code asked)) }
+        ensures given { given self.new ≡ given self.old }
+    {
+        end_at(self.work.as_mut_slice(), place, Ending { code, asked });
+        hand_out(&mut self.work, &mut self.answers);
+    }
+
+    /// The newest order in work became this command.
+    pub(crate) fn mark(&mut self, mark: Mark)
+        requires { 0 < length self.old.work.items }
+        ensures ring { SamePost self.old self.new }
+        ensures work { self.new.work.items ≡ newest_marked self.old.work.items mark }
+        ensures answered { answered self.new ≡ answered self.old }
+        ensures given { given self.new ≡ given self.old }
+    {
+        mark_newest(self.work.as_mut_slice(), mark);
+    }
+
+    /// The order in work at this place.
+    pub(crate) fn in_work(&self, place: usize) -> Option<Work>
+        ensures { result ≡ option_map (λ e. e.work) (slice_get self.now.work.items place) }
+    {
+        let entry = self.work.as_slice().get(place)?;
+        Some(entry.work)
+    }
+}

@@ -1,0 +1,163 @@
+//! Orders in work, and when a further one may join them.
+
+ghost use Rattle.std.specs.Prelude.{◌≡◌, ◌<◌, IsTrue, length};
+ghost use Rattle.std.specs.List.{list_all};
+ghost use Rattle.smi_operator.specs.Working as spec;
+
+use smi_grant::Record;
+use smi_station::{Mark, Order, Told};
+
+/// How many orders of a seat may be in work at a time.
+pub(crate) const MOST_WORK: usize = 8;
+
+/// An order in work: one that the desk gave, and whose answer was not handed out yet.
+#[derive(Clone, Copy, Debug, PartialEq, Eq)]
+pub struct Work {
+    pub order: Order,
+    /// The command that the order became, where the desk was told of it.
+    pub mark: Option<Mark>,
+}
+
+/// How an order ended.
+#[derive(Clone, Copy, Debug, PartialEq, Eq)]
+pub(crate) struct Ending {
+    pub(crate) code: u16,
+    pub(crate) asked: Option<Record>,
+}
+
+/// An order in work, and how it ended where its answer waits for those of older orders.
+#[derive(Clone, Copy, Debug, PartialEq, Eq)]
+pub(crate) struct Entry {
+    pub(crate) work: Work,
+    pub(crate) ending: Option<Ending>,
+}
+
+/// What stands where no order is in work.
+impl Default for Entry {
+    fn default() -> Entry {
+        Entry::begun(Order::Ask(0))
+    }
+}
+
+impl Entry {
+    ghost use Rattle.std.specs.Prelude.{◌≡◌, option_map};
+    ghost use Rattle.smi_operator.specs.Working.{begun, ended_by, marked_by, told_of};
+
+    /// An order comes into work.
+    pub(crate) fn begun(order: Order) -> Entry
+        ensures { result ≡ begun order }
+    {
+        Entry {
+            work: Work { order, mark: None },
+            ending: None,
+        }
+    }
+
+    /// The order has ended. One that had ended before stays so.
+    pub(crate) fn ended_by(self, ending: Ending) -> Entry
+        ensures { result ≡ ended_by self ending }
+    {
+        match self.ending {
+            Some(_) => self,
+            None => Entry {
+                work: self.work,
+                ending: Some(ending),
+            },
+        }
+    }
+
+    /// The order became this command.
+    pub(crate) fn marked_by(self, mark: Mark) -> Entry
+        ensures { result ≡ marked_by self mark }
+    {
+        Entry {
+            work: Work {
+                order: self.work.order,
+                mark: Some(mark),
+            },
+            ending: self.ending,
+        }
+    }
+
+    /// What the operator is told, where the order has ended.
+    pub(crate) fn told(self) -> Option<Told>
+        ensures { result ≡ option_map (told_of self.work.order) self.ending }
+    {
+        let ending = self.ending?;
+        Some(Told {
+            order: self.work.order,
+            code: ending.code,
+            asked: ending.asked,
+        })
+    }
+}
+
+/// The order at this place ends, unless it had.
+pub(crate) fn end_at(work: &mut [Entry], place: usize, ending: Ending)
+    requires { place < length work.old }
+    ensures { work.new ≡ spec.ended_at work.old place ending }
+{
+    work[place] = work[place].ended_by(ending);
+}
+
+/// The newest order became this command.
+pub(crate) fn mark_newest(work: &mut [Entry], mark: Mark)
+    requires { 0 < length work.old }
+    ensures { work.new ≡ spec.newest_marked work.old mark }
+{
+    let newest = work.len() - 1;
+    work[newest] = work[newest].marked_by(mark);
+}
+
+/// The domain that an order commands, none where it is no command.
+fn commanded(order: Order) -> Option<u16>
+    ensures { result ≡ spec.commanded order }
+{
+    match order {
+        Order::Do(domain, _)
+        | Order::Include(domain, _)
+        | Order::Exclude(domain, _)
+        | Order::Manual(domain, _)
+        | Order::Ignore(domain, _) => Some(domain),
+        Order::Take(_)
+        | Order::Drop(_)
+        | Order::Ask(_)
+        | Order::Watch(_)
+        | Order::Unwatch(_)
+        | Order::Report(_, _) => None,
+    }
+}
+
+fn is_on(order: Order, domain: u16) -> bool
+    ensures { result ≡ spec.is_on domain order }
+{
+    match commanded(order) {
+        Some(other) => other == domain,
+        None => false,
+    }
+}
+
+fn are_on(work: &[Entry], domain: u16) -> bool
+    ensures { result ≡ list_all (λ e. spec.is_on domain e.work.order) work.now }
+{
+    work.iter().all(|entry| is_on(entry.work.order, domain))
+}
+
+/// Whether a command on this domain may come into work beside these.
+fn is_further(domain: Option<u16>, work: &[Entry]) -> bool
+    ensures value { result ≡ spec.is_further domain work.now }
+    ensures room { IsTrue result → length work.now < spec.most_work }
+{
+    match domain {
+        Some(domain) => work.len() < MOST_WORK && are_on(work, domain),
+        None => false,
+    }
+}
+
+/// Whether an order may come into work beside these.
+pub(crate) fn may_join(work: &[Entry], order: Order) -> bool
+    ensures value { result ≡ spec.may_join work.now order }
+    ensures room { IsTrue result → length work.now < spec.most_work }
+{
+    work.is_empty() || is_further(commanded(order), work)
+}
