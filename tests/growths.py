@@ -22,7 +22,7 @@ RUNS = [
 MOST_GROWTHS = 100_000
 
 # The layers whose objects smi_trial makes and changes.
-LAYERS = ["watchers", "link", "view", "publish", "board", "rows", "memory", "sql"]
+LAYERS = ["watchers", "link", "view", "publish", "board", "seats", "rows", "memory", "sql"]
 
 
 def library(folder):

@@ -6,6 +6,7 @@ use crate::outcome::Outcome;
 use crate::{rows, stores};
 use smi_grant::{Shown, Version};
 use smi_link::{DatagramLink, MemoryLink, Reception};
+use smi_operator::open_seats;
 use smi_publish::Publisher;
 use smi_tree::Tree;
 use smi_view::{Board, Glance, View, open_board};
@@ -20,6 +21,7 @@ pub(crate) fn of<R: Wait>(rt: &R, alloc: Global, layer: &str) -> Outcome {
         "view" => view(alloc),
         "publish" | "rows" => over_tree(alloc, layer),
         "board" => board(rt, alloc),
+        "seats" => seats(alloc),
         "memory" => stores::memory(alloc),
         "sql" => stores::sql(alloc),
         _ => Outcome::Changed,
@@ -210,6 +212,16 @@ fn publisher(alloc: Global, tree: &Tree) -> Outcome {
         Ok(publisher) => Outcome::of(publisher.current(3).is_some()),
         Err(_) => match Publisher::new(alloc, tree, 1, 1) {
             Ok(publisher) => Outcome::again(publisher.current(3).is_some(), true),
+            Err(_) => Outcome::Changed,
+        },
+    }
+}
+
+fn seats(alloc: Global) -> Outcome {
+    match open_seats(alloc, 9) {
+        Ok((seats, _)) => Outcome::of(seats.len() == 9),
+        Err(_) => match open_seats(alloc, 9) {
+            Ok((seats, _)) => Outcome::again(true, seats.len() == 9),
             Err(_) => Outcome::Changed,
         },
     }
