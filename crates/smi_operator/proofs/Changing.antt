@@ -1,5 +1,5 @@
 -- An entry changes in its place, and all orders in work stay.
-use Rattle.std.proofs.Common.{◌≡◌, ℕ, ◌<◌, List, ◌++◌, length, get_or, map, take, refl, ap, ◌∙◌, arith}
+use Rattle.std.proofs.Common.{◌≡◌, ℕ, ◌<◌, ◌≤◌, List, ◌++◌, length, get_or, map, take, refl, ap, ◌∙◌, arith}
 use Rattle.std.proofs.Math.ListN.{set, drop_of_length-le}
 use Rattle.std.proofs.Math.Seq.{map-set_same}
 use Rattle.std.proofs.lemmas.List.{append-nil, append_assoc, map-append, take_all, length-set}
@@ -10,7 +10,7 @@ use Rattle.smi_station.specs.declared.order.Order.TheVariants as order
 use Rattle.smi_station.specs.declared.order.Told.{Told}
 use Rattle.smi_operator.specs.declared.work.Entry.{Entry}
 use Rattle.smi_operator.specs.Working.{begun, changed_at, handed_out, still_in_work, order_in, order_told}
-use Rattle.smi_operator.proofs.Fronts.{orders_stay}
+use Rattle.smi_operator.proofs.Fronts.{orders_stay, fewer_stay}
 
 -- a slice of all items, written back, is all items
 refilled : (xs ws : List Entry) → length ws ≡ length xs → refill (length xs) xs ws ≡ ws
@@ -49,3 +49,7 @@ pub answered_in_order : (told new_told : List Told) (xs ws stay : List Entry) (o
     → map order_told new_told ++ map order_in stay ≡ orders
 answered_in_order told new_told xs ws stay orders all same handed stays =
     rw (handed, stays, map-append order_told told (handed_out ws), append_assoc (map order_told told) (map order_told (handed_out ws)) (map order_in (still_in_work ws)), orders_stay ws, same) all
+
+-- and no more stay than there were
+pub answered_few : (xs ws stay : List Entry) (most : ℕ) → length xs ≤ most → length ws ≡ length xs → stay ≡ still_in_work ws → length stay ≤ most
+answered_few xs ws stay most few same stays = rw stays (omega (arith, few, same, fewer_stay ws))

@@ -1,5 +1,5 @@
 -- Answers are handed out one by one.
-use Rattle.std.proofs.Common.{◌≡◌, ◌<◌, List, [], ◌∷◌, ◌++◌, length, map, refl, ap, arith}
+use Rattle.std.proofs.Common.{◌≡◌, ◌<◌, ◌≤◌, List, [], ◌∷◌, ◌++◌, length, map, refl, ap, arith}
 use Rattle.std.specs.Prelude.{Option, Some, None, option_map, remove}
 use Rattle.smi_station.specs.declared.order.Told.{Told}
 use Rattle.smi_operator.specs.declared.work.Ending.{Ending}
@@ -39,3 +39,13 @@ orders_at e (Some x) more rest = ap (λ orders. e.work.order ∷ orders) rest
 pub orders_stay : (work : List Entry) → map order_told (handed_out work) ++ map order_in (still_in_work work) ≡ map order_in work
 orders_stay [] = refl
 orders_stay (e ∷ more) = orders_at e e.ending more (orders_stay more)
+
+-- no more stay than were in work
+fewer_at : (e : Entry) (x : Option Ending) (more : List Entry) → length (still_in_work more) ≤ length more
+    → length (staying x (e ∷ more) (still_in_work more)) ≤ length (e ∷ more)
+fewer_at e None more rest = omega arith
+fewer_at e (Some x) more rest = omega (arith, rest)
+
+pub fewer_stay : (work : List Entry) → length (still_in_work work) ≤ length work
+fewer_stay [] = omega arith
+fewer_stay (e ∷ more) = fewer_at e e.ending more (fewer_stay more)

@@ -2,7 +2,7 @@
 
 ghost use Rattle.std.specs.Prelude.{◌≡◌, ◌+◌, ◌≤◌, ◌++◌, map, length};
 ghost use Rattle.rtrb.specs.Ring.{sent, received, known_free, producer_capacity};
-ghost use Rattle.smi_operator.specs.Working.{order_told, order_in};
+ghost use Rattle.smi_operator.specs.Working.{most_work, order_told, order_in};
 
 use crate::work::{Entry, MOST_WORK};
 use arrayvec::ArrayVec;
@@ -27,6 +27,7 @@ pub struct Post {
     // The orders of what was answered, and those in work, are those that were given.
     ghost in_order: { map order_told (sent answers) ++ map order_in work.items ≡ received orders },
     ghost size: { producer_capacity answers ≡ 16 },
+    ghost few: { length work.items ≤ most_work },
     // Each order in work has a place for its answer.
     ghost place: { length work.items ≤ known_free answers },
 }

@@ -1,7 +1,7 @@
 use Rattle.std.proofs.Common.{refl, ap, ◌∙◌}
 use Rattle.rtrb.specs.Ring.{sent, received}
-use Rattle.smi_operator.specs.Working.{ended_at, ended_by, ending}
-use Rattle.smi_operator.proofs.Changing.{written_orders, answered_in_order}
+use Rattle.smi_operator.specs.Working.{most_work, ended_at, ended_by, ending}
+use Rattle.smi_operator.proofs.Changing.{written_orders, written_length, answered_in_order, answered_few}
 use Rattle.smi_operator.proofs.ends.Post.answer.Goals as goal
 
 pub invariant_of-self : goal.invariant_of-self
@@ -17,5 +17,9 @@ invariant_of-self c =
           c.hand_out.ensures.sent
           c.hand_out.ensures.work;
       size = c.hand_out.ensures.ring.1 ∙ c.args.self.now.size;
+      few =
+          answered_few xs _ c.hand_out.new.work.items most_work c.args.self.now.few
+          (written_length (λ e. ended_by e x) c.args.place xs c.end_at.new.work c.requires is)
+          c.hand_out.ensures.work;
       place = c.hand_out.ensures.room;
     }

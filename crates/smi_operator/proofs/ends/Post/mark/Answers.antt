@@ -15,5 +15,6 @@ invariant_of-self c =
           (written_orders (λ e. marked_by e c.args.mark) (length xs - 1) xs c.mark_newest.new.work within is (λ e. refl))
           ∙ c.args.self.now.in_order;
       size = c.args.self.now.size;
+      few = rw (written_length (λ e. marked_by e c.args.mark) (length xs - 1) xs c.mark_newest.new.work within is) c.args.self.now.few;
       place = rw (written_length (λ e. marked_by e c.args.mark) (length xs - 1) xs c.mark_newest.new.work within is) c.args.self.now.place;
     }
