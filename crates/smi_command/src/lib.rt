@@ -25,6 +25,3 @@ pub use order::{Refusal, begin_drop, begin_take, issue};
 pub use pending::{MOST_PENDING, Pending};
 pub use sending::due;
 pub use settlements::{Settlement, Settlements, UNSEEN};
-
-#[cfg(test)]
-mod tests;

@@ -1,0 +1,16 @@
+pub mod Lists
+pub mod Tables
+pub mod SoundLinks
+pub mod SoundTables
+pub mod SoundChildren
+pub mod SoundRuns
+pub mod SoundRecords
+pub mod Counts
+pub mod SoundOrders
+pub mod SoundTells
+pub mod SoundSteps
+pub mod SoundOpening
+pub mod Ranges
+pub mod SendsInRange
+pub mod RowsRead
+pub mod RowsMean

@@ -1,0 +1,34 @@
+-- Words in which the examples over the worked tree are written.
+use Rattle.std.specs.Prelude.{ℕ, None}
+use Rattle.smi_protocol.specs.Played.{Act, OrderAt}
+use Rattle.smi_protocol.specs.Happening.{told}
+use Rattle.smi_protocol.specs.declared.order.Order.{Order}
+use Rattle.smi_protocol.specs.declared.entry.Entry.{Entry}
+use Rattle.smi_protocol.specs.declared.entry.Entry.TheVariants as entry
+use Rattle.smi_protocol.specs.examples.WorkedTree.{A, B, ANN, BOB}
+
+-- ANN orders at station A
+abbrev pub ann : Order → Act
+ann what = OrderAt A ANN what
+
+-- BOB orders at station B
+abbrev pub bob : Order → Act
+bob what = OrderAt B BOB what
+
+-- ANN is told the code of her order
+abbrev pub ann_told : Order → ℕ → Entry
+ann_told what code = entry.Told ANN (told what code None)
+
+-- BOB is told the code of his order
+abbrev pub bob_told : Order → ℕ → Entry
+bob_told what code = entry.Told BOB (told what code None)
+
+-- an object in a version shows a state
+abbrev pub passed : ℕ → ℕ → ℕ → ℕ → Entry
+passed x boot sequence state =
+    entry.Passed (record { object = x; version = record { boot = boot; sequence = sequence }; state = state })
+
+-- a station is shown an object in a version and a state
+abbrev pub showed : ℕ → ℕ → ℕ → ℕ → ℕ → Entry
+showed station x boot sequence state =
+    entry.Showed station (record { object = x; version = record { boot = boot; sequence = sequence }; state = state })

@@ -1,7 +1,0 @@
-pub mod Examples
-pub mod Failing
-pub mod Known
-pub mod Safe
-pub mod Schedule
-pub mod Trace
-pub mod World
