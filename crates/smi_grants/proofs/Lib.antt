@@ -1,0 +1,7 @@
+mod Tables
+mod Listing
+mod Verdicts
+mod Among
+mod ChildTables
+mod Ordered
+mod Heard

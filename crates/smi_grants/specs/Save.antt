@@ -1,0 +1,34 @@
+-- What a step that saves a row comes to.
+use Rattle.std.specs.Prelude.{◌⊎◌, Result, Ok, Err, OnOk, Option}
+use Rattle.smi_rows.specs.Store.{Rows, Saved, IsSame}
+use Rattle.smi_protocol.specs.declared.event.Heard.{Heard}
+use Rattle.smi_grants.specs.Change.{with_saved}
+use Rattle.smi_protocol.specs.declared.event.StepFault.{StepFault}
+use Rattle.smi_protocol.specs.declared.event.StepFault.TheVariants.{NotStored, Stopped, Memory}
+
+-- nothing was saved, and that is known
+abbrev pub IfKept : {X : Type 0} → Result X StepFault → Type 0 → Type 0
+IfKept (Ok x) P = Unit {0}
+IfKept (Err NotStored) P = P
+IfKept (Err Stopped) P = Unit {0}
+IfKept (Err Memory) P = P
+
+-- nobody knows whether the row was saved
+abbrev pub IfStopped : {X : Type 0} → Result X StepFault → Type 0 → Type 0
+IfStopped (Ok x) P = Unit {0}
+IfStopped (Err NotStored) P = Unit {0}
+IfStopped (Err Stopped) P = P
+IfStopped (Err Memory) P = Unit {0}
+
+-- the store failed
+abbrev pub IfCounted : {X : Type 0} → Result X StepFault → Type 0 → Type 0
+IfCounted (Ok x) P = Unit {0}
+IfCounted (Err NotStored) P = P
+IfCounted (Err Stopped) P = P
+IfCounted (Err Memory) P = Unit {0}
+
+-- what a step leaves in its store, which it was given honest and open, where this row is saved
+pub record Leaves (honest before_open after_open : Type 0) (before after : Rows) (r : Result Heard StepFault) (row : Option Saved) : Type 0 where
+  pub saved : honest → before_open → OnOk r (after_open × IsSame after (with_saved row before))
+  pub kept : honest → IfKept r (before_open → after_open × IsSame after before)
+  pub unsure : honest → after_open → IfStopped r (IsSame after before ⊎ IsSame after (with_saved row before))

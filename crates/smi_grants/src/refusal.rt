@@ -1,0 +1,284 @@
+//! What a station refuses, by the first test that fails (docs/PROTOCOL.md, "Refusals" and "Orders").
+
+ghost use Rattle.std.specs.Prelude.{◌≡◌};
+ghost use Rattle.smi_protocol.specs.Messages.{holder_station};
+ghost use Rattle.smi_protocol.specs.Refusals as spec;
+ghost use Rattle.smi_publish.specs.Publishing as publishing;
+ghost use Rattle.smi_rows.specs.Known as known;
+
+use crate::kept::Kept;
+use smi_command::{Link, begin_drop, begin_take, issue};
+use smi_grant::{Command, Holder};
+use smi_message::{Body, Datagram};
+use smi_protocol::Order;
+use smi_tables::is_keeper;
+use smi_tree::Tree;
+
+/// So many links of an operator may be not out at a time.
+pub const MOST_LINKS: u16 = 16;
+
+/// Why a station does not take a datagram: 7 it is of another tree, 8 for another station, 9 it names what the
+/// tree does not have, or not there.
+pub fn refusal_of_message(tree: &Tree, number: u16, datagram: &Datagram) -> Option<u16>
+    ensures { result ≡ spec.refusal_of_message tree.now number datagram.now }
+{
+    if datagram.tree != tree.number() {
+        return Some(7);
+    }
+    if datagram.to != number {
+        return Some(8);
+    }
+    let is_there = 1 <= datagram.from
+        && datagram.from <= tree.station_count()
+        && is_body_of(tree, datagram.from, datagram.to, &datagram.body);
+    if is_there { None } else { Some(9) }
+}
+
+/// Whether what a datagram names is there, and is kept by the station that its kind requires.
+fn is_body_of(tree: &Tree, from: u16, to: u16, body: &Body) -> bool
+    ensures { result ≡ spec.is_body_of tree.now from to body.now }
+{
+    match *body {
+        Body::Ask(domain) => is_keeper(tree, to, domain),
+        Body::Take(domain, holder, _) | Body::Drop(domain, holder, _) => {
+            is_keeper(tree, to, domain) && speaks_for(tree, from, domain, holder)
+        }
+        Body::Run(domain, holder, _, _, command) => {
+            is_keeper(tree, to, domain)
+                && speaks_for(tree, from, domain, holder)
+                && is_command_of(tree, command)
+        }
+        Body::Tell(domain, told) => {
+            is_keeper(tree, from, domain) && is_holder_of(tree, domain, told.holder)
+        }
+        Body::Watch(object, _) | Body::Unwatch(object, _) => is_kept_by(tree, to, object),
+        Body::State(object, _, _, state) => {
+            is_kept_by(tree, from, object) && state <= tree.state_count()
+        }
+    }
+}
+
+/// Whether a station may speak for a holder of the domain.
+fn speaks_for(tree: &Tree, from: u16, domain: u16, holder: Holder) -> bool
+    ensures { result ≡ spec.speaks_for tree.now from domain holder }
+{
+    is_holder_of(tree, domain, holder) && is_at(tree, holder, from)
+}
+
+/// Whether a holder's station is this one.
+fn is_at(tree: &Tree, holder: Holder, station: u16) -> bool
+    ensures { result ≡ known.is_number (holder_station tree.now holder) station }
+{
+    match holder {
+        Holder::Free => false,
+        Holder::Operator(operator) => {
+            1 <= operator
+                && operator <= tree.operator_count()
+                && tree.operator_station(operator) == station
+        }
+        Holder::Domain(domain) => is_keeper(tree, station, domain),
+    }
+}
+
+/// Whether the holder may hold the domain.
+fn is_holder_of(tree: &Tree, domain: u16, holder: Holder) -> bool
+    ensures { result ≡ known.is_holder_of tree.now domain holder }
+{
+    match holder {
+        Holder::Free => true,
+        Holder::Operator(operator) => operator <= tree.operator_count(),
+        Holder::Domain(above) => match tree.parent(domain) {
+            Some(parent) => parent == above,
+            None => false,
+        },
+    }
+}
+
+/// Whether the tree has the command's action or target.
+fn is_command_of(tree: &Tree, command: Command) -> bool
+    ensures { result ≡ known.is_command_of tree.now command }
+{
+    match command {
+        Command::Do(action) => action <= tree.action_count(),
+        Command::Include(target)
+        | Command::Exclude(target)
+        | Command::Manual(target)
+        | Command::Ignore(target) => target <= tree.domain_count(),
+    }
+}
+
+/// Whether a station keeps an object.
+fn is_kept_by(tree: &Tree, station: u16, object: u16) -> bool
+    ensures { result ≡ publishing.is_kept_by tree.now station object }
+{
+    let domains = tree.domain_count();
+    if object <= domains {
+        return is_keeper(tree, station, object);
+    }
+    if object - domains > tree.device_count() {
+        return false;
+    }
+    is_keeper(tree, station, tree.device(object - domains).domain)
+}
+
+/// Whether the tree has a domain.
+fn has_domain(tree: &Tree, domain: u16) -> bool
+    ensures { result ≡ spec.has_domain tree.now domain }
+{
+    1 <= domain && domain <= tree.domain_count()
+}
+
+/// Whether the tree has an object.
+fn has_object(tree: &Tree, object: u16) -> bool
+    ensures { result ≡ spec.has_object tree.now object }
+{
+    1 <= object && object <= tree.object_count()
+}
+
+/// Whether the tree has what an order names.
+fn is_order_of(tree: &Tree, order: &Order) -> bool
+    ensures { result ≡ spec.is_order_of tree.now order.now }
+{
+    match *order {
+        Order::Take(domain) | Order::Drop(domain) | Order::Ask(domain) => has_domain(tree, domain),
+        Order::Do(domain, action) => {
+            has_domain(tree, domain) && 1 <= action && action <= tree.action_count()
+        }
+        Order::Include(domain, target)
+        | Order::Exclude(domain, target)
+        | Order::Manual(domain, target)
+        | Order::Ignore(domain, target) => has_domain(tree, domain) && has_domain(tree, target),
+        Order::Watch(object) | Order::Unwatch(object) => has_object(tree, object),
+        Order::Report(_, _) => false,
+    }
+}
+
+/// Whether the operator is the station's, and the tree has what the order names.
+fn is_order_here(tree: &Tree, number: u16, operator: u16, order: &Order) -> bool
+    ensures { result ≡ spec.is_order_here tree.now number operator order.now }
+{
+    is_at(tree, Holder::Operator(operator), number) && is_order_of(tree, order)
+}
+
+/// Whether the station keeps the device, and the tree has the state.
+pub fn is_report_here(tree: &Tree, number: u16, device: u16, state: u16) -> bool
+    ensures { result ≡ spec.is_report_here tree.now number device state }
+{
+    1 <= device
+        && device <= tree.device_count()
+        && is_kept_by(tree, number, tree.domain_count() + device)
+        && 1 <= state
+        && state <= tree.state_count()
+}
+
+/// The refusal, where a link refuses.
+fn why_not(link: Result<Link, u16>) -> Option<u16>
+    ensures { result ≡ spec.why_not link }
+{
+    match link {
+        Ok(_) => None,
+        Err(code) => Some(code),
+    }
+}
+
+/// Whether nobody holds by the link, nor asks for the domain.
+fn is_out(link: &Link) -> bool
+    ensures { result ≡ is_out link.now }
+{
+    match link {
+        Link::Out(_) => true,
+        _ => false,
+    }
+}
+
+ghost use Rattle.smi_rows.specs.Stored.{is_out};
+
+impl<'a> Kept<'a> {
+    ghost use Rattle.std.specs.Prelude.{◌≡◌};
+    ghost use Rattle.smi_protocol.specs.Happening.{Orders};
+    ghost use Rattle.smi_protocol.specs.Refusals as spec;
+    ghost use Rattle.smi_grants.specs.Kept.{grants_of};
+
+    /// Why a station does not take an order, if it does not: 21 to 26.
+    pub fn refusal_of_order(&self, operator: u16, order: &Order) -> Option<u16>
+        ensures { result ≡ spec.refusal_of self.now.tree self.now.number (grants_of self.now) (Orders operator order.now) }
+    {
+        if is_order_here(self.tree(), self.number, operator, order) {
+            self.refusal_by_link(operator, order)
+        } else {
+            Some(26)
+        }
+    }
+
+    /// Why the operator's link does not take an order, if it does not.
+    fn refusal_by_link(&self, operator: u16, order: &Order) -> Option<u16>
+        ensures { result ≡ spec.refusal_by_link self.now.tree (grants_of self.now) operator order.now }
+    {
+        match *order {
+            Order::Take(domain) => self.take_refusal(operator, domain),
+            Order::Drop(domain) => why_not(begin_drop(&self.link(
+                Holder::Operator(operator),
+                domain,
+            ))),
+            Order::Do(domain, action) => self.command_refusal(
+                operator,
+                domain,
+                Command::Do(action),
+            ),
+            Order::Include(domain, target) => self.command_refusal(
+                operator,
+                domain,
+                Command::Include(target),
+            ),
+            Order::Exclude(domain, target) => self.command_refusal(
+                operator,
+                domain,
+                Command::Exclude(target),
+            ),
+            Order::Manual(domain, target) => self.command_refusal(
+                operator,
+                domain,
+                Command::Manual(target),
+            ),
+            Order::Ignore(domain, target) => self.command_refusal(
+                operator,
+                domain,
+                Command::Ignore(target),
+            ),
+            Order::Ask(_) | Order::Watch(_) | Order::Unwatch(_) | Order::Report(_, _) => None,
+        }
+    }
+
+    fn take_refusal(&self, operator: u16, domain: u16) -> Option<u16>
+        ensures { result ≡ spec.take_refusal self.now.tree (grants_of self.now) operator domain }
+    {
+        match why_not(begin_take(&self.link(Holder::Operator(operator), domain))) {
+            Some(code) => Some(code),
+            None => if self.links_in_use(operator) >= MOST_LINKS {
+                Some(25)
+            } else {
+                None
+            },
+        }
+    }
+
+    fn command_refusal(&self, operator: u16, domain: u16, command: Command) -> Option<u16>
+        ensures { result ≡ spec.command_refusal (grants_of self.now) operator domain command }
+    {
+        why_not(issue(&self.link(Holder::Operator(operator), domain), command))
+    }
+
+    /// How many links of an operator are not out.
+    fn links_in_use(&self, operator: u16) -> u16
+        ensures { result ≡ spec.links_in_use self.now.tree (grants_of self.now) operator }
+    {
+        let holder = Holder::Operator(operator);
+        let mut count = 0;
+        for place in 0..self.tree().domain_count() {
+            if !is_out(&self.link(holder, place + 1)) {
+                count += 1;
+            }
+        }
+        count
+    }
+}

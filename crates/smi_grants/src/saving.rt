@@ -1,0 +1,75 @@
+//! A change is saved, and then made.
+
+ghost use Rattle.std.specs.Prelude.{◌≡◌, ◌⊎◌, ◌<◌, ◌≤◌, ◌+◌, OnOk, OnErr, IfOk, IfErr, Some};
+ghost use Rattle.smi_rows.specs.Store.{Rows, IsSame, with_row};
+ghost use Rattle.smi_protocol.specs.Step.{heard_of};
+ghost use Rattle.smi_grants.specs.Kept.{grants_of};
+ghost use Rattle.smi_grants.specs.Change.{changed, saved_by, with_saved, IsChange};
+ghost use Rattle.smi_grants.specs.Save.{IfKept, IfStopped, IfCounted};
+
+use crate::after::After;
+use crate::change::Change;
+use crate::kept::Kept;
+use smi_protocol::{Heard, StepFault};
+use smi_rows::{SavedRow, Stable, StoreFault};
+
+/// A row is saved, if there is one.
+pub fn save<S: Stable>(store: &mut S, row: &Option<SavedRow>) -> Result<Heard, StepFault>
+    ensures heard { IfOk result (λ heard. heard ≡ heard_of row.now) }
+    ensures saved { S.is_honest store.new → S.is_open store.old → OnOk result (S.is_open store.new × IsSame (S.rows store.new) (with_saved row.now (S.rows store.old))) }
+    ensures kept { S.is_honest store.new → IfKept result (S.is_open store.old → S.is_open store.new × IsSame (S.rows store.new) (S.rows store.old)) }
+    ensures unsure { S.is_honest store.new → S.is_open store.new → IfStopped result (IsSame (S.rows store.new) (S.rows store.old) ⊎ IsSame (S.rows store.new) (with_saved row.now (S.rows store.old))) }
+    ensures crash { S.is_honest store.new → S.is_open store.old → (r : Rows) → S.may_find store.new r → IsSame r (S.rows store.old) ⊎ IsSame r (with_saved row.now (S.rows store.old)) }
+    ensures honest { S.is_honest store.new → S.is_honest store.old }
+    ensures saves { S.saves store.new ≤ S.saves store.old + 1 }
+    ensures failures { S.failures store.old ≤ S.failures store.new }
+    ensures cause { IfCounted result (S.failures store.old < S.failures store.new) }
+{
+    match row {
+        None => Ok(Heard::Same),
+        Some(row) => match store.save(row.key, &row.bytes) {
+            Ok(()) => Ok(Heard::Done),
+            Err(StoreFault::Memory) => Err(StepFault::Memory),
+            Err(StoreFault::Device) => Err(StepFault::NotStored),
+            Err(StoreFault::Unsure) => Err(StepFault::Stopped),
+        },
+    }
+}
+
+/// A change is saved and then made; what a fault leaves is what was there.
+pub fn carry_out<S: Stable>(
+    kept: &mut Kept<'_>,
+    store: &mut S,
+    change: &Change,
+) -> Result<Heard, StepFault>
+    requires { IsChange kept.old.tree kept.old.number change.now }
+    ensures grants { OnOk result (grants_of kept.new ≡ changed kept.old.tree (grants_of kept.old) change.now) }
+    ensures tree { OnOk result ((kept.new.tree ≡ kept.old.tree) × (kept.new.number ≡ kept.old.number)) }
+    ensures unchanged { OnErr result (kept.new ≡ kept.old) }
+    ensures heard { IfOk result (λ heard. heard ≡ heard_of (saved_by kept.old.tree kept.old.number (grants_of kept.old) change.now)) }
+    ensures saved { S.is_honest store.new → S.is_open store.old → OnOk result (S.is_open store.new × IsSame (S.rows store.new) (with_saved (saved_by kept.old.tree kept.old.number (grants_of kept.old) change.now) (S.rows store.old))) }
+    ensures kept { S.is_honest store.new → IfKept result (S.is_open store.old → S.is_open store.new × IsSame (S.rows store.new) (S.rows store.old)) }
+    ensures unsure { S.is_honest store.new → S.is_open store.new → IfStopped result (IsSame (S.rows store.new) (S.rows store.old) ⊎ IsSame (S.rows store.new) (with_saved (saved_by kept.old.tree kept.old.number (grants_of kept.old) change.now) (S.rows store.old))) }
+    ensures honest { S.is_honest store.new → S.is_honest store.old }
+    ensures saves { S.saves store.new ≤ S.saves store.old + 1 }
+    ensures failures { S.failures store.old ≤ S.failures store.new }
+    ensures cause { IfCounted result (S.failures store.old < S.failures store.new) }
+{
+    let row = planned_row(kept, change)?;
+    let heard = save(store, &row)?;
+    kept.commit(change);
+    Ok(heard)
+}
+
+/// The row that a change has saved, if any.
+fn planned_row(kept: &Kept<'_>, change: &Change) -> Result<Option<SavedRow>, StepFault>
+    requires { IsChange kept.now.tree kept.now.number change.now }
+    ensures row { IfOk result (λ row. row ≡ saved_by kept.now.tree kept.now.number (grants_of kept.now) change.now) }
+    ensures fault { IfErr result (λ fault. fault ≡ StepFault.Memory) }
+{
+    let after = After::of(kept, change);
+    match after.row(kept.alloc()) {
+        Ok(row) => Ok(row),
+        Err(_) => Err(StepFault::Memory),
+    }
+}
