@@ -1,5 +1,5 @@
 -- What any link shows of its datagrams.
-use Rattle.std.specs.Prelude.{ℕ, ◌≡◌, ◌≤◌, ◌++◌, ◌∷◌, [], List, take, Option, Some, IfSome, Result, Ok, Err}
+use Rattle.std.specs.Prelude.{ℕ, ◌≡◌, ◌≤◌, ◌+◌, ◌++◌, ◌∷◌, [], List, take, Option, Some, IfSome, Result, Ok, Err}
 use Rattle.smi_link.specs.declared.link.Reception.{Reception}
 use Rattle.smi_link.specs.declared.link.Reception.TheVariants.{Received, Nothing, Fault}
 
@@ -17,10 +17,15 @@ Receives old new buffer (Received n) = (n ≤ most_bytes) × Grows old new (take
 Receives old new buffer Nothing = new ≡ old
 Receives old new buffer Fault = new ≡ old
 
-abbrev pub IsFault : Reception → Type 0
-IsFault (Received n) = ⊥
-IsFault Nothing = ⊥
-IsFault Fault = Unit {0}
+-- a fault is counted once, and nothing else is
+abbrev pub CountsReception : Reception → ℕ → ℕ → Type 0
+CountsReception (Received n) old new = new ≡ old
+CountsReception Nothing old new = new ≡ old
+CountsReception Fault old new = new ≡ old + 1
+
+abbrev pub CountsSend : {E : Type 0} → Result (Unit {0}) E → ℕ → ℕ → Type 0
+CountsSend (Ok u) old new = new ≡ old
+CountsSend (Err e) old new = new ≡ old + 1
 
 -- what was handed on grows by just what is taken
 abbrev pub Sends : {E : Type 0} → Option (List (ℕ × List ℕ)) → Option (List (ℕ × List ℕ)) → ℕ → List ℕ → Result (Unit {0}) E → Type 0

@@ -5,9 +5,10 @@
 //! [`UdpLink`] is the link of a running node, [`MemoryLink`] one whose datagrams a test puts in and
 //! reads.
 //!
-//! The layer above may rely on this: a fault comes only where the link's count of failures rose in that
-//! call; and where a link tells its datagrams, as `MemoryLink` does, what it received and what it handed
-//! on grow by just what the calls gave and took. A caller over any link is proved once, from the trait.
+//! The layer above may rely on this: each fault raises the link's count of failures by one, and nothing
+//! else does; and where a link tells its datagrams, as `MemoryLink` does, what it received and what it
+//! handed on grow by just what the calls gave and took. A caller over any link is proved once, from the
+//! trait.
 #![tactic(auto)]
 
 mod frame;

@@ -1,7 +1,7 @@
 //! What a link is to whoever sends and receives over it.
 
-ghost use Rattle.std.specs.Prelude.{ℕ, List, Option, ◌≡◌, ◌≤◌, ◌<◌, OnErr};
-ghost use Rattle.smi_link.specs.Link.{Receives, Sends, IsFault};
+ghost use Rattle.std.specs.Prelude.{ℕ, List, Option, ◌≡◌};
+ghost use Rattle.smi_link.specs.Link.{Receives, Sends, CountsReception, CountsSend};
 
 /// How many bytes a datagram has (docs/FORMATS.md, "Datagrams").
 pub const DATAGRAM_BYTES: usize = 44;
@@ -29,8 +29,8 @@ pub struct LinkFault;
 ///
 /// Contracts see three things of a link. *Received* is the list of all that `receive` gave as received,
 /// and *handed* the list of the stations and datagrams for which `send` answered `Ok`; a link that does
-/// not tell its datagrams has none of the two. *Failures* is a count that has no last value: a fault
-/// comes only where it rose in that call.
+/// not tell its datagrams has none of the two. *Failures* is a count that has no last value: each fault
+/// raises it by one, and nothing else does.
 pub trait DatagramLink {
     ghost received: { Self → Option (List (List ℕ)) };
 
@@ -44,8 +44,7 @@ pub trait DatagramLink {
     fn receive(&mut self, buffer: &mut [u8; 45]) -> Reception
         ensures received { Receives (received self.old) (received self.new) buffer.new result }
         ensures handed { handed self.new ≡ handed self.old }
-        ensures counts { failures self.old ≤ failures self.new }
-        ensures fault { IsFault result → failures self.old < failures self.new };
+        ensures failures { CountsReception result (failures self.old) (failures self.new) };
 
     /// Hands a datagram on to a station.
     ///
@@ -53,6 +52,5 @@ pub trait DatagramLink {
     fn send(&mut self, station: u16, datagram: &[u8; 44]) -> Result<(), LinkFault>
         ensures handed { Sends (handed self.old) (handed self.new) station datagram.now result }
         ensures received { received self.new ≡ received self.old }
-        ensures counts { failures self.old ≤ failures self.new }
-        ensures fault { OnErr result (failures self.old < failures self.new) };
+        ensures failures { CountsSend result (failures self.old) (failures self.new) };
 }

@@ -93,8 +93,8 @@ impl MemoryLink {
 }
 
 impl DatagramLink for MemoryLink {
-    ghost use Rattle.std.specs.Prelude.{Some, ◌≡◌, ◌≤◌, ◌<◌, OnErr, IsErr, IsTrue};
-    ghost use Rattle.smi_link.specs.Link.{Receives, Sends, IsFault};
+    ghost use Rattle.std.specs.Prelude.{Some, ◌≡◌, IsErr, IsTrue};
+    ghost use Rattle.smi_link.specs.Link.{Receives, Sends, CountsReception, CountsSend};
     ghost use Rattle.smi_link.specs.Memory.{received_of, handed_of, is_planned, Gives, Takes};
 
     ghost received = { λ l. Some (received_of l) };
@@ -106,8 +106,7 @@ impl DatagramLink for MemoryLink {
     fn receive(&mut self, buffer: &mut [u8; 45]) -> Reception
         ensures received { Receives (Some (received_of self.old)) (Some (received_of self.new)) buffer.new result }
         ensures handed { Some (handed_of self.new) ≡ Some (handed_of self.old) }
-        ensures counts { self.old.failures ≤ self.new.failures }
-        ensures fault { IsFault result → self.old.failures < self.new.failures }
+        ensures failures { CountsReception result self.old.failures self.new.failures }
         ensures gives { Gives self.old self.new buffer.new result }
     {
         match self.next() {
@@ -132,8 +131,7 @@ impl DatagramLink for MemoryLink {
     fn send(&mut self, station: u16, datagram: &[u8; 44]) -> Result<(), LinkFault>
         ensures handed { Sends (Some (handed_of self.old)) (Some (handed_of self.new)) station datagram.now result }
         ensures received { Some (received_of self.new) ≡ Some (received_of self.old) }
-        ensures counts { self.old.failures ≤ self.new.failures }
-        ensures fault { OnErr result (self.old.failures < self.new.failures) }
+        ensures failures { CountsSend result self.old.failures self.new.failures }
         ensures planned { IsTrue (is_planned self.old) → IsErr result }
         ensures takes { Takes self.old self.new station datagram.now result }
     {

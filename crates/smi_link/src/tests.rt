@@ -2,6 +2,8 @@
 
 ghost use Rattle.std.specs.Prelude.{ℕ, ◌≡◌, ◌++◌, ◌∷◌, [], List, Some, IfSome, IsTrue};
 
+mod loopback;
+
 use crate::{DatagramLink, LinkFault, MemoryLink, Reception, UdpLink};
 use std::net::UdpSocket;
 use std::test::Fail;

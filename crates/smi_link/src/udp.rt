@@ -74,8 +74,8 @@ impl UdpLink {
 }
 
 impl DatagramLink for UdpLink {
-    ghost use Rattle.std.specs.Prelude.{None, ℕ, List, ◌≡◌, ◌≤◌, ◌<◌, OnOk, OnErr};
-    ghost use Rattle.smi_link.specs.Link.{Receives, Sends, IsFault};
+    ghost use Rattle.std.specs.Prelude.{None, ℕ, List, ◌≡◌, OnOk};
+    ghost use Rattle.smi_link.specs.Link.{Receives, Sends, CountsReception, CountsSend};
     ghost use Rattle.smi_link.specs.Udp.{HasAddress};
 
     ghost received = { λ _. None };
@@ -86,8 +86,7 @@ impl DatagramLink for UdpLink {
 
     fn receive(&mut self, buffer: &mut [u8; 45]) -> Reception
         ensures received { Receives None None buffer.new result }
-        ensures counts { self.old.failures ≤ self.new.failures }
-        ensures fault { IsFault result → self.old.failures < self.new.failures }
+        ensures failures { CountsReception result self.old.failures self.new.failures }
         ensures peers { self.new.peers ≡ self.old.peers }
     {
         match self.socket.recv_from(buffer) {
@@ -101,8 +100,7 @@ impl DatagramLink for UdpLink {
     }
 
     fn send(&mut self, station: u16, datagram: &[u8; 44]) -> Result<(), LinkFault>
-        ensures counts { self.old.failures ≤ self.new.failures }
-        ensures fault { OnErr result (self.old.failures < self.new.failures) }
+        ensures failures { CountsSend result self.old.failures self.new.failures }
         ensures peers { self.new.peers ≡ self.old.peers }
         ensures known { OnOk result (HasAddress self.old.peers station) }
     {

@@ -5,9 +5,9 @@ use Rattle.std.proofs.Math.Seq.{map-set_same}
 use Rattle.std.proofs.lemmas.List.{append-nil, append_assoc, map-append, take_all, length-set}
 use Rattle.std.proofs.lemmas.Option.{slice_get-get_or}
 use Rattle.std.specs.List.{refill}
-use Rattle.smi_station.specs.declared.order.Order.{Order}
-use Rattle.smi_station.specs.declared.order.Order.TheVariants as order
-use Rattle.smi_station.specs.declared.order.Told.{Told}
+use Rattle.smi_protocol.specs.declared.order.Order.{Order}
+use Rattle.smi_protocol.specs.declared.order.Order.TheVariants as order
+use Rattle.smi_protocol.specs.declared.order.Told.{Told}
 use Rattle.smi_operator.specs.declared.work.Entry.{Entry}
 use Rattle.smi_operator.specs.Working.{begun, changed_at, handed_out, still_in_work, order_in, order_told}
 use Rattle.smi_operator.proofs.Fronts.{orders_stay, fewer_stay}

@@ -4,10 +4,7 @@ use Rattle.std.specs.Prelude.{Option, Some, None, IfSome, slice_get}
 use Rattle.std.proofs.lemmas.Bool.{cases_eq}
 use Rattle.std.proofs.lemmas.Option.{slice_get_cases}
 use Rattle.rtrb.specs.declared.end.End.{End}
-use Rattle.rtrb.specs.declared.finished.Finished.{Finished as Sent}
-use Rattle.rtrb.specs.declared.producer.Producer.{Producer}
 use Rattle.rtrb.specs.Ends.{SameRing}
-use Rattle.rtrb.specs.Ring.{Finishes}
 use Rattle.smi_operator.specs.declared.ends.Seat.{Seat}
 use Rattle.smi_operator.specs.declared.ends.Post.{Post}
 use Rattle.smi_operator.specs.declared.ends.Desk.{Desk}
@@ -73,17 +70,12 @@ ring_sym a b x = (sym x.0, sym x.1, sym x.2, sym x.3)
 ring_trans : {T A P : Type 0} (a b c : End T A P) → SameRing a b → SameRing b c → SameRing a c
 ring_trans a b c x y = (y.0 ∙ x.0, y.1 ∙ x.1, y.2 ∙ x.2, y.3 ∙ x.3)
 
-orders_of : {T A P : Type 0} (t : Producer T A P) (q : End T A P) (o : Option (Sent T A P)) → SameRing t.end q
-    → IfSome o (λ x. Finishes t x) → IfSome o (λ x. SameRing x.end q)
-orders_of t q None same none = tt
-orders_of t q (Some o) same some = ring_trans o.end t.end q (ring_sym t.end o.end some.0) same
-
 ended_at : (s : Seat) (f : Finished) (p q : Post) → IsSeatOf s p → Ends s f → SamePost p q → IsFinishedAt f q
 ended_at s f p q of ends same =
     let t = ends.0 in
     let to_post = ring_trans s.orders.end p.orders.end q.orders.end of.0 same.0.0 in
     let to_seat = ring_trans q.answers.end p.answers.end s.answers.end (ring_sym p.answers.end q.answers.end same.1.0) of.1 in (
-      orders_of t.orders q.orders.end f.orders (ring_trans t.orders.end s.orders.end q.orders.end (ring_sym s.orders.end t.orders.end ends.1.0.0) to_post) ends.2.0,
+      rw ends.2.0 (ring_trans t.orders.end s.orders.end q.orders.end (ring_sym s.orders.end t.orders.end ends.1.0.0) to_post),
       rw ends.2.1 (ring_trans q.answers.end s.answers.end t.answers.end to_seat ends.1.1.0),
     )
 

@@ -2,7 +2,7 @@
 use Rattle.std.proofs.Common.{◌≡◌, ℕ, ◌<◌, List, [], ◌∷◌, length, get_or, true, false, sym, ap, ◌∙◌, arith}
 use Rattle.std.specs.Prelude.{Some, None, IfSome, slice_get}
 use mathlib.Core.List.{IsPrefix}
-use Rattle.smi_station.specs.declared.order.Order.{Order}
+use Rattle.smi_protocol.specs.declared.order.Order.{Order}
 use Rattle.smi_operator.specs.declared.work.Entry.{Entry}
 use Rattle.smi_operator.specs.Working.{may_join}
 

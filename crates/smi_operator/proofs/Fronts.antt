@@ -1,7 +1,7 @@
 -- Answers are handed out one by one.
 use Rattle.std.proofs.Common.{◌≡◌, ◌<◌, ◌≤◌, List, [], ◌∷◌, ◌++◌, length, map, refl, ap, arith}
 use Rattle.std.specs.Prelude.{Option, Some, None, option_map, remove}
-use Rattle.smi_station.specs.declared.order.Told.{Told}
+use Rattle.smi_protocol.specs.declared.order.Told.{Told}
 use Rattle.smi_operator.specs.declared.work.Ending.{Ending}
 use Rattle.smi_operator.specs.declared.work.Entry.{Entry}
 use Rattle.smi_operator.specs.Working.{first_told, handed_out, handed_with, still_in_work, staying, order_told, order_in, told_of}

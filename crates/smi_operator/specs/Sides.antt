@@ -1,11 +1,11 @@
 -- What a seat and a desk show.
-use Rattle.std.specs.Prelude.{◌≡◌, ◌≢◌, ℕ, ◌+◌, List, [], ◌∷◌, ◌++◌, length, true, Option, Some, None, IfSome, IsSome, slice_get}
+use Rattle.std.specs.Prelude.{◌≡◌, ◌≢◌, ◌≤◌, ℕ, ◌+◌, List, [], ◌∷◌, ◌++◌, length, true, Option, Some, None, IfSome, slice_get}
 use mathlib.Core.List.{IsPrefix}
-use Rattle.rtrb.specs.Ring.{sent, received, known_items, known_free, all_sent, IsPair, IsFinishedOf, Finishes, SameProducer, SameConsumer}
+use Rattle.rtrb.specs.Ring.{sent, received, known_items, known_free, IsPair, SameProducer, SameConsumer}
 use Rattle.smi_grant.specs.Record.{Standing}
-use Rattle.smi_station.specs.declared.order.Mark.{Mark}
-use Rattle.smi_station.specs.declared.order.Order.{Order}
-use Rattle.smi_station.specs.declared.order.Told.{Told}
+use Rattle.smi_protocol.specs.declared.order.Mark.{Mark}
+use Rattle.smi_protocol.specs.declared.order.Order.{Order}
+use Rattle.smi_protocol.specs.declared.order.Told.{Told}
 use Rattle.smi_operator.specs.Working.{begun, ending, may_join, ended_at, newest_marked, handed_out, still_in_work}
 use Rattle.smi_operator.specs.declared.work.Entry.{Entry}
 use Rattle.smi_operator.specs.declared.ends.Post.{Post}
@@ -65,22 +65,26 @@ pub record Steps (old new : Desk) (seat : ℕ) (R : Post → Post → Type 0) : 
   pub others : (i : ℕ) → i ≢ seat → post_at new i ≡ post_at old i
   pub count : seat_count new ≡ seat_count old
 
--- an order is given that may join those in work, or none
+-- an order is given that may join those in work, or none; what else was seen is left, and no place is lost
 abbrev pub Gives : Option Order → Post → Post → Type 0
 Gives (Some o) a b =
     (may_join (work_of a) o ≡ true) × (work_of b ≡ work_of a ++ begun o ∷ []) × (given b ≡ given a ++ o ∷ []) × (answered b ≡ answered a)
-Gives None a b = (work_of b ≡ work_of a) × (given b ≡ given a) × (answered b ≡ answered a)
+    × IsPrefix (left a) (o ∷ left b) × (room a ≤ room b)
+Gives None a b = (work_of b ≡ work_of a) × (given b ≡ given a) × (answered b ≡ answered a) × IsPrefix (left a) (left b) × (room a ≤ room b)
 
--- the order at this place ends, and what can be handed out is
+-- the order at this place ends, and what can be handed out is, each answer in a place of its own
 abbrev pub Answers : ℕ → ℕ → Option Standing → Post → Post → Type 0
 Answers place code asked a b =
     (work_of b ≡ still_in_work (ended_at (work_of a) place (ending code asked)))
     × (answered b ≡ answered a ++ handed_out (ended_at (work_of a) place (ending code asked)))
     × (given b ≡ given a)
+    × (left b ≡ left a)
+    × (room b + length (handed_out (ended_at (work_of a) place (ending code asked))) ≡ room a)
 
 -- the newest order in work is marked
 abbrev pub Marks : Mark → Post → Post → Type 0
-Marks m a b = (work_of b ≡ newest_marked (work_of a) m) × (answered b ≡ answered a) × (given b ≡ given a)
+Marks m a b =
+    (work_of b ≡ newest_marked (work_of a) m) × (answered b ≡ answered a) × (given b ≡ given a) × (left b ≡ left a) × (room b ≡ room a)
 
 -- A seat that has ended.
 
@@ -90,7 +94,7 @@ IsSeatOf s p = IsPair s.orders p.orders × IsPair p.answers s.answers
 
 -- the ended seat is that of this post
 abbrev pub IsFinishedAt : Finished → Post → Type 0
-IsFinishedAt f p = IfSome f.orders (λ o. IsFinishedOf o p.orders) × IsPair p.answers f.answers
+IsFinishedAt f p = IsPair f.orders p.orders × IsPair p.answers f.answers
 
 -- the same at the desk: the seat, and the ended seat, is that with this number
 abbrev pub IsSeatAt : Seat → Desk → ℕ → Type 0
@@ -111,7 +115,7 @@ pub record SameDesk (old new : Desk) : Type 0 where
 
 -- an ended seat keeps both lists
 abbrev pub Keeps : Seat → Finished → Type 0
-Keeps s f = IfSome f.orders (λ o. Finishes s.orders o) × (f.answers ≡ s.answers)
+Keeps s f = (f.orders ≡ s.orders) × (f.answers ≡ s.answers)
 
 -- the seat ended so, whatever it submitted and was told before
 abbrev pub Ends : Seat → Finished → Type 0
@@ -120,15 +124,14 @@ Ends s f = (t : Seat) × SameSeat s t × Keeps t f
 -- what was given and what is left are all that was submitted; what the seat was told begins what was answered; and
 -- of the sixteen places those are free whose answers the seat was told
 pub record Met (f : Finished) (p : Post) : Type 0 where
-  pub orders : IfSome f.orders (λ o. given p ++ left p ≡ all_sent o)
+  pub orders : given p ++ left p ≡ sent f.orders
   pub answers : IsPrefix (received f.answers) (answered p)
   pub room : room p + length (answered p) ≡ 16 + length (received f.answers)
-  pub is_some : IsSome f.orders
 
 -- the lists of both stay
 abbrev pub Stays : Finished → Finished → Post → Post → Type 0
 Stays f g p q =
-    (given q ≡ given p) × (answered q ≡ answered p) × (work_of q ≡ work_of p) × (received g.answers ≡ received f.answers)
+    (given q ≡ given p) × (answered q ≡ answered p) × (work_of q ≡ work_of p) × (sent g.orders ≡ sent f.orders) × (received g.answers ≡ received f.answers)
 
 -- Seats that were just opened.
 

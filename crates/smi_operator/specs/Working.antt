@@ -3,10 +3,10 @@ use Rattle.std.specs.Prelude.{ℕ, ◌==◌, ◌-◌, ◌&&◌, ◌||◌, nat_lt
 use Rattle.std.specs.Option.{option_map_or}
 use Rattle.std.specs.List.{list_all}
 use Rattle.smi_grant.specs.Record.{Standing}
-use Rattle.smi_station.specs.declared.order.Mark.{Mark}
-use Rattle.smi_station.specs.declared.order.Told.{Told}
-use Rattle.smi_station.specs.declared.order.Order.{Order}
-use Rattle.smi_station.specs.declared.order.Order.TheVariants as order
+use Rattle.smi_protocol.specs.declared.order.Mark.{Mark}
+use Rattle.smi_protocol.specs.declared.order.Told.{Told}
+use Rattle.smi_protocol.specs.declared.order.Order.{Order}
+use Rattle.smi_protocol.specs.declared.order.Order.TheVariants as order
 use Rattle.smi_operator.specs.declared.work.Ending.{Ending}
 use Rattle.smi_operator.specs.declared.work.Entry.{Entry}
 

@@ -7,7 +7,7 @@ ghost use Rattle.smi_operator.specs.Sides.{Steps, Gives, Answers, Marks, post_at
 use crate::ends::{Desk, Finished};
 use crate::work::Work;
 use smi_grant::Record;
-use smi_station::{Mark, Order};
+use smi_protocol::{Mark, Order};
 
 impl Desk {
     /// How many seats the desk has. Their numbers begin at 0.
@@ -62,14 +62,16 @@ impl Desk {
         self.posts[seat].in_work(place)
     }
 
-    /// Compares the lists of a seat that has ended with those of the desk: whether the orders given begin those
-    /// submitted, and what the seat was told begins what was answered.
+    /// Compares the lists of a seat that has ended with those of the desk: the orders given begin those submitted,
+    /// and what the seat was told begins what was answered. It is always so.
     ///
-    /// From then on the desk has seen every order that is left, and knows which places are free.
+    /// From then on the desk has seen every order that is left, and knows which places are free: what is left follows
+    /// without another meeting.
     pub fn meet(&mut self, seat: usize, finished: &mut Finished) -> bool
         requires seat { seat < seat_count self.old }
         requires ended { IsEndedAt finished.old self.old seat }
-        ensures met { IsTrue result → IfSome (post_at self.new seat) (Met finished.new) }
+        ensures met { IfSome (post_at self.new seat) (Met finished.new) }
+        ensures is_met { IsTrue result }
         ensures step { Steps self.old self.new seat (Stays finished.old finished.new) }
         ensures ended { IsEndedAt finished.new self.new seat }
     {

@@ -7,7 +7,7 @@ ghost use Rattle.smi_operator.specs.Working.{most_work, order_told, order_in};
 use crate::work::{Entry, MOST_WORK};
 use arrayvec::ArrayVec;
 use rtrb::{Consumer, Producer};
-use smi_station::{Order, Told};
+use smi_protocol::{Order, Told};
 
 /// An operator's seat, for one thread. It never waits.
 #[derive(Drop)]
@@ -38,9 +38,9 @@ pub struct Desk {
     pub(crate) posts: Vec<Post>,
 }
 
-/// A seat that has ended.
+/// A seat that has ended: it takes no more orders, and keeps both ends until it meets the desk.
 #[derive(Drop)]
 pub struct Finished {
-    pub(crate) orders: Option<rtrb::Finished<Order>>,
+    pub(crate) orders: Producer<Order>,
     pub(crate) answers: Consumer<Told>,
 }

@@ -1,13 +1,13 @@
 //! Answers are handed out in the order in which their orders were given.
 
-ghost use Rattle.std.specs.Prelude.{◌≡◌, ◌≤◌, ◌++◌, length};
+ghost use Rattle.std.specs.Prelude.{◌≡◌, ◌≤◌, ◌+◌, ◌++◌, length};
 ghost use Rattle.rtrb.specs.Ring.{sent, known_free, SameProducer};
 ghost use Rattle.smi_operator.specs.Working.{first_told, handed_out, still_in_work};
 
 use crate::work::{Entry, MOST_WORK};
 use arrayvec::ArrayVec;
 use rtrb::Producer;
-use smi_station::Told;
+use smi_protocol::Told;
 
 /// The answer of the oldest order, where it has ended.
 fn first_told(work: &[Entry]) -> Option<Told>
@@ -23,6 +23,7 @@ pub(crate) fn hand_out(work: &mut ArrayVec<Entry, MOST_WORK>, answers: &mut Prod
     ensures sent { sent answers.new ≡ sent answers.old ++ handed_out work.old.items }
     ensures work { work.new.items ≡ still_in_work work.old.items }
     ensures room { length work.new.items ≤ known_free answers.new }
+    ensures used { known_free answers.new + length (handed_out work.old.items) ≡ known_free answers.old }
 {
     while let Some(told) = first_told(work.as_slice()) {
         answers.push_reserved(told);

@@ -15,15 +15,13 @@ impl Post {
     /// Compares the lists of a seat that has ended with those of its post.
     pub(crate) fn meet(&mut self, finished: &mut Finished) -> bool
         requires { IsFinishedAt finished.old self.old }
-        ensures met { IsTrue result → Met finished.new self.new }
+        ensures met { Met finished.new self.new }
+        ensures is_met { IsTrue result }
         ensures stays { Stays finished.old finished.new self.old self.new }
         ensures ring { SamePost self.old self.new }
         ensures ended { IsFinishedAt finished.new self.new }
     {
-        let Some(orders) = &mut finished.orders else {
-            return false;
-        };
-        self.orders.slots_after(orders);
+        self.orders.slots_beside(&mut finished.orders);
         finished.answers.slots_beside(&mut self.answers);
         self.answers.slots_beside(&mut finished.answers);
         true

@@ -1,6 +1,7 @@
 //! The station's end of one seat.
 
-ghost use Rattle.std.specs.Prelude.{◌≡◌, ◌<◌, ◌++◌, ◌∷◌, [], length, true, slice_get, Some, IfSome, IfNone, option_map};
+ghost use Rattle.std.specs.Prelude.{◌≡◌, ◌<◌, ◌≤◌, ◌+◌, ◌++◌, ◌∷◌, [], length, true, slice_get, Some, IfSome, IfNone, option_map};
+ghost use mathlib.Core.List.{IsPrefix};
 ghost use Rattle.smi_operator.specs.Working.{begun, ending, may_join, ended_at, newest_marked, handed_out, still_in_work};
 ghost use Rattle.smi_operator.specs.Sides.{given, answered, left, room, SamePost};
 
@@ -8,7 +9,7 @@ use crate::ends::Post;
 use crate::handing::hand_out;
 use crate::work::{Ending, Entry, Work, end_at, mark_newest, may_join};
 use smi_grant::Record;
-use smi_station::{Mark, Order};
+use smi_protocol::{Mark, Order};
 
 impl Post {
     /// Takes the next order into work, where it may join those that are and a place for its answer is free.
@@ -19,6 +20,9 @@ impl Post {
         ensures given { IfSome result (λ o. given self.new ≡ given self.old ++ o ∷ []) }
         ensures none { IfNone result ((self.new.work.items ≡ self.old.work.items) × (given self.new ≡ given self.old)) }
         ensures answered { answered self.new ≡ answered self.old }
+        ensures left { IfSome result (λ o. IsPrefix (left self.old) (o ∷ left self.new)) }
+        ensures none_left { IfNone result (IsPrefix (left self.old) (left self.new)) }
+        ensures room { room self.old ≤ room self.new }
         ensures succeeds { IfSome (slice_get (left self.old) 0) (λ o. may_join self.old.work.items o ≡ true → length self.old.work.items < room self.old → result ≡ Some o) }
     {
         if self.orders.slots() == 0 || self.answers.slots() <= self.work.len() {
@@ -40,6 +44,8 @@ impl Post {
         ensures work { self.new.work.items ≡ still_in_work (ended_at self.old.work.items place (ending code asked)) }
         ensures answered { answered self.new ≡ answered self.old ++ handed_out (ended_at self.old.work.items place (ending code asked)) }
         ensures given { given self.new ≡ given self.old }
+        ensures left { left self.new ≡ left self.old }
+        ensures room { room self.new + length (handed_out (ended_at self.old.work.items place (ending code asked))) ≡ room self.old }
     {
         end_at(self.work.as_mut_slice(), place, Ending { code, asked });
         hand_out(&mut self.work, &mut self.answers);
@@ -52,6 +58,8 @@ impl Post {
         ensures work { self.new.work.items ≡ newest_marked self.old.work.items mark }
         ensures answered { answered self.new ≡ answered self.old }
         ensures given { given self.new ≡ given self.old }
+        ensures left { left self.new ≡ left self.old }
+        ensures room { room self.new ≡ room self.old }
     {
         mark_newest(self.work.as_mut_slice(), mark);
     }

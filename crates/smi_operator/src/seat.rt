@@ -5,7 +5,7 @@ ghost use Rattle.smi_operator.specs.Sides.{submitted, told_to, SameSeat, Keeps};
 
 use crate::ends::{Finished, Seat};
 use rtrb::PushError;
-use smi_station::{Order, Told};
+use smi_protocol::{Order, Told};
 
 impl Seat {
     /// Submits an order, or gives it back where sixteen wait already. A seat's first sixteen orders
@@ -41,9 +41,6 @@ impl Seat {
         ensures { Keeps self result }
     {
         let Seat { orders, answers } = self;
-        Finished {
-            orders: orders.finish(),
-            answers,
-        }
+        Finished { orders, answers }
     }
 }

@@ -5,7 +5,7 @@ ghost use Rattle.smi_operator.specs.Sides.{post_at, seat_count};
 
 use crate::{Desk, Seat, Work, open_seats};
 use smi_grant::Record;
-use smi_station::{Mark, Order, Told};
+use smi_protocol::{Mark, Order, Told};
 use std::alloc::Global;
 use std::test::Fail;
 

@@ -5,7 +5,7 @@ ghost use Rattle.std.specs.List.{list_all};
 ghost use Rattle.smi_operator.specs.Working as spec;
 
 use smi_grant::Record;
-use smi_station::{Mark, Order, Told};
+use smi_protocol::{Mark, Order, Told};
 
 /// How many orders of a seat may be in work at a time.
 pub(crate) const MOST_WORK: usize = 8;

@@ -1,10 +1,13 @@
 //! How many readings a board gives to one thread and to three.
 
+ghost use Rattle.std.specs.Prelude.{◌≡◌};
+
 use smi_grant::{Shown, Version};
-use smi_view::{Board, Glance, open_board};
+use smi_view::{Blank, Board, BoardId, Glance, open_board};
 use std::alloc::{AllocError, Global};
 use std::collections::BTreeMap;
 use std::io;
+use std::marker::Brand;
 use std::rt::Runtime;
 use std::sync::Wait;
 use std::thread::{Threads, join};
@@ -23,10 +26,7 @@ pub(crate) fn measure<R: Runtime<A = Global> + Wait + Threads + Sync>(
     let start = Instant::now(rt)?;
     let plain_sum = look_up(&map, reads);
     let plain = start.elapsed(rt)?;
-    let mut board = open_board(rt.alloc(), 3)?;
-    let found = shown_and_read(rt, &mut board, readers, reads);
-    board.close(rt);
-    let (elapsed, sum) = found?;
+    let (elapsed, sum) = over_board::<Brand, R>(rt, Blank::new(), readers, reads)?;
     let threads: u32 = if readers == 1 { 1 } else { 3 };
     println!(rt;
         "board: {} threads, {} readings a second; a plain map {} by one thread",
@@ -74,44 +74,64 @@ fn look_up(map: &BTreeMap<u16, Shown>, reads: u32) -> u64 {
     sum
 }
 
-fn show<R: Wait>(rt: &R, board: &mut Board) -> Result<(), AllocError> {
+fn show<J: BoardId, R: Wait>(rt: &R, board: &mut Board<J>) -> Result<(), AllocError> {
     for object in 0..OBJECTS {
         board.put(row(object))?;
     }
     board.publish(rt)
 }
 
-/// How long the threads take, and what they have read.
-fn shown_and_read<R: Runtime<A = Global> + Wait + Threads + Sync>(
+fn over_board<J: BoardId + Send + Sync, R: Runtime<A = Global> + Wait + Threads + Sync>(
     rt: &R,
-    board: &mut Board,
+    blank: Blank,
+    readers: u32,
+    reads: u32,
+) -> io::Result<(Duration, u64)>
+    requires { blank.seen.book ≡ J.book }
+{
+    let (mut board, glances) = open_board::<J, R>(rt, rt.alloc(), blank, 3)?;
+    let found = shown_and_read(rt, &mut board, glances, readers, reads);
+    let _ = board.close(rt);
+    found
+}
+
+/// How long the threads take, and what they have read.
+fn shown_and_read<J: BoardId + Send + Sync, R: Runtime<A = Global> + Wait + Threads + Sync>(
+    rt: &R,
+    board: &mut Board<J>,
+    glances: Vec<Glance<J>>,
     readers: u32,
     reads: u32,
 ) -> io::Result<(Duration, u64)> {
     show(rt, board)?;
-    let first = board.glance()?;
-    if readers == 1 {
-        let start = Instant::now(rt)?;
-        let sum = in_thread(rt, first, reads);
-        return Ok((start.elapsed(rt)?, sum));
-    }
-    let second = board.glance()?;
-    let third = board.glance()?;
+    let mut glances = glances;
+    let (third, second, first) = (glances.pop(), glances.pop(), glances.pop());
+    let (Some(first), Some(second), Some(third)) = (first, second, third) else {
+        return Err(io::Error::other("three glances were not made"));
+    };
     let start = Instant::now(rt)?;
-    let sum = in_threads(rt, first, second, third, reads);
+    let sum = if readers == 1 {
+        in_thread(rt, first, reads)
+    } else {
+        in_threads(rt, first, second, third, reads)
+    };
     Ok((start.elapsed(rt)?, sum))
 }
 
-fn in_thread<R: Threads + Sync>(rt: &R, glance: Glance, reads: u32) -> u64 {
+fn in_thread<J: BoardId + Send + Sync, R: Threads + Sync>(
+    rt: &R,
+    glance: Glance<J>,
+    reads: u32,
+) -> u64 {
     let (sum, _) = join(rt, move || -> u64 { read(glance, reads) }, || ());
     sum
 }
 
-fn in_threads<R: Threads + Sync>(
+fn in_threads<J: BoardId + Send + Sync, R: Threads + Sync>(
     rt: &R,
-    first: Glance,
-    second: Glance,
-    third: Glance,
+    first: Glance<J>,
+    second: Glance<J>,
+    third: Glance<J>,
     reads: u32,
 ) -> u64 {
     let (sum, (other, another)) = join(
@@ -128,7 +148,7 @@ fn in_threads<R: Threads + Sync>(
     sum.wrapping_add(other).wrapping_add(another)
 }
 
-fn read(mut glance: Glance, reads: u32) -> u64 {
+fn read<J: BoardId>(mut glance: Glance<J>, reads: u32) -> u64 {
     let mut sum: u64 = 0;
     for turn in 0..reads {
         if let Ok(Some(shown)) = glance.read((turn % 640) as u16) {

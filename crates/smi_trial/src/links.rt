@@ -26,6 +26,11 @@ pub(crate) fn measure(rt: &HostRuntime, rounds: u32) -> io::Result<()> {
     Ok(())
 }
 
+/// Whether every datagram of so many rounds comes to the other link.
+pub(crate) fn are_passed(rt: &HostRuntime, rounds: u32) -> io::Result<bool> {
+    Ok(over_links(rt, rounds)? == rounds.wrapping_mul(2))
+}
+
 fn socket(rt: &HostRuntime) -> io::Result<UdpSocket> {
     UdpSocket::bind(rt, "127.0.0.1:0")
 }

@@ -1,9 +1,14 @@
-//! Small runs of the layers: how fast they are, and what a refused growth leaves.
+//! Small runs of the layers: what a refused growth leaves, what they do at their limits, and how fast
+//! they are.
 //!
 //! `smi_trial refused LAYER` makes and changes the objects of a layer, and sees after each growth that
 //! was refused that its object is as it was and that the same call then does what it does otherwise. It
 //! prints `whole` where no growth was refused, `kept` where all was as it should be after one that was,
 //! and `changed` else. The growths are refused from outside (tests/refuse.c).
+//!
+//! `smi_trial limits LAYER` and `smi_trial limits LAYER TREE` use a layer at its limits, with ample memory,
+//! the second over the tree file at every limit that tests/trees.py writes. They print `whole` where all
+//! was as it should be, and `changed` else.
 //!
 //! `smi_trial store PATH` saves three rows in a file, for other programs to read.
 //!
@@ -16,6 +21,7 @@ ghost use Rattle.std.specs.Prelude.{◌≤◌};
 
 mod board;
 mod file;
+mod limits;
 mod links;
 mod outcome;
 mod refused;
@@ -23,7 +29,11 @@ mod rows;
 mod stores;
 mod watching;
 
+use outcome::Outcome;
 use std::{env, io};
+
+/// How many datagrams go each way between two links over UDP.
+const MANY: u32 = 5_000;
 
 fn main(rt: HostRuntime) -> io::Result<()> {
     let mut words = Vec::new(rt.alloc());
@@ -33,6 +43,17 @@ fn main(rt: HostRuntime) -> io::Result<()> {
     match words.as_slice() {
         [_, what, layer] if what.as_str() == "refused" => {
             println!(rt; "{}", refused::of(&rt, rt.alloc(), layer.as_str()).word())
+        }
+        [_, what, layer] if what.as_str() == "limits" => {
+            let is_so = match layer.as_str() {
+                "udp" => links::are_passed(&rt, MANY)?,
+                _ => limits::of(&rt, layer.as_str()),
+            };
+            println!(rt; "{}", Outcome::of(is_so).word())
+        }
+        [_, what, layer, path] if what.as_str() == "limits" => {
+            let is_so = limits::over_tree(&rt, layer.as_str(), path.as_str())?;
+            println!(rt; "{}", Outcome::of(is_so).word())
         }
         [_, what, path] if what.as_str() == "store" => file::save_rows(&rt, path.as_str()),
         [_, what, readers, reads] if what.as_str() == "board" => {

@@ -9,9 +9,10 @@ use smi_link::{DatagramLink, MemoryLink, Reception};
 use smi_operator::open_seats;
 use smi_publish::Publisher;
 use smi_tree::Tree;
-use smi_view::{Board, Glance, View, open_board};
-use smi_watchers::{WatchFault, Watcher, Watchers};
+use smi_view::{Blank, Board, BoardId, Glance, View, open_board};
+use smi_watchers::{WatchAnswer, WatchFault, Watcher, Watchers};
 use std::alloc::Global;
+use std::marker::Brand;
 use std::sync::Wait;
 
 pub(crate) fn of<R: Wait>(rt: &R, alloc: Global, layer: &str) -> Outcome {
@@ -28,17 +29,37 @@ pub(crate) fn of<R: Wait>(rt: &R, alloc: Global, layer: &str) -> Outcome {
     }
 }
 
+/// The stations that watch object 1, one after the other.
+const STATIONS: [u16; 8] = [1, 2, 3, 4, 5, 6, 7, 8];
+
 /// Two lists, the first of which grows several times, and a renewal.
 fn watchers(alloc: Global) -> Outcome {
     let Some((mut watchers, mut outcome)) = opened_lists(alloc) else {
         return Outcome::Changed;
     };
+    outcome = outcome.and(Outcome::of(entries(&watchers) == listed(&[], None)));
     for station in 1..9 {
         outcome = outcome.and(watch(&mut watchers, station));
+        let first = STATIONS.get(..usize::from(station)).unwrap_or(&[]);
+        outcome = outcome.and(Outcome::of(entries(&watchers) == listed(first, None)));
     }
-    outcome.and(renew(&mut watchers, 3)).and(Outcome::of(
-        watchers.count(1) == 7 && watchers.count(2) == 1,
-    ))
+    outcome = outcome.and(renew(&mut watchers, 3));
+    let renewed = listed(&[1, 2, 4, 5, 6, 7, 8], Some(3));
+    outcome.and(Outcome::of(entries(&watchers) == renewed))
+}
+
+/// The entries of both lists where these stations watch object 1 with echo 1, in this order, and one
+/// watches object 2 with echo 2.
+fn listed(first: &[u16], second: Option<u16>) -> [Option<Watcher>; 12] {
+    let mut entries = [None; 12];
+    for (entry, station) in entries.iter_mut().zip(first.iter()) {
+        *entry = Some(Watcher {
+            station: *station,
+            echo: 1,
+        });
+    }
+    entries[9] = second.map(|station| Watcher { station, echo: 2 });
+    entries
 }
 
 fn opened_lists(alloc: Global) -> Option<(Watchers, Outcome)>
@@ -81,11 +102,12 @@ fn watch(watchers: &mut Watchers, station: u16) -> Outcome
 {
     let before = entries(watchers);
     match watchers.watch(1, station, 1) {
-        Ok(_) => Outcome::Whole,
+        Ok(answer) => Outcome::of(answer == WatchAnswer::Added),
         Err(WatchFault::Full) => Outcome::Changed,
         Err(WatchFault::Memory) => {
             let is_as_before = entries(watchers) == before;
-            Outcome::again(is_as_before, watchers.watch(1, station, 1).is_ok())
+            let again = watchers.watch(1, station, 1);
+            Outcome::again(is_as_before, again == Ok(WatchAnswer::Added))
         }
     }
 }
@@ -98,11 +120,12 @@ fn renew(watchers: &mut Watchers, station: u16) -> Outcome
 {
     let before = entries(watchers);
     match watchers.renew(2, station, 2) {
-        Ok(_) => Outcome::Whole,
+        Ok(answer) => Outcome::of(answer == WatchAnswer::Added),
         Err(WatchFault::Full) => Outcome::Changed,
         Err(WatchFault::Memory) => {
             let is_as_before = entries(watchers) == before;
-            Outcome::again(is_as_before, watchers.renew(2, station, 2).is_ok())
+            let again = watchers.renew(2, station, 2);
+            Outcome::again(is_as_before, again == Ok(WatchAnswer::Added))
         }
     }
 }
@@ -227,26 +250,35 @@ fn seats(alloc: Global) -> Outcome {
     }
 }
 
+/// A board at the second try where the first was refused a growth.
 fn board<R: Wait>(rt: &R, alloc: Global) -> Outcome {
-    let (mut board, opened) = match open_board(alloc, 1) {
-        Ok(board) => (board, Outcome::Whole),
-        Err(_) => match open_board(alloc, 1) {
-            Ok(board) => (board, Outcome::Kept),
-            Err(_) => return Outcome::Changed,
-        },
-    };
-    let outcome = match board.glance() {
-        Ok(mut glance) => publications(rt, &mut board, &mut glance),
-        Err(_) => match board.glance() {
-            Ok(mut glance) => publications(rt, &mut board, &mut glance).and(Outcome::Kept),
-            Err(_) => Outcome::Changed,
-        },
-    };
-    board.close(rt);
-    opened.and(outcome)
+    if let Some(outcome) = over_board::<Brand, R>(rt, alloc, Blank::new()) {
+        return outcome;
+    }
+    match over_board::<Brand, R>(rt, alloc, Blank::new()) {
+        Some(outcome) => outcome.and(Outcome::Kept),
+        None => Outcome::Changed,
+    }
 }
 
-fn publications<R: Wait>(rt: &R, board: &mut Board, glance: &mut Glance) -> Outcome {
+/// What is seen of a board that is opened; none where it was refused a growth.
+fn over_board<J: BoardId, R: Wait>(rt: &R, alloc: Global, blank: Blank) -> Option<Outcome>
+    requires { blank.seen.book ≡ J.book }
+{
+    let (mut board, mut glances) = open_board::<J, R>(rt, alloc, blank, 2).ok()?;
+    let outcome = match glances.pop() {
+        Some(mut glance) => publications(rt, &mut board, &mut glance),
+        None => Outcome::Changed,
+    };
+    let _ = board.close(rt);
+    Some(outcome)
+}
+
+fn publications<J: BoardId, R: Wait>(
+    rt: &R,
+    board: &mut Board<J>,
+    glance: &mut Glance<J>,
+) -> Outcome {
     let mut outcome = Outcome::Whole;
     for sequence in 1..19 {
         outcome = outcome.and(shows(rt, board, glance, sequence));
@@ -255,7 +287,12 @@ fn publications<R: Wait>(rt: &R, board: &mut Board, glance: &mut Glance) -> Outc
 }
 
 /// One more row is put and published.
-fn shows<R: Wait>(rt: &R, board: &mut Board, glance: &mut Glance, sequence: u32) -> Outcome {
+fn shows<J: BoardId, R: Wait>(
+    rt: &R,
+    board: &mut Board<J>,
+    glance: &mut Glance<J>,
+    sequence: u32,
+) -> Outcome {
     let row = Shown {
         object: (sequence % 5) as u16,
         version: Version { boot: 1, sequence },

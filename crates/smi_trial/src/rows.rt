@@ -63,7 +63,7 @@ fn writes(alloc: Global, row: &Row, bytes: &[u8]) -> Outcome {
     }
 }
 
-fn written(alloc: Global, row: &Row) -> Result<Vec<u8>, RowFault> {
+pub(crate) fn written(alloc: Global, row: &Row) -> Result<Vec<u8>, RowFault> {
     match row {
         Row::Boot(boot) => Ok(write_boot(alloc, *boot)?),
         Row::Domain(domain) if domain.links.len() < 65536 => Ok(domain.write(alloc)?),

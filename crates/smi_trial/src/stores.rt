@@ -3,6 +3,7 @@
 //! A save that was refused its growth leaves all rows as they were, and the same save then succeeds. One
 //! over SQL may be unsure, but only where its disk failed: an open then finds the row as before or as saved.
 
+use crate::limits::are_in;
 use crate::outcome::Outcome;
 use smi_stable::{Key, MemoryStable, PlannedStable, SavedRow, SqliteStable, Stable, StoreFault};
 use sqlite::{Connection, FileStore, Files, Options};
@@ -125,6 +126,23 @@ fn are_as_saved(before: &[SavedRow], after: &[SavedRow], saved: Saved) -> bool {
     has(after, saved.0, saved.1)
         && after.len() == others.saturating_add(1)
         && before.iter().all(|row| row.key == saved.0 || has(after, row.key, row.bytes.as_slice()))
+}
+
+/// Whether a store over SQL keeps these rows, with ample memory.
+pub(crate) fn keeps_on_disk(alloc: Global, rows: &[SavedRow]) -> bool {
+    let files = Files {
+        log: Memory::new(alloc),
+        db: Memory::new(alloc),
+    };
+    match open(alloc, files) {
+        Ok(store) => {
+            let mut store = store;
+            let kept = are_in(&mut store, rows);
+            drop(close(store));
+            kept
+        }
+        Err(_) => false,
+    }
 }
 
 type Disks = Files<Memory>;

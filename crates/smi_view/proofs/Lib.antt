@@ -1,3 +1,5 @@
-pub mod Growing
+pub mod Beginnings
+pub mod Counting
 pub mod LastRows
 pub mod LastStates
+pub mod Naming

@@ -1,5 +1,6 @@
 pub mod Accepting
-pub mod Board
 pub mod Entries
+pub mod History
+pub mod Pages
 pub mod Rows
-pub mod Rule
+pub mod Shows

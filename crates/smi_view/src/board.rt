@@ -1,32 +1,113 @@
-ghost use Rattle.std.specs.Prelude.{◌≡◌, ◌<◌, ◌^◌, [], ◌∷◌, ◌++◌, drop, IfOk, OnOk, OnErr, MatchResult};
-ghost use Rattle.left_right.specs.Sides.{view};
-ghost use Rattle.smi_view.specs.Board.{publications, pending, seen, told, IsOfBoard, IsNewGlance};
+//! The end of a board that a station's thread writes.
 
-use crate::ends::{Board, BoardWriter, Glance};
-use crate::rule::{Looks, Notes};
-use crate::sheet::Sheet;
+ghost use Rattle.std.specs.Prelude.{◌≡◌, ◌<◌, ◌^◌, [], ◌∷◌, ◌++◌, drop, fold, length, All, Some, IfOk, OnOk, OnErr, MatchResult};
+ghost use Rattle.left_right.specs.Sides.{view};
+ghost use Rattle.smi_view.specs.declared.page.Page.{Page};
+ghost use Rattle.smi_view.specs.Entries.{entries_of};
+ghost use Rattle.smi_view.specs.Pages.{name_of, page_of, turned};
+ghost use Rattle.smi_view.specs.Shows.{HasSeenNothing};
+
+use crate::glance::{Glance, News};
+use crate::history::{Blank, BoardId, Counter, Rows};
+use crate::page::Name;
+use crate::rule::{Finds, Names, OneHistory};
+use crate::sheet::{Entry, Sheet};
 use core::mem::replace_with;
+use left_right::Absorb;
 use left_right::writer::Writer;
 use smi_grant::Shown;
 use std::alloc::{AllocError, Global};
+use std::collections::VecDeque;
+use std::marker::Model;
 use std::sync::Wait;
 
-fn publish<R: Wait>(rt: &R, writer: BoardWriter) -> (BoardWriter, Result<(), AllocError>)
-    ensures { MatchResult result.1 (λ _. (result.0.desk.shown.value.rows.items ≡ writer.desk.shown.value.rows.items ++ drop writer.behind writer.log.items) × ((view result.0.desk.place).seen ≡ result.0.desk.shown.value.rows.items) × (drop result.0.behind result.0.log.items ≡ [])) (λ _. (result.0.desk.shown.value ≡ writer.desk.shown.value) × (drop result.0.behind result.0.log.items ≡ drop writer.behind writer.log.items) × (view result.0.desk.place ≡ view writer.desk.place)) }
-{
-    writer.publish_as::<Looks, R>(rt)
+type BoardWriter = Writer<Sheet, Entry, Option<Name>, OneHistory>;
+
+/// The end of a board that one thread writes.
+///
+/// Contracts see it as two lists: all rows that were published, and those that were put since. It is
+/// ended by [`Board::close`].
+pub struct Board<J: BoardId> {
+    writer: BoardWriter,
+    /// What was put and not handed to the writer yet.
+    waiting: VecDeque<Entry>,
+    counter: Counter<J>,
+    /// All that was put.
+    rows: Rows<J>,
+    /// No rows, as at the opening.
+    none: Rows<J>,
 }
 
-impl Board {
-    /// The row of an object is pending, behind those that are.
+impl<J: BoardId> Model for Board<J> {
+    ghost use Rattle.std.specs.Prelude.{◌≡◌, [], ◌++◌, drop, fold, length, Some};
+    ghost use Rattle.left_right.specs.Sides.{view as known_at};
+    ghost use Rattle.smi_view.specs.Shows.{BoardShows};
+    ghost use Rattle.smi_view.specs.Pages.{name_of, page_of, turned, page};
+
+    ghost Value = { BoardShows };
+
+    ghost view = { λ b. record { publications = b.writer.desk.shown.value.mark.seen.log; pending = drop (length b.writer.desk.shown.value.mark.seen.log) b.rows } };
+
+    ghost invariant = { λ b. (fold turned (page_of b.writer.desk.shown.value) (drop b.writer.behind b.writer.log.items ++ b.waiting.items) ≡ page (name_of J.book) b.rows) × (b.writer.desk.shown.value.mark.seen.book ≡ J.book) × (b.writer.desk.shown.value.mark.seen.log ++ drop (length b.writer.desk.shown.value.mark.seen.log) b.rows ≡ b.rows) × (known_at b.writer.desk.place ≡ Some (name_of J.book)) × (b.none ≡ []) };
+}
+
+/// What waits is handed to the writer, the oldest first.
+fn hand_over(writer: &mut BoardWriter, waiting: &mut VecDeque<Entry>) -> Result<(), AllocError>
+    ensures desk { writer.new.desk ≡ writer.old.desk }
+    ensures entries { drop writer.new.behind writer.new.log.items ++ waiting.new.items ≡ drop writer.old.behind writer.old.log.items ++ waiting.old.items }
+    ensures all { OnOk result (waiting.new.items ≡ []) }
+{
+    while let Some(entry) = waiting.pop_front() {
+        if let Err(entry) = writer.append(entry) {
+            waiting.push_front_reserved(entry);
+            return Err(AllocError);
+        }
+    }
+    Ok(())
+}
+
+fn publish<R: Wait>(rt: &R, writer: BoardWriter) -> (BoardWriter, Result<(), AllocError>)
+    requires entries { let next : Page = fold turned (page_of writer.desk.shown.value) (drop writer.behind writer.log.items) in next.entries ≡ entries_of next.rows }
+    requires name { let next : Page = fold turned (page_of writer.desk.shown.value) (drop writer.behind writer.log.items) in next.name ≡ name_of writer.desk.shown.value.mark.seen.book }
+    ensures values { MatchResult result.1 (λ _. (page_of result.0.desk.shown.value ≡ fold turned (page_of writer.desk.shown.value) (drop writer.behind writer.log.items)) × (drop result.0.behind result.0.log.items ≡ [])) (λ _. (result.0.desk.shown.value ≡ writer.desk.shown.value) × (drop result.0.behind result.0.log.items ≡ drop writer.behind writer.log.items)) }
+    ensures name { MatchResult result.1 (λ _. view result.0.desk.place ≡ Some (name_of result.0.desk.shown.value.mark.seen.book)) (λ _. view result.0.desk.place ≡ view writer.desk.place) }
+{
+    writer.publish_as::<Finds, R>(rt)
+}
+
+fn publish_in<R: Wait>(rt: &R, writer: &mut BoardWriter) -> Result<(), AllocError>
+    requires entries { let next : Page = fold turned (page_of writer.old.desk.shown.value) (drop writer.old.behind writer.old.log.items) in next.entries ≡ entries_of next.rows }
+    requires name { let next : Page = fold turned (page_of writer.old.desk.shown.value) (drop writer.old.behind writer.old.log.items) in next.name ≡ name_of writer.old.desk.shown.value.mark.seen.book }
+    ensures page { OnOk result (page_of writer.new.desk.shown.value ≡ fold turned (page_of writer.old.desk.shown.value) (drop writer.old.behind writer.old.log.items)) }
+    ensures emptied { OnOk result (drop writer.new.behind writer.new.log.items ≡ []) }
+    ensures name { OnOk result (view writer.new.desk.place ≡ Some (name_of writer.new.desk.shown.value.mark.seen.book)) }
+    ensures unpublished { OnErr result (writer.new.desk.shown.value ≡ writer.old.desk.shown.value) }
+    ensures kept { OnErr result (drop writer.new.behind writer.new.log.items ≡ drop writer.old.behind writer.old.log.items) }
+    ensures same { OnErr result (view writer.new.desk.place ≡ view writer.old.desk.place) }
+{
+    replace_with(writer, rt, |writer, rt| publish(rt, writer))
+}
+
+impl<J: BoardId> Board<J> {
+    /// The row of an object is pending, after those that are.
     ///
     /// Its error is want of memory, and changes nothing.
     pub fn put(&mut self, shown: Shown) -> Result<(), AllocError>
-        ensures publications { publications self.new ≡ publications self.old }
-        ensures ok { OnOk result (pending self.new ≡ pending self.old ++ shown ∷ []) }
-        ensures err { OnErr result (pending self.new ≡ pending self.old) }
+        ensures publications { self.new.publications ≡ self.old.publications }
+        ensures ok { OnOk result (self.new.pending ≡ self.old.pending ++ shown ∷ []) }
+        ensures err { OnErr result (self.new.pending ≡ self.old.pending) }
     {
-        self.writer.append(shown).map_err(|_| AllocError)
+        self.waiting.reserve(1)?;
+        let Some(rows) = self.rows.with(&self.counter, shown) else {
+            return Err(AllocError);
+        };
+        let entry = Entry {
+            row: shown,
+            mark: rows.mark(),
+        };
+        self.waiting.push_back_reserved(entry);
+        self.rows = rows;
+        Ok(())
     }
 
     /// What is pending is published, all at once.
@@ -34,52 +115,129 @@ impl Board {
     /// Its error is want of memory, and changes nothing. It waits for the readings of an earlier
     /// publication to end.
     pub fn publish<R: Wait>(&mut self, rt: &R) -> Result<(), AllocError>
-        ensures published { OnOk result (publications self.new ≡ publications self.old ++ pending self.old) }
-        ensures emptied { OnOk result (pending self.new ≡ []) }
-        ensures unpublished { OnErr result (publications self.new ≡ publications self.old) }
-        ensures kept { OnErr result (pending self.new ≡ pending self.old) }
+        ensures published { OnOk result (self.new.publications ≡ self.old.publications ++ self.old.pending) }
+        ensures emptied { OnOk result (self.new.pending ≡ []) }
+        ensures unpublished { OnErr result (self.new.publications ≡ self.old.publications) }
+        ensures kept { OnErr result (self.new.pending ≡ self.old.pending) }
     {
-        replace_with(&mut self.writer, rt, |writer, rt| publish(rt, writer))
+        hand_over(&mut self.writer, &mut self.waiting)?;
+        publish_in(rt, &mut self.writer)?;
+        Ok(())
     }
 
-    /// Tells a glance of this board what was published so far: from now on it sees no less.
-    pub fn inform(&mut self, glance: &mut Glance)
-        requires { IsOfBoard self.old glance.old }
-        ensures publications { publications self.new ≡ publications self.old }
-        ensures pending { pending self.new ≡ pending self.old }
-        ensures seen { seen glance.new ≡ seen glance.old }
-        ensures told { told glance.new ≡ publications self.old ∷ told glance.old }
+    /// What was published so far, for a glance to learn in its thread.
+    pub fn tell(&self) -> News<J>
+        ensures { result ≡ self.now.publications }
     {
-        glance.reader.learn::<Notes>(self.writer.tell::<Notes>());
+        News {
+            rows: self.writer.published().mark.rows::<J>(),
+        }
     }
 
-    /// Ends the board. What is pending is lost, and nothing is published.
-    pub fn close<R: Wait>(self, rt: &R) {
-        let Board { writer } = self;
-        writer.take(rt);
-    }
-
-    /// A glance of this board that has seen nothing yet, for a thread to read by.
+    /// A glance that has seen nothing and was told nothing.
     ///
     /// Its error is want of memory, or that as many glances are out as the board has room for.
-    pub fn glance(&self) -> Result<Glance, AllocError>
-        ensures { IfOk result (IsNewGlance self.now) }
+    fn glance(&mut self) -> Result<Glance<J>, AllocError>
+        ensures board { self.new ≡ self.old }
+        ensures new { IfOk result HasSeenNothing }
     {
+        let mut reader = self.writer.factory().reader()?;
+        reader.learn::<Names>(self.writer.tell::<Names>());
         Ok(Glance {
-            reader: self.writer.factory().reader()?,
+            reader,
+            seen: self.none.again(),
+            told: self.none.again(),
         })
+    }
+
+    fn glances(&mut self, alloc: Global, count: usize) -> Result<Vec<Glance<J>>, AllocError>
+        ensures board { self.new ≡ self.old }
+        ensures all { IfOk result (λ glances. length glances.items ≡ count) }
+        ensures new { IfOk result (λ glances. All HasSeenNothing glances.items) }
+    {
+        let mut glances = Vec::new(alloc);
+        for _ in 0..count {
+            glances.push(self.glance()?)?;
+        }
+        Ok(glances)
+    }
+
+    /// Ends the board, and answers what it had published: what is pending is lost. Glances of it give no
+    /// reading from then on. It waits for readings to end.
+    pub fn close<R: Wait>(self, rt: &R) -> News<J>
+        ensures { result ≡ self.publications }
+    {
+        let Board {
+            writer,
+            waiting: _waiting,
+            counter: _counter,
+            rows: _rows,
+            none: _none,
+        } = self;
+        let last = writer.take(rt);
+        News {
+            rows: last.mark.rows::<J>(),
+        }
     }
 }
 
-/// A board with no publications and nothing pending, with room for so many glances at a time.
+/// A board with no publications and nothing pending, and so many glances of it, one for each reading
+/// thread, which have seen nothing and were told nothing.
 ///
 /// Its error is want of memory.
-pub fn open_board(alloc: Global, glances: usize) -> Result<Board, AllocError>
+pub fn open_board<J: BoardId, R: Wait>(
+    rt: &R,
+    alloc: Global,
+    blank: Blank,
+    glances: usize,
+) -> Result<(Board<J>, Vec<Glance<J>>), AllocError>
+    requires id { blank.seen.book ≡ J.book }
     requires some { 0 < glances }
     requires few { glances < 2 ^ 32 }
-    ensures publications { IfOk result (λ board. publications board ≡ []) }
-    ensures pending { IfOk result (λ board. pending board ≡ []) }
+    ensures publications { IfOk result (λ ends. ends.0.publications ≡ []) }
+    ensures pending { IfOk result (λ ends. ends.0.pending ≡ []) }
+    ensures glances { IfOk result (λ ends. length ends.1.items ≡ glances) }
+    ensures new { IfOk result (λ ends. All HasSeenNothing ends.1.items) }
 {
-    let writer = Writer::new(alloc, Sheet::new(alloc), Sheet::new(alloc), glances)?;
-    Ok(Board { writer })
+    let mut board = open_writer::<J, R>(rt, alloc, blank, glances)?;
+    match board.glances(alloc, glances) {
+        Ok(made) => Ok((board, made)),
+        Err(_) => {
+            let _ = board.close(rt);
+            Err(AllocError)
+        }
+    }
+}
+
+/// A board with room for so many glances.
+fn open_writer<J: BoardId, R: Wait>(
+    rt: &R,
+    alloc: Global,
+    blank: Blank,
+    glances: usize,
+) -> Result<Board<J>, AllocError>
+    requires id { blank.seen.book ≡ J.book }
+    requires some { 0 < glances }
+    requires few { glances < 2 ^ 32 }
+    ensures publications { IfOk result (λ board. board.publications ≡ []) }
+    ensures pending { IfOk result (λ board. board.pending ≡ []) }
+{
+    let (counter, rows) = blank.named::<J>();
+    let first = Sheet::new(alloc, rows.mark());
+    let second = Sheet::new(alloc, rows.mark());
+    let writer = Writer::new(alloc, first, second, glances)?;
+    // Publishing nothing lets the writer know which history it is.
+    let (writer, done) = publish(rt, writer);
+    if done.is_err() {
+        writer.take(rt);
+        return Err(AllocError);
+    }
+    let none = rows.again();
+    Ok(Board {
+        writer,
+        waiting: VecDeque::new(alloc),
+        counter,
+        rows,
+        none,
+    })
 }

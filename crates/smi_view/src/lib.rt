@@ -6,24 +6,25 @@
 //! is shown never goes back.
 //!
 //! A [`Board`] shows them to other threads. The station's thread puts rows on it and publishes them;
-//! each reading thread has a [`Glance`], which reads the last row of an object without waiting. The
-//! layer above may rely on this: a reading is of some first part of the publications, which begins with
-//! all that this glance has seen before and with all that it was told; so for one glance, too, nothing
-//! goes back.
+//! each reading thread has a [`Glance`], which reads the last row of an object without waiting. What the
+//! board has published may be told at any time ([`Board::tell`]) and learnt by a glance in its thread
+//! ([`Glance::learn`]). The layer above may rely on this: a reading is of some first part of the
+//! publications, which begins with all that this glance has seen before and with all that it was told;
+//! so for one glance, too, nothing goes back. All ends of one board have one type parameter, so that
+//! what one board tells is learnt by its own glances alone.
 #![tactic(auto)]
 
 mod board;
-mod ends;
 mod glance;
+mod history;
+mod page;
 mod rule;
 mod sheet;
-mod sight;
 mod view;
 
-pub use board::open_board;
-pub use ends::{Board, Glance};
-pub use glance::NoReading;
-pub use sight::Sight;
+pub use board::{Board, open_board};
+pub use glance::{Glance, News, NoReading};
+pub use history::{Blank, BoardId, Rows};
 pub use view::{Acceptance, View, is_newer};
 
 #[cfg(test)]

@@ -1,39 +1,41 @@
-//! The rule of the board: what each thread has seen, and what it was told, begins the publications.
+//! The rule of the two copies: the map of each has the last rows of what its mark says, and the mark is
+//! of the history that each thread knows of.
 
-ghost use Rattle.smi_view.specs.Rule.{Keeps, Sees, newcomer, note, informed};
+ghost use Rattle.std.specs.Prelude.{None};
+ghost use Rattle.smi_view.specs.Pages.{Keeps, Finds};
 
+use crate::page::Name;
 use crate::sheet::Sheet;
-use crate::sight::Sight;
 use atomic_table::{Join, Split};
 use crossbeam_utils::rule::{Outcome, Protocol};
 
 /// The rule that every step on a board keeps.
-pub struct Prefixes;
+pub struct OneHistory;
 
-impl Protocol<Sheet, Sight> for Prefixes {
+impl Protocol<Sheet, Option<Name>> for OneHistory {
     ghost holds = { Keeps };
 
-    ghost first = { newcomer };
+    ghost first = { None };
 }
 
-/// What a reading and a publication show.
-pub struct Looks;
+/// What a reading and a publication show: which history it is.
+pub struct Finds;
 
-impl Outcome<Sheet, Sight> for Looks {
-    ghost then = { Sees };
+impl Outcome<Sheet, Option<Name>> for Finds {
+    ghost then = { Finds };
 }
 
-/// What the writer tells, and a reader learns.
-pub struct Notes;
+/// What the writer tells a new glance, and this learns: which history it is.
+pub struct Names;
 
-impl Split<Sight> for Notes {
+impl Split<Option<Name>> for Names {
     ghost left = { λ v. v };
 
-    ghost right = { note };
+    ghost right = { λ v. v };
 }
 
-impl Join<Sight> for Notes {
-    ghost both = { informed };
+impl Join<Option<Name>> for Names {
+    ghost both = { λ v w. w };
 
-    ghost spent = { newcomer };
+    ghost spent = { None };
 }

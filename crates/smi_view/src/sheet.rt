@@ -1,54 +1,65 @@
-//! One copy of the board.
+//! One copy of the board, and what it takes in.
 
-ghost use Rattle.std.specs.Prelude.{◌≡◌, [], ◌∷◌, ◌++◌};
+ghost use Rattle.std.specs.Prelude.{◌≡◌, []};
 ghost use Rattle.smi_view.specs.Entries.{entries_of};
 ghost use Rattle.smi_view.specs.Rows.{last_row};
+ghost use Rattle.smi_view.specs.Pages.{page_of, turned};
 
+use crate::history::Mark;
+use crate::page::Page;
 use left_right::Absorb;
 use smi_grant::Shown;
 use std::alloc::{AllocError, Global};
 use std::collections::BTreeMap;
 
-/// The publications of a board, and the last row of each object among them.
+/// A row, with the rows that end with it.
+#[derive(Drop)]
+pub struct Entry {
+    pub(crate) row: Shown,
+    pub(crate) mark: Mark,
+}
+
+/// The last row of each object, and which rows these are of.
 #[derive(Drop)]
 pub struct Sheet {
     last: BTreeMap<u16, Shown>,
-    rows: Vec<Shown>,
-    ghost kept: { last.entries ≡ entries_of rows.items },
+    pub(crate) mark: Mark,
 }
 
 impl Sheet {
-    pub(crate) fn new(alloc: Global) -> Sheet
-        ensures { result.rows.items ≡ [] }
+    /// A copy with no row of any object.
+    pub(crate) fn new(alloc: Global, mark: Mark) -> Sheet
+        ensures entries { result.last.entries ≡ [] }
+        ensures mark { result.mark ≡ mark }
     {
         Sheet {
             last: BTreeMap::new(alloc),
-            rows: Vec::new(alloc),
+            mark,
         }
     }
 
     /// The last row of an object.
     pub(crate) fn shown(&self, object: u16) -> Option<Shown>
-        ensures { result ≡ last_row object self.now.rows.items }
+        requires { self.now.last.entries ≡ entries_of self.now.mark.seen.log }
+        ensures { result ≡ last_row object self.now.mark.seen.log }
     {
         self.last.get(&object).copied()
     }
 }
 
-impl Absorb<Shown> for Sheet {
-    type State = [Shown; 0];
+impl Absorb<Entry> for Sheet {
+    type State = Page;
 
-    ghost state = { λ s. s.rows.items };
+    ghost state = { page_of };
 
-    ghost applied = { λ rows row. rows ++ row ∷ [] };
+    ghost applied = { turned };
 
-    fn absorb_first(&mut self, operation: &Shown, _other: &Sheet) -> Result<(), AllocError> {
-        let Sheet { last, rows } = self;
-        rows.reserve(1)?;
-        let Ok(_) = last.insert(operation.object, *operation) else {
+    fn absorb_first(&mut self, operation: &Entry, _other: &Sheet) -> Result<(), AllocError> {
+        let Sheet { last, mark } = self;
+        let Ok(_) = last.insert(operation.row.object, operation.row) else {
             return Err(AllocError);
         };
-        rows.push_reserved(*operation);
+        *mark = operation.mark.again();
         Ok(())
     }
 }

@@ -1,14 +1,13 @@
-//! Which states a view accepts, and a glance in another thread.
+//! Which states a view accepts, and what the glances of a board read.
 
-ghost use Rattle.std.specs.Prelude.{◌≡◌, IfOk, OnOk};
-ghost use Rattle.smi_view.specs.Rule.{Covers};
-ghost use Rattle.smi_view.specs.Rows.{last_row};
-ghost use Rattle.smi_view.specs.Board.{seen, sight_of};
+ghost use Rattle.std.specs.Prelude.{◌≡◌};
 
-use crate::{Acceptance, Glance, NoReading, View, open_board};
+use crate::{Acceptance, Blank, Board, BoardId, Glance, NoReading, View, open_board};
 use smi_grant::{Shown, Version};
+use std::alloc::{AllocError, Global};
+use std::marker::Brand;
+use std::sync::Wait;
 use std::test::Fail;
-use std::thread::{Threads, join};
 
 fn shown(object: u16, boot: u32, sequence: u32, state: u16) -> Shown
     ensures { result.object ≡ object }
@@ -37,50 +36,75 @@ fn newer_versions_of_this_boot(rt: HostRuntime) -> Result<(), Fail> {
     Ok(())
 }
 
-/// Reads in a thread of its own, and gives the glance back.
-fn read_apart<R: Threads + Sync>(
+type Reading = Result<Option<Shown>, NoReading>;
+
+fn put_and_publish<J: BoardId, R: Wait>(
     rt: &R,
-    glance: Glance,
-    object: u16,
-) -> (Glance, Result<Option<Shown>, NoReading>)
-    ensures row { IfOk result.1 (λ shown. shown ≡ last_row object (seen result.0)) }
-    ensures covers { OnOk result.1 (Covers (seen result.0) (sight_of glance)) }
+    board: &mut Board<J>,
+    rows: &[Shown],
+) -> Result<(), AllocError> {
+    for row in rows {
+        board.put(*row)?;
+    }
+    board.publish(rt)
+}
+
+/// What two glances read, before and after they are told, and what is only put.
+fn shown_and_read<J: BoardId, R: Wait>(
+    rt: &R,
+    board: &mut Board<J>,
+    one: &mut Glance<J>,
+    other: &mut Glance<J>,
+) -> Result<[Reading; 9], AllocError> {
+    let before = one.read(2);
+    put_and_publish(rt, board, &[shown(2, 1, 1, 2), shown(3, 1, 1, 4)])?;
+    one.learn(board.tell());
+    let told = [one.read(2), one.read(3), one.read(1)];
+    board.put(shown(2, 1, 2, 3))?;
+    let pending = one.read(2);
+    board.publish(rt)?;
+    one.learn(board.tell());
+    let again = [one.read(2), one.read(3)];
+    let untold = [other.read(2), other.read(65535)];
+    Ok([
+        before, told[0], told[1], told[2], pending, again[0], again[1], untold[0], untold[1],
+    ])
+}
+
+/// The readings of an open board, and one of a board that is closed.
+fn over_board<J: BoardId, R: Wait>(
+    rt: &R,
+    alloc: Global,
+    blank: Blank,
+) -> Result<([Reading; 9], Reading), Fail>
+    requires { blank.seen.book ≡ J.book }
 {
-    let (found, _) = join(
-        rt,
-        move || -> (Glance, Result<Option<Shown>, NoReading>)
-            ensures row { IfOk result.1 (λ shown. shown ≡ last_row object (seen result.0)) }
-            ensures covers { OnOk result.1 (Covers (seen result.0) (sight_of glance)) }
-        {
-            let mut glance = glance;
-            let shown = glance.read(object);
-            (glance, shown)
-        },
-        || (),
-    );
-    found
+    let (mut board, mut glances) = open_board::<J, R>(rt, alloc, blank, 2)?;
+    let (other, one) = (glances.pop(), glances.pop());
+    let (Some(mut one), Some(mut other)) = (one, other) else {
+        let _ = board.close(rt);
+        return Err("two glances were not made")?;
+    };
+    let found = shown_and_read(rt, &mut board, &mut one, &mut other);
+    let _ = board.close(rt);
+    Ok((found?, one.read(2)))
 }
 
 #[test]
-fn told_and_read_in_a_thread(rt: HostRuntime) -> Result<(), Fail> {
-    let mut board = open_board(rt.alloc(), 2)?;
-    let early = board.glance();
-    assert!(rt; board.put(shown(2, 1, 1, 2)).is_ok());
-    assert!(rt; board.put(shown(3, 1, 1, 4)).is_ok());
-    assert!(rt; board.publish(&rt).is_ok());
-    if let Ok(mut glance) = board.glance() {
-        board.inform(&mut glance);
-        let (mut glance, read) = read_apart(&rt, glance, 2);
-        assert_eq!(rt; read, Ok(Some(shown(2, 1, 1, 2))));
-        assert!(rt; board.put(shown(2, 1, 2, 3)).is_ok());
-        assert_eq!(rt; glance.read(2), Ok(Some(shown(2, 1, 1, 2))));
-        assert!(rt; board.publish(&rt).is_ok());
-        assert_eq!(rt; glance.read(2), Ok(Some(shown(2, 1, 2, 3))));
-        assert_eq!(rt; glance.read(3), Ok(Some(shown(3, 1, 1, 4))));
-        assert_eq!(rt; glance.read(1), Ok(None));
-    }
-    assert!(rt; early.is_ok());
-    assert!(rt; board.put(shown(2, 1, 3, 3)).is_ok());
-    board.close(&rt);
+fn what_was_put_is_read_once_it_is_published(rt: HostRuntime) -> Result<(), Fail> {
+    let (found, closed) = over_board::<Brand, _>(&rt, rt.alloc(), Blank::new())?;
+    let wanted = [
+        Ok(None),
+        Ok(Some(shown(2, 1, 1, 2))),
+        Ok(Some(shown(3, 1, 1, 4))),
+        Ok(None),
+        Ok(Some(shown(2, 1, 1, 2))),
+        Ok(Some(shown(2, 1, 2, 3))),
+        Ok(Some(shown(3, 1, 1, 4))),
+        Ok(Some(shown(2, 1, 2, 3))),
+        Ok(None),
+    ];
+    assert!(rt; found == wanted);
+    assert_eq!(rt; closed, Err(NoReading));
     Ok(())
 }

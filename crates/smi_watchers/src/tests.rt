@@ -70,27 +70,3 @@ fn a_station_leaves(rt: HostRuntime) -> Result<(), Fail> {
     assert_eq!(rt; station_of(watchers.nth(640, 0)), 8);
     Ok(())
 }
-
-/// Run with each allocation refused in turn: want of memory leaves the lists as they were.
-#[test]
-fn a_refused_growth_changes_nothing(rt: HostRuntime) {
-    let Ok(mut watchers) = Watchers::new(rt.alloc(), 2) else {
-        return;
-    };
-    let first = watchers.watch(1, 3, 1);
-    let before = (watchers.count(1), watchers.count(2));
-    let first_listed = watchers.nth(1, 0);
-    assert_eq!(rt; first.is_ok(), before.0 == 1);
-    let second = watchers.renew(2, 3, 2);
-    match second {
-        Ok(answer) => {
-            assert_eq!(rt; answer, WatchAnswer::Added);
-            assert_eq!(rt; (watchers.count(1), watchers.count(2)), (0, 1));
-        }
-        Err(fault) => {
-            assert_eq!(rt; fault, WatchFault::Memory);
-            assert_eq!(rt; (watchers.count(1), watchers.count(2)), before);
-            assert_eq!(rt; watchers.nth(1, 0), first_listed);
-        }
-    }
-}

@@ -1,4 +1,4 @@
-use Rattle.std.proofs.Common.{◌≡◌, ◌≤◌, ◌++◌, length}
+use Rattle.std.proofs.Common.{◌≡◌, ◌≤◌, ◌+◌, ◌++◌, length}
 use Rattle.rtrb.specs.Ring.{sent, known_free, SameProducer}
 use Rattle.smi_operator.specs.Working.{handed_out, still_in_work}
 use Rattle.smi_operator.proofs.handing.hand_out.Given as goal
@@ -12,3 +12,4 @@ invariant-loop-told l =
     × (sent l.answers ++ handed_out l.work.items ≡ sent l.initial.answers ++ handed_out l.initial.work.items)
     × (still_in_work l.work.items ≡ still_in_work l.initial.work.items)
     × (length l.work.items ≤ known_free l.answers)
+    × (known_free l.answers + length (handed_out l.initial.work.items) ≡ known_free l.initial.answers + length (handed_out l.work.items))

@@ -1,9 +1,11 @@
-use Rattle.std.proofs.Common.{rules, ◌≡◌, ◌∙◌}
-use Rattle.smi_view.specs.Entries.{entry_of}
+use Rattle.std.proofs.Common.{rules, ap, ◌≡◌, ◌∙◌}
+use Rattle.std.specs.Map.{lookup}
+use Rattle.std.specs.BTreeMap.{is_at}
+use Rattle.std.specs.Ordering.{nat_cmp}
 use Rattle.smi_view.proofs.LastRows.{entry_is}
 use Rattle.smi_view.proofs.sheet.Sheet.shown.Goals as goal
 
 pub returns : goal.returns
 returns c =
-    let found : c.copied.result ≡ entry_of c.args.object c.args.self.now.rows.items = search rules in
-    found ∙ entry_is c.args.self.now.rows.items c.args.object
+    let found : c.copied.result ≡ lookup (is_at (nat_cmp c.args.object)) c.args.self.now.last.entries = search rules in
+    found ∙ ap (λ es. lookup (is_at (nat_cmp c.args.object)) es) c.requires ∙ entry_is c.args.self.now.mark.seen.log c.args.object

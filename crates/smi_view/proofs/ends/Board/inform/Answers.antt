@@ -1,8 +1,0 @@
-use Rattle.smi_view.proofs.Growing.{forks, merges}
-use Rattle.smi_view.proofs.ends.Board.inform.Goals as goal
-
-pub tell-requires : goal.tell-requires
-tell-requires c = forks _ _
-
-pub learn-requires-clause-rule : goal.learn-requires-clause-rule
-learn-requires-clause-rule c = merges _ _ _ _

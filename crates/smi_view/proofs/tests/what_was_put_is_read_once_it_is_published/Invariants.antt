@@ -1,0 +1,5 @@
+use Rattle.smi_view.proofs.tests.what_was_put_is_read_once_it_is_published.Given as goal
+
+-- the book of the history that was just begun
+abbrev pub ghosts-over_board : goal.ghosts-over_board
+ghosts-over_board g a = record { book = a.blank.seen.book }

@@ -1,0 +1,17 @@
+-- What the ends of a board show.
+use Rattle.std.specs.Prelude.{◌≡◌, List, []}
+use Rattle.smi_grant.specs.declared.state.Shown.{Shown}
+
+-- all rows that were published, in their order, and those that were put since
+pub record BoardShows : Type 0 where
+  pub publications : List Shown
+  pub pending : List Shown
+
+-- the publications that a glance has seen, and the longest that it was told of
+pub record GlanceShows : Type 0 where
+  pub seen : List Shown
+  pub told : List Shown
+
+-- a glance that has seen nothing and was told nothing
+abbrev pub HasSeenNothing : GlanceShows → Type 0
+HasSeenNothing g = (g.seen ≡ []) × (g.told ≡ [])

@@ -1,0 +1,17 @@
+//! What contracts see of the two copies of a board. No value of these is made.
+
+use smi_grant::Shown;
+
+/// Which history the rows of a copy belong to.
+pub struct Name {
+    pub number: u64,
+    pub log: u64,
+    pub cells: u64,
+}
+
+/// The map of a copy, the rows that it stands for, and the history that these begin.
+pub struct Page {
+    pub entries: [(u16, Shown); 0],
+    pub rows: [Shown; 0],
+    pub name: Name,
+}
