@@ -1,6 +1,6 @@
 """Runs the program on each case of command-lines.txt and compares standard output, standard error and status.
 
-usage: command_lines.py SMI SMI_TRIAL
+usage: command_lines.py SMI SMI_TRIAL [TEXT]
 
 A case begins with `case NAME`. `args` are the words of the command line, `in` and `out` bytes in
 hexadecimal, in which `N*BB` is N times a byte; several lines of one kind follow one another. `from
@@ -8,10 +8,12 @@ directory` reads the standard input from a directory, `to full` writes to a devi
 `err` is a line on standard error, `status` the exit status. The words TREE and NOWHERE in `args` stand
 for the path of the worked tree file and for a path where there is none.
 
-After the table, a take is tried with each other value of each byte and in each length, against the
-layout in layout.py, each tree file of trees.py is checked, each store of stores.py listed, a store that SMI_TRIAL saved
-is read by others, and each growth of some runs, and of the layers' objects in SMI_TRIAL, is refused in turn (growths.py).
-The last line is 'N passed, M failed'.
+After the table, a take is tried with other values in its fields, at the ends of their ranges and beyond, and in other
+lengths, against the layout in layout.py, each tree file of trees.py is checked, each store of stores.py listed, a store
+that SMI_TRIAL saved is read by others, and each growth of some runs, and of the layers' objects in SMI_TRIAL, is refused
+in turn (growths.py). Words that are no text and stores that may only be read are tried (paths.py), and each layer at its
+limits (limits.py). With a TEXT only the cases are run whose name has it; the growths of a run or a layer go together,
+under its name. The last line is 'N passed, M failed'.
 """
 
 import os
@@ -21,6 +23,8 @@ import tempfile
 
 import growths
 import layout
+import limits
+import paths
 import stores
 import trees
 
@@ -87,21 +91,37 @@ def holds(program, case):
     return False
 
 
+# Of each field of a take that has a range, the values at both ends of what is accepted and beyond, and beyond what a
+# byte holds. Of the bytes that it does not use each is tried by itself.
+EDGES = [
+    ("mark", 0, 1, [0, 0x52, 0x73]), ("mark", 1, 1, [0, 0x4C, 0x6D]),
+    ("layout", 2, 1, [0, 2, 3, 255]), ("kind", 3, 1, [0, 1, 3, 4, 5, 6, 7, 8, 9, 255]),
+    ("from", 4, 2, [0, 1, 128, 129, 258, 65_535]), ("to", 6, 2, [0, 2, 128, 129, 257]),
+    ("domain", 8, 2, [0, 2, 128, 129, 257, 641]), ("holder kind", 10, 1, [0, 2, 3, 255]),
+    ("holder", 12, 2, [0, 1, 32, 33, 128, 129, 258]),
+    ("holder kind, phase and holder", 10, 4, [0, 0x0200_0001, 0x0200_0080, 0x0200_0081]),
+    ("epoch", 16, 8, [1, 2, 255, 256, 2 ** 32, 2 ** 62 - 1, 2 ** 62, 2 ** 62 + 1, 2 ** 63, 2 ** 64 - 1]),
+    ("tree", 30, 2, [0, 1, 16, 18, 273, 65_535]),
+]
+UNUSED = [11, 14, 15, *range(24, 30), *range(32, 44)]
+LENGTHS = [1, 2, 3, 4, 11, 22, 30, 43, 45, 60, 87]
+
+
 def variants(take):
-    """A take with each other value of each byte, and in each length up to one byte more."""
-    for place, original in enumerate(take):
-        for value in range(256):
-            if value != original:
-                yield "byte %d is %d" % (place, value), take[:place] + bytes([value]) + take[place + 1:]
-    for length in range(1, len(take)):
-        yield "%d bytes" % length, take[:length]
-    yield "a byte more", take + b"\x00"
+    """A take with other values in its fields, and in other lengths."""
+    for name, at, size, values in EDGES:
+        for value in values:
+            yield "%s %d" % (name, value), take[:at] + value.to_bytes(size, "big") + take[at + size:]
+    for at in UNUSED:
+        yield "byte %d is 1" % at, take[:at] + b"\x01" + take[at + 1:]
+    for length in LENGTHS:
+        yield "%d bytes" % length, (take + take)[:length]
 
 
 def variant_case(name, data):
     """What the layout says of such bytes."""
-    case = {"name": name, "args": ["answer"], "in": data, "out": b"", "err": "", "status": 1}
-    # A 45th byte is the rest of an input whose first datagram is answered.
+    case = {"name": "a take with " + name, "args": ["answer"], "in": data, "out": b"", "err": "", "status": 1}
+    # What follows 44 bytes is the rest of an input whose first datagram is answered.
     first, rest = data[:44], data[44:]
     code = layout.refusal_of_answer(first)
     place = 1
@@ -128,18 +148,31 @@ def store_cases(folder):
         yield {"name": "store: " + name, "args": ["rows", path], "in": b"", "out": out.encode(), "err": err, "status": status}
 
 
+def room(folder, name):
+    """A folder of its own for these cases, so that no two of them write one file."""
+    path = os.path.join(folder, name)
+    os.mkdir(path)
+    return path
+
+
 def main():
-    program, trial = map(os.path.abspath, sys.argv[1:])
-    cases = read_cases(os.path.join(HERE, "command-lines.txt"))
-    cases += [variant_case(name, data) for name, data in variants(cases[0]["in"])]
+    program, trial = map(os.path.abspath, sys.argv[1:3])
+    only = sys.argv[3] if len(sys.argv) > 3 else ""
+    table = read_cases(os.path.join(HERE, "command-lines.txt"))
+    table += [variant_case(name, data) for name, data in variants(table[0]["in"])]
     with tempfile.TemporaryDirectory() as folder:
-        cases += tree_cases(folder)
-        cases += store_cases(folder)
-        done = [holds(program, case) for case in cases]
-        others = list(stores.ours(program, trial, folder))
-        others += growths.refused_cases(program, folder)
-        others += growths.store_cases(program, folder)
-        others += growths.layer_cases(trial, folder)
+        table += tree_cases(folder)
+        table += store_cases(folder)
+        done = [holds(program, case) for case in table if only in case["name"]]
+        others = [case for case in stores.ours(program, trial, folder) if only in case[0]]
+        others += growths.refused_cases(program, folder, only)
+        others += growths.store_cases(program, folder, only)
+        others += growths.layer_cases(trial, folder, only)
+        others += [case for case in paths.cases(program, room(folder, "of paths")) if only in case[0]]
+        at_limits = room(folder, "at limits")
+        others += limits.layer_cases(trial, at_limits, only)
+        others += limits.answer_case(program, at_limits, table[0]["in"], table[0]["out"], only)
+        others += limits.rows_case(program, at_limits, only)
         for name, held in others:
             done.append(held)
             if not held:
@@ -147,7 +180,8 @@ def main():
     passed = sum(done)
     failed = len(done) - passed
     print("%d passed, %d failed" % (passed, failed))
-    sys.exit(1 if failed else 0)
+    # a text that no case has tests nothing
+    sys.exit(1 if failed or not done else 0)
 
 
 main()

@@ -1,12 +1,14 @@
-"""Each growth of a run refused in turn.
+"""Each growth of a run refused in turn: first the growths are counted, and then each of them is refused.
 
-The program says so and ends with status 4, and a store that it lists is left as it was. A layer's object is after each
-as it was before, and the same call then does what it does otherwise (crates/smi_trial).
+The program says so and ends with status 4, and a store that it lists is left as it was; or it does without that growth
+and does all that it does otherwise. A layer's object is after each as it was before, and the same call then does what it
+does otherwise (crates/smi_trial).
 """
 
 import os
 import shutil
 import subprocess
+import sys
 
 import stores
 
@@ -19,7 +21,6 @@ RUNS = [
     (["check", os.path.join(EXAMPLES, "detector.tree")], os.devnull),
     (["answer"], os.path.join(EXAMPLES, "one-domain.datagrams")),
 ]
-MOST_GROWTHS = 100_000
 
 # The layers whose objects smi_trial makes and changes.
 LAYERS = ["watchers", "link", "view", "publish", "board", "seats", "rows", "memory", "sql"]
@@ -39,30 +40,45 @@ def run(program, words, source, settings):
     return done.stdout, done.stderr, done.returncode
 
 
-def refused_cases(program, folder):
-    """Of each run and each of its growths: a name, and whether the program did as it should.
+def counted(program, words, source, refusing, folder):
+    """How many growths a run has, and what it does."""
+    path = os.path.join(folder, "growths")
+    whole = run(program, words, source, {"LD_PRELOAD": refusing, "COUNT": path})
+    with open(path, "rb") as file:
+        return int.from_bytes(file.read(8), sys.byteorder), whole
 
-    A run whose growth is refused writes no more than a part of what the whole run writes, says `no memory` and has
-    status 4. The first growth that no longer comes leaves a whole run.
-    """
+
+def is_told(whole, refused):
+    """Whether a run says that a growth was refused: it writes no more than a part of what the whole run writes."""
+    out, err, status = refused
+    return (whole[0].startswith(out), err, status) == (True, b"no memory\n", 4)
+
+
+def refused_cases(program, folder, only=""):
+    """Of each run and each of its growths: a name, and whether the program did as it should; of those alone in whose
+    name the word is."""
     refusing = library(folder)
     for words, source in RUNS:
-        whole = run(program, words, source, {})
-        name = " ".join([words[0]] + [os.path.basename(word) for word in words[1:]])
-        for growth in range(1, MOST_GROWTHS):
-            out, err, status = run(program, words, source, {"LD_PRELOAD": refusing, "REFUSE": str(growth)})
-            if (out, err, status) == whole:
-                yield "%s: %d growths" % (name, growth - 1), growth > 1 and status == 0
-                break
-            yield "%s: growth %d" % (name, growth), (whole[0].startswith(out), err, status) == (True, b"no memory\n", 4)
+        name = "growths of " + " ".join([words[0]] + [os.path.basename(word) for word in words[1:]])
+        if only not in name:
+            continue
+        growths, whole = counted(program, words, source, refusing, folder)
+        told = 0
+        for growth in range(1, growths + 1):
+            refused = run(program, words, source, {"LD_PRELOAD": refusing, "REFUSE": str(growth)})
+            told += refused != whole
+            yield "%s: %d" % (name, growth), refused == whole or is_told(whole, refused)
+        yield "%s: all %d, %d of them needed" % (name, growths, told), whole[2] == 0 and told > 0
 
 
-def store_cases(program, folder):
+def store_cases(program, folder, only=""):
     """Of a listing of a store, and of a file in which the table is still to be made, and of each of their growths: a
     name, and whether the program did as it should and left the rows as they were."""
     refusing = library(folder)
     kept, path = os.path.join(folder, "kept"), os.path.join(folder, "listed")
-    for name, rows in [("rows", stores.ROWS), ("rows to come", None)]:
+    for name, rows in [("growths of rows", stores.ROWS), ("growths of rows to come", None)]:
+        if only not in name:
+            continue
         if os.path.exists(kept):
             os.remove(kept)
         if rows is None:
@@ -70,32 +86,34 @@ def store_cases(program, folder):
         else:
             stores.store(kept, stores.TABLE, rows)
         wanted = stores.rows_in(kept)
-        text = stores.listing(rows or []).encode()
-        for growth in range(1, MOST_GROWTHS):
+        growths, whole = counted(program, ["rows", kept], os.devnull, refusing, folder)
+        yield "%s: all %d" % (name, growths), growths > 0 and whole == (stores.listing(rows or []).encode(), b"", 0)
+        for growth in range(1, growths + 1):
             for left in [path, path + "-wal", path + "-shm"]:
                 if os.path.exists(left):
                     os.remove(left)
             shutil.copyfile(kept, path)
-            out, err, status = run(program, ["rows", path], os.devnull, {"LD_PRELOAD": refusing, "REFUSE": str(growth)})
-            if (out, err, status) == (text, b"", 0):
-                yield "%s: %d growths" % (name, growth - 1), growth > 1 and stores.rows_in(path) == wanted
-                break
-            told = (text.startswith(out), err, status) == (True, b"no memory\n", 4)
-            yield "%s: growth %d" % (name, growth), told and stores.rows_in(path) == wanted
+            refused = run(program, ["rows", path], os.devnull, {"LD_PRELOAD": refusing, "REFUSE": str(growth)})
+            held = refused == whole or is_told(whole, refused)
+            yield "%s: %d" % (name, growth), held and stores.rows_in(path) == wanted
 
 
-def layer_cases(trial, folder):
+def layer_cases(trial, folder, only=""):
     """Of each layer and each growth of its run: a name, and whether the layer's object was as it should be.
 
-    The first growths are those of the command line, which the program gives up at; all later ones are the layer's.
+    The first growths are those of the command line, which the program gives up at; all later ones are the layer's, and
+    those of its output, without which it does.
     """
     refusing = library(folder)
     for layer in LAYERS:
+        if only not in "growths of " + layer:
+            continue
+        growths, whole = counted(trial, ["refused", layer], os.devnull, refusing, folder)
+        yield "growths of %s: all %d" % (layer, growths), (whole[0], whole[2]) == (b"whole\n", 0)
         kept = 0
-        for growth in range(1, MOST_GROWTHS):
+        for growth in range(1, growths + 1):
             out, _, status = run(trial, ["refused", layer], os.devnull, {"LD_PRELOAD": refusing, "REFUSE": str(growth)})
-            if (out, status) == (b"whole\n", 0):
-                yield "%s: %d growths, %d of them its own" % (layer, growth - 1, kept), kept > 0
-                break
             kept += out == b"kept\n"
-            yield "%s: growth %d" % (layer, growth), (out, status) == (b"kept\n", 0) or (kept == 0 and out == b"" and status == 1)
+            is_so = (out, status) in [(b"kept\n", 0), (b"whole\n", 0)]
+            yield "growths of %s: %d" % (layer, growth), is_so or (kept == 0 and out == b"" and status == 1)
+        yield "growths of %s: %d of its own" % (layer, kept), kept > 0

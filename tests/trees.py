@@ -134,6 +134,7 @@ def limits():
     domains = numbered("domain D%d W UNIT -", 2, 33)
     yield accepted("512 devices", after_head(*domains, *["device V%d D%d DEV" % (n, n % 33 + 1) for n in range(512)]), (17, 1, 1, 33, 512))
     yield refused("513 devices", after_head(*domains, *["device V%d D%d DEV" % (n, n % 33 + 1) for n in range(513)]), root + 32 + 513, 6)
+    yield accepted("every limit at once", full(), (17, 128, 32, 128, 512))
     room = 262_144 - len(WORKED)
     filler = "#" + 98 * "x" + "\n"
     exact = WORKED + (room // 100) * filler + (room % 100) * " "
@@ -142,6 +143,25 @@ def limits():
     yield accepted("a name of sixteen", WORKED.replace("HV", "ABCDEFGHIJKLMNO_"), (17, 2, 2, 2, 1))
     yield accepted("a comment of 200 bytes", WORKED + "#" + 199 * "x" + "\r\n", (17, 2, 2, 2, 1))
     yield refused("a comment of 201 bytes", WORKED + "#" + 200 * "x" + "\r\n", 26, 10)
+
+
+def full():
+    """A tree at every limit but those of a domain alone, and domain 1 at these; crates/smi_trial knows it."""
+    lines = ["tree 17"] + numbered("state S%d", 1, 64) + numbered("action A%d", 1, 64)
+    lines += ["station W%d 10.0.0.%d:%d" % (n, n, 9000 + n) for n in range(1, 129)]
+    lines += ["operator O%d W%d" % (n, (n + 7) // 8) for n in range(1, 33)]
+    lines += ["devclass DEV S1"]
+    lines += ["move DEV S%d A%d S%d" % (s, a, (s + a) % 64 + 1) for s in range(1, 65) for a in range(1, 65)]
+    for unit in range(1, 32):
+        lines += ["unitclass U%d S1" % unit] + ["accept U%d A%d" % (unit, n) for n in range(1, 65)]
+        lines += ["%s U%d S%d S%d" % (("all", "any")[n % 2], unit, n, n + 1) for n in range(1, 33)]
+    parents = {1: "-"}
+    parents.update({n: "D1" for n in range(2, 18)})
+    parents.update({n: "D%d" % (2 if n == 18 else n - 1) for n in range(18, 24)})
+    parents.update({n: "D%d" % (3 + (n - 24) // 16) for n in range(24, 129)})
+    lines += ["domain D%d W%d U%d %s" % (n, n, (n - 1) % 31 + 1, parents[n]) for n in range(1, 129)]
+    lines += ["device V%d D%d DEV" % (n, 1 if n <= 16 else 2 + (n - 17) % 127) for n in range(1, 513)]
+    return "\n".join(lines) + "\n"
 
 
 def pairs():

@@ -21,6 +21,10 @@ pub enum Line<'a> {
 
 /// What the words of a command line ask for, the program's own name first.
 pub fn line_of(alloc: Global, words: &[String]) -> Line<'_> {
+    // No form has the word that ends the options.
+    if words.iter().skip(1).any(|word| word.as_str() == "--") {
+        return Line::Wrong;
+    }
     match parsed(alloc, words) {
         Ok(line) => line,
         Err(e) if e.kind() == ErrorKind::OutOfMemory => Line::NoMemory,

@@ -1,13 +1,14 @@
 //! The commands, over any files, input and outputs.
 
+use crate::file;
 use crate::line::{Line, line_of};
 use crate::store::Stores;
+use crate::words::Words;
 use smi_tools::answer::{Answered, answer};
 use smi_tools::check::check;
 use smi_tools::rows::Listed;
 use smi_tools::status::{Status, no_memory, read_fault, store_fault, write_fault, wrong_line};
 use std::alloc::Global;
-use std::fs;
 use std::io::{self, BufReader, BufWriter, ErrorKind, Read, Write};
 use std::rt::Files;
 
@@ -21,18 +22,26 @@ const MOST_TREE_BYTES: u64 = 256 * 1024 + 1;
 /// told in one line on `faults`.
 pub fn program<H: Files + Stores + AllocGlobal, R: Read + Drop, W: Write + Drop, F: Write>(
     host: &H,
-    words: &[String],
+    words: &Words,
     reader: R,
     writer: W,
     faults: &mut F,
 ) -> u8 {
     let alloc = host.alloc();
-    match line_of(alloc, words) {
+    match line_of(alloc, words.texts.as_slice()) {
         Line::Answer => told(answer_in_blocks(alloc, reader, writer), faults).code(),
-        Line::Check(path) => check_file(host, path, writer, faults),
-        Line::Rows(path) => list_rows(host, path, writer, faults).code(),
+        Line::Check(path) => check_file(host, path_of(words, path), writer, faults),
+        Line::Rows(path) => list_rows(host, path_of(words, path), writer, faults).code(),
         Line::Wrong => wrong_line(faults).code(),
         Line::NoMemory => no_memory(faults).code(),
+    }
+}
+
+/// The bytes of the path in a line: those of the word that is no text, where there is one.
+fn path_of<'a>(words: &'a Words, text: &'a str) -> &'a [u8] {
+    match &words.raw {
+        Some(bytes) => bytes.as_slice(),
+        None => text.as_bytes(),
     }
 }
 
@@ -65,7 +74,7 @@ fn told<F: Write>(answered: Answered, faults: &mut F) -> Status {
 
 fn check_file<H: Files + AllocGlobal, W: Write + Drop, F: Write>(
     host: &H,
-    path: &str,
+    path: &[u8],
     writer: W,
     faults: &mut F,
 ) -> u8 {
@@ -82,9 +91,9 @@ fn check_file<H: Files + AllocGlobal, W: Write + Drop, F: Write>(
 }
 
 /// The bytes of a tree file, or as many as show that it is too long.
-fn tree_bytes<H: Files + AllocGlobal>(host: &H, path: &str) -> io::Result<Vec<u8>> {
+fn tree_bytes<H: Files + AllocGlobal>(host: &H, path: &[u8]) -> io::Result<Vec<u8>> {
     let mut bytes = Vec::new(host.alloc());
-    fs::open(host, path)?
+    file::open(host, path)?
         .take(MOST_TREE_BYTES)
         .read_to_end(&mut bytes)?;
     Ok(bytes)
@@ -92,7 +101,7 @@ fn tree_bytes<H: Files + AllocGlobal>(host: &H, path: &str) -> io::Result<Vec<u8
 
 fn list_rows<H: Stores + AllocGlobal, W: Write + Drop, F: Write>(
     host: &H,
-    path: &str,
+    path: &[u8],
     writer: W,
     faults: &mut F,
 ) -> Status {

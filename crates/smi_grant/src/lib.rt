@@ -22,6 +22,3 @@ pub use holder::Holder;
 pub use keeper::{Verdict, admit, drop_grant, settle, start, take};
 pub use record::{LAST_EPOCH, Phase, Record, is_outcome};
 pub use state::{Shown, Version};
-
-#[cfg(test)]
-mod tests;

@@ -21,6 +21,3 @@ pub use bad::Bad;
 pub use codec::{decode, encode};
 pub use datagram::{Body, Datagram};
 pub use refusal::Refusal;
-
-#[cfg(test)]
-mod tests;

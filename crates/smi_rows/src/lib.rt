@@ -37,6 +37,3 @@ pub use saved::{SavedRow, is_rising};
 pub use schema::Schema;
 pub use smi_tally::Tally;
 pub use stable::{Stable, StoreFault};
-
-#[cfg(test)]
-mod tests;

@@ -17,6 +17,3 @@ pub use smi_rows::{
     RowFault, RowKind, SavedRow, Schema, Stable, StoreFault, StoredLink, Tally, law, write_boot,
 };
 pub use sqlite_stable::SqliteStable;
-
-#[cfg(test)]
-mod tests;

@@ -11,5 +11,3 @@ pub mod check;
 mod keeper;
 pub mod rows;
 pub mod status;
-#[cfg(test)]
-mod tests;

@@ -33,6 +33,3 @@ pub use fault::{Fault, TreeFault};
 pub use number::Address;
 pub use row::{Device, Domain};
 pub use tree::Tree;
-
-#[cfg(test)]
-mod tests;

@@ -1,0 +1,58 @@
+//! Files by paths that need not be text.
+
+use std::alloc::{AllocError, Global};
+use std::fs;
+use std::io::{self, ErrorKind, Read};
+use std::rt::Files;
+
+/// A path that is no text is opened by its bytes, and then again by the name that the system has for
+/// what is open.
+pub fn open<H: Files + AllocGlobal>(host: &H, path: &[u8]) -> io::Result<H::File> {
+    if let Ok(text) = str::from_utf8(path) {
+        return fs::open(host, text);
+    }
+    let place = os::open_read(path);
+    if place < 0 {
+        return Err(io::Error::from_raw_os_error(os::errno()));
+    }
+    let name = format!(in host.alloc(); "/proc/self/fd/{place}")?;
+    fs::open(host, name.as_str())
+}
+
+/// The bytes of a file, none where there is no file. What is no regular file is not opened.
+pub fn bytes_of<H: Files + AllocGlobal>(host: &H, path: &[u8]) -> io::Result<Option<Vec<u8>>> {
+    if let Ok(text) = str::from_utf8(path) {
+        match fs::metadata(host, text) {
+            Ok(found) if found.is_file() => {}
+            Ok(_) => return Err(io::Error::from(ErrorKind::Unsupported)),
+            Err(e) if e.kind() == ErrorKind::NotFound => return Ok(None),
+            Err(e) => return Err(e),
+        }
+    }
+    let mut file = match open(host, path) {
+        Ok(file) => file,
+        Err(e) if e.kind() == ErrorKind::NotFound => return Ok(None),
+        Err(e) => return Err(e),
+    };
+    let mut bytes = Vec::new(host.alloc());
+    file.read_to_end(&mut bytes)?;
+    Ok(Some(bytes))
+}
+
+/// The path with no link in it, where it is text.
+pub fn resolved<H: Files + AllocGlobal>(host: &H, path: &[u8]) -> io::Result<Vec<u8>> {
+    match str::from_utf8(path) {
+        Ok(text) => {
+            let real = fs::canonicalize(host, text)?;
+            Ok(Vec::from_slice(host.alloc(), real.as_str().as_bytes())?)
+        }
+        Err(_) => Ok(Vec::from_slice(host.alloc(), path)?),
+    }
+}
+
+/// The path with more behind it.
+pub fn beside(alloc: Global, path: &[u8], more: &[u8]) -> Result<Vec<u8>, AllocError> {
+    let mut longer = Vec::from_slice(alloc, path)?;
+    longer.extend_from_slice(more)?;
+    Ok(longer)
+}

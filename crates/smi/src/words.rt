@@ -1,0 +1,51 @@
+//! The words of the command line as the system gives them, which need not be text.
+
+use std::alloc::AllocError;
+use std::env::FillError;
+use std::rt::Env;
+
+/// The most bytes that the system takes as one word.
+const MOST_BYTES: usize = 128 * 1024;
+
+/// The words of a command line, the program's own name first.
+#[derive(Drop)]
+pub struct Words {
+    /// Each word. One that is not UTF-8 has a sign in the place of what is no text, which no word of
+    /// a form has.
+    pub texts: Vec<String>,
+    /// The last word that is not UTF-8, the name left out. In a line of one of the forms it is the path.
+    pub raw: Option<Vec<u8>>,
+}
+
+/// The words of the command line. The error is want of memory.
+pub fn words_of(rt: &HostRuntime) -> Result<Words, AllocError> {
+    let mut words = Words {
+        texts: Vec::new(rt.alloc()),
+        raw: None,
+    };
+    let mut buffer = std::vec![in rt.alloc(); 0u8; MOST_BYTES]?;
+    for place in 0..usize::MAX {
+        match rt.arg(place, buffer.as_mut_slice()) {
+            Ok(count) => add(
+                rt,
+                &mut words,
+                buffer.as_slice().get(..count).unwrap_or(&[]),
+            )?,
+            Err(FillError::NotPresent) => break,
+            // The system takes no such word.
+            Err(FillError::TooLong) => add(rt, &mut words, &[u8::MAX])?,
+        }
+    }
+    Ok(words)
+}
+
+fn add(rt: &HostRuntime, words: &mut Words, bytes: &[u8]) -> Result<(), AllocError> {
+    let is_name = words.texts.is_empty();
+    words
+        .texts
+        .push(String::from_utf8_lossy(rt.alloc(), bytes)?)?;
+    if !is_name && str::from_utf8(bytes).is_err() {
+        words.raw = Some(Vec::from_slice(rt.alloc(), bytes)?);
+    }
+    Ok(())
+}

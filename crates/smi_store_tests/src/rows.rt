@@ -1,0 +1,149 @@
+//! Rows and stores, by values from docs/FORMATS.md.
+
+use smi_rows::{Key, Row, RowFault, write_boot};
+use smi_tree::Tree;
+use std::alloc::Global;
+use std::test::Fail;
+
+mod planned;
+mod replaced;
+mod rows;
+
+// Stations A 1 and B 2, operators ANN 1 at A and BOB 2 at B, domains DCS 1 at A and TPC 2 at B under it.
+const TREE: &[u8] =
+    b"tree 17\nstate OFF\naction CONFIGURE\naction START\nstation A 127.0.0.1:9001\nstation B 127.0.0.1:9002\noperator ANN A\noperator BOB B\nunitclass UNIT OFF\ndomain DCS A UNIT -\ndomain TPC B UNIT DCS\n";
+
+const fn key(station: u16, domain: u16, operator: u16) -> Key {
+    Key {
+        station,
+        domain,
+        operator,
+    }
+}
+
+// The boot 2 of a station.
+const BOOT: &[u8] = &[2, 0, 0, 0, 0, 0, 0, 2];
+
+// BOB holds DCS at epoch 1.
+const TAKEN: &[u8] = &[
+    2, 1, 0, 2, 0, 0, 0, 0, 0, 0, 0, 1, 0, 0, 0, 0, 0, 0, 0, 0, 0, 0, 0, 0,
+];
+
+// ANN holds DCS at epoch 1; its command 2 is at work, and CONFIGURE is pending at TPC as command 1.
+const WORKING: &[u8] = &[
+    2, 1, 0, 1, 0, 0, 0, 0, 0, 0, 0, 1, 0, 0, 0, 2, 1, 0, 0, 0, 0, 0, 0, 1, // the domain
+    0, 2, 3, 0, 0, 0, 0, 0, 0, 0, 0, 1, 0, 0, 0, 1, 0, 1, 0, 1,
+];
+
+// BOB holds TPC at epoch 1, and no command is issued.
+const HELD: &[u8] = &[
+    3, 0, 0, 1, 0, 2, 2, 0, 0, 0, 0, 0, 0, 0, 0, 1, 0, 0, 0, 0, 0, 0, 0, 0,
+];
+
+// BOB holds TPC at epoch 1, and CONFIGURE is pending.
+const OLDEST: &[u8] = &[
+    3, 0, 0, 1, 0, 2, 3, 0, 0, 0, 0, 0, 0, 0, 0, 1, 0, 0, 0, 1, 0, 1, 0, 1,
+];
+
+// BOB holds TPC at epoch 1, and CONFIGURE and START are pending.
+const PENDING: &[u8] = &[
+    3, 0, 0, 1, 0, 2, 5, 0, 0, 0, 0, 0, 0, 0, 0, 1, 0, 0, 0, 2, 0, 1, 0, 1, 0, 1, 0, 1, 0, 2,
+];
+
+// TPC is held at an even epoch.
+const EVEN: &[u8] = &[
+    3, 0, 0, 1, 0, 2, 2, 0, 0, 0, 0, 0, 0, 0, 0, 2, 0, 0, 0, 0, 0, 0, 0, 0,
+];
+
+/// A row of each kind, and of domains and operators two.
+fn examples() -> [(Key, &'static [u8]); 5] {
+    [
+        (key(1, 0, 0), BOOT),
+        (key(1, 1, 0), TAKEN),
+        (key(1, 1, 0), WORKING),
+        (key(2, 0, 2), HELD),
+        (key(2, 0, 2), PENDING),
+    ]
+}
+
+/// 0 for a row that is read.
+fn fault(alloc: Global, tree: &Tree, key: Key, bytes: &[u8]) -> u16 {
+    match Row::read(alloc, tree, key, bytes) {
+        Ok(_) => 0,
+        Err(RowFault::Code(number)) => number,
+        Err(RowFault::Memory) => 99,
+    }
+}
+
+/// The bytes in which what the row says is written.
+fn rewritten(alloc: Global, tree: &Tree, key: Key, bytes: &[u8]) -> Result<Vec<u8>, RowFault> {
+    match Row::read(alloc, tree, key, bytes)? {
+        Row::Boot(boot) => Ok(write_boot(alloc, boot)?),
+        Row::Domain(domain) if domain.links.len() < 65536 => Ok(domain.write(alloc)?),
+        Row::Operator(operator) if operator.links.len() < 65536 => Ok(operator.write(alloc)?),
+        // More links than a row can have.
+        _ => Err(RowFault::Code(0)),
+    }
+}
+
+/// The bytes with another one at this place.
+fn with_byte(alloc: Global, bytes: &[u8], place: usize, value: u8) -> Result<Vec<u8>, Fail> {
+    let mut row = Vec::from_slice(alloc, bytes)?;
+    *row.get_mut(place).ok_or("no such byte")? = value;
+    Ok(row)
+}
+
+/// What is asked of the rows of a small tree.
+#[derive(Clone, Copy, Debug, PartialEq, Eq)]
+enum Case {
+    /// Each faulty row has the first fault that the tests find.
+    Faults,
+    /// Rows are written as they were read.
+    Rewritten,
+    /// Rows of older schemas are read, and what they say is written in the newest.
+    OlderSchemas,
+    /// What only a later schema can say is out of range before it.
+    SaidTooEarly,
+    Links,
+    Record,
+    /// A row of each other length is refused for it.
+    Lengths,
+    /// A row with each other value at each place has the fault that the layout says.
+    Bytes,
+}
+
+fn holds_of(case: Case, alloc: Global, tree: &Tree) -> Result<bool, Fail> {
+    match case {
+        Case::Faults => Ok(rows::have_their_faults(alloc, tree)),
+        Case::Rewritten => rows::are_written_as_they_were_read(alloc, tree),
+        Case::OlderSchemas => rows::are_written_in_the_newest(alloc, tree),
+        Case::SaidTooEarly => rows::are_not_said_too_early(alloc, tree),
+        Case::Links => rows::have_their_links(alloc, tree),
+        Case::Record => rows::has_its_record(alloc, tree),
+        Case::Lengths => replaced::has_no_other_length(alloc, tree),
+        Case::Bytes => replaced::has_no_other_byte(alloc, tree),
+    }
+}
+
+// One function owns the tree: whatever owns one is dear to prove.
+fn holds(case: Case, alloc: Global) -> Result<bool, Fail> {
+    let tree = Tree::read(alloc, TREE)?;
+    holds_of(case, alloc, &tree)
+}
+
+#[test]
+fn rows_of_a_small_tree(rt: HostRuntime) -> Result<(), Fail> {
+    for case in [
+        Case::Faults,
+        Case::Rewritten,
+        Case::OlderSchemas,
+        Case::SaidTooEarly,
+        Case::Links,
+        Case::Record,
+        Case::Lengths,
+        Case::Bytes,
+    ] {
+        assert!(rt; holds(case, rt.alloc())?, "{case:?}");
+    }
+    Ok(())
+}

@@ -1,0 +1,5 @@
+//! Tests of what each command of the program does, over readers, writers and stores of their own.
+#![tactic(auto)]
+
+#[cfg(test)]
+mod commands;
