@@ -2,7 +2,7 @@
 
 SOURCES := crates.txt $(shell find crates -path '*/out' -prune -o -type f \( -name '*.rt' -o -name '*.antt' \) -print)
 
-.PHONY: smi run test cases bench
+.PHONY: smi run try test gate check cases edits edits-test costs bench
 
 # The program, proved and built, at bin/smi.
 smi: bin/smi
@@ -14,20 +14,42 @@ bin/smi: $(SOURCES)
 
 # The main job on a real input: each datagram and its answer, in hexadecimal beside what they say.
 run: bin/smi
-	python3 tools/show.py bin/smi examples/one-domain.datagrams
+	python3 tools/show.py examples/one-domain.datagrams bin/smi answer
 
-# The whole gate: every proof, edit and test from nothing, and then the command lines, on the program
-# that the gate has just built where it left one.
+# The same answers in some three minutes, from the program as it is written: NOTHING of it is proved before it runs.
+try:
+	cd crates/smi && python3 ../../tools/show.py ../../examples/one-domain.datagrams rt try -- answer
+	@echo 'not proved: make run proves the program and then runs it'
+
+# What each change has to pass: every proof and test from nothing, the command lines, and the edits of each crate
+# whose sum is not in edits.ok. The last line is 'N passed, M failed'.
 test:
-	rt ci
-	@for it in smi smi_trial; do \
-		if [ -x crates/$$it/out/$$it ] && [ -z "$$(find $(SOURCES) -newer crates/$$it/out/$$it)" ]; then \
-			mkdir -p bin && cp crates/$$it/out/$$it bin/$$it; fi; done
-	$(MAKE) --no-print-directory cases
+	@python3 tools/gate.py
 
-# The command lines alone. The last line is 'N passed, M failed'.
+# The same with the edits of every crate. It alone writes edits.ok.
+gate:
+	@python3 tools/gate.py --all
+
+# One crate, over what earlier checks kept: make check CRATE=smi_grant
+check:
+	cd crates/$(CRATE) && rt check
+
+# The command lines alone, or those whose name has a text: make cases ONLY='a take'. The last line is 'N passed, M failed'.
 cases: bin/smi bin/smi_trial
-	python3 tests/command_lines.py bin/smi bin/smi_trial
+	@python3 tests/command_lines.py bin/smi bin/smi_trial $(if $(ONLY),'$(ONLY)')
+
+# The edits that the prover must refuse, of all crates or of some: make edits CRATE='smi_grant smi_tree' ONLY=take JOBS=2.
+# The last line is 'N refused, M not'.
+edits:
+	@python3 tools/edits.py --jobs $(or $(JOBS),1) $(if $(ONLY),--only '$(ONLY)') $(CRATE)
+
+# Whether that tells an edit that is refused from one that is not.
+edits-test:
+	@python3 tests/edits_test.py
+
+# What crates cost the gate: make costs CRATE='smi_grant smi_tree'
+costs:
+	@python3 tools/costs.py $(CRATE)
 
 bench: bin/smi bin/smi_bench bin/smi_trial
 	python3 tests/bench.py bin/smi bin/smi_bench bin/smi_trial

@@ -1,6 +1,8 @@
 """Shows the datagrams of a file and what `smi answer` says to each, in hexadecimal beside what they say.
 
-usage: show.py SMI FILE
+usage: show.py FILE COMMAND..
+
+The command is `bin/smi answer`, or another that runs it.
 """
 
 import struct
@@ -46,10 +48,10 @@ def show(mark, datagram):
 
 
 def main():
-    program, path = sys.argv[1:]
+    path, *command = sys.argv[1:]
     with open(path, "rb") as file:
         data = file.read()
-    run = subprocess.run([program, "answer"], input=data, capture_output=True, check=False)
+    run = subprocess.run(command, input=data, capture_output=True, check=False)
     for place in range(0, len(data), SIZE):
         show("->", data[place:place + SIZE])
         answer = run.stdout[place:place + SIZE]

@@ -1,0 +1,136 @@
+"""The gate: every proof and every test from nothing, the command lines, and the edits that must be refused.
+
+usage: gate.py [--all]
+
+It runs `rt ci`, the cases of tests/command_lines.py on the programs that this has built, and the edits in
+crates/CRATE/edits/ (tools/edits.py) of each crate whose sum is not in the record edits.ok: a line of it says that a whole
+gate saw all edits of the crate refused, with the same toolchain, tools, sources, specs, proofs and edits, and the same
+sources, specs and proofs of the crates below it. What is not tried for that is counted apart and not as passed. --all
+reads no record, tries the edits of every crate, and writes the record.
+
+The last line is 'N passed, M failed'.
+"""
+
+import os
+import re
+import shutil
+import subprocess
+import sys
+import time
+
+import edits
+import kit
+
+RECORD = os.path.join(kit.ROOT, "edits.ok")
+PROGRAMS = ("smi", "smi_trial")
+HEAD = "# The crates whose edits `make gate` last saw refused, each with the sum of what that rests on (tools/gate.py).\n"
+
+
+class Part:
+    """A part of the gate: how much of it passed and failed, and the processor time that it took."""
+
+    def __init__(self, name):
+        self.name, self.passed, self.failed, self.more, self.begun = name, 0, 0, "", self.now()
+
+    @staticmethod
+    def now():
+        used = os.times()
+        return used.children_user + used.children_system
+
+    def end(self, passed, failed, more=""):
+        self.passed, self.failed, self.more = passed, failed, more
+        self.minutes = (self.now() - self.begun) / 60
+        return self
+
+    def __str__(self):
+        return "%s: %d passed, %d failed%s (%.1f processor minutes)" % (self.name, self.passed, self.failed, self.more, self.minutes)
+
+
+def run(words):
+    """Runs a command whose last line is 'N passed, M failed', and returns both numbers."""
+    child = subprocess.Popen(words, cwd=kit.ROOT, stdout=subprocess.PIPE, text=True, errors="replace")
+    last = ""
+    for line in child.stdout:
+        print(line, end="", flush=True)
+        last = line
+    child.wait()
+    found = re.fullmatch(r"(\d+) passed, (\d+) failed\n?", last)
+    passed, failed = map(int, found.groups()) if found else (0, 1)
+    # a run that ended badly has failed, whatever it printed
+    return passed, failed or (1 if child.returncode else 0)
+
+
+def take_programs(since):
+    """Puts the programs that this gate has built where the cases look for them, or builds those that it left nowhere."""
+    os.makedirs(os.path.join(kit.ROOT, "bin"), exist_ok=True)
+    for name in PROGRAMS:
+        made = os.path.join(kit.ROOT, "crates", name, "out", name)
+        if os.path.isfile(made) and os.path.getmtime(made) >= since:
+            shutil.copy(made, os.path.join(kit.ROOT, "bin", name))
+        else:
+            subprocess.run(["make", "--no-print-directory", "bin/" + name], cwd=kit.ROOT, check=True)
+
+
+def recorded():
+    """The sums of the record, by crate."""
+    if not os.path.isfile(RECORD):
+        return {}
+    with open(RECORD, encoding="ascii") as file:
+        return dict(line.split() for line in file if line.strip() and not line.startswith("#"))
+
+
+def write_record(sums):
+    with open(RECORD, "w", encoding="ascii") as file:
+        file.write(HEAD + "".join("%s %s\n" % it for it in sorted(sums.items())))
+
+
+def folder_of(crate):
+    return os.path.join(crate.folder, "edits")
+
+
+def count_of(crates):
+    return sum(len(edits.paths_of([folder_of(crate)])) for crate in crates)
+
+
+def try_edits(is_whole, since, sums):
+    """The edits of the crates that the record lacks, or of all."""
+    part = Part("edits")
+    crates = [crate for crate in kit.crates() if count_of([crate])]
+    known = {} if is_whole else recorded()
+    skipped = [crate for crate in crates if known.get(crate.name) == sums[crate.name]]
+    trying = [crate for crate in crates if crate not in skipped]
+    passed, failed = run([sys.executable, "tests/edits_test.py", str(since)]) if trying else (0, 0)
+    tried = edits.try_all(trying, "edits", since=since) if trying else {}
+    refused, others = edits.summary(tried)
+    if is_whole and not failed:
+        well = {name for name, of in tried.items() if of and all(it.how == edits.REFUSED for it in of)}
+        write_record({name: sums[name] for name in well})
+    names = ", ".join(crate.name for crate in skipped)
+    more = "; %d not tried, since edits.ok has them (%s)" % (count_of(skipped), names) if skipped else ""
+    return part.end(passed + refused, failed + others, more)
+
+
+def main():
+    is_whole = sys.argv[1:] == ["--all"]
+    if sys.argv[1:] and not is_whole:
+        sys.exit(__doc__.split("\n\n")[1])
+    os.chdir(kit.ROOT)
+    since = time.time()
+    sums = {crate.name: kit.sum_of(crate) for crate in kit.crates()}
+    parts = [Part("proofs and tests").end(*run(["rt", "ci"]))]
+    if not parts[0].failed:
+        take_programs(since)
+        cases = Part("command lines")
+        parts.append(cases.end(*run([sys.executable, "tests/command_lines.py", "bin/smi", "bin/smi_trial"])))
+        parts.append(try_edits(is_whole, since, sums))
+    changed = [crate.name for crate in kit.crates() if kit.sum_of(crate) != sums[crate.name]]
+    for part in parts:
+        print(part)
+    if changed:
+        print("changed while the gate ran, so that it tells nothing of them: %s" % ", ".join(changed))
+    failed = sum(part.failed for part in parts) + len(changed)
+    print("%d passed, %d failed" % (sum(part.passed for part in parts), failed))
+    sys.exit(1 if failed else 0)
+
+
+main()
