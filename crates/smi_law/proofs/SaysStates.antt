@@ -31,7 +31,7 @@ use Rattle.smi_protocol.specs.Ticking.{Owed, owed, number_of_due, most_sent, is_
 use Rattle.smi_protocol.specs.Watching.{unnoticed, noticed, is_child_unit, is_watched, lists_before, is_full, lists_after, watch_answer, watch_comes, showed_if, state_comes, order_noticed}
 use Rattle.smi_protocol.specs.declared.Order.{Order}
 use Rattle.smi_protocol.specs.declared.Order.TheVariants as order
-use Rattle.smi_protocol.specs.declared.place.Place.TheVariants as place
+use Rattle.smi_protocol.specs.declared.Place.TheVariants as place
 use Rattle.smi_law.proofs.Conditions.{objects_of}
 use Rattle.smi_law.proofs.GrantKinds.{put_here}
 use Rattle.smi_law.proofs.Lists.{In, in_both, from_mapped, from_chosen, from_flat, from_taken, from_kept, place_of}

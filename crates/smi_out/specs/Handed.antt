@@ -1,11 +1,15 @@
 -- What a step hands out, one after the other, in places of its own.
-use Rattle.std.specs.Prelude.{ℕ, ◌≡◌, ◌≤◌, ◌&&◌, nat_le, Bool, List, length, take, ◌++◌}
+use Rattle.std.specs.Prelude.{ℕ, ◌≡◌, ◌≤◌, ◌&&◌, nat_le, nat_lt, Bool, List, [], ◌∷◌, length, ◌++◌, if◌then◌else◌}
+use Rattle.std.specs.Option.{option_or}
 use Rattle.smi_grant.specs.Command as command
 use Rattle.smi_grant.specs.Record.{last_epoch, last_number}
 use Rattle.smi_command.specs.declared.Due.{Due}
 use Rattle.smi_command.specs.declared.Due.TheVariants.{Take, Drop, Run}
 use Rattle.smi_message.specs.Message.{Message, is_between, is_grant_epoch}
+use Rattle.smi_protocol.specs.Step.{Out}
 use Rattle.smi_protocol.specs.Ticking.{most_sent}
+use Rattle.smi_protocol.specs.Watching.{Notice}
+use Rattle.smi_protocol.specs.declared.Answer.{Answer}
 
 -- a step is answered at most so often: eight commands of one operator, or as many questions as operators
 abbrev pub most_answers : ℕ
@@ -16,9 +20,28 @@ pub record IsStored {X : Type 0} (most : ℕ) (places : List X) (count : ℕ) : 
   pub all : length places ≡ most
   pub within : count ≤ most
 
--- what is sent, as much as one step sends
+-- one more datagram, where there is room for it
+abbrev pub sent_one : List Message → Message → List Message
+sent_one before m = if nat_lt (length before) most_sent then before ++ m ∷ [] else before
+
+-- and one after the other
 abbrev pub sent_after : List Message → List Message → List Message
-sent_after before more = take most_sent (before ++ more)
+sent_after before [] = before
+sent_after before (m ∷ more) = sent_after (sent_one before m) more
+
+-- answers, one after the other
+abbrev pub answered_after : List Answer → List Answer → List Answer
+answered_after before [] = before
+answered_after before (a ∷ more) = answered_after (before ++ a ∷ []) more
+
+-- a notice is handed out: what it sends, whom it answers, and what it shows
+abbrev pub with_notice : Out → Notice → Out
+with_notice out n = record {
+  datagrams = sent_after out.datagrams n.sends;
+  answers = answered_after out.answers n.answers;
+  issued = out.issued;
+  shown = option_or n.showed out.shown;
+}
 
 -- what is due can be said in a datagram
 abbrev pub is_due : Due → Bool

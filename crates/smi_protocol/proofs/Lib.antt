@@ -12,5 +12,7 @@ pub mod SoundSteps
 pub mod SoundOpening
 pub mod Ranges
 pub mod SendsInRange
+pub mod KeptObjects
+pub mod SoundDisplay
 pub mod RowsRead
 pub mod RowsMean

@@ -15,6 +15,7 @@ pub mod SavedRows
 pub mod Sending
 pub mod Showing
 pub mod Sound
+pub mod SoundDisplay
 pub mod Step
 pub mod Ticking
 pub mod Watching

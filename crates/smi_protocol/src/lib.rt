@@ -19,3 +19,4 @@ pub use entry::Entry;
 pub use event::{Event, Heard, StepFault};
 pub use fault::OpenFault;
 pub use order::{Answer, Mark, Order, Told};
+pub use place::Place;

@@ -50,6 +50,13 @@ impl Publisher {
         Ok(Publisher { boot, conditions })
     }
 
+    /// The station's boot.
+    pub fn boot(&self) -> u32
+        ensures { result ≡ self.now.boot }
+    {
+        self.boot
+    }
+
     /// The version and the state of an object, none where the station does not keep it.
     pub fn current(&self, object: u16) -> Option<Shown>
         ensures { result ≡ shown_at self.now.boot (conditions_of self.now) object }

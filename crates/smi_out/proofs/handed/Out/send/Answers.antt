@@ -21,4 +21,4 @@ returns-else-self-lt-MOST_SENT c =
     let full : length (take c.self.inside.sent c.self.inside.datagrams) ≡ most_sent = omega (arith, long, i.within) in
     rw (← c.self.view_is)
     (ap (λ (xs : List Message). record { datagrams = xs; answers = take c.self.inside.answered c.self.inside.answers; issued = c.self.inside.issued; shown = c.self.inside.shown })
-    (none_sent (take c.self.inside.sent c.self.inside.datagrams) (c.args.datagram ∷ []) full))
+    (none_sent (take c.self.inside.sent c.self.inside.datagrams) c.args.datagram full))
