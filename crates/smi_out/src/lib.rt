@@ -10,4 +10,4 @@ mod handed;
 mod says;
 
 pub use handed::{MOST_ANSWERS, MOST_SENT, Out};
-pub use says::{ask, request, show, tell, unwatch, watch};
+pub use says::{ask, object_home, request, show, tell, unwatch, watch};

@@ -71,7 +71,7 @@ pub fn ask(tree: &Tree, number: u16, domain: u16) -> Datagram
 }
 
 /// The station of an object.
-fn object_home(tree: &Tree, object: u16) -> u16
+pub fn object_home(tree: &Tree, object: u16) -> u16
     requires least { 1 ≤ object }
     requires most { object ≤ domain_count tree.now + device_count tree.now }
     ensures home { result ≡ messages.object_home tree.now object }

@@ -168,7 +168,8 @@ each_changed P false f o keeps old = old
 roomy : (o : Option Condition) (c : Condition) → o ≡ Some c → IfSome o (λ c. c.sequence < last_sequence) → c.sequence < last_sequence
 roomy o c is room = subst (λ z. IfSome z (λ c. c.sequence < last_sequence)) is room
 
-abbrev Conditions : Hierarchy → ℕ → (ℕ → Option Condition) → Type 0
+-- the conditions of a station's objects, and of no others
+abbrev pub Conditions : Hierarchy → ℕ → (ℕ → Option Condition) → Type 0
 Conditions h number cs = ((x : ℕ) → IfSome (cs x) (λ c. is_kept_by h number x ≡ true)) × ((x : ℕ) → IfSome (cs x) (IsCondition h))
 
 module _ (h : Hierarchy) (number : ℕ) (cs : ℕ → Option Condition) (old : Conditions h number cs) where

@@ -68,7 +68,7 @@ listening_parent h number d p a = elim (in_both (Domain p) (map Operator (operat
         kept false i = absurd i
 
 module _ (h : Hierarchy) (number : ℕ) (g : Grants) (sound : IsSound h g) where
-  run_comes_sound : (from d : ℕ) (who : Holder) (e n : ℕ) (c : Command) → is_free who ≡ false → n ≤ last_number → command.is_in_range c ≡ true → is_command_of h c ≡ true
+  pub run_comes_sound : (from d : ℕ) (who : Holder) (e n : ℕ) (c : Command) → is_free who ≡ false → n ≤ last_number → command.is_in_range c ≡ true → is_command_of h c ≡ true
       → IsSound h (run_comes h number g from d who e n c).grants
   run_comes_sound from d who e n c party few range known =
       choose (λ (s : GrantStep). IsSound h s.grants) (admits (g.records d) who e n) (ran h number g from d e n c (waits_for_children h (commanded h g d c) d) (own_code h g d c)) (answered h number g from d)

@@ -1,0 +1,4 @@
+pub mod Displays
+pub mod Listens
+pub mod Listing
+pub mod Sweeps

@@ -1,0 +1,4 @@
+pub mod Displayed
+pub mod Listening
+pub mod Members
+pub mod Sweeping
