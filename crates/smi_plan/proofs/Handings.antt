@@ -1,0 +1,77 @@
+-- What a keeper hands out is how the domain stands after it.
+use Rattle.std.proofs.Common.{ℕ, ◌≡◌, Bool, true, false, [], ◌∷◌, refl, sym, ap, ◌∙◌, subst}
+use Rattle.std.specs.Prelude.{◌==◌, if◌then◌else◌}
+use Rattle.std.proofs.lemmas.Bool.{and_parts}
+use Rattle.smi_grant.specs.Holder.{same_holder}
+use Rattle.smi_grant.specs.declared.Command.{Command}
+use Rattle.smi_grant.specs.declared.Holder.{Holder}
+use Rattle.smi_grant.specs.declared.Verdict.{Verdict}
+use Rattle.smi_grant.specs.declared.Verdict.TheVariants.{New, Same}
+use Rattle.smi_grant.specs.Keeper.{admits, started}
+use Rattle.smi_grant.specs.Record.{Standing, is_settled}
+use Rattle.smi_message.specs.Message.{Message}
+use Rattle.smi_tree.specs.Hierarchy.{Hierarchy}
+use Rattle.smi_rows.specs.Ranges.{is_standing}
+use Rattle.smi_grants.specs.Change.{changed}
+use Rattle.smi_grants.specs.Plans.{Plans}
+use Rattle.smi_grants.specs.declared.Change.{Change}
+use Rattle.smi_out.specs.Handed.{sent_after}
+use Rattle.smi_protocol.specs.declared.Entry.{Entry}
+use Rattle.smi_protocol.specs.Children.{own_code}
+use Rattle.smi_protocol.specs.Grants.{Grants}
+use Rattle.smi_protocol.specs.GrantStep.{GrantStep, waits_for_children}
+use Rattle.smi_protocol.specs.Keeping.{answered, child_requests, commanded, decided, ran, run_comes}
+use Rattle.smi_protocol.specs.Messages.{tells}
+use Rattle.smi_protocol.specs.Sound.{IsSound}
+use Rattle.smi_protocol.specs.Step.{Out}
+use Rattle.smi_protocol.proofs.Tables.{put_here}
+use Rattle.smi_plan.specs.Handing.{with_step}
+
+-- the record after a change that makes a sound step
+pub told_after : (h : Hierarchy) (number : ℕ) (g : Grants) (step : GrantStep) (c : Change) (d : ℕ) (r : Standing) → Plans h number g step c → IsSound h step.grants → r ≡ (changed h g c).records d → is_standing r ≡ true
+told_after h number g step c d r plans sound is = subst (λ z. is_standing z ≡ true) (sym (is ∙ ap (λ (a : Grants). a.records d) (sym plans.grants))) (sound.standing d)
+
+-- the record is told as it is after the step
+abbrev pub telling : Out → Message → Out
+telling out m = record out { datagrams = sent_after out.datagrams (m ∷ []) }
+
+module _ (h : Hierarchy) (number : ℕ) (g : Grants) (from d : ℕ) (out : Out) where
+  decided_tells : (note : Entry) (v : Verdict) → telling out (tells h number from d ((decided h number g from d note v).grants.records d)) ≡ with_step out (decided h number g from d note v)
+  decided_tells note (New r) = ap (λ (z : Standing). telling out (tells h number from d z)) (put_here g.records d r)
+  decided_tells note Same = refl
+
+  pub decided_told : (note : Entry) (v : Verdict) (c : Change) (r : Standing) → Plans h number g (decided h number g from d note v) c → r ≡ (changed h g c).records d
+      → telling out (tells h number from d r) ≡ with_step out (decided h number g from d note v)
+  decided_told note v c r plans is = ap (λ (z : Standing). telling out (tells h number from d z)) (is ∙ ap (λ (a : Grants). a.records d) (sym plans.grants)) ∙ decided_tells note v
+
+  module _ (who : Holder) (e n : ℕ) (c : Command) where
+    abbrev busy : Bool
+    busy = waits_for_children h (commanded h g d c) d
+
+    abbrev own : ℕ
+    own = own_code h g d c
+
+    -- a command that runs
+    pub run_told : (change : Change) (r : Standing) → Plans h number g (run_comes h number g from d who e n c) change → r ≡ (changed h g change).records d → admits (g.records d) who e n ≡ true
+        → record out { datagrams = sent_after (telling out (tells h number from d r)).datagrams (child_requests h number g d c) } ≡ with_step out (run_comes h number g from d who e n c)
+    run_told change r plans is runs =
+        let here : (run_comes h number g from d who e n c).grants.records d ≡ started (g.records d) busy own =
+        ap (λ b. (if b then ran h number g from d e n c busy own else answered h number g from d).grants.records d) runs ∙ put_here g.records d (started (g.records d) busy own) in
+        ap (λ (z : Standing). record out { datagrams = sent_after (telling out (tells h number from d z)).datagrams (child_requests h number g d c) }) (is ∙ ap (λ (a : Grants). a.records d) (sym plans.grants) ∙ here)
+        ∙ sym (ap (λ b. with_step out (if b then ran h number g from d e n c busy own else answered h number g from d)) runs)
+
+    -- and one that does not
+    pub same_told : (change : Change) (r : Standing) → Plans h number g (run_comes h number g from d who e n c) change → r ≡ (changed h g change).records d → admits (g.records d) who e n ≡ false
+        → telling out (tells h number from d r) ≡ with_step out (run_comes h number g from d who e n c)
+    same_told change r plans is stays =
+        let here : (run_comes h number g from d who e n c).grants.records d ≡ g.records d =
+        ap (λ b. (if b then ran h number g from d e n c busy own else answered h number g from d).grants.records d) stays in
+        ap (λ (z : Standing). telling out (tells h number from d z)) (is ∙ ap (λ (a : Grants). a.records d) (sym plans.grants) ∙ here)
+        ∙ sym (ap (λ b. with_step out (if b then ran h number g from d e n c busy own else answered h number g from d)) stays)
+
+-- a command runs where nothing is at work
+pub settled_there : (g : Grants) (d : ℕ) (who : Holder) (e n : ℕ) → admits (g.records d) who e n ≡ true → is_settled (g.records d).phase ≡ true
+settled_there g d who e n t =
+    let a = and_parts (same_holder (g.records d).holder who) _ t in
+    let b = and_parts ((g.records d).epoch == e) _ a.1 in
+    (and_parts (is_settled (g.records d).phase) _ b.1).0
