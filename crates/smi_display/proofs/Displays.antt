@@ -8,7 +8,11 @@ use mathlib.Core.Path.{fun_ext}
 use Rattle.smi_tree.specs.Lawful.{IsBetween}
 use Rattle.smi_tree.specs.Lookups.{domain_count, state_count, station_count, operator_count}
 use Rattle.smi_publish.specs.declared.condition.Condition.{Condition}
-use Rattle.smi_publish.specs.Published.{HasRoom, Published, conditions_of}
+use Rattle.std.specs.Prelude.{IfSome}
+use Rattle.std.specs.List.{AllByRecursion}
+use Rattle.smi_command.proofs.Heard.{choose}
+use Rattle.smi_message.specs.Message.{is_boot}
+use Rattle.smi_publish.specs.Published.{HasRoom, Published, change_at, changes_at, conditions_of, differs, shown_at}
 use Rattle.smi_publish.specs.Publishing.{acted, evaluated, first_condition, reported}
 use Rattle.std.proofs.lemmas.Bool.{eq-eqb}
 use Rattle.smi_grant.specs.declared.Shown.{Shown}
@@ -21,11 +25,11 @@ use Rattle.smi_watchers.specs.Watching.{unwatched, watcher}
 use Rattle.smi_protocol.specs.Display.{Display}
 use Rattle.smi_protocol.specs.Grants.{put}
 use Rattle.smi_protocol.specs.Opening.{first_display, object_count}
-use Rattle.smi_protocol.specs.SoundDisplay.{IsDisplay, IsWatcher, MayChange}
+use Rattle.smi_protocol.specs.SoundDisplay.{IsDisplay, IsShown, IsWatcher, MayChange}
 use Rattle.smi_protocol.specs.Watching.{has_asked, is_watched, lists_after, lists_before, showed_if, state_comes, watch_comes}
 use Rattle.smi_protocol.specs.Ticking.{first_place}
 use Rattle.smi_protocol.specs.declared.Place.{Place}
-use Rattle.smi_protocol.proofs.SoundDisplay.{Conditions, acted_sound, answered_sound, asked_sound, conditions_sound, evaluated_sound, named_sound, reported_sound, unwatch_sound, watch_sound}
+use Rattle.smi_protocol.proofs.SoundDisplay.{Conditions, display_shown, passed_all, acted_sound, answered_sound, asked_sound, conditions_sound, evaluated_sound, named_sound, reported_sound, unwatch_sound, watch_sound}
 use Rattle.smi_tables.specs.Entries.{entry_or}
 use Rattle.smi_tables.proofs.Writes.{table_set}
 use Rattle.smi_display.specs.Displayed.{Displayed, IsDisplayed, display_of}
@@ -208,3 +212,15 @@ shown_after s t NotNewer = refl
 pub told_is : (h : Hierarchy) (number boot : ℕ) (s : Display) (from echo : ℕ) (t : Shown) → echo ≡ boot → is_watched h number s t.object ≡ true
     → record s { shown = last_after s.shown (acceptance boot (s.shown t.object) echo t.version) t } ≡ (state_comes h number boot s from echo t).display
 told_is h number boot s from echo t same is = rw (eq-eqb echo boot same, is) (shown_after s t (if is_newer_than_last (s.shown t.object) t.version then Accepted else NotNewer))
+
+-- What is shown anew can be told.
+
+module _ (s : Displayed) (now : IsDisplayed s) (old : ℕ → Option Condition) where
+  pub change_shown : (boot x : ℕ) → boot ≡ s.published.boot → IfSome (change_at boot old (conditions_of s.published) x) (IsShown s.tree)
+  change_shown boot x same =
+      choose (λ o. IfSome o (IsShown s.tree)) (differs (old x) (conditions_of s.published x)) (shown_at boot (conditions_of s.published) x) None
+      (λ t. display_shown s.tree now.tree s.number boot (display_of s) now.sound (subst (λ b. is_boot b ≡ true) (sym same) now.boot) x)
+      (λ f. tt)
+
+  pub changes_shown : (boot : ℕ) (xs : List ℕ) → boot ≡ s.published.boot → AllByRecursion (IsShown s.tree) (changes_at boot old (conditions_of s.published) xs)
+  changes_shown boot xs same = passed_all s.tree now.tree s.number boot old (conditions_of s.published) (now.sound.own, now.sound.conditions) (subst (λ b. is_boot b ≡ true) (sym same) now.boot) xs

@@ -1,6 +1,7 @@
 -- Lists that are gone through one by one, and how long they are.
 use Rattle.std.proofs.Common.{ℕ, zero, suc, ◌≡◌, ◌≤◌, ◌<◌, ◌+◌, Bool, true, false, List, [], ◌∷◌, inl, inr, ◌++◌, length, map, take, drop, drop-cons, drop_of_length-le, append_assoc, append-nil, get_or, refl, sym, ap, ◌∙◌, subst, arith}
 use Rattle.std.specs.Prelude.{count_by, if◌then◌else◌}
+use Rattle.std.specs.List.{AllByRecursion}
 use Rattle.std.proofs.Math.ListN.{set}
 use Rattle.std.proofs.lemmas.List.Recursion.{is_count_by}
 use Rattle.std.proofs.lemmas.List.{take_all}
@@ -126,3 +127,8 @@ all_added m (x ∷ xs) =
 
 pub added_first : (xs : List Member) → added nobody xs ≡ listed_of xs
 added_first xs = all_added nobody xs
+
+-- one more of which it holds
+pub one_more_shown : {X : Type 0} (P : X → Type 0) (xs : List X) (x : X) → AllByRecursion P xs → P x → AllByRecursion P (xs ++ x ∷ [])
+one_more_shown P [] x all is = (is, tt)
+one_more_shown P (y ∷ xs) x all is = (all.0, one_more_shown P xs x all.1 is)

@@ -8,6 +8,7 @@
 
 mod asking;
 mod displayed;
+mod following;
 mod members;
 mod showing;
 mod sweep;

@@ -34,7 +34,7 @@ fn is_counted(mode: Mode) -> bool
 }
 
 impl<'a> Displayed<'a> {
-    ghost use Rattle.std.specs.Prelude.{◌≡◌, ◌≤◌, ◌+◌, ◌<◌, ◌++◌, ◌∷◌, [], length};
+    ghost use Rattle.std.specs.Prelude.{◌≡◌, ◌≤◌, ◌+◌, ◌<◌, ◌++◌, ◌∷◌, [], length, IfSome};
     ghost use Rattle.std.specs.List.{AllByRecursion, flat_map};
     ghost use Rattle.smi_grants.specs.Kept.{grants_of};
     ghost use Rattle.smi_out.specs.Handed.{sent_after};
@@ -124,6 +124,7 @@ impl<'a> Displayed<'a> {
         ensures display { display_of self.new ≡ record (display_of self.old) { conditions = acted self.old.tree (display_of self.old).conditions domain action } }
         ensures changes { result ≡ changes_at self.old.published.boot (display_of self.old).conditions (display_of self.new).conditions (device_objects self.old.tree domain) }
         ensures few { length result < most_changes }
+        ensures shown { AllByRecursion (IsShown self.old.tree) result }
         ensures rest { KeepsTheRest self.old self.new }
     {
         self.publisher.run_action(self.tree, domain, action)
@@ -136,6 +137,7 @@ impl<'a> Displayed<'a> {
         requires room { MayChange (display_of self.old) }
         ensures display { display_of self.new ≡ record (display_of self.old) { conditions = reported (display_of self.old).conditions (domain_count self.old.tree + device) state } }
         ensures change { result ≡ change_at self.old.published.boot (display_of self.old).conditions (display_of self.new).conditions (domain_count self.old.tree + device) }
+        ensures shown { IfSome result (IsShown self.old.tree) }
         ensures rest { KeepsTheRest self.old self.new }
     {
         self.publisher
@@ -147,6 +149,7 @@ impl<'a> Displayed<'a> {
         requires room { HasRoom (display_of self.old).conditions domain }
         ensures display { display_of self.new ≡ record (display_of self.old) { conditions = followed_by self.old.tree before.now after.now (display_of self.old).conditions domain } }
         ensures change { result ≡ change_at self.old.published.boot (display_of self.old).conditions (display_of self.new).conditions domain }
+        ensures shown { IfSome result (IsShown self.old.tree) }
         ensures rest { KeepsTheRest self.old self.new }
     {
         if before.is_same(after) {
