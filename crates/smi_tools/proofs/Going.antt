@@ -5,7 +5,7 @@ use Rattle.std.proofs.lemmas.List.{length-append, length-drop, length-take, take
 use Rattle.std.specs.List.{copy_within}
 use Rattle.std.specs.Prelude.{IfSome, ◌==◌}
 use Rattle.std.specs.Io.KnownBytes.{Appends, Consumes, Keeps, IsAtEnd}
-use Rattle.std.proofs.KnownBytes.{Appends-nil, Appends-trans, Appends-kept}
+use Rattle.std.proofs.KnownBytes.{Appends-nil, Appends-trans}
 use Rattle.std.proofs.lemmas.Bool.Decides.{nat_tests}
 use Rattle.smi_grant.specs.Record.{Standing, fresh}
 use Rattle.smi_tools.specs.declared.answer.Answered.{Answered}
@@ -146,10 +146,6 @@ ending_nil : (k : ℕ) (r : Standing) → ending k r [] ≡ Ended
 unfolding ending
 ending_nil k r = refl
 
-finishes_kept : (a : Option (List ℕ)) (end : Answered) (w0 w v : Option (List ℕ)) → Finishes a end w0 w → Keeps w v → Finishes a end w0 v
-finishes_kept None end w0 w v f q = tt
-finishes_kept (Some i) end w0 w v f q = (f.0, Appends-kept w0 w v (answers fresh (pieces i)) f.1 q)
-
 pub ended_here : (a b : Option (List ℕ)) (r : Standing) (k : ℕ) (w0 w : Option (List ℕ)) → IsAtEnd b → Goes a b [] r k w0 w → Finishes a Ended w0 w
 ended_here None b r k w0 w e g = tt
 ended_here (Some i) None r k w0 w e g = absurd g
@@ -165,10 +161,6 @@ has_front None b piece r k w0 w g = tt
 has_front (Some i) None piece r k w0 w g = absurd g
 has_front (Some i) (Some x) piece r k w0 w g = (g.told, answers r (pieces (piece ++ x)), g.answers_are, g.written)
 
-pub front_kept : (a : Option (List ℕ)) (w0 w v : Option (List ℕ)) → HasFront a w0 w → Keeps w v → HasFront a w0 v
-front_kept None w0 w v f q = tt
-front_kept (Some i) w0 w v f q = (f.0, f.1, f.2, Appends-kept w0 w v f.0 f.3 q)
-
 -- some bytes of the next answers have been written
 pub front_more : (a b : Option (List ℕ)) (piece left t : List ℕ) (m : ℕ) (r s : Standing) (k n : ℕ) (w0 w v : Option (List ℕ))
     → Goes a b piece r k w0 w → Leads r piece s n left t → Appends w v (take m t) → HasFront a w0 v
@@ -179,10 +171,6 @@ front_more (Some i) (Some x) piece left t m r s k n w0 w v g l q =
     let next : answers r (pieces (piece ++ x)) ≡ take m t ++ (drop m t ++ others) =
     l.0 x ∙ ap (λ (z : List ℕ). z ++ others) (sym (take-append-drop m t)) ∙ append_assoc (take m t) (drop m t) others in
     (g.told ++ take m t, drop m t ++ others, g.answers_are ∙ ap (λ (z : List ℕ). g.told ++ z) next ∙ sym (append_assoc g.told (take m t) (drop m t ++ others)), Appends-trans w0 w v g.told (take m t) g.written q)
-
-pub front_of : (a : Option (List ℕ)) (end : Answered) (w0 w : Option (List ℕ)) → Finishes a end w0 w → HasFront a w0 w
-front_of None end w0 w f = tt
-front_of (Some i) end w0 w f = (answers fresh (pieces i), [], sym (append-nil (answers fresh (pieces i))), f.1)
 
 -- ---- after a read into the piece from a place on
 
