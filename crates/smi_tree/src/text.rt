@@ -136,7 +136,7 @@ impl<'a> Word<'a> {
 
 /// How many bytes stand before the first blank of a text, all where there is none, and whether each of
 /// them is one of a name's.
-#[inline(never)]
+#[inline(always)]
 fn word_before_blank(text: &[u8]) -> (usize, bool)
     ensures place { result.0 ≡ position_or_len (cuts Blank) text.now }
     ensures within { result.0 ≤ length text.now }
