@@ -29,7 +29,7 @@ pub enum Answered {
     ReadFault,
     /// A write failed. A front of the answers is written.
     WriteFault,
-    /// There was no memory for a buffer of the caller's. Nothing is read or written.
+    /// There was no memory for a buffer of the caller's. Nothing is read or written. `answer` never says so.
     Memory,
 }
 
