@@ -72,8 +72,9 @@ def instructions(program, paths):
     counts = []
     for path in paths:
         with open(path, "rb") as file:
-            told = subprocess.run(["valgrind", "--tool=callgrind", "--callgrind-out-file=/dev/null"] + program, stdin=file,
-                                  stdout=subprocess.DEVNULL, stderr=subprocess.PIPE, check=True).stderr.decode()
+            command = ["valgrind", "--tool=callgrind", "--callgrind-out-file=/dev/null"] + program
+            told = subprocess.run(command, stdin=file, stdout=subprocess.DEVNULL, stderr=subprocess.PIPE,
+                                  check=True).stderr.decode()
         counts.append(next(int(line.split()[-1]) for line in told.splitlines() if "Collected" in line))
     return abs(counts[0] - counts[1]) * 44 / abs(os.path.getsize(paths[0]) - os.path.getsize(paths[1]))
 
@@ -82,7 +83,8 @@ def plain_program(folder):
     """The language of the plain program, and where it is."""
     path = os.path.join(folder, "plain")
     if shutil.which("rustc"):
-        subprocess.run(["rustc", "--edition", "2021", "-O", "-o", path, os.path.join(HERE, "peer", "answer.rs")], check=True)
+        source = os.path.join(HERE, "peer", "answer.rs")
+        subprocess.run(["rustc", "--edition", "2021", "-O", "-o", path, source], check=True)
         return "Rust", path
     subprocess.run(["cc", "-O2", "-o", path, os.path.join(HERE, "peer", "answer.c")], check=True)
     return "C", path
@@ -97,7 +99,8 @@ def answers(program, folder):
     language, plain = plain_program(folder)
     subprocess.run("%s answer < %s > %s.told && %s < %s | cmp - %s.told" % (program, long, long, plain, long, long),
                    shell=True, check=True)
-    answer, pipe = medians(["cat %s | %s | cat > /dev/null" % (path, middle) for middle in (program + " answer", "cat")])
+    answer, pipe = medians(["cat %s | %s | cat > /dev/null" % (path, middle)
+                            for middle in (program + " answer", "cat")])
     print("answer: %d datagrams, %.0f a second; through cat alone %.0f; ratio %.2f; %d KiB at most"
           % (count, count / answer[0], count / pipe[0], pipe[0] / answer[0], peak_kib(program, path)))
     answer, peer = medians(["%s < %s > /dev/null" % (words, path) for words in (program + " answer", plain)])
