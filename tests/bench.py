@@ -1,20 +1,28 @@
 """How fast the program works, beside a plain measure of the same data in the same run.
 
-Each figure is the best of five rounds, of trees the best of twenty, of the program and of the plain measure alike.
+Answers are measured beside a bare pipe and beside the same program in plain Rust, or in C where there is no rustc
+(tests/peer): in turn, medians of seven rounds after one that does not count; and in instructions a datagram where
+valgrind is installed. Of stores each figure is the best of five rounds, of trees the best of twenty, of the program and
+of the plain measure alike.
 
 usage: bench.py SMI SMI_BENCH SMI_TRIAL
 """
 
 import os
+import resource
 import shutil
 import sqlite3
+import statistics
 import struct
 import subprocess
 import sys
 import tempfile
 import time
 
+HERE = os.path.dirname(os.path.abspath(__file__))
 ROUNDS = 5
+# The programs that answer are run in turn so often, after one run that does not count.
+TURNS = 7
 # A tree is read in a millisecond, which other work on the machine disturbs more.
 TREE_ROUNDS = 20
 GRANTS = 500_000
@@ -29,22 +37,78 @@ def datagram(kind, code=0, epoch=0, number=0, argument=0):
         ">HHHBBHHQIHHIII", 2, 1, 1, 1, 0, 2, code, epoch, number, argument, 17, 0, 0, 0)
 
 
-def write_grants(path):
+def write_grants(path, grants=GRANTS):
     """Grants of one domain one after the other: a take, eight commands, a drop."""
     with open(path, "wb") as file:
-        for grant in range(GRANTS):
+        for grant in range(grants):
             epoch = 2 * grant
             file.write(datagram(2, epoch=epoch)
                        + b"".join(datagram(4, 1, epoch + 1, n, 1) for n in range(1, COMMANDS + 1))
                        + datagram(3, epoch=epoch + 1))
-    return GRANTS * (COMMANDS + 2)
+    return grants * (COMMANDS + 2)
+
+
+def worked():
+    """How long processors have worked for the runs so far, in seconds."""
+    usage = resource.getrusage(resource.RUSAGE_CHILDREN)
+    return usage.ru_utime + usage.ru_stime
 
 
 def seconds(command):
-    """The time of one run."""
-    start = time.perf_counter()
+    """The time of one run, and how long processors worked for it."""
+    start, before = time.perf_counter(), worked()
     subprocess.run(command, shell=True, check=True)
-    return time.perf_counter() - start
+    return time.perf_counter() - start, worked() - before
+
+
+def medians(commands):
+    """Of each command the median time, and that of the processors, of runs in turn."""
+    turns = [[seconds(command) for command in commands] for _ in range(1 + TURNS)][1:]
+    return [tuple(map(statistics.median, zip(*runs))) for runs in zip(*turns)]
+
+
+def instructions(program, paths):
+    """How many instructions a program takes for each datagram that one file has more than the other."""
+    counts = []
+    for path in paths:
+        with open(path, "rb") as file:
+            command = ["valgrind", "--tool=callgrind", "--callgrind-out-file=/dev/null"] + program
+            told = subprocess.run(command, stdin=file, stdout=subprocess.DEVNULL, stderr=subprocess.PIPE,
+                                  check=True).stderr.decode()
+        counts.append(next(int(line.split()[-1]) for line in told.splitlines() if "Collected" in line))
+    return abs(counts[0] - counts[1]) * 44 / abs(os.path.getsize(paths[0]) - os.path.getsize(paths[1]))
+
+
+def plain_program(folder):
+    """The language of the plain program, and where it is."""
+    path = os.path.join(folder, "plain")
+    if shutil.which("rustc"):
+        source = os.path.join(HERE, "peer", "answer.rs")
+        subprocess.run(["rustc", "--edition", "2021", "-O", "-o", path, source], check=True)
+        return "Rust", path
+    subprocess.run(["cc", "-O2", "-o", path, os.path.join(HERE, "peer", "answer.c")], check=True)
+    return "C", path
+
+
+def answers(program, folder):
+    """Answers beside a bare pipe and beside the plain program, which answers the same."""
+    path, short, long = (os.path.join(folder, name) for name in ("grants", "short", "long"))
+    count = write_grants(path)
+    write_grants(short, 10_000)
+    write_grants(long, 20_000)
+    language, plain = plain_program(folder)
+    subprocess.run("%s answer < %s > %s.told && %s < %s | cmp - %s.told" % (program, long, long, plain, long, long),
+                   shell=True, check=True)
+    answer, pipe = medians(["cat %s | %s | cat > /dev/null" % (path, middle)
+                            for middle in (program + " answer", "cat")])
+    print("answer: %d datagrams, %.0f a second; through cat alone %.0f; ratio %.2f; %d KiB at most"
+          % (count, count / answer[0], count / pipe[0], pipe[0] / answer[0], peak_kib(program, path)))
+    answer, peer = medians(["%s < %s > /dev/null" % (words, path) for words in (program + " answer", plain)])
+    print("answer: %.0f a second; plain %s %.0f; ratio %.2f, by processor time %.2f"
+          % (count / answer[0], language, count / peer[0], peer[0] / answer[0], peer[1] / answer[1]))
+    if shutil.which("valgrind"):
+        print("answer: %.1f instructions a datagram; plain %s %.1f"
+              % (instructions([program, "answer"], (short, long)), language, instructions([plain], (short, long))))
 
 
 def peak_kib(program, path):
@@ -122,7 +186,7 @@ def check_store(path, kept):
 def counting(folder):
     """The library that counts how often a file is handed to the device."""
     path = os.path.join(folder, "syncs.so")
-    source = os.path.join(os.path.dirname(os.path.abspath(__file__)), "syncs.c")
+    source = os.path.join(HERE, "syncs.c")
     subprocess.run(["cc", "-shared", "-fPIC", "-O1", "-o", path, source], check=True)
     return path
 
@@ -165,15 +229,7 @@ def layers(trial):
 def main():
     program, bench, trial = map(os.path.abspath, sys.argv[1:])
     with tempfile.TemporaryDirectory() as folder:
-        path = os.path.join(folder, "grants")
-        count = write_grants(path)
-        answer, plain = [], []
-        for _ in range(ROUNDS):
-            answer.append(seconds("cat %s | %s answer | cat > /dev/null" % (path, program)))
-            plain.append(seconds("cat %s | cat | cat > /dev/null" % path))
-        print("best of %d rounds each" % ROUNDS)
-        print("answer: %d datagrams, %.0f a second; through cat alone %.0f; ratio %.2f; %d KiB at most"
-              % (count, count / min(answer), count / min(plain), min(plain) / min(answer), peak_kib(program, path)))
+        answers(program, folder)
         trees(bench, folder)
         layers(trial)
     saves(bench)

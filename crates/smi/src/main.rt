@@ -1,7 +1,7 @@
 //! `smi`: the program of the control hierarchy.
 //!
 //! What its commands do is proved in `smi_tools`: [`answer`], [`check`] and [`rows`]. `program` reads
-//! the command line, opens files and makes the buffers, and `main` has the runtime.
+//! the command line and opens files, and `main` has the runtime.
 #![tactic(auto)]
 
 mod file;

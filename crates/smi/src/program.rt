@@ -9,11 +9,8 @@ use smi_tools::check::check;
 use smi_tools::rows::Listed;
 use smi_tools::status::{Status, no_memory, read_fault, store_fault, write_fault, wrong_line};
 use std::alloc::Global;
-use std::io::{self, BufReader, BufWriter, ErrorKind, Read, Write};
+use std::io::{self, BufWriter, ErrorKind, Read, Write};
 use std::rt::Files;
-
-/// How much is read and written at once, in bytes.
-const BLOCK: usize = 64 * 1024;
 
 /// How much of a tree file is read, in bytes: one more than the most that it may have.
 const MOST_TREE_BYTES: u64 = 256 * 1024 + 1;
@@ -29,7 +26,10 @@ pub fn program<H: Files + Stores + AllocGlobal, R: Read + Drop, W: Write + Drop,
 ) -> u8 {
     let alloc = host.alloc();
     match line_of(alloc, words.texts.as_slice()) {
-        Line::Answer => told(answer_in_blocks(alloc, reader, writer), faults).code(),
+        Line::Answer => {
+            let (mut reader, mut writer) = (reader, writer);
+            told(answer(&mut reader, &mut writer), faults).code()
+        }
         Line::Check(path) => check_file(host, path_of(words, path), writer, faults),
         Line::Rows(path) => list_rows(host, path_of(words, path), writer, faults).code(),
         Line::Wrong => wrong_line(faults).code(),
@@ -43,20 +43,6 @@ fn path_of<'a>(words: &'a Words, text: &'a str) -> &'a [u8] {
         Some(bytes) => bytes.as_slice(),
         None => text.as_bytes(),
     }
-}
-
-fn answer_in_blocks<R: Read + Drop, W: Write + Drop>(
-    alloc: Global,
-    reader: R,
-    writer: W,
-) -> Answered {
-    let Ok(mut reader) = BufReader::with_capacity(alloc, BLOCK, reader) else {
-        return Answered::Memory;
-    };
-    let Ok(mut writer) = BufWriter::with_capacity(alloc, BLOCK, writer) else {
-        return Answered::Memory;
-    };
-    answer(&mut reader, &mut writer)
 }
 
 fn told<F: Write>(answered: Answered, faults: &mut F) -> Status {

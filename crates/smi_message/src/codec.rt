@@ -2,13 +2,11 @@ ghost use Rattle.std.specs.Prelude.{◌≡◌, IfOk, Ok, length, true};
 ghost use Rattle.smi_message.specs.Layout.{fields_at};
 ghost use Rattle.smi_message.specs.Message.{Message, is_message};
 ghost use Rattle.smi_message.specs.Message as message;
-ghost use Rattle.smi_message.specs.Spelling.{spelling, reading, message_at};
-ghost use Rattle.smi_message.specs.Spelling as spelled;
+ghost use Rattle.smi_message.specs.Spelling.{spelling, reading, message_at, message_where};
 
-use crate::fields::Fields;
-use crate::kinds::{body_at, fields_of, is_body, is_rest_zero};
-use crate::layout::{read_fields, write_fields};
-use crate::{Bad, Datagram};
+use crate::kinds::{drop_at, fields_of, is_body, is_rest_zero, run_at, state_at, take_at, tell_at};
+use crate::layout::{Spelled, write_fields};
+use crate::{Bad, Body, Datagram};
 
 /// The one spelling of a datagram.
 pub fn encode(datagram: &Datagram) -> [u8; 44]
@@ -37,27 +35,36 @@ fn tested(bytes: &[u8]) -> Result<Datagram, Bad>
     if bytes[0] != b'S' || bytes[1] != b'M' {
         return Err(Bad::Magic);
     }
-    if bytes[2] < 1 || 2 < bytes[2] {
-        return Err(Bad::Layout);
+    match (bytes[2], bytes[3]) {
+        (1, 1..=8) | (2, 4) => datagram_at(&Spelled::new(bytes)),
+        (1 | 2, _) => Err(Bad::Kind),
+        _ => Err(Bad::Layout),
     }
-    if !is_kind(bytes[2], bytes[3]) {
-        return Err(Bad::Kind);
-    }
-    datagram_at(&read_fields(bytes))
-}
-
-fn is_kind(layout: u8, kind: u8) -> bool
-    ensures { result ≡ spelled.is_kind layout kind }
-{
-    1 <= kind && kind <= 8 && (layout == 1 || kind == 4)
 }
 
 /// The datagram of these fields, or the first of the last two tests that fails.
-#[tactic(auto, unfolding(crate::specs::Spelling::message_at))]
-fn datagram_at(f: &Fields) -> Result<Datagram, Bad>
+#[tactic(auto, unfolding(crate::specs::Spelling::message_at, crate::specs::Kinds::body_at))]
+fn datagram_at(f: &Spelled<'_>) -> Result<Datagram, Bad>
     ensures { result ≡ message_at f.now }
 {
-    let Some(body) = body_at(f) else {
+    match f.kind() {
+        1 => checked(f, Some(Body::Ask(f.subject()))),
+        2 => checked(f, take_at(f)),
+        3 => checked(f, drop_at(f)),
+        4 => checked(f, run_at(f)),
+        5 => checked(f, tell_at(f)),
+        6 => checked(f, Some(Body::Watch(f.subject(), f.echo()))),
+        7 => checked(f, Some(state_at(f))),
+        _ => checked(f, Some(Body::Unwatch(f.subject(), f.echo()))),
+    }
+}
+
+/// What is left to test where the fields say this. Inlined, it tests only what this kind has.
+#[inline(always)]
+fn checked(f: &Spelled<'_>, said: Option<Body>) -> Result<Datagram, Bad>
+    ensures { result ≡ message_where f.now said }
+{
+    let Some(body) = said else {
         return Err(Bad::Range);
     };
     if !is_addressed(f) || !is_body(&body) {
@@ -67,15 +74,15 @@ fn datagram_at(f: &Fields) -> Result<Datagram, Bad>
         return Err(Bad::Unused);
     }
     Ok(Datagram {
-        from: f.from,
-        to: f.to,
-        tree: f.tree,
+        from: f.from(),
+        to: f.to(),
+        tree: f.tree(),
         body,
     })
 }
 
-fn is_addressed(f: &Fields) -> bool
+fn is_addressed(f: &Spelled<'_>) -> bool
     ensures { result ≡ message.is_addressed f.now.from f.now.to f.now.tree }
 {
-    1 <= f.from && f.from <= 128 && 1 <= f.to && f.to <= 128 && 1 <= f.tree
+    1 <= f.from() && f.from() <= 128 && 1 <= f.to() && f.to() <= 128 && 1 <= f.tree()
 }

@@ -6,6 +6,7 @@ ghost use Rattle.smi_message.specs.Message as message;
 
 use crate::Body;
 use crate::fields::Fields;
+use crate::layout::Spelled;
 use smi_grant::{Command, Holder, LAST_EPOCH, LAST_NUMBER, Phase, Record, Version, is_outcome};
 
 /// The greatest boot and the greatest sequence.
@@ -102,91 +103,74 @@ fn layout_of(command: Command) -> u8
     }
 }
 
-// ---- what the fields say
+// ---- what the fields say, where they say anything: ranges are tested afterwards
 
-/// What the fields say, where they say anything: ranges are tested afterwards.
-#[tactic(auto, unfolding(crate::specs::Kinds::body_at))]
-pub fn body_at(f: &Fields) -> Option<Body>
-    ensures { result ≡ spec.body_at f.now }
-{
-    match f.kind {
-        1 => Some(Body::Ask(f.subject)),
-        2 => take_at(f),
-        3 => drop_at(f),
-        4 => run_at(f),
-        5 => tell_at(f),
-        6 => Some(Body::Watch(f.subject, f.echo)),
-        7 => Some(state_at(f)),
-        _ => Some(Body::Unwatch(f.subject, f.echo)),
-    }
-}
-
-fn holder_at(f: &Fields) -> Option<Holder>
+fn holder_at(f: &Spelled<'_>) -> Option<Holder>
     ensures { result ≡ spec.holder_at f.now }
 {
-    Holder::from_kind(f.holder_kind, f.holder)
+    Holder::from_kind(f.holder_kind(), f.holder())
 }
 
-fn take_at(f: &Fields) -> Option<Body>
+pub fn take_at(f: &Spelled<'_>) -> Option<Body>
     ensures { result ≡ spec.take_at f.now }
 {
     match holder_at(f) {
-        Some(holder) => Some(Body::Take(f.subject, holder, f.epoch)),
+        Some(holder) => Some(Body::Take(f.subject(), holder, f.epoch())),
         None => None,
     }
 }
 
-fn drop_at(f: &Fields) -> Option<Body>
+pub fn drop_at(f: &Spelled<'_>) -> Option<Body>
     ensures { result ≡ spec.drop_at f.now }
 {
     match holder_at(f) {
-        Some(holder) => Some(Body::Drop(f.subject, holder, f.epoch)),
+        Some(holder) => Some(Body::Drop(f.subject(), holder, f.epoch())),
         None => None,
     }
 }
 
-fn command_at(f: &Fields) -> Option<Command>
+fn command_at(f: &Spelled<'_>) -> Option<Command>
     ensures { result ≡ spec.command_at f.now }
 {
-    match Command::from_verb(f.code, f.argument) {
-        Some(command) if layout_of(command) == f.layout => Some(command),
+    match Command::from_verb(f.code(), f.argument()) {
+        Some(command) if layout_of(command) == f.layout() => Some(command),
         _ => None,
     }
 }
 
-fn run_at(f: &Fields) -> Option<Body>
+pub fn run_at(f: &Spelled<'_>) -> Option<Body>
     ensures { result ≡ spec.run_at f.now }
 {
     let holder = holder_at(f)?;
     let command = command_at(f)?;
-    Some(Body::Run(f.subject, holder, f.epoch, f.number, command))
+    Some(Body::Run(f.subject(), holder, f.epoch(), f.number(), command))
 }
 
-fn told_at(f: &Fields) -> Option<Record>
+fn told_at(f: &Spelled<'_>) -> Option<Record>
     ensures { result ≡ spec.told_at f.now }
 {
     let holder = holder_at(f)?;
-    let phase = Phase::from_number(f.phase)?;
-    Record::checked(f.epoch, holder, f.number, phase, f.code)
+    let phase = Phase::from_number(f.phase())?;
+    Record::checked(f.epoch(), holder, f.number(), phase, f.code())
 }
 
-fn tell_at(f: &Fields) -> Option<Body>
+pub fn tell_at(f: &Spelled<'_>) -> Option<Body>
     ensures { result ≡ spec.tell_at f.now }
 {
     match told_at(f) {
-        Some(told) => Some(Body::Tell(f.subject, told)),
+        Some(told) => Some(Body::Tell(f.subject(), told)),
         None => None,
     }
 }
 
-fn state_at(f: &Fields) -> Body
+pub fn state_at(f: &Spelled<'_>) -> Body
     ensures { result ≡ spec.state_at f.now }
 {
     let version = Version {
-        boot: f.boot,
-        sequence: f.sequence,
+        boot: f.boot(),
+        sequence: f.sequence(),
     };
-    Body::State(f.subject, f.echo, version, f.code)
+    Body::State(f.subject(), f.echo(), version, f.code())
 }
 
 // ---- ranges
@@ -198,6 +182,7 @@ fn is_between(low: u32, high: u32, number: u32) -> bool
 }
 
 /// Whether a datagram may say this.
+#[inline(always)]
 pub fn is_body(body: &Body) -> bool
     ensures { result ≡ message.is_body body.now }
 {
@@ -269,36 +254,40 @@ fn is_grant_epoch(epoch: u64) -> bool
 // ---- the fields that a kind does not use
 
 /// Whether the fields that the kind does not use are zero.
-pub fn is_rest_zero(f: &Fields) -> bool
+#[inline(always)]
+pub fn is_rest_zero(f: &Spelled<'_>) -> bool
     ensures { result ≡ spec.is_rest_zero f.now }
 {
     is_grant_zero(f) && is_command_zero(f) && is_watch_zero(f)
 }
 
-fn is_grant_zero(f: &Fields) -> bool
+#[inline(always)]
+fn is_grant_zero(f: &Spelled<'_>) -> bool
     ensures { result ≡ spec.is_grant_zero f.now }
 {
-    let is_used = 2 <= f.kind && f.kind <= 5;
-    is_used || f.holder_kind == 0 && f.holder == 0 && f.epoch == 0
+    let is_used = 2 <= f.kind() && f.kind() <= 5;
+    is_used || f.holder_kind() == 0 && f.holder() == 0 && f.epoch() == 0
 }
 
-fn is_command_zero(f: &Fields) -> bool
+#[inline(always)]
+fn is_command_zero(f: &Spelled<'_>) -> bool
     ensures { result ≡ spec.is_command_zero f.now }
 {
-    match f.kind {
-        4 => f.phase == 0,
-        5 => f.argument == 0,
-        7 => f.phase == 0 && f.number == 0 && f.argument == 0,
-        _ => f.phase == 0 && f.code == 0 && f.number == 0 && f.argument == 0,
+    match f.kind() {
+        4 => f.phase() == 0,
+        5 => f.argument() == 0,
+        7 => f.phase() == 0 && f.number() == 0 && f.argument() == 0,
+        _ => f.phase() == 0 && f.code() == 0 && f.number() == 0 && f.argument() == 0,
     }
 }
 
-fn is_watch_zero(f: &Fields) -> bool
+#[inline(always)]
+fn is_watch_zero(f: &Spelled<'_>) -> bool
     ensures { result ≡ spec.is_watch_zero f.now }
 {
-    match f.kind {
+    match f.kind() {
         7 => true,
-        6 | 8 => f.boot == 0 && f.sequence == 0,
-        _ => f.echo == 0 && f.boot == 0 && f.sequence == 0,
+        6 | 8 => f.boot() == 0 && f.sequence() == 0,
+        _ => f.echo() == 0 && f.boot() == 0 && f.sequence() == 0,
     }
 }

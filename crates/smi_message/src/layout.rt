@@ -1,10 +1,12 @@
 //! Where each number stands in the bytes.
 
-ghost use Rattle.std.specs.Prelude.{◌≡◌, length};
-ghost use Rattle.smi_message.specs.Layout.{bytes_of, fields_at};
+ghost use Rattle.std.specs.Prelude.{◌≡◌, ◌+◌, ◌<◌, length};
+ghost use Rattle.smi_message.specs.Layout.{bytes_of};
+ghost use Rattle.smi_message.specs.Layout as spec;
 
 use crate::fields::Fields;
 use byteorder::{BigEndian, ByteOrder};
+use std::marker::Model;
 
 /// The bytes of a datagram with these fields.
 pub fn write_fields(fields: &Fields) -> [u8; 44]
@@ -32,27 +34,180 @@ pub fn write_fields(fields: &Fields) -> [u8; 44]
     out
 }
 
-/// The fields of 44 bytes.
-pub fn read_fields(b: &[u8]) -> Fields
-    requires { length b.now ≡ 44 }
-    ensures { result ≡ fields_at b.now }
-{
-    Fields {
-        layout: b[2],
-        kind: b[3],
-        from: u16::from_be_bytes([b[4], b[5]]),
-        to: u16::from_be_bytes([b[6], b[7]]),
-        subject: u16::from_be_bytes([b[8], b[9]]),
-        holder_kind: b[10],
-        phase: b[11],
-        holder: u16::from_be_bytes([b[12], b[13]]),
-        code: u16::from_be_bytes([b[14], b[15]]),
-        epoch: u64::from_be_bytes([b[16], b[17], b[18], b[19], b[20], b[21], b[22], b[23]]),
-        number: u32::from_be_bytes([b[24], b[25], b[26], b[27]]),
-        argument: u16::from_be_bytes([b[28], b[29]]),
-        tree: u16::from_be_bytes([b[30], b[31]]),
-        echo: u32::from_be_bytes([b[32], b[33], b[34], b[35]]),
-        boot: u32::from_be_bytes([b[36], b[37], b[38], b[39]]),
-        sequence: u32::from_be_bytes([b[40], b[41], b[42], b[43]]),
+/// The fields of 44 bytes, each of them read where it is asked for.
+#[derive(Drop)]
+pub struct Spelled<'a> {
+    bytes: &'a [u8],
+}
+
+impl<'a> Model for Spelled<'a> {
+    ghost use Rattle.std.specs.Prelude.{◌≡◌, length};
+    ghost use Rattle.smi_message.specs.Layout.{fields_at};
+    ghost use Rattle.smi_message.specs.declared.fields.Fields.{Fields};
+
+    ghost Value = { Fields };
+
+    ghost view = { λ f. fields_at f.bytes.now };
+
+    ghost invariant = { λ f. length f.bytes.now ≡ 44 };
+}
+
+impl<'a> Spelled<'a> {
+    ghost use Rattle.std.specs.Prelude.{◌≡◌, length};
+    ghost use Rattle.smi_message.specs.Layout.{fields_at};
+
+    pub fn new(bytes: &'a [u8]) -> Spelled<'a>
+        requires { length bytes.now ≡ 44 }
+        ensures { result ≡ fields_at bytes.now }
+    {
+        Spelled { bytes }
     }
+
+    #[inline(always)]
+    pub fn layout(&self) -> u8
+        ensures { result ≡ self.now.layout }
+    {
+        self.bytes[2]
+    }
+
+    #[inline(always)]
+    pub fn kind(&self) -> u8
+        ensures { result ≡ self.now.kind }
+    {
+        self.bytes[3]
+    }
+
+    #[inline(always)]
+    pub fn from(&self) -> u16
+        ensures { result ≡ self.now.from }
+    {
+        u16_at(self.bytes, 4)
+    }
+
+    #[inline(always)]
+    pub fn to(&self) -> u16
+        ensures { result ≡ self.now.to }
+    {
+        u16_at(self.bytes, 6)
+    }
+
+    #[inline(always)]
+    pub fn subject(&self) -> u16
+        ensures { result ≡ self.now.subject }
+    {
+        u16_at(self.bytes, 8)
+    }
+
+    #[inline(always)]
+    pub fn holder_kind(&self) -> u8
+        ensures { result ≡ self.now.holder_kind }
+    {
+        self.bytes[10]
+    }
+
+    #[inline(always)]
+    pub fn phase(&self) -> u8
+        ensures { result ≡ self.now.phase }
+    {
+        self.bytes[11]
+    }
+
+    #[inline(always)]
+    pub fn holder(&self) -> u16
+        ensures { result ≡ self.now.holder }
+    {
+        u16_at(self.bytes, 12)
+    }
+
+    #[inline(always)]
+    pub fn code(&self) -> u16
+        ensures { result ≡ self.now.code }
+    {
+        u16_at(self.bytes, 14)
+    }
+
+    #[inline(always)]
+    pub fn epoch(&self) -> u64
+        ensures { result ≡ self.now.epoch }
+    {
+        u64_at(self.bytes, 16)
+    }
+
+    #[inline(always)]
+    pub fn number(&self) -> u32
+        ensures { result ≡ self.now.number }
+    {
+        u32_at(self.bytes, 24)
+    }
+
+    #[inline(always)]
+    pub fn argument(&self) -> u16
+        ensures { result ≡ self.now.argument }
+    {
+        u16_at(self.bytes, 28)
+    }
+
+    #[inline(always)]
+    pub fn tree(&self) -> u16
+        ensures { result ≡ self.now.tree }
+    {
+        u16_at(self.bytes, 30)
+    }
+
+    #[inline(always)]
+    pub fn echo(&self) -> u32
+        ensures { result ≡ self.now.echo }
+    {
+        u32_at(self.bytes, 32)
+    }
+
+    #[inline(always)]
+    pub fn boot(&self) -> u32
+        ensures { result ≡ self.now.boot }
+    {
+        u32_at(self.bytes, 36)
+    }
+
+    #[inline(always)]
+    pub fn sequence(&self) -> u32
+        ensures { result ≡ self.now.sequence }
+    {
+        u32_at(self.bytes, 40)
+    }
+}
+
+/// The number in the two bytes from a place on.
+#[inline(always)]
+fn u16_at(b: &[u8], at: usize) -> u16
+    requires { at + 1 < length b.now }
+    ensures { result ≡ spec.u16_at b.now at }
+{
+    u16::from_be_bytes([b[at], b[at + 1]])
+}
+
+/// The number in the four bytes from a place on.
+#[inline(always)]
+fn u32_at(b: &[u8], at: usize) -> u32
+    requires { at + 3 < length b.now }
+    ensures { result ≡ spec.u32_at b.now at }
+{
+    u32::from_be_bytes([b[at], b[at + 1], b[at + 2], b[at + 3]])
+}
+
+/// The number in the eight bytes from a place on.
+#[inline(always)]
+fn u64_at(b: &[u8], at: usize) -> u64
+    requires { at + 7 < length b.now }
+    ensures { result ≡ spec.u64_at b.now at }
+{
+    u64::from_be_bytes([
+        b[at],
+        b[at + 1],
+        b[at + 2],
+        b[at + 3],
+        b[at + 4],
+        b[at + 5],
+        b[at + 6],
+        b[at + 7],
+    ])
 }

@@ -5,8 +5,9 @@
 //! first test that they fail ([`Bad`]). Neither call takes memory. The layout stands in
 //! docs/FORMATS.md, "Datagrams".
 //!
-//! Between bytes and datagram stands a plain record of the numbers at each place: `layout` knows
-//! where they stand and nothing of what they mean, `kinds` knows what they mean and nothing of bytes.
+//! Between bytes and datagram stand the numbers at each place, together as they are written and one
+//! by one as they are read: `layout` knows where they stand and nothing of what they mean, `kinds`
+//! knows what they mean and nothing of bytes.
 #![tactic(auto)]
 
 mod bad;

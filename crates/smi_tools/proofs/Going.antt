@@ -1,10 +1,11 @@
 -- What has been written and what is left to answer, at each turn.
 use Rattle.std.proofs.Common.{◌≡◌, ℕ, ◌+◌, ◌-◌, ◌<◌, ◌≤◌, false, List, [], ◌∷◌, ◌++◌, length, take, drop, Option, Some, None, Ok, Err, refl, sym, ap, subst, ◌∙◌, append_assoc, append-nil, take-append-drop, arith}
 use Rattle.std.proofs.Math.Seq.{take-append-add}
-use Rattle.std.proofs.lemmas.List.{length-append, length-drop, length-take, take-append-le, take_all, take_at}
+use Rattle.std.proofs.lemmas.List.{length-append, length-drop, length-take, take-append-le, take_at, drop-take}
+use Rattle.std.specs.List.{copy_within}
 use Rattle.std.specs.Prelude.{IfSome, ◌==◌}
 use Rattle.std.specs.Io.KnownBytes.{Appends, Consumes, Keeps, IsAtEnd}
-use Rattle.std.proofs.KnownBytes.{Appends-nil, Appends-trans, Appends-kept}
+use Rattle.std.proofs.KnownBytes.{Appends-nil, Appends-trans}
 use Rattle.std.proofs.lemmas.Bool.Decides.{nat_tests}
 use Rattle.smi_grant.specs.Record.{Standing, fresh}
 use Rattle.smi_tools.specs.declared.answer.Answered.{Answered}
@@ -74,19 +75,42 @@ answer_short : (r : Standing) (p : List ℕ) → length p < 44 → answer_to r p
 unfolding answer_to
 answer_short r p h = let no : (length p == 44) ≡ false = grind (arith, nat_tests) in rw (no, answer_to) refl
 
+-- ---- some bytes, and later ones behind them
+
+-- from one record on, bytes are answered so by n answers and leave these to answer from the other record on
+abbrev pub Leads : Standing → List ℕ → Standing → ℕ → List ℕ → List ℕ → Type 0
+Leads r bytes s n left told =
+    ((later : List ℕ) → answers r (pieces (bytes ++ later)) ≡ told ++ answers s (pieces (left ++ later)))
+    × ((later : List ℕ) (k : ℕ) → ending k r (pieces (bytes ++ later)) ≡ ending (k + n) s (pieces (left ++ later)))
+
+first_of : (left later : List ℕ) → 44 ≤ length left → pieces (left ++ later) ≡ take 44 left ∷ pieces (drop 44 left ++ later)
+first_of left later h =
+    ap (λ (t : List ℕ). pieces (t ++ later)) (sym (take-append-drop 44 left)) ∙ ap pieces (append_assoc (take 44 left) (drop 44 left) later)
+    ∙ pieces_first (take 44 left) (drop 44 left ++ later) (omega (arith, length-take 44 left))
+
+-- one more answer
+pub leads_on : (r s u : Standing) (bytes left told t : List ℕ) (n : ℕ) → 44 ≤ length left → answer_to s (take 44 left) ≡ Ok (u, t)
+    → Leads r bytes s n left told → Leads r bytes u (n + 1) (drop 44 left) (told ++ t)
+leads_on r s u bytes left told t n h e l = (
+  λ later. l.0 later ∙ ap (λ (x : List ℕ). told ++ x) (ap (answers s) (first_of left later h) ∙ answers_ok s u (take 44 left) t (pieces (drop 44 left ++ later)) e)
+      ∙ sym (append_assoc told t (answers u (pieces (drop 44 left ++ later)))),
+  λ later k. l.1 later k ∙ ap (ending (k + n) s) (first_of left later h) ∙ ending_ok (k + n) s u (take 44 left) t (pieces (drop 44 left ++ later)) e
+      ∙ ap (λ (m : ℕ). ending m u (pieces (drop 44 left ++ later))) (omega arith),
+)
+
 -- ---- what the code does
 
-pub accepted : (a b : Option (List ℕ)) (piece t : List ℕ) (r s : Standing) (k : ℕ) (w0 w v : Option (List ℕ)) → length piece ≡ 44 → answer_to r piece ≡ Ok (s, t)
-    → Goes a b piece r k w0 w → Appends w v t → Goes a b [] s (k + 1) w0 v
-accepted None b piece t r s k w0 w v h e g q = tt
-accepted (Some i) None piece t r s k w0 w v h e g q = absurd g
-accepted (Some i) (Some x) piece t r s k w0 w v h e g q =
-    let f = pieces_first piece x h in
+-- the answers are written
+pub written : (a b : Option (List ℕ)) (piece left t : List ℕ) (r s : Standing) (k n : ℕ) (w0 w v : Option (List ℕ))
+    → Goes a b piece r k w0 w → Leads r piece s n left t → Appends w v t → Goes a b left s (k + n) w0 v
+written None b piece left t r s k n w0 w v g l q = tt
+written (Some i) None piece left t r s k n w0 w v g l q = absurd g
+written (Some i) (Some x) piece left t r s k n w0 w v g l q =
     record {
       told = g.told ++ t;
       written = Appends-trans w0 w v g.told t g.written q;
-      answers_are = g.answers_are ∙ ap (λ (l : List ℕ). g.told ++ l) (ap (answers r) f ∙ answers_ok r s piece t (pieces x) e) ∙ sym (append_assoc g.told t (answers s (pieces x)));
-      ending_is = g.ending_is ∙ ap (ending k r) f ∙ ending_ok k r s piece t (pieces x) e;
+      answers_are = g.answers_are ∙ ap (λ (z : List ℕ). g.told ++ z) (l.0 x) ∙ sym (append_assoc g.told t (answers s (pieces (left ++ x))));
+      ending_is = g.ending_is ∙ l.1 x k;
     }
 
 abbrev pub Finishes : Option (List ℕ) → Answered → Option (List ℕ) → Option (List ℕ) → Type 0
@@ -98,12 +122,13 @@ finish input left piece r k w0 w end ps f x y g =
     let all : answers fresh (pieces input) ≡ g.told = g.answers_are ∙ ap (λ (l : List ℕ). g.told ++ l) (ap (answers r) f ∙ x) ∙ append-nil g.told in
     (sym (g.ending_is ∙ ap (ending k r) f ∙ y), subst (Appends w0 w) (sym all) g.written)
 
-pub refused : (a b : Option (List ℕ)) (piece : List ℕ) (r : Standing) (k : ℕ) (c : Refusal) (w0 w : Option (List ℕ)) → length piece ≡ 44 → answer_to r piece ≡ Err c
-    → Goes a b piece r k w0 w → Finishes a (Refused (k + 1) (refusal_code c)) w0 w
-refused None b piece r k c w0 w h e g = tt
-refused (Some i) None piece r k c w0 w h e g = absurd g
-refused (Some i) (Some x) piece r k c w0 w h e g =
-    finish i x piece r k w0 w (Refused (k + 1) (refusal_code c)) (piece ∷ pieces x) (pieces_first piece x h) (answers_err r piece c (pieces x) e) (ending_err k r piece c (pieces x) e) g
+pub refused : (a b : Option (List ℕ)) (left : List ℕ) (r : Standing) (k : ℕ) (c : Refusal) (w0 w : Option (List ℕ)) → 44 ≤ length left → answer_to r (take 44 left) ≡ Err c
+    → Goes a b left r k w0 w → Finishes a (Refused (k + 1) (refusal_code c)) w0 w
+refused None b left r k c w0 w h e g = tt
+refused (Some i) None left r k c w0 w h e g = absurd g
+refused (Some i) (Some x) left r k c w0 w h e g =
+    let others = pieces (drop 44 left ++ x) in
+    finish i x left r k w0 w (Refused (k + 1) (refusal_code c)) (take 44 left ∷ others) (first_of left x h) (answers_err r (take 44 left) c others e) (ending_err k r (take 44 left) c others e) g
 
 pub short : (a b : Option (List ℕ)) (piece : List ℕ) (r : Standing) (k : ℕ) (w0 w : Option (List ℕ)) → 0 < length piece → length piece < 44
     → IsAtEnd b → Goes a b piece r k w0 w → Finishes a (Refused (k + 1) 1) w0 w
@@ -121,17 +146,10 @@ ending_nil : (k : ℕ) (r : Standing) → ending k r [] ≡ Ended
 unfolding ending
 ending_nil k r = refl
 
-finishes_kept : (a : Option (List ℕ)) (end : Answered) (w0 w v : Option (List ℕ)) → Finishes a end w0 w → Keeps w v → Finishes a end w0 v
-finishes_kept None end w0 w v f q = tt
-finishes_kept (Some i) end w0 w v f q = (f.0, Appends-kept w0 w v (answers fresh (pieces i)) f.1 q)
-
 pub ended_here : (a b : Option (List ℕ)) (r : Standing) (k : ℕ) (w0 w : Option (List ℕ)) → IsAtEnd b → Goes a b [] r k w0 w → Finishes a Ended w0 w
 ended_here None b r k w0 w e g = tt
 ended_here (Some i) None r k w0 w e g = absurd g
 ended_here (Some i) (Some x) r k w0 w e g = finish i x [] r k w0 w Ended [] (ap pieces e ∙ pieces_nil) (answers_nil r) (ending_nil k r) g
-
-pub ended : (a b : Option (List ℕ)) (r : Standing) (k : ℕ) (w0 w v : Option (List ℕ)) → IsAtEnd b → Goes a b [] r k w0 w → Keeps w v → Finishes a Ended w0 v
-ended a b r k w0 w v e g q = finishes_kept a Ended w0 w v (ended_here a b r k w0 w e g) q
 
 -- ---- a front of the answers
 
@@ -143,25 +161,16 @@ has_front None b piece r k w0 w g = tt
 has_front (Some i) None piece r k w0 w g = absurd g
 has_front (Some i) (Some x) piece r k w0 w g = (g.told, answers r (pieces (piece ++ x)), g.answers_are, g.written)
 
-pub front_kept : (a : Option (List ℕ)) (w0 w v : Option (List ℕ)) → HasFront a w0 w → Keeps w v → HasFront a w0 v
-front_kept None w0 w v f q = tt
-front_kept (Some i) w0 w v f q = (f.0, f.1, f.2, Appends-kept w0 w v f.0 f.3 q)
-
--- some bytes of the next answer have been written
-pub front_more : (a b : Option (List ℕ)) (piece t : List ℕ) (n : ℕ) (r s : Standing) (k : ℕ) (w0 w v : Option (List ℕ)) → length piece ≡ 44 → answer_to r piece ≡ Ok (s, t)
-    → Goes a b piece r k w0 w → Appends w v (take n t) → HasFront a w0 v
-front_more None b piece t n r s k w0 w v h e g q = tt
-front_more (Some i) None piece t n r s k w0 w v h e g q = absurd g
-front_more (Some i) (Some x) piece t n r s k w0 w v h e g q =
-    let later = drop n t ++ answers s (pieces x) in
-    let next : answers r (pieces (piece ++ x)) ≡ take n t ++ later =
-    ap (answers r) (pieces_first piece x h) ∙ answers_ok r s piece t (pieces x) e ∙ ap (λ (l : List ℕ). l ++ answers s (pieces x)) (sym (take-append-drop n t))
-    ∙ append_assoc (take n t) (drop n t) (answers s (pieces x)) in
-    (g.told ++ take n t, later, g.answers_are ∙ ap (λ (l : List ℕ). g.told ++ l) next ∙ sym (append_assoc g.told (take n t) later), Appends-trans w0 w v g.told (take n t) g.written q)
-
-pub front_of : (a : Option (List ℕ)) (end : Answered) (w0 w : Option (List ℕ)) → Finishes a end w0 w → HasFront a w0 w
-front_of None end w0 w f = tt
-front_of (Some i) end w0 w f = (answers fresh (pieces i), [], sym (append-nil (answers fresh (pieces i))), f.1)
+-- some bytes of the next answers have been written
+pub front_more : (a b : Option (List ℕ)) (piece left t : List ℕ) (m : ℕ) (r s : Standing) (k n : ℕ) (w0 w v : Option (List ℕ))
+    → Goes a b piece r k w0 w → Leads r piece s n left t → Appends w v (take m t) → HasFront a w0 v
+front_more None b piece left t m r s k n w0 w v g l q = tt
+front_more (Some i) None piece left t m r s k n w0 w v g l q = absurd g
+front_more (Some i) (Some x) piece left t m r s k n w0 w v g l q =
+    let others = answers s (pieces (left ++ x)) in
+    let next : answers r (pieces (piece ++ x)) ≡ take m t ++ (drop m t ++ others) =
+    l.0 x ∙ ap (λ (z : List ℕ). z ++ others) (sym (take-append-drop m t)) ∙ append_assoc (take m t) (drop m t) others in
+    (g.told ++ take m t, drop m t ++ others, g.answers_are ∙ ap (λ (z : List ℕ). g.told ++ z) next ∙ sym (append_assoc g.told (take m t) (drop m t ++ others)), Appends-trans w0 w v g.told (take m t) g.written q)
 
 -- ---- after a read into the piece from a place on
 
@@ -176,14 +185,6 @@ pub read_some : (a b c : Option (List ℕ)) (at n : ℕ) (piece q post : List �
 read_some a b c at n piece q post r k w0 w h l g p =
     subst (λ (t : List ℕ). Goes a c t r k w0 w) (sym (filled at n piece q post h l)) (reads a b c (take at piece) (take n q) r k w0 w g p)
 
--- the piece is full
-pub read_all : (a b c : Option (List ℕ)) (at n : ℕ) (piece q post : List ℕ) (r : Standing) (k : ℕ) (w0 w : Option (List ℕ)) → at ≤ length piece → n ≤ length q
-    → at + n ≡ 44 → length (take at piece ++ (q ++ post)) ≡ 44
-    → Goes a b (take at piece) r k w0 w → Consumes b c (take n q) → Goes a c (take at piece ++ (q ++ post)) r k w0 w
-read_all a b c at n piece q post r k w0 w h l e full g p =
-    let whole : take (at + n) (take at piece ++ (q ++ post)) ≡ take at piece ++ (q ++ post) = take_all (at + n) (take at piece ++ (q ++ post)) (omega arith) in
-    subst (λ (t : List ℕ). Goes a c t r k w0 w) whole (read_some a b c at n piece q post r k w0 w h l g p)
-
 pub read_none : (a b c : Option (List ℕ)) (n : ℕ) (piece q : List ℕ) (r : Standing) (k : ℕ) (w0 w : Option (List ℕ)) → n ≡ 0
     → Goes a b piece r k w0 w → Consumes b c (take n q) → Goes a c piece r k w0 w
 read_none a b c n piece q r k w0 w z g p =
@@ -195,15 +196,27 @@ pub done_of : (a : Option (List ℕ)) (end : Answered) (w0 w : Option (List ℕ)
 done_of None end w0 w f = tt
 done_of (Some i) end w0 w f = λ d. f
 
--- a failed read leaves the front of the piece
-pub read_failed : (a b c : Option (List ℕ)) (at : ℕ) (piece q post : List ℕ) (r : Standing) (k : ℕ) (w0 w : Option (List ℕ)) → at ≤ length piece
-    → Goes a b (take at piece) r k w0 w → Keeps b c → Goes a c (take at (take at piece ++ (q ++ post))) r k w0 w
-read_failed a b c at piece q post r k w0 w h g p =
-    let same : length (take at piece) ≡ at = omega (arith, length-take at piece) in
-    subst (λ (t : List ℕ). Goes a c t r k w0 w) (sym (take_at (take at piece) (q ++ post) at same)) (keeps a b c (take at piece) r k w0 w g p)
+-- a failed read leaves the front of the block
+pub read_failed : (a b c : Option (List ℕ)) (at : ℕ) (block q post : List ℕ) (r : Standing) (k : ℕ) (w0 w : Option (List ℕ)) → at ≤ length block
+    → Goes a b (take at block) r k w0 w → Keeps b c → Goes a c (take at (take at block ++ (q ++ post))) r k w0 w
+read_failed a b c at block q post r k w0 w h g p =
+    let same : length (take at block) ≡ at = omega (arith, length-take at block) in
+    subst (λ (t : List ℕ). Goes a c t r k w0 w) (sym (take_at (take at block) (q ++ post) at same)) (keeps a b c (take at block) r k w0 w g p)
 
--- a read into the piece leaves it as long as it was
-pub filled_long : (at : ℕ) (piece q : List ℕ) → length piece ≡ 44 → at < 44 → length q ≡ length (take (44 - at) (drop at piece)) → length (take at piece ++ (q ++ drop (44 - at) (drop at piece))) ≡ 44
-filled_long at piece q l h e =
-    let rest = drop (44 - at) (drop at piece) in
-    omega (arith, length-append (take at piece) (q ++ rest), length-append q rest, length-take at piece, length-take (44 - at) (drop at piece), length-drop at piece, length-drop (44 - at) (drop at piece))
+-- the block after a read behind its first bytes
+abbrev pub after : ℕ → List ℕ → List ℕ → List ℕ
+after at block q = take at block ++ (q ++ drop (65536 - at) (drop at block))
+
+-- a read into the block leaves it as long as it was
+pub block_long : (at : ℕ) (block q : List ℕ) → length block ≡ 65536 → at ≤ 65536 → length q ≡ length (take (65536 - at) (drop at block)) → length (take at block ++ (q ++ drop (65536 - at) (drop at block))) ≡ 65536
+block_long at block q l h e =
+    let rest = drop (65536 - at) (drop at block) in
+    omega (arith, length-append (take at block) (q ++ rest), length-append q rest, length-take at block, length-take (65536 - at) (drop at block), length-drop (65536 - at) (drop at block), length-drop at block)
+
+-- what is left is moved to the front
+pub moved : (f at : ℕ) (block later : List ℕ) → f ≤ at → at ≤ length block → later ≡ copy_within block f at 0 → take (at - f) later ≡ drop f (take at block)
+moved f at block later h l e =
+    let some : f + (at - f) ≡ at = omega arith in
+    let left = take (at - f) (drop f block) in
+    let size : length left ≡ at - f = omega (arith, length-take (at - f) (drop f block), length-drop f block) in
+    ap (take (at - f)) e ∙ take_at left (drop (0 + (at - f)) block) (at - f) size ∙ sym (drop-take f (at - f) block) ∙ ap (λ (n : ℕ). drop f (take n block)) some

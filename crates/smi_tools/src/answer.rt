@@ -1,15 +1,21 @@
 //! A keeper over a reader and a writer.
 
-ghost use Rattle.std.specs.Prelude.{◌≡◌, ◌≤◌, ◌++◌, List, ℕ, OnOk, IfSome, take};
+ghost use Rattle.std.specs.Prelude.{◌≡◌, ◌≤◌, ◌<◌, ◌+◌, ◌*◌, ◌++◌, List, ℕ, OnOk, IfSome, None, Some, Err, take, drop, length};
 ghost use Rattle.std.specs.Io.KnownBytes.{Appends};
 ghost use Rattle.smi_grant.specs.Record.{fresh};
+ghost use Rattle.smi_message.specs.declared.refusal.Refusal.{Refusal};
+ghost use Rattle.smi_tools.specs.Keeper.{answer_to};
 ghost use Rattle.smi_tools.specs.Answer.{IsDone, answers, ending, first_fault, pieces};
 
 use crate::keeper::Keeper;
+use smi_message::{Bad, Refusal};
 use std::io::{ErrorKind, Read, Write};
 
 /// The most reads that an input may take: after them a reader counts as faulty.
 const MOST_READS: u64 = 1 << 32;
+
+/// How many bytes are read, and answered, at once.
+const BLOCK: usize = 64 * 1024;
 
 /// How an answer ended.
 #[derive(Clone, Copy, Debug, PartialEq, Eq)]
@@ -23,7 +29,7 @@ pub enum Answered {
     ReadFault,
     /// A write failed. A front of the answers is written.
     WriteFault,
-    /// There was no memory for a buffer. Nothing is read or written.
+    /// There was no memory for a buffer of the caller's. Nothing is read or written. `answer` never says so.
     Memory,
 }
 
@@ -32,20 +38,18 @@ pub enum Answered {
 pub struct NotWritten;
 
 /// Writes all of the bytes. On an error a front of them is written.
-fn write_whole<W: Write>(writer: &mut W, bytes: &[u8; 44]) -> Result<(), NotWritten>
+fn write_whole<W: Write>(writer: &mut W, bytes: &[u8]) -> Result<(), NotWritten>
     ensures all { OnOk result (Appends (W.contents writer.old) (W.contents writer.new) bytes.now) }
     ensures front { (n : ℕ) × Appends (W.contents writer.old) (W.contents writer.new) (take n bytes.now) }
 {
     let mut at = 0;
     'tries: for _ in 0..u32::MAX {
+        if at == bytes.len() {
+            return Ok(());
+        }
         match writer.write(&bytes[at..]) {
             Ok(0) => return Err(NotWritten),
-            Ok(n) => {
-                at += n;
-                if at == 44 {
-                    return Ok(());
-                }
-            }
+            Ok(n) => at += n,
             Err(e) => {
                 if e.kind() != ErrorKind::Interrupted {
                     return Err(NotWritten);
@@ -54,6 +58,47 @@ fn write_whole<W: Write>(writer: &mut W, bytes: &[u8; 44]) -> Result<(), NotWrit
         }
     }
     Err(NotWritten)
+}
+
+/// How far the datagrams of some bytes are answered.
+#[derive(Clone, Copy)]
+struct Progress {
+    /// How many are answered.
+    count: usize,
+    /// Why the next one is not, where it is refused.
+    refusal: Option<Refusal>,
+}
+
+/// Answers each 44 bytes in turn, up to the first refusal; fewer bytes behind them stay for later.
+fn answer_each(keeper: &mut Keeper, bytes: &[u8], told: &mut [u8; BLOCK]) -> Progress
+    requires room { length bytes.now ≤ 65536 }
+    ensures within { result.count * 44 ≤ length bytes.now }
+    // Whatever is read later: these answers come first, and the others are as after them.
+    ensures answered { (later : List ℕ) → answers keeper.old (pieces (bytes.now ++ later))
+        ≡ take (result.count * 44) told.new ++ answers keeper.new (pieces (drop (result.count * 44) bytes.now ++ later)) }
+    ensures ending { (later : List ℕ) (k : ℕ) → ending k keeper.old (pieces (bytes.now ++ later))
+        ≡ ending (k + result.count) keeper.new (pieces (drop (result.count * 44) bytes.now ++ later)) }
+    ensures whole { result.refusal ≡ None → length bytes.now < result.count * 44 + 44 }
+    ensures refused { (refusal : Refusal) → result.refusal ≡ Some refusal → (result.count * 44 + 44 ≤ length bytes.now)
+        × (answer_to keeper.new (take 44 (drop (result.count * 44) bytes.now)) ≡ Err refusal) }
+{
+    let most = bytes.len() / 44;
+    'pieces: for count in 0..most {
+        let from = count * 44;
+        match keeper.answer(&bytes[from..from + 44]) {
+            Ok(answer) => told[from..from + 44].copy_from_slice(&answer),
+            Err(refusal) => {
+                return Progress {
+                    count,
+                    refusal: Some(refusal),
+                };
+            }
+        }
+    }
+    Progress {
+        count: most,
+        refusal: None,
+    }
 }
 
 /// Answers each 44 bytes of a reader by the record as it stands afterwards, up to the first refusal.
@@ -67,38 +112,38 @@ fn answer_all<R: Read, W: Write>(reader: &mut R, writer: &mut W) -> Answered
         × Appends (W.contents writer.old) (W.contents writer.new) front) }
 {
     let mut keeper = Keeper::new();
-    let mut piece = [0; 44];
-    let mut at = 0;
+    let mut block = [0; BLOCK];
+    let mut told = [0; BLOCK];
+    // How many bytes at the front of the block are not answered yet.
+    let mut rest = 0;
     let mut count: u64 = 0;
     'reads: for _ in 0..MOST_READS {
-        match reader.read(&mut piece[at..]) {
+        let end = match reader.read(&mut block[rest..]) {
             Ok(0) => {
-                if at != 0 {
-                    return Answered::Refused(count + 1, 1);
+                if rest != 0 {
+                    return Answered::Refused(count + 1, Bad::Length.code());
                 }
                 return Answered::Ended;
             }
-            Ok(n) => {
-                at += n;
-                if at == 44 {
-                    match keeper.answer(&piece) {
-                        Err(refusal) => return Answered::Refused(count + 1, refusal.code()),
-                        Ok(told) => {
-                            let Ok(()) = write_whole(writer, &told) else {
-                                return Answered::WriteFault;
-                            };
-                        }
-                    }
-                    count += 1;
-                    at = 0;
-                }
-            }
+            Ok(n) => rest + n,
             Err(e) => {
                 if e.kind() != ErrorKind::Interrupted {
                     return Answered::ReadFault;
                 }
+                rest
             }
+        };
+        let progress = answer_each(&mut keeper, &block[..end], &mut told);
+        let answered = progress.count * 44;
+        let Ok(()) = write_whole(writer, &told[..answered]) else {
+            return Answered::WriteFault;
+        };
+        count += progress.count as u64;
+        if let Some(refusal) = progress.refusal {
+            return Answered::Refused(count + 1, refusal.code());
         }
+        block.copy_within(answered..end, 0);
+        rest = end - answered;
     }
     Answered::ReadFault
 }

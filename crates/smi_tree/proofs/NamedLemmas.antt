@@ -1,12 +1,14 @@
 -- No declaration lets a name stand twice.
-use Rattle.std.proofs.Common.{◌≡◌, ℕ, ◌+◌, Bool, true, false, cond, List, [], ◌∷◌, ◌++◌, length, Option, Some, None, Ok, Err, refl, ap, ◌∙◌, sym, subst, ◌⊎◌, inl, inr, arith}
+use Rattle.std.proofs.Common.{◌≡◌, ℕ, ◌+◌, ◌<◌, ◌^◌, Result, IfOk, OnErr, Bool, true, false, cond, List, [], ◌∷◌, ◌++◌, length, Option, Some, None, Ok, Err, refl, ap, ◌∙◌, sym, subst, ◌⊎◌, inl, inr, arith}
 use Rattle.std.specs.Prelude.{◌||◌, ◌&&◌, ◌==◌, nat_lt, count_by, is_some, ok_or}
 use Rattle.std.specs.Option.{option_or}
 use Rattle.std.specs.List.{list_any}
 use Rattle.std.specs.Str.{bytes_eq}
 use Rattle.std.proofs.lemmas.Slice.Eq.{bytes_eq-Decides}
 use Rattle.smi_tree.proofs.Cutting.{either}
-use Rattle.smi_tree.proofs.NumberLemmas.{position_from-more}
+use Rattle.smi_tree.proofs.NumberLemmas.{position_from-more, absent-new}
+use Rattle.indexmap.specs.IndexSet.{insert_key}
+use Rattle.std.proofs.lemmas.List.{length-append}
 use Rattle.smi_tree.proofs.Lawfulness.{Always, Always-then, Always-unless, Always-where, Always-or, entry-push, no-entry}
 use Rattle.smi_tree.specs.Text.{words}
 use Rattle.smi_tree.specs.Name.{number_of, is_declared, added}
@@ -30,7 +32,7 @@ none-of (Some n) h = cc
 none-of None h = refl
 
 -- one more name that is not there yet
-once-push : (names : List (List ℕ)) (new : List ℕ) → AreOnce names → is_declared names new ≡ false → AreOnce (names ++ new ∷ [])
+pub once-push : (names : List (List ℕ)) (new : List ℕ) → AreOnce names → is_declared names new ≡ false → AreOnce (names ++ new ∷ [])
 once-push names new once fresh = λ number name at. elim (entry-push names new name number at) [
   | inl old ↦ position_from-more (bytes_eq name) 1 names new
       ∙ ap (λ (found : Option ℕ). option_or found (cond (bytes_eq name new) (Some (1 + length names)) None)) (once number name old)
@@ -41,6 +43,18 @@ once-push names new once fresh = λ number name at. elim (entry-push names new n
       ∙ ap (λ (b : Bool). cond b (Some (1 + length names)) None) here
       ∙ ap Some (omega (arith, last.0))))
 ]
+
+-- names after an insertion that may have failed
+pub once-inserted : {E : Type 0} (r : Result Bool E) (old names : List (List ℕ)) (new : List ℕ) →
+    IfOk r (λ _. names ≡ insert_key bytes_eq old new) → OnErr r (names ≡ old) → number_of old new ≡ None → length old + 1 < 2 ^ 16 → AreOnce old →
+    (length names < 2 ^ 16) × AreOnce names
+once-inserted (Ok b) old names new is err absent few once =
+    let grown : names ≡ old ++ new ∷ [] = is ∙ absent-new old new absent in
+    let longer : length names ≡ length old + 1 = ap length grown ∙ length-append old (new ∷ []) in
+    (omega (arith, few, longer), subst AreOnce (sym grown) (once-push old new once (ap is_some absent)))
+once-inserted (Err e) old names new is same absent few once =
+    let as_long : length names ≡ length old = ap length same in
+    (omega (arith, few, as_long), subst AreOnce (sym same) once)
 
 declared-push : (names : List (List ℕ)) (new name : List ℕ) → is_declared (names ++ new ∷ []) name ≡ true →
     (is_declared names name ≡ true) ⊎ (name ≡ new)

@@ -38,12 +38,31 @@ const MOST_DEVICES: usize = 512;
 
 const MOST_DEVICES_OF_A_DOMAIN: usize = 16;
 
+/// What stands before the first row.
+const NO_MOVE: Move = Move {
+    class: 0,
+    from: 0,
+    action: 0,
+    to: 0,
+};
+
 /// The number of a name that has to stand above.
 #[inline(always)]
 fn known(names: &Names, name: &Name) -> Result<u16, Fault>
     ensures { result ≡ known names.now name.now }
 {
     names.number(name).ok_or(Fault::UnknownName)
+}
+
+/// The number of a name that has to stand above, which is likely to be this one.
+#[inline(always)]
+fn known_near(names: &Names, name: &Name, near: u16) -> Result<u16, Fault>
+    ensures { result ≡ known names.now name.now }
+{
+    if names.is_number_of(near, name) {
+        return Ok(near);
+    }
+    known(names, name)
 }
 
 fn count_of(homes: &[u16], home: u16) -> usize
@@ -239,13 +258,13 @@ impl Tables {
         Ok(())
     }
 
-    /// The number and the table of a class that has to stand above.
+    /// The number and the table of a class that has to stand above, likely that of this number.
     #[tactic(auto, unfolding(crate::specs::Additions::known_class))]
-    fn known_class(&self, name: &Name) -> Result<(u16, &Class), Fault>
+    fn known_class(&self, name: &Name, near: u16) -> Result<(u16, &Class), Fault>
         ensures found { Gives (λ found. (found.0, found.1.now)) result (known_class self.now name.now) }
         ensures row { IfOk result (λ found. IsEntry self.now.classes found.0 found.1.now) }
     {
-        let class = known(&self.class_names, name)?;
+        let class = known_near(&self.class_names, name, near)?;
         let table = entry(&self.classes, class).ok_or(Fault::UnknownName)?;
         Ok((class, table))
     }
@@ -260,10 +279,12 @@ impl Tables {
     ) -> Result<(), Refusal>
         ensures { Becomes self.new result (with_move self.old class.now from.now action.now to.now) }
     {
-        let (class, table) = self.known_class(class)?;
+        // The rows of a class mostly stand together, by state and then by action.
+        let last = self.moves.last().unwrap_or(NO_MOVE);
+        let (class, table) = self.known_class(class, last.class)?;
         let kind = table.kind;
-        let from = known(&self.state_names, from)?;
-        let action = known(&self.action_names, action)?;
+        let from = known_near(&self.state_names, from, last.from)?;
+        let action = known_near(&self.action_names, action, last.action.wrapping_add(1))?;
         let to = known(&self.state_names, to)?;
         if self.moves.find(class, from, action).is_some() {
             return Err(Refusal::Faulty(Fault::Twice));
@@ -284,7 +305,7 @@ impl Tables {
     fn accept(&mut self, class: &Name, action: &Name) -> Result<(), Refusal>
         ensures { Becomes self.new result (with_accepted self.old class.now action.now) }
     {
-        let (class, table) = self.known_class(class)?;
+        let (class, table) = self.known_class(class, 0)?;
         let action = known(&self.action_names, action)?;
         if table.accepts(action) {
             return Err(Refusal::Faulty(Fault::Twice));
@@ -307,7 +328,7 @@ impl Tables {
     ) -> Result<(), Refusal>
         ensures { Becomes self.new result (with_rule self.old quantifier class.now state.now target.now) }
     {
-        let (class, table) = self.known_class(class)?;
+        let (class, table) = self.known_class(class, 0)?;
         let state = known(&self.state_names, state)?;
         let target = known(&self.state_names, target)?;
         if !table.is_kind(ClassKind::Unit) {
@@ -361,7 +382,7 @@ impl Tables {
         ensures { Becomes self.new result (with_domain self.old name.now station.now class.now parent.now) }
     {
         let station = known(&self.station_names, station)?;
-        let (class, table) = self.known_class(class)?;
+        let (class, table) = self.known_class(class, 0)?;
         let kind = table.kind;
         let parent = self.known_parent(parent)?;
         if self.is_taken(name) {
@@ -387,7 +408,7 @@ impl Tables {
         ensures { Becomes self.new result (with_device self.old name.now domain.now class.now) }
     {
         let domain = known(&self.domain_names, domain)?;
-        let (class, table) = self.known_class(class)?;
+        let (class, table) = self.known_class(class, 0)?;
         let kind = table.kind;
         if self.is_taken(name) {
             return Err(Refusal::Faulty(Fault::Twice));

@@ -155,7 +155,7 @@ impl ClassMoves {
 }
 
 impl Moves {
-    ghost use Rattle.std.specs.Prelude.{◌≡◌, [], ◌∷◌, ◌++◌, None, OnOk};
+    ghost use Rattle.std.specs.Prelude.{◌≡◌, ◌-◌, [], ◌∷◌, ◌++◌, length, slice_get, None, OnOk};
     ghost use Rattle.smi_tree.specs.Hierarchy.{move_in};
 
     pub(crate) fn new(alloc: Global) -> Moves
@@ -175,6 +175,14 @@ impl Moves {
             Some(moves) => moves.find(state, action),
             None => None,
         }
+    }
+
+    /// The row that was put last.
+    #[inline(always)]
+    pub(crate) fn last(&self) -> Option<Move>
+        ensures { result ≡ slice_get self.now (length self.now - 1) }
+    {
+        self.rows.last().copied()
     }
 
     /// Puts a row at the end, for a state and an action that its class has no row for.

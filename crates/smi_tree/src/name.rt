@@ -132,6 +132,7 @@ impl<'a> Sought<'a> {
 
 impl<'a> Name<'a> {
     ghost use Rattle.std.specs.Prelude.{◌≡◌};
+    ghost use Rattle.std.specs.Str.{bytes_eq};
     ghost use Rattle.smi_tree.specs.Name.{name_of};
 
     /// The name that a word is, where it is one: 1 to 16 bytes of `A` to `Z`, `0` to `9` and `_`, the first a letter.
@@ -152,6 +153,14 @@ impl<'a> Name<'a> {
         ensures { result ≡ self.now }
     {
         Sought { text: self.text }
+    }
+
+    /// Whether a kept name is the same.
+    #[inline(always)]
+    pub(crate) fn is_same(&self, kept: &NameBuf) -> bool
+        ensures { result ≡ bytes_eq self.now kept.now }
+    {
+        self.text == kept.text()
     }
 
     /// The same name, to be kept.

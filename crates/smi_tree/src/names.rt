@@ -7,6 +7,7 @@ ghost use Rattle.smi_tree.specs.Name.{number_of};
 
 use crate::fault::{Fault, Refusal};
 use crate::name::{Name, NameBuf, Sought};
+use crate::row::entry;
 use indexmap::IndexSet;
 use std::alloc::{AllocError, Global};
 use std::marker::Model;
@@ -19,16 +20,17 @@ pub(crate) struct Names {
 
 impl Model for Names {
     ghost use Rattle.std.specs.Prelude.{ℕ, List, length, ◌<◌, ◌^◌};
+    ghost use Rattle.smi_tree.specs.Named.{AreOnce};
 
     ghost Value = { List (List ℕ) };
 
     ghost view = { λ n. n.names.keys };
 
-    ghost invariant = { λ n. length n.names.keys < 2 ^ 16 };
+    ghost invariant = { λ n. (length n.names.keys < 2 ^ 16) × AreOnce n.names.keys };
 }
 
 impl Names {
-    ghost use Rattle.std.specs.Prelude.{ℕ, ◌≡◌, ◌+◌, ◌<◌, ◌≤◌, ◌^◌, [], ◌∷◌, ◌++◌, length, IfSome, OnOk, None};
+    ghost use Rattle.std.specs.Prelude.{ℕ, ◌≡◌, ◌≢◌, ◌+◌, ◌<◌, ◌≤◌, ◌^◌, [], ◌∷◌, ◌++◌, length, IfSome, IsTrue, IsFalse, OnOk, None};
     ghost use Rattle.smi_tree.specs.Lawful.{IsBetween};
     ghost use Rattle.smi_tree.specs.Fault.{Becomes};
     ghost use Rattle.smi_tree.specs.Name.{number_of, added};
@@ -64,6 +66,19 @@ impl Names {
     {
         let place = self.names.get_index_of(sought)?;
         Some(place as u16 + 1)
+    }
+
+    /// Whether a number is that of a name, which takes no search.
+    #[inline(always)]
+    pub(crate) fn is_number_of(&self, number: u16, name: &Name) -> bool
+        ensures named { IsTrue result → entry self.now number ≡ Some name.now }
+        ensures number { IsTrue result → number_of self.now name.now ≡ Some number }
+        ensures other { IsFalse result → entry self.now number ≢ Some name.now }
+    {
+        match entry(self.names.as_slice(), number) {
+            Some(kept) => name.is_same(kept),
+            None => false,
+        }
     }
 
     /// The name of a number.

@@ -136,7 +136,7 @@ impl<'a> Word<'a> {
 
 /// How many bytes stand before the first blank of a text, all where there is none, and whether each of
 /// them is one of a name's.
-#[inline(never)]
+#[inline(always)]
 fn word_before_blank(text: &[u8]) -> (usize, bool)
     ensures place { result.0 ≡ position_or_len (cuts Blank) text.now }
     ensures within { result.0 ≤ length text.now }
@@ -144,10 +144,13 @@ fn word_before_blank(text: &[u8]) -> (usize, bool)
 {
     let mut has_name_bytes_alone = true;
     for (place, byte) in text.iter().enumerate() {
-        if Mark::Blank.is_at(*byte) {
-            return (place, has_name_bytes_alone);
+        // Most bytes are a name's.
+        if !is_name_byte(*byte) {
+            if Mark::Blank.is_at(*byte) {
+                return (place, has_name_bytes_alone);
+            }
+            has_name_bytes_alone = false;
         }
-        has_name_bytes_alone &= is_name_byte(*byte);
     }
     (text.len(), has_name_bytes_alone)
 }

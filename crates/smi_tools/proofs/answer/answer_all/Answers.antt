@@ -1,79 +1,131 @@
-use Rattle.std.proofs.Common.{rules, ◌≡◌, ℕ, take, ◌+◌, length, arith, sym, subst}
-use Rattle.std.proofs.lemmas.List.{length-take}
+use Rattle.std.proofs.Common.{rules, ◌≡◌, ◌≤◌, ℕ, List, take, drop, ◌+◌, ◌-◌, ◌*◌, length, arith, sym, subst, ◌∙◌}
+use Rattle.std.proofs.lemmas.List.{length-take, length-drop}
 use Rattle.smi_tools.specs.declared.answer.Answered.TheVariants.{Ended, Refused}
-use Rattle.smi_tools.proofs.Going.{Goes, Finishes, read_some, read_all, read_none, short, refused, ended_here, filled_long, accepted, front_more, done_of, read_failed}
+use Rattle.smi_tools.proofs.Going.{Goes, Finishes, Leads, read_some, read_none, short, ended_here, refused, written, front_more, has_front, done_of, read_failed, after, block_long, moved}
 use Rattle.smi_tools.proofs.answer.answer_all.Goals as goal
-use Rattle.smi_tools.proofs.answer.answer_all.Goals.{in-Ok+then-at-eq44+in-Ok-answer+in-Ok-write_whole, in-Ok+else-at-eq44, in-Err+else-ne}
+use Rattle.smi_tools.proofs.answer.answer_all.Goals.{in-Ok, in-Err+else-ne}
 
-pub returns-then-at-ne0-clause-done : goal.returns-then-at-ne0-clause-done
-returns-then-at-ne0-clause-done g c =
+pub returns-then-rest-ne0-clause-done : goal.returns-then-rest-ne0-clause-done
+returns-then-rest-ne0-clause-done g c =
     let remaining = g.R.Read.remaining in
     let contents = g.W.Write.contents in
-    let piece = take c.reads.at c.reads.piece in
-    let long : length c.reads.piece ≡ 44 = search rules in
-    let here : length piece ≡ c.reads.at = omega (arith, length-take c.reads.at c.reads.piece) in
-    let going = read_none (remaining c.args.reader.now) (remaining c.reads.reader) (remaining c.read.new.self) c.in-Ok-eq0.field-0 piece c.read.new.buf c.reads.keeper c.reads.count (contents c.args.writer.now) (contents c.reads.writer) c.in-Ok-eq0.field-0-test c.reads.invariant.going c.in-Ok-eq0.ensures.bytes.0 in
+    let a = remaining c.args.reader.now in
+    let b = remaining c.read.new.self in
+    let w0 = contents c.args.writer.now in
+    let w = contents c.reads.writer in
+    let long = c.reads.invariant.long in
+    let piece = take c.reads.rest c.reads.block in
+    let here : length piece ≡ c.reads.rest = omega (arith, length-take c.reads.rest c.reads.block) in
+    let going = read_none a (remaining c.reads.reader) b c.in-Ok-eq0.field-0 piece c.read.new.buf c.reads.keeper c.reads.count w0 w c.in-Ok-eq0.field-0-test c.reads.invariant.going c.in-Ok-eq0.ensures.bytes.0 in
     let end = c.in-Ok-eq0.ensures.bytes.1 c.in-Ok-eq0.field-0-test (search rules) in
-    done_of (remaining c.args.reader.now) (Refused (c.reads.count + 1) 1) (contents c.args.writer.now) (contents c.reads.writer)
-    (short (remaining c.args.reader.now) (remaining c.read.new.self) piece c.reads.keeper c.reads.count (contents c.args.writer.now) (contents c.reads.writer) (omega arith) (omega arith) end going)
+    let finished = short a b piece c.reads.keeper c.reads.count w0 w (omega arith) (omega arith) end going in
+    done_of a (Refused (c.reads.count + 1) c.code.result) w0 w
+    (subst (λ (x : ℕ). Finishes a (Refused (c.reads.count + 1) x) w0 w) (sym c.code.ensures) finished)
 
 pub returns-in-Ok-eq0-clause-done : goal.returns-in-Ok-eq0-clause-done
 returns-in-Ok-eq0-clause-done g c =
     let remaining = g.R.Read.remaining in
     let contents = g.W.Write.contents in
-    let piece = take c.reads.at c.reads.piece in
-    let going = read_none (remaining c.args.reader.now) (remaining c.reads.reader) (remaining c.read.new.self) c.in-Ok-eq0.field-0 piece c.read.new.buf c.reads.keeper c.reads.count (contents c.args.writer.now) (contents c.reads.writer) c.in-Ok-eq0.field-0-test c.reads.invariant.going c.in-Ok-eq0.ensures.bytes.0 in
+    let a = remaining c.args.reader.now in
+    let b = remaining c.read.new.self in
+    let w0 = contents c.args.writer.now in
+    let w = contents c.reads.writer in
+    let piece = take c.reads.rest c.reads.block in
+    let going = read_none a (remaining c.reads.reader) b c.in-Ok-eq0.field-0 piece c.read.new.buf c.reads.keeper c.reads.count w0 w c.in-Ok-eq0.field-0-test c.reads.invariant.going c.in-Ok-eq0.ensures.bytes.0 in
     let end = c.in-Ok-eq0.ensures.bytes.1 c.in-Ok-eq0.field-0-test (search rules) in
-    let empty : Goes (remaining c.args.reader.now) (remaining c.read.new.self) (take 0 c.reads.piece) c.reads.keeper c.reads.count (contents c.args.writer.now) (contents c.reads.writer)
-    = subst (λ (k : ℕ). Goes (remaining c.args.reader.now) (remaining c.read.new.self) (take k c.reads.piece) c.reads.keeper c.reads.count (contents c.args.writer.now) (contents c.reads.writer)) c.if-at-ne0.false going in
-    done_of (remaining c.args.reader.now) Ended (contents c.args.writer.now) (contents c.reads.writer)
-    (ended_here (remaining c.args.reader.now) (remaining c.read.new.self) c.reads.keeper c.reads.count (contents c.args.writer.now) (contents c.reads.writer) end empty)
-
-pub returns-in-Err-answer-clause-done : goal.returns-in-Err-answer-clause-done
-returns-in-Err-answer-clause-done g c =
-    let remaining = g.R.Read.remaining in
-    let contents = g.W.Write.contents in
-    let long : length c.reads.piece ≡ 44 = search rules in
-    let full = filled_long c.reads.at c.reads.piece c.read.new.buf long c.reads.invariant.within c.read.auto.buf in
-    let going = read_all (remaining c.args.reader.now) (remaining c.reads.reader) (remaining c.read.new.self) c.reads.at c.in-Ok.n c.reads.piece c.read.new.buf _ c.reads.keeper c.reads.count (contents c.args.writer.now) (contents c.reads.writer)
-    (omega arith) c.in-Ok.ensures.bound.0 c.if-at-eq44.true full c.reads.invariant.going c.in-Ok.ensures.bytes.0 in
-    let finished = refused (remaining c.args.reader.now) (remaining c.read.new.self) _ c.reads.keeper c.reads.count c.in-Err-answer.refusal (contents c.args.writer.now) (contents c.reads.writer) full c.in-Err-answer.ensures.0 going in
-    done_of (remaining c.args.reader.now) (Refused (c.reads.count + 1) c.code.result) (contents c.args.writer.now) (contents c.reads.writer)
-    (subst (λ (x : ℕ). Finishes (remaining c.args.reader.now) (Refused (c.reads.count + 1) x) (contents c.args.writer.now) (contents c.reads.writer)) (sym c.code.ensures) finished)
+    let empty = subst (λ (n : ℕ). Goes a b (take n c.reads.block) c.reads.keeper c.reads.count w0 w) c.if-rest-ne0.false going in
+    done_of a Ended w0 w (ended_here a b c.reads.keeper c.reads.count w0 w end empty)
 
 pub returns-in_default-clause-front : goal.returns-in_default-clause-front
 returns-in_default-clause-front g c =
     let remaining = g.R.Read.remaining in
     let contents = g.W.Write.contents in
-    let long : length c.reads.piece ≡ 44 = search rules in
-    let full = filled_long c.reads.at c.reads.piece c.read.new.buf long c.reads.invariant.within c.read.auto.buf in
-    let going = read_all (remaining c.args.reader.now) (remaining c.reads.reader) (remaining c.read.new.self) c.reads.at c.in-Ok.n c.reads.piece c.read.new.buf _ c.reads.keeper c.reads.count (contents c.args.writer.now) (contents c.reads.writer)
-    (omega arith) c.in-Ok.ensures.bound.0 c.if-at-eq44.true full c.reads.invariant.going c.in-Ok.ensures.bytes.0 in
-    front_more (remaining c.args.reader.now) (remaining c.read.new.self) _ c.in-Ok-answer.told c.write_whole.ensures.front.0 c.reads.keeper c.answer.new.self c.reads.count (contents c.args.writer.now) (contents c.reads.writer) (contents c.write_whole.new.writer)
-    full c.in-Ok-answer.ensures going c.write_whole.ensures.front.1
+    let a = remaining c.args.reader.now in
+    let b = remaining c.read.new.self in
+    let w0 = contents c.args.writer.now in
+    let w = contents c.reads.writer in
+    let long = c.reads.invariant.long in
+    let n = c.answer_each-progress.result.count in
+    let told = take (n * 44) c.answer_each-progress.new.told in
+    let going : Goes a b (take c.match-read.end (after c.reads.rest c.reads.block c.read.new.buf)) c.reads.keeper c.reads.count w0 w = elim c.match-read.branch [
+      | in-Ok u ↦ rw (u.end-is) (read_some a (remaining c.reads.reader) b c.reads.rest u.in-Ok.n c.reads.block c.read.new.buf _ c.reads.keeper c.reads.count w0 w (omega arith) u.in-Ok.ensures.bound.0 c.reads.invariant.going u.in-Ok.ensures.bytes.0)
+      | in-Err+else-ne u ↦ rw (u.end-is) (read_failed a (remaining c.reads.reader) b c.reads.rest c.reads.block c.read.new.buf _ c.reads.keeper c.reads.count w0 w (omega arith) c.reads.invariant.going u.in-Err.ensures.bytes)
+    ] in
+    let leads : Leads c.reads.keeper _ c.answer_each-progress.new.keeper n _ told = (c.answer_each-progress.ensures.answered, c.answer_each-progress.ensures.ending) in
+    front_more a b _ _ told c.write_whole.ensures.front.0 c.reads.keeper c.answer_each-progress.new.keeper c.reads.count n w0 w (contents c.write_whole.new.writer) going leads c.write_whole.ensures.front.1
+
+pub returns-in-Some-clause-done : goal.returns-in-Some-clause-done
+returns-in-Some-clause-done g c =
+    let remaining = g.R.Read.remaining in
+    let contents = g.W.Write.contents in
+    let a = remaining c.args.reader.now in
+    let b = remaining c.read.new.self in
+    let w0 = contents c.args.writer.now in
+    let w = contents c.reads.writer in
+    let long = c.reads.invariant.long in
+    let n = c.answer_each-progress.result.count in
+    let told = take (n * 44) c.answer_each-progress.new.told in
+    let going : Goes a b (take c.match-read.end (after c.reads.rest c.reads.block c.read.new.buf)) c.reads.keeper c.reads.count w0 w = elim c.match-read.branch [
+      | in-Ok u ↦ rw (u.end-is) (read_some a (remaining c.reads.reader) b c.reads.rest u.in-Ok.n c.reads.block c.read.new.buf _ c.reads.keeper c.reads.count w0 w (omega arith) u.in-Ok.ensures.bound.0 c.reads.invariant.going u.in-Ok.ensures.bytes.0)
+      | in-Err+else-ne u ↦ rw (u.end-is) (read_failed a (remaining c.reads.reader) b c.reads.rest c.reads.block c.read.new.buf _ c.reads.keeper c.reads.count w0 w (omega arith) c.reads.invariant.going u.in-Err.ensures.bytes)
+    ] in
+    let leads : Leads c.reads.keeper _ c.answer_each-progress.new.keeper n _ told = (c.answer_each-progress.ensures.answered, c.answer_each-progress.ensures.ending) in
+    let later = written a b _ _ told c.reads.keeper c.answer_each-progress.new.keeper c.reads.count n w0 w (contents c.write_whole.new.writer) going leads c.in-Ok-write_whole.ensures.all in
+    let stop = c.answer_each-progress.ensures.refused c.in-Some.refusal c.in-Some.is in
+    let finished = refused a b _ c.answer_each-progress.new.keeper (c.reads.count + n) c.in-Some.refusal w0 (contents c.write_whole.new.writer) (omega (arith, stop.0, length-drop (n * 44) (take c.match-read.end (after c.reads.rest c.reads.block c.read.new.buf)))) stop.1 later in
+    done_of a (Refused (c.reads.count + n + 1) c.code-in-Some.result) w0 (contents c.write_whole.new.writer)
+    (subst (λ (x : ℕ). Finishes a (Refused (c.reads.count + n + 1) x) w0 (contents c.write_whole.new.writer)) (sym c.code-in-Some.ensures) finished)
+
+pub returns-in-Some-clause-front : goal.returns-in-Some-clause-front
+returns-in-Some-clause-front g c =
+    let remaining = g.R.Read.remaining in
+    let contents = g.W.Write.contents in
+    let a = remaining c.args.reader.now in
+    let b = remaining c.read.new.self in
+    let w0 = contents c.args.writer.now in
+    let w = contents c.reads.writer in
+    let long = c.reads.invariant.long in
+    let n = c.answer_each-progress.result.count in
+    let told = take (n * 44) c.answer_each-progress.new.told in
+    let going : Goes a b (take c.match-read.end (after c.reads.rest c.reads.block c.read.new.buf)) c.reads.keeper c.reads.count w0 w = elim c.match-read.branch [
+      | in-Ok u ↦ rw (u.end-is) (read_some a (remaining c.reads.reader) b c.reads.rest u.in-Ok.n c.reads.block c.read.new.buf _ c.reads.keeper c.reads.count w0 w (omega arith) u.in-Ok.ensures.bound.0 c.reads.invariant.going u.in-Ok.ensures.bytes.0)
+      | in-Err+else-ne u ↦ rw (u.end-is) (read_failed a (remaining c.reads.reader) b c.reads.rest c.reads.block c.read.new.buf _ c.reads.keeper c.reads.count w0 w (omega arith) c.reads.invariant.going u.in-Err.ensures.bytes)
+    ] in
+    let leads : Leads c.reads.keeper _ c.answer_each-progress.new.keeper n _ told = (c.answer_each-progress.ensures.answered, c.answer_each-progress.ensures.ending) in
+    let later = written a b _ _ told c.reads.keeper c.answer_each-progress.new.keeper c.reads.count n w0 w (contents c.write_whole.new.writer) going leads c.in-Ok-write_whole.ensures.all in
+    has_front a b _ c.answer_each-progress.new.keeper (c.reads.count + n) w0 (contents c.write_whole.new.writer) later
 
 pub reads-preserved : goal.reads-preserved
 reads-preserved g c =
     let remaining = g.R.Read.remaining in
     let contents = g.W.Write.contents in
-    let long : length c.reads.piece ≡ 44 = search rules in
-    let full = filled_long c.reads.at c.reads.piece c.read.new.buf long c.reads.invariant.within c.read.auto.buf in
-    elim c.match-read.branch [
-      | in-Ok+then-at-eq44+in-Ok-answer+in-Ok-write_whole w ↦ (
-          let going = read_all (remaining c.args.reader.now) (remaining c.reads.reader) (remaining c.read.new.self) c.reads.at w.in-Ok.n c.reads.piece c.read.new.buf _ c.reads.keeper c.reads.count (contents c.args.writer.now) (contents c.reads.writer)
-          (omega arith) w.in-Ok.ensures.bound.0 w.if-at-eq44.true full c.reads.invariant.going w.in-Ok.ensures.bytes.0 in
-          let next = accepted (remaining c.args.reader.now) (remaining c.read.new.self) _ w.in-Ok-answer.told c.reads.keeper w.answer.new.self c.reads.count (contents c.args.writer.now) (contents c.reads.writer) (contents w.write_whole.new.writer)
-          full w.in-Ok-answer.ensures going w.in-Ok-write_whole.ensures.all in
-          record { within = omega arith; counted = omega arith; going = rw (w.at-is, w.keeper-is, w.count-is, w.writer-is) next }
-          )
-      | in-Ok+else-at-eq44 w ↦ (
-          let going = read_some (remaining c.args.reader.now) (remaining c.reads.reader) (remaining c.read.new.self) c.reads.at w.in-Ok.n c.reads.piece c.read.new.buf _ c.reads.keeper c.reads.count (contents c.args.writer.now) (contents c.reads.writer)
-          (omega arith) w.in-Ok.ensures.bound.0 c.reads.invariant.going w.in-Ok.ensures.bytes.0 in
-          record { within = omega (arith, w.in-Ok.ensures.bound.0); counted = omega arith; going = rw (w.at-is, w.keeper-is, w.count-is, w.writer-is) going }
-          )
-      | in-Err+else-ne w ↦ (
-          let going = read_failed (remaining c.args.reader.now) (remaining c.reads.reader) (remaining c.read.new.self) c.reads.at c.reads.piece c.read.new.buf _ c.reads.keeper c.reads.count (contents c.args.writer.now) (contents c.reads.writer)
-          (omega arith) c.reads.invariant.going w.in-Err.ensures.bytes in
-          record { within = omega arith; counted = omega arith; going = rw (w.at-is, w.keeper-is, w.count-is, w.writer-is) going }
-          )
-    ]
+    let a = remaining c.args.reader.now in
+    let b = remaining c.read.new.self in
+    let w0 = contents c.args.writer.now in
+    let w = contents c.reads.writer in
+    let long = c.reads.invariant.long in
+    let n = c.answer_each-progress.result.count in
+    let told = take (n * 44) c.answer_each-progress.new.told in
+    let going : Goes a b (take c.match-read.end (after c.reads.rest c.reads.block c.read.new.buf)) c.reads.keeper c.reads.count w0 w = elim c.match-read.branch [
+      | in-Ok u ↦ rw (u.end-is) (read_some a (remaining c.reads.reader) b c.reads.rest u.in-Ok.n c.reads.block c.read.new.buf _ c.reads.keeper c.reads.count w0 w (omega arith) u.in-Ok.ensures.bound.0 c.reads.invariant.going u.in-Ok.ensures.bytes.0)
+      | in-Err+else-ne u ↦ rw (u.end-is) (read_failed a (remaining c.reads.reader) b c.reads.rest c.reads.block c.read.new.buf _ c.reads.keeper c.reads.count w0 w (omega arith) c.reads.invariant.going u.in-Err.ensures.bytes)
+    ] in
+    let leads : Leads c.reads.keeper _ c.answer_each-progress.new.keeper n _ told = (c.answer_each-progress.ensures.answered, c.answer_each-progress.ensures.ending) in
+    let later = written a b _ _ told c.reads.keeper c.answer_each-progress.new.keeper c.reads.count n w0 w (contents c.write_whole.new.writer) going leads c.in-Ok-write_whole.ensures.all in
+    let whole = c.answer_each-progress.ensures.whole c.in_default-refusal.is in
+    let block = after c.reads.rest c.reads.block c.read.new.buf in
+    let block_is : length block ≡ 65536 = block_long c.reads.rest c.reads.block c.read.new.buf long (omega arith) c.read.auto.buf in
+    let room : c.match-read.end ≤ 65536 = elim c.match-read.branch [
+      | in-Ok u ↦ omega (arith, u.end-is, u.in-Ok.ensures.bound.0, c.read.auto.buf, length-take (65536 - c.reads.rest) (drop c.reads.rest c.reads.block), length-drop c.reads.rest c.reads.block)
+      | in-Err+else-ne u ↦ omega (arith, u.end-is)
+    ] in
+    let size = length-take c.match-read.end block in
+    let front : take (c.match-read.end - n * 44) c.copy_within.new.self ≡ drop (n * 44) (take c.match-read.end block) =
+    moved (n * 44) c.match-read.end block c.copy_within.new.self (omega (arith, c.answer_each-progress.ensures.within, size)) (omega arith) c.copy_within.ensures.after in
+    record {
+      long = c.copy_within.ensures.len ∙ block_is;
+      long_told = search rules;
+      within = omega (arith, whole, size);
+      counted = omega (arith, c.answer_each-progress.ensures.within, size);
+      going = subst (λ (t : List ℕ). Goes a b t c.answer_each-progress.new.keeper (c.reads.count + n) w0 (contents c.write_whole.new.writer)) (sym front) later;
+    }

@@ -1,25 +1,18 @@
-use Rattle.std.proofs.Common.{rules, ℕ, take, ◌+◌, arith, sym, subst}
+use Rattle.std.proofs.Common.{ℕ, take, arith, sym, subst}
 use Rattle.std.specs.Io.KnownBytes.{Appends}
 use Rattle.std.proofs.KnownBytes.{Appends-kept}
 use Rattle.smi_tools.proofs.Written.{more_written}
 use Rattle.smi_tools.proofs.answer.write_whole.Goals as goal
-use Rattle.smi_tools.proofs.answer.write_whole.Goals.{in-Ok+else-at-eq44, in-Err+else-ne}
-
-pub returns-then-at-eq44-clause-front : goal.returns-then-at-eq44-clause-front
-returns-then-at-eq44-clause-front g c =
-    let contents = g.W.Write.contents in (
-      c.tries.at + c.in-Ok.n,
-      more_written (contents c.args.writer.now) (contents c.tries.writer) (contents c.write.new.self) c.tries.at c.in-Ok.n c.args.bytes.now (search rules) c.tries.invariant.written c.in-Ok.ensures.bytes,
-    )
+use Rattle.smi_tools.proofs.answer.write_whole.Goals.{in-Ok, in-Err+else-ne}
 
 pub tries-preserved : goal.tries-preserved
 tries-preserved g c =
     let contents = g.W.Write.contents in
     elim c.match-write.branch [
-      | in-Ok+else-at-eq44 w ↦ record {
+      | in-Ok w ↦ record {
         within = omega (arith, w.in-Ok.ensures.bound);
         written = subst (λ (k : ℕ). Appends (contents c.args.writer.now) (contents c.write.new.self) (take k c.args.bytes.now)) (sym w.at-is)
-            (more_written (contents c.args.writer.now) (contents c.tries.writer) (contents c.write.new.self) c.tries.at w.in-Ok.n c.args.bytes.now (search rules) c.tries.invariant.written w.in-Ok.ensures.bytes);
+            (more_written (contents c.args.writer.now) (contents c.tries.writer) (contents c.write.new.self) c.tries.at w.in-Ok.n c.args.bytes.now c.tries.invariant.written w.in-Ok.ensures.bytes);
       }
       | in-Err+else-ne w ↦ record {
         within = omega arith;

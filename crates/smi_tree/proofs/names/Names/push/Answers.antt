@@ -1,6 +1,7 @@
 use Rattle.std.proofs.Common.{◌∙◌, ap}
 use Rattle.std.specs.Str.{bytes_eq}
 use Rattle.indexmap.specs.IndexSet.{insert_key}
+use Rattle.smi_tree.proofs.NamedLemmas.{once-inserted}
 use Rattle.smi_tree.proofs.NumberLemmas.{absent-new}
 use Rattle.smi_tree.proofs.names.Names.push.Goals as goal
 
@@ -10,3 +11,9 @@ returns c =
     c.in_ok-insert.ensures.keys
     ∙ ap (insert_key bytes_eq names) c.to_owned.ensures
     ∙ rw c.self.view_is (absent-new c.args.self.now c.args.name.now c.requires.absent)
+
+pub invariant_of-self-2 : goal.invariant_of-self-2
+invariant_of-self-2 c =
+    let names = c.self.inside.names.keys in
+    once-inserted c.insert.result names c.insert.new.self.keys c.args.name.now (rw (← c.to_owned.ensures) c.insert.ensures.keys) c.insert.ensures.err
+    (rw c.self.view_is c.requires.absent) (rw c.self.view_is c.requires.few) c.self.invariant.1
