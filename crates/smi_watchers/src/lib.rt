@@ -12,16 +12,15 @@
 #![tactic(auto)]
 
 mod answer;
-mod audience;
+mod cell;
+mod cells;
+mod lists;
+mod steps;
 mod walk;
 mod watcher;
 mod watchers;
 
 pub use answer::{WatchAnswer, WatchFault};
-pub use audience::MOST_WATCHERS;
 pub use walk::Walk;
 pub use watcher::Watcher;
-pub use watchers::Watchers;
-
-#[cfg(test)]
-mod tests;
+pub use watchers::{MOST_WATCHERS, Watchers};
