@@ -1,4 +1,5 @@
 pub mod Adds
+pub mod Crosses
 pub mod Crossing
 pub mod Echoes
 pub mod Empty

@@ -1,6 +1,6 @@
 -- What a watch and the end of a watch make of the list of one object.
 use Rattle.std.proofs.Common.{◌≡◌, ◌≢◌, ℕ, zero, suc, ◌+◌, ◌<◌, Bool, true, false, not, List, [], ◌∷◌, ◌++◌, length, get_or, filter, find, map, cond, refl, sym, ap, ◌∙◌, subst, arith, length-append, Option, Some, None, unwrap_or}
-use Rattle.std.specs.Prelude.{position, AllPairs, count_by, nat_le, ◌&&◌}
+use Rattle.std.specs.Prelude.{position, AllPairs, count_by, nat_le, nat_eq, ◌&&◌}
 use Rattle.std.specs.List.{position_from}
 use Rattle.std.proofs.lemmas.Bool.Decides.{nat_tests}
 use Rattle.std.proofs.lemmas.List.Quantifiers.{all_pairs_push}
@@ -195,3 +195,10 @@ find_split_at (a ∷ A) B v h = rw h.0 (find_split_at A B v h.1)
 
 pub find_split : (A B : List Watcher) (v : Watcher) → AllPairs AreApart (A ++ v ∷ B) → find (is_of v.station) (A ++ v ∷ B) ≡ Some v
 find_split A B v a = find_split_at A B v (before_none A B v a)
+
+-- whether a number is so many
+pub so_many : (k m : ℕ) → true ≡ nat_eq k m → k ≡ m
+so_many k m e = grind (arith, nat_tests)
+
+pub other_many : (k m : ℕ) → false ≡ nat_eq k m → k ≢ m
+other_many k m e same = grind (arith, nat_tests)

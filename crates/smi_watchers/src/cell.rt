@@ -1,8 +1,13 @@
+use std::marker::Send;
+
 /// Where a cell lies on the heap. It owns nothing.
 #[derive(Clone, Copy)]
 pub(crate) struct Place {
     pub(crate) at: *mut Cell,
 }
+
+// A bare number to each thread: what lies there is its owner's.
+unsafe impl Send for Place {}
 
 /// The cells before and after one in a list, none at an end. Of a list's head `after` is the first
 /// cell and `before` the last, so that a list with its head is a ring.

@@ -8,7 +8,7 @@ ghost use Rattle.smi_watchers.specs.declared.cell.Cell.{Cell};
 
 use crate::cell::{Cell, Place};
 use std::alloc::Global;
-use std::marker::Model;
+use std::marker::{Model, Send};
 use std_alloc::room::Vacant;
 
 /// The cells, each in a block of its own on the heap. It takes no space.
@@ -25,6 +25,10 @@ impl Model for Cells {
 
     ghost also_shares = { λ c _ κ. cells_lent c.held κ };
 }
+
+// All that it owns is blocks of `Global` and plain data in them, which is the same to each thread: proved, as for any
+// struct that owns memory, in proofs/cells/Cells/TheSendSync.
+unsafe impl Send for Cells {}
 
 impl Cells {
     ghost use Rattle.std.specs.Prelude.{◌≡◌, ◌∷◌, [], Some, None, IsSome};

@@ -44,8 +44,8 @@ impl Model for Watchers {
 
 impl Drop for Watchers {
     fn drop(mut self) {
-        for station in 0..STATION_LISTS {
-            self.clear(station);
+        for number in 0..STATION_LISTS {
+            self.clear(number);
         }
         let Watchers { lists, visits: _ } = self;
         lists.end();
@@ -53,7 +53,7 @@ impl Drop for Watchers {
 }
 
 impl Watchers {
-    ghost use Rattle.std.specs.Prelude.{◌≡◌, ◌≢◌, ◌↔◌, ◌≤◌, ◌<◌, [], length, position, replicate, slice_get, None, IfOk, OnOk, OnErr};
+    ghost use Rattle.std.specs.Prelude.{◌≡◌, ◌≢◌, ◌↔◌, ◌≤◌, ◌<◌, [], length, nat_eq, position, replicate, slice_get, None, IfOk, OnOk, OnErr};
     ghost use Rattle.smi_watchers.specs.Listing.{Listing};
     ghost use Rattle.smi_watchers.specs.Watching.{
       IsAudience,
@@ -103,7 +103,7 @@ impl Watchers {
         if let Some(place) = self.lists.place_of(usize::from(object) - 1, station) {
             return Ok(self.lists.renew_at(place, echo));
         }
-        if self.count(object) == MOST_WATCHERS {
+        if self.is_full(object) {
             return Err(WatchFault::Full);
         }
         let Ok(room) = self.lists.room() else {
@@ -131,16 +131,26 @@ impl Watchers {
         ensures objects { length self.new.lists ≡ length self.old.lists }
         ensures visits { result ≢ Err WatchFault.Memory → self.new.visits ≡ entries_of station self.old.lists }
     {
-        let Ok(room) = self.lists.room() else {
+        let Ok(reserved) = self.lists.room() else {
             return Err(WatchFault::Memory);
         };
-        self.clear(station);
-        if self.count(object) == MOST_WATCHERS {
-            let _alloc = room.free();
+        self.leave(station);
+        if self.is_full(object) {
+            let _alloc = reserved.free();
             return Err(WatchFault::Full);
         }
-        self.add(room, object, station, echo);
+        self.add(reserved, object, station, echo);
         Ok(WatchAnswer::Added)
+    }
+
+    /// Whether as many stations watch an object as may.
+    fn is_full(&self, object: u16) -> bool
+        requires object_least { 1 ≤ object }
+        requires object_most { object ≤ length self.now.lists }
+        ensures full { result ≡ nat_eq (length (listed self.now.lists object)) most_watchers }
+        ensures lawful { IsAudience (listed self.now.lists object) }
+    {
+        self.count(object) == MOST_WATCHERS
     }
 
     /// A station that does not watch an object does so now, the last in its list.
@@ -214,7 +224,8 @@ impl Watchers {
     pub fn visits(&self) -> u32
         ensures { result ≡ self.now.visits }
     {
-        self.visits
+        let Watchers { visits, .. } = self;
+        *visits
     }
 
     /// The entry of an object's list at place `i`, the first at 0; none past the end.

@@ -2,7 +2,7 @@ use Rattle.std.proofs.Common.{◌-◌, arith, length, sym, ap, ◌∙◌, subst,
 use Rattle.smi_watchers.specs.Listing.{Listing}
 use Rattle.smi_watchers.specs.Walked.{steps_of, place_in}
 use Rattle.smi_watchers.specs.Kept.{IsKept, lists_of}
-use Rattle.smi_watchers.proofs.ListLemmas.{others_none, answer_none, position_none}
+use Rattle.smi_watchers.proofs.ListLemmas.{others_none, answer_none, position_none, so_many, other_many}
 use Rattle.smi_watchers.proofs.Listings.{kept_newer}
 use Rattle.smi_watchers.proofs.Seen.{there, answered, renewed_seen, room_there, nobody}
 use Rattle.smi_watchers.proofs.watchers.Watchers.watch.Goals as goal
@@ -41,23 +41,23 @@ returns-in-Some-clause-full c =
     let room = room_there n c.self.invariant _ lists c.args.object c.requires.object_least c.requires.object_most c.args.station c.in-Some.place found in
     (λ e. cc, λ full. absurd (omega (arith, room, full)))
 
-pub returns-then-count-eq-MOST_WATCHERS-clause-full : goal.returns-then-count-eq-MOST_WATCHERS-clause-full
-returns-then-count-eq-MOST_WATCHERS-clause-full c =
+pub returns-then-is_full-clause-full : goal.returns-then-is_full-clause-full
+returns-then-is_full-clause-full c =
     let n = c.self.inside.lists in let lists = ap (λ (l : Listing). l.lists) c.self.view_is in
     let missed = ap (λ k. place_in c.args.station (steps_of n (k - 1))) (sym c.from.ensures) ∙ sym c.place_of.ensures ∙ c.in_default.is in
     let none = nobody n c.self.invariant _ lists c.args.object c.requires.object_least c.requires.object_most c.args.station missed in
-    let others = ap length (others_none c.args.station _ none) in let count = c.count.ensures.count in
-    let full = c.if-count-eq-MOST_WATCHERS.true in
-    (λ _. omega (arith, others, count, full), λ _. refl)
+    let others = ap length (others_none c.args.station _ none) in
+    let full = so_many _ _ c.if-is_full.ensures.full in
+    (λ _. omega (arith, others, full), λ _. refl)
 
 pub returns-in_default-room-clause-full : goal.returns-in_default-room-clause-full
 returns-in_default-room-clause-full c =
     let n = c.self.inside.lists in let lists = ap (λ (l : Listing). l.lists) c.self.view_is in
     let missed = ap (λ k. place_in c.args.station (steps_of n (k - 1))) (sym c.from.ensures) ∙ sym c.place_of.ensures ∙ c.in_default.is in
     let none = nobody n c.self.invariant _ lists c.args.object c.requires.object_least c.requires.object_most c.args.station missed in
-    let others = ap length (others_none c.args.station _ none) in let count = c.count.ensures.count in
-    let room = c.if-count-eq-MOST_WATCHERS.false in
-    (λ e. cc, λ full. absurd (room (omega (arith, others, count, full))))
+    let others = ap length (others_none c.args.station _ none) in
+    let room = other_many _ _ c.if-is_full.ensures.full in
+    (λ e. cc, λ full. absurd (room (omega (arith, others, full))))
 
 pub add-requires-clause-absent : goal.add-requires-clause-absent
 add-requires-clause-absent c =
@@ -76,6 +76,6 @@ returns-clause-full c =
     let n = c.self.inside.lists in let lists = ap (λ (l : Listing). l.lists) c.self.view_is in
     let missed = ap (λ k. place_in c.args.station (steps_of n (k - 1))) (sym c.from.ensures) ∙ sym c.place_of.ensures ∙ c.in_default.is in
     let none = nobody n c.self.invariant _ lists c.args.object c.requires.object_least c.requires.object_most c.args.station missed in
-    let others = ap length (others_none c.args.station _ none) in let count = c.count.ensures.count in
-    let room = c.if-count-eq-MOST_WATCHERS.false in
-    (λ e. cc, λ full. absurd (room (omega (arith, others, count, full))))
+    let others = ap length (others_none c.args.station _ none) in
+    let room = other_many _ _ c.if-is_full.ensures.full in
+    (λ e. cc, λ full. absurd (room (omega (arith, others, full))))
