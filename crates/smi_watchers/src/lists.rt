@@ -36,7 +36,25 @@ impl Model for Lists {
 impl Lists {
     ghost use Rattle.std.specs.Prelude.{◌≡◌, ◌<◌, ◌≤◌, [], length, find, replicate, Some, None, IsSome, IfOk};
     ghost use Rattle.smi_watchers.specs.Held.{found};
-    ghost use Rattle.smi_watchers.specs.Net.{IsNode, IsLinked, MayLink, neighbours, with_links, with_next, with_prev, unlinked, linked, cell_at, with_cell, without_cell, no_links, next, taken_out, put_in, with_newer};
+    ghost use Rattle.smi_watchers.specs.Net.{
+      IsNode,
+      IsLinked,
+      MayLink,
+      neighbours,
+      with_links,
+      with_next,
+      with_prev,
+      unlinked,
+      linked,
+      cell_at,
+      with_cell,
+      without_cell,
+      no_links,
+      next,
+      taken_out,
+      put_in,
+      with_newer,
+    };
     ghost use Rattle.smi_watchers.specs.Mesh.{IsWhole};
     ghost use Rattle.smi_watchers.specs.Walked.{steps_of, place_in};
     ghost use Rattle.smi_watchers.specs.Kept.{watcher_of};
@@ -47,7 +65,9 @@ impl Lists {
     ///
     /// Its error is want of memory.
     pub fn new(alloc: Global, objects: u16, stations: u16) -> Result<Lists, AllocError>
-        ensures { IfOk result (λ lists. (lists.held ≡ []) × (lists.objects ≡ replicate objects no_links) × (lists.stations ≡ replicate stations no_links)) }
+        ensures cells { IfOk result (λ lists. lists.held ≡ []) }
+        ensures objects { IfOk result (λ lists. lists.objects ≡ replicate objects no_links) }
+        ensures stations { IfOk result (λ lists. lists.stations ≡ replicate stations no_links) }
     {
         let none = Links {
             before: None,

@@ -53,7 +53,23 @@ impl Drop for Watchers {
 }
 
 impl Watchers {
-    ghost use Rattle.std.specs.Prelude.{◌≡◌, ◌≢◌, ◌↔◌, ◌≤◌, ◌<◌, [], length, nat_eq, position, replicate, slice_get, None, IfOk, OnOk, OnErr};
+    ghost use Rattle.std.specs.Prelude.{
+      ◌≡◌,
+      ◌≢◌,
+      ◌↔◌,
+      ◌≤◌,
+      ◌<◌,
+      [],
+      length,
+      nat_eq,
+      position,
+      replicate,
+      slice_get,
+      None,
+      IfOk,
+      OnOk,
+      OnErr,
+    };
     ghost use Rattle.smi_watchers.specs.Listing.{Listing};
     ghost use Rattle.smi_watchers.specs.Watching.{
       IsAudience,
