@@ -12,8 +12,8 @@ After the table, a take is tried with other values in its fields, at the ends of
 lengths, against the layout in layout.py, each tree file of trees.py is checked, each store of stores.py listed, a store
 that SMI_TRIAL saved is read by others, and each growth of some runs, and of the layers' objects in SMI_TRIAL, is refused
 in turn (growths.py). Words that are no text and stores that may only be read are tried (paths.py), and each layer at its
-limits (limits.py). With a TEXT only the cases are run whose name has it; the growths of a run or a layer go together,
-under its name. The last line is 'N passed, M failed'.
+limits (limits.py). Watcher lists answer random calls as plain lists do (random_calls.py). With a TEXT only the cases are
+run whose name has it; the growths of a run or a layer go together, under its name. The last line is 'N passed, M failed'.
 """
 
 import os
@@ -25,6 +25,7 @@ import growths
 import layout
 import limits
 import paths
+import random_calls
 import stores
 import trees
 
@@ -173,6 +174,7 @@ def main():
         others += limits.layer_cases(trial, at_limits, only)
         others += limits.answer_case(program, at_limits, table[0]["in"], table[0]["out"], only)
         others += limits.rows_case(program, at_limits, only)
+        others += random_calls.cases(trial, only)
         for name, held in others:
             done.append(held)
             if not held:

@@ -32,7 +32,7 @@ impl<'a> Model for Displayed<'a> {
       views = s.view;
       named = s.named.items;
       echoes = s.echoes.items;
-      watchers = s.watchers;
+      watchers = s.watchers.lists;
       place = s.place;
       asks = s.asks.items;
     } };
@@ -44,7 +44,7 @@ impl<'a> Model for Displayed<'a> {
       views = s.view;
       named = s.named.items;
       echoes = s.echoes.items;
-      watchers = s.watchers;
+      watchers = s.watchers.lists;
       place = s.place;
       asks = s.asks.items;
     }) };

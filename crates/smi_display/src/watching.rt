@@ -22,13 +22,13 @@ fn listen(
     echo: u32,
 ) -> Result<bool, AllocError>
     requires object_least { 1 ≤ object }
-    requires object_most { object ≤ length watchers.old }
+    requires object_most { object ≤ length watchers.old.lists }
     requires from_least { 1 ≤ from }
     requires from_most { from ≤ 128 }
-    ensures lists { OnOk result (watchers.new ≡ watching.lists_after (before_by is_newer watchers.old from) object from echo) }
-    ensures room { IfOk result (λ room. room ≡ not (watching.is_full (before_by is_newer watchers.old from) object from)) }
+    ensures lists { OnOk result (watchers.new.lists ≡ watching.lists_after (before_by is_newer watchers.old.lists from) object from echo) }
+    ensures room { IfOk result (λ room. room ≡ not (watching.is_full (before_by is_newer watchers.old.lists from) object from)) }
     ensures err { OnErr result (watchers.new ≡ watchers.old) }
-    ensures objects { length watchers.new ≡ length watchers.old }
+    ensures objects { length watchers.new.lists ≡ length watchers.old.lists }
 {
     if is_newer {
         return match watchers.renew(object, from, echo) {

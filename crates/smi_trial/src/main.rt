@@ -12,6 +12,9 @@
 //!
 //! `smi_trial store PATH` saves three rows in a file, for other programs to read.
 //!
+//! `smi_trial random CALLS` makes random calls of watcher lists and compares each answer with that of plain
+//! lists. It prints `whole` where all were the same, and `changed` else, and how many were answered how.
+//!
 //! `smi_trial board READERS READS`, `smi_trial link ROUNDS` and `smi_trial watchers ROUNDS` print how
 //! long the board, two links over UDP and the watcher lists take, beside a plain measure. Without words
 //! it does nothing.
@@ -24,9 +27,11 @@ mod file;
 mod limits;
 mod links;
 mod outcome;
+mod random;
 mod refused;
 mod rows;
 mod stores;
+mod watched;
 mod watching;
 
 use outcome::Outcome;
@@ -55,6 +60,7 @@ fn main(rt: HostRuntime) -> io::Result<()> {
             let is_so = limits::over_tree(&rt, layer.as_str(), path.as_str())?;
             println!(rt; "{}", Outcome::of(is_so).word())
         }
+        [_, what, calls] if what.as_str() == "random" => random::call(&rt, number(calls.as_str())),
         [_, what, path] if what.as_str() == "store" => file::save_rows(&rt, path.as_str()),
         [_, what, readers, reads] if what.as_str() == "board" => {
             board::measure(&rt, number(readers.as_str()), number(reads.as_str()))

@@ -63,7 +63,7 @@ fn listed(first: &[u16], second: Option<u16>) -> [Option<Watcher>; 12] {
 }
 
 fn opened_lists(alloc: Global) -> Option<(Watchers, Outcome)>
-    ensures { IfSome result (λ opened. length opened.0 ≡ 2) }
+    ensures { IfSome result (λ opened. length opened.0.lists ≡ 2) }
 {
     if let Ok(watchers) = Watchers::new(alloc, 2) {
         return Some((watchers, Outcome::Whole));
@@ -76,7 +76,7 @@ fn opened_lists(alloc: Global) -> Option<(Watchers, Outcome)>
 
 /// The first entries of both lists.
 fn entries(watchers: &Watchers) -> [Option<Watcher>; 12]
-    requires { length watchers.now ≡ 2 }
+    requires { length watchers.now.lists ≡ 2 }
 {
     [
         watchers.nth(1, 0),
@@ -95,10 +95,10 @@ fn entries(watchers: &Watchers) -> [Option<Watcher>; 12]
 }
 
 fn watch(watchers: &mut Watchers, station: u16) -> Outcome
-    requires lists { length watchers.old ≡ 2 }
+    requires lists { length watchers.old.lists ≡ 2 }
     requires least { 1 ≤ station }
     requires most { station ≤ 128 }
-    ensures { length watchers.new ≡ 2 }
+    ensures { length watchers.new.lists ≡ 2 }
 {
     let before = entries(watchers);
     match watchers.watch(1, station, 1) {
@@ -113,10 +113,10 @@ fn watch(watchers: &mut Watchers, station: u16) -> Outcome
 }
 
 fn renew(watchers: &mut Watchers, station: u16) -> Outcome
-    requires lists { length watchers.old ≡ 2 }
+    requires lists { length watchers.old.lists ≡ 2 }
     requires least { 1 ≤ station }
     requires most { station ≤ 128 }
-    ensures { length watchers.new ≡ 2 }
+    ensures { length watchers.new.lists ≡ 2 }
 {
     let before = entries(watchers);
     match watchers.renew(2, station, 2) {

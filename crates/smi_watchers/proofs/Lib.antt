@@ -1,2 +1,15 @@
-pub mod LeavingLemmas
+pub mod Adds
+pub mod Crosses
+pub mod Crossing
+pub mod Echoes
+pub mod Empty
+pub mod Frames
+pub mod Leaving
 pub mod ListLemmas
+pub mod Listings
+pub mod Memory
+pub mod Meshes
+pub mod Nets
+pub mod Rings
+pub mod Seen
+pub mod Walks

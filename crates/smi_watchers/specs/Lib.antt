@@ -1,2 +1,10 @@
 pub mod Fault
+pub mod Held
+pub mod Kept
+pub mod Listing
+pub mod Memory
+pub mod Mesh
+pub mod Net
+pub mod Ring
+pub mod Walked
 pub mod Watching

@@ -1,3 +1,4 @@
+use crate::steps::Steps;
 use crate::watcher::Watcher;
 use std::marker::Model;
 
@@ -6,26 +7,17 @@ use std::marker::Model;
 /// Contracts see the list of those that are still to come.
 #[derive(Drop)]
 pub struct Walk<'a> {
-    left: &'a [Watcher],
+    pub(crate) steps: Steps<'a>,
 }
 
 impl<'a> Model for Walk<'a> {
-    ghost use Rattle.std.specs.Prelude.{List};
+    ghost use Rattle.std.specs.Prelude.{List, map};
     ghost use Rattle.smi_watchers.specs.declared.watcher.Watcher.{Watcher};
+    ghost use Rattle.smi_watchers.specs.Kept.{watcher_in};
 
     ghost Value = { List Watcher };
 
-    ghost view = { λ w. w.left.now };
-}
-
-impl<'a> Walk<'a> {
-    ghost use Rattle.std.specs.Prelude.{◌≡◌};
-
-    pub(crate) fn over(watchers: &'a [Watcher]) -> Walk<'a>
-        ensures { result ≡ watchers.now }
-    {
-        Walk { left: watchers }
-    }
+    ghost view = { λ w. map watcher_in w.steps };
 }
 
 impl<'a> Iterator for Walk<'a> {
@@ -38,8 +30,10 @@ impl<'a> Iterator for Walk<'a> {
     ghost remaining = { item_count (λ s. s) };
 
     fn next(&mut self) -> Option<Watcher> {
-        let (first, rest) = self.left.split_first()?;
-        self.left = rest;
-        Some(*first)
+        let (_, cell) = self.steps.next()?;
+        Some(Watcher {
+            station: cell.station,
+            echo: cell.echo,
+        })
     }
 }

@@ -1,32 +1,76 @@
 use crate::answer::{WatchAnswer, WatchFault};
-use crate::audience::Audience;
+use crate::cell::{Cell, Links};
+use crate::lists::{Axis, Lists};
 use crate::walk::Walk;
 use crate::watcher::Watcher;
 use std::alloc::{AllocError, Global};
 use std::marker::Model;
+use std_alloc::room::Vacant;
+
+/// How many stations may watch an object at a time.
+pub const MOST_WATCHERS: usize = 64;
+
+/// A list for each station, found by its number, 1 to 128; the list of number 0 stays empty.
+const STATION_LISTS: u16 = 129;
+
+/// A cell that stands in no list.
+const NO_LINKS: Links = Links {
+    before: None,
+    after: None,
+};
 
 /// The watcher lists of a station, one for each object (docs/PROTOCOL.md, "Watching").
 ///
 /// An object's list has at most 64 entries, and at most one of each station. Contracts see the list
-/// of these lists, that of object 1 first.
-#[derive(Drop)]
+/// of these lists, that of object 1 first, and how many cells the last leaving looked at.
+///
+/// Each entry is a cell of its own on the heap, which stands in the list of its object and in that
+/// of its station. It is given back once: when it is taken out, or when the `Watchers` is dropped.
 pub struct Watchers {
-    audiences: Vec<Audience>,
+    lists: Lists,
+    visits: u32,
 }
 
 impl Model for Watchers {
-    ghost use Rattle.std.specs.Prelude.{◌^◌, ◌<◌, List, length};
-    ghost use Rattle.smi_watchers.specs.declared.watcher.Watcher.{Watcher};
+    ghost use Rattle.smi_watchers.specs.Listing.{Listing};
+    ghost use Rattle.smi_watchers.specs.Kept.{IsKept, lists_of};
 
-    ghost Value = { List (List Watcher) };
+    ghost Value = { Listing };
 
-    ghost view = { λ w. w.audiences.items };
+    ghost view = { λ w. record { lists = lists_of w.lists; visits = w.visits } };
 
-    ghost invariant = { λ w. length w.audiences.items < 2 ^ 16 };
+    ghost invariant = { λ w. IsKept w.lists };
+}
+
+impl Drop for Watchers {
+    fn drop(mut self) {
+        for number in 0..STATION_LISTS {
+            self.clear(number);
+        }
+        let Watchers { lists, visits: _ } = self;
+        lists.end();
+    }
 }
 
 impl Watchers {
-    ghost use Rattle.std.specs.Prelude.{◌≡◌, ◌↔◌, ◌≤◌, ◌<◌, [], length, position, replicate, slice_get, None, IfOk, OnOk, OnErr};
+    ghost use Rattle.std.specs.Prelude.{
+      ◌≡◌,
+      ◌≢◌,
+      ◌↔◌,
+      ◌≤◌,
+      ◌<◌,
+      [],
+      length,
+      nat_eq,
+      position,
+      replicate,
+      slice_get,
+      None,
+      IfOk,
+      OnOk,
+      OnErr,
+    };
+    ghost use Rattle.smi_watchers.specs.Listing.{Listing};
     ghost use Rattle.smi_watchers.specs.Watching.{
       IsAudience,
       IsFullFor,
@@ -46,13 +90,13 @@ impl Watchers {
     ///
     /// Its error is want of memory.
     pub fn new(alloc: Global, objects: u16) -> Result<Watchers, AllocError>
-        ensures { IfOk result (λ watchers. watchers ≡ replicate objects []) }
+        ensures lists { IfOk result (λ watchers. watchers.lists ≡ replicate objects []) }
+        ensures visits { IfOk result (λ watchers. watchers.visits ≡ 0) }
     {
-        let mut audiences = Vec::new(alloc);
-        for _ in 0..objects {
-            audiences.push(Audience::new(alloc))?;
-        }
-        Ok(Watchers { audiences })
+        Ok(Watchers {
+            lists: Lists::new(alloc, objects, STATION_LISTS)?,
+            visits: 0,
+        })
     }
 
     /// A station, 1 to 128, watches an object with this boot of its own as echo.
@@ -62,16 +106,27 @@ impl Watchers {
     /// the list had to grow and could not. Neither changes anything.
     pub fn watch(&mut self, object: u16, station: u16, echo: u32) -> Result<WatchAnswer, WatchFault>
         requires object_least { 1 ≤ object }
-        requires object_most { object ≤ length self.old }
+        requires object_most { object ≤ length self.old.lists }
         requires station_least { 1 ≤ station }
         requires station_most { station ≤ 128 }
-        ensures answer { IfOk result (λ answer. answer ≡ answer_in (listed self.old object) station echo) }
-        ensures lists { OnOk result (self.new ≡ watched self.old object station echo) }
-        ensures full { (result ≡ Err WatchFault.Full) ↔ IsFullFor station (listed self.old object) }
+        ensures answer { IfOk result (λ answer. answer ≡ answer_in (listed self.old.lists object) station echo) }
+        ensures lists { OnOk result (self.new.lists ≡ watched self.old.lists object station echo) }
+        ensures full { (result ≡ Err WatchFault.Full) ↔ IsFullFor station (listed self.old.lists object) }
         ensures err { OnErr result (self.new ≡ self.old) }
-        ensures objects { length self.new ≡ length self.old }
+        ensures objects { length self.new.lists ≡ length self.old.lists }
+        ensures visits { self.new.visits ≡ self.old.visits }
     {
-        self.audiences[usize::from(object) - 1].watch(station, echo)
+        if let Some(place) = self.lists.place_of(usize::from(object) - 1, station) {
+            return Ok(self.lists.renew_at(place, echo));
+        }
+        if self.is_full(object) {
+            return Err(WatchFault::Full);
+        }
+        let Ok(room) = self.lists.room() else {
+            return Err(WatchFault::Memory);
+        };
+        self.add(room, object, station, echo);
+        Ok(WatchAnswer::Added)
     }
 
     /// A station, 1 to 128, leaves every list and then watches an object anew, the last in its list.
@@ -80,109 +135,144 @@ impl Watchers {
     /// has left every list then.
     pub fn renew(&mut self, object: u16, station: u16, echo: u32) -> Result<WatchAnswer, WatchFault>
         requires object_least { 1 ≤ object }
-        requires object_most { object ≤ length self.old }
+        requires object_most { object ≤ length self.old.lists }
         requires station_least { 1 ≤ station }
         requires station_most { station ≤ 128 }
         ensures answer { IfOk result (λ answer. answer ≡ WatchAnswer.Added) }
-        ensures lists { OnOk result (self.new ≡ renewed self.old object station echo) }
-        ensures room { OnOk result (length (others_of station (listed self.old object)) < most_watchers) }
-        ensures full { result ≡ Err WatchFault.Full → IsFullFor station (listed self.old object) }
-        ensures after_full { result ≡ Err WatchFault.Full → self.new ≡ left_by station self.old }
+        ensures lists { OnOk result (self.new.lists ≡ renewed self.old.lists object station echo) }
+        ensures room { OnOk result (length (others_of station (listed self.old.lists object)) < most_watchers) }
+        ensures full { result ≡ Err WatchFault.Full → IsFullFor station (listed self.old.lists object) }
+        ensures after_full { result ≡ Err WatchFault.Full → self.new.lists ≡ left_by station self.old.lists }
         ensures after_memory { result ≡ Err WatchFault.Memory → self.new ≡ self.old }
-        ensures objects { length self.new ≡ length self.old }
+        ensures objects { length self.new.lists ≡ length self.old.lists }
+        ensures visits { result ≢ Err WatchFault.Memory → self.new.visits ≡ entries_of station self.old.lists }
     {
-        let Ok(mut audience) = self.without(object, station) else {
+        let Ok(reserved) = self.lists.room() else {
             return Err(WatchFault::Memory);
         };
-        match audience.add(Watcher { station, echo }) {
-            Ok(answer) => {
-                self.leave(station);
-                self.audiences[usize::from(object) - 1] = audience;
-                Ok(answer)
-            }
-            Err(WatchFault::Full) => {
-                self.leave(station);
-                Err(WatchFault::Full)
-            }
-            Err(WatchFault::Memory) => Err(WatchFault::Memory),
+        self.leave(station);
+        if self.is_full(object) {
+            let _alloc = reserved.free();
+            return Err(WatchFault::Full);
         }
+        self.add(reserved, object, station, echo);
+        Ok(WatchAnswer::Added)
     }
 
-    /// The list of an object without a station.
-    fn without(&self, object: u16, station: u16) -> Result<Audience, AllocError>
+    /// Whether as many stations watch an object as may.
+    fn is_full(&self, object: u16) -> bool
         requires object_least { 1 ≤ object }
-        requires object_most { object ≤ length self.now }
-        ensures list { IfOk result (λ left. left ≡ others_of station (listed self.now object)) }
-        ensures absent { IfOk result (λ left. position (is_of station) left ≡ None) }
+        requires object_most { object ≤ length self.now.lists }
+        ensures full { result ≡ nat_eq (length (listed self.now.lists object)) most_watchers }
+        ensures lawful { IsAudience (listed self.now.lists object) }
     {
-        self.audiences[usize::from(object) - 1].without(station)
+        self.count(object) == MOST_WATCHERS
+    }
+
+    /// A station that does not watch an object does so now, the last in its list.
+    fn add(&mut self, room: Vacant<Cell, Global>, object: u16, station: u16, echo: u32)
+        requires object_least { 1 ≤ object }
+        requires object_most { object ≤ length self.old.lists }
+        requires station { station ≤ 128 }
+        requires absent { position (is_of station) (listed self.old.lists object) ≡ None }
+        requires few { length (listed self.old.lists object) < most_watchers }
+        ensures { self.new ≡ record { lists = watched self.old.lists object station echo; visits = self.old.visits } }
+    {
+        let cell = Cell {
+            object: object - 1,
+            station,
+            echo,
+            by_object: NO_LINKS,
+            by_station: NO_LINKS,
+        };
+        self.lists.add(room, cell);
     }
 
     /// A station, 1 to 128, watches an object no more, unless its echo in the list is newer than
     /// this one.
     pub fn unwatch(&mut self, object: u16, station: u16, echo: u32)
         requires object_least { 1 ≤ object }
-        requires object_most { object ≤ length self.old }
+        requires object_most { object ≤ length self.old.lists }
         requires station_least { 1 ≤ station }
         requires station_most { station ≤ 128 }
-        ensures lists { self.new ≡ unwatched self.old object station echo }
-        ensures objects { length self.new ≡ length self.old }
+        ensures lists { self.new.lists ≡ unwatched self.old.lists object station echo }
+        ensures objects { length self.new.lists ≡ length self.old.lists }
+        ensures visits { self.new.visits ≡ self.old.visits }
     {
-        self.audiences[usize::from(object) - 1].unwatch(station, echo);
+        if let Some(place) = self.lists.place_of(usize::from(object) - 1, station) {
+            if self.lists.cell(place).echo <= echo {
+                self.lists.take_out(place);
+            }
+        }
     }
 
     /// A station, 1 to 128, leaves every list; how many entries it had.
+    ///
+    /// It takes cells from the front of the station's own list alone, and counts its looks at a front
+    /// cell anew: [`Watchers::visits`] tells how many they were.
     pub fn leave(&mut self, station: u16) -> usize
         requires station_least { 1 ≤ station }
         requires station_most { station ≤ 128 }
-        ensures lists { self.new ≡ left_by station self.old }
-        ensures gone { result ≡ entries_of station self.old }
-        ensures objects { length self.new ≡ length self.old }
+        ensures lists { self.new.lists ≡ left_by station self.old.lists }
+        ensures gone { result ≡ entries_of station self.old.lists }
+        ensures objects { length self.new.lists ≡ length self.old.lists }
+        ensures visits { self.new.visits ≡ entries_of station self.old.lists }
     {
-        let mut gone = 0;
-        for audience in self.audiences.iter_mut() {
-            gone += audience.leave(station);
+        self.clear(station);
+        self.visits as usize
+    }
+
+    /// The cells of a station are taken from the front of its list until none is left; each look at
+    /// one is counted.
+    fn clear(&mut self, station: u16)
+        requires { station < 129 }
+        ensures { self.new ≡ record { lists = left_by station self.old.lists; visits = entries_of station self.old.lists } }
+    {
+        self.visits = 0;
+        while let Some(place) = self.lists.first(Axis::Station, usize::from(station)) {
+            self.visits += 1;
+            self.lists.take_out(place);
         }
-        gone
+    }
+
+    /// How many front cells the last [`Watchers::leave`] or [`Watchers::renew`] looked at, 0 before
+    /// the first. A `renew` that was refused for want of memory looked at none and left the number.
+    pub fn visits(&self) -> u32
+        ensures { result ≡ self.now.visits }
+    {
+        let Watchers { visits, .. } = self;
+        *visits
     }
 
     /// The entry of an object's list at place `i`, the first at 0; none past the end.
     pub fn nth(&self, object: u16, i: usize) -> Option<Watcher>
         requires object_least { 1 ≤ object }
-        requires object_most { object ≤ length self.now }
-        ensures entry { result ≡ slice_get (listed self.now object) i }
-        ensures lawful { IsAudience (listed self.now object) }
+        requires object_most { object ≤ length self.now.lists }
+        ensures entry { result ≡ slice_get (listed self.now.lists object) i }
+        ensures lawful { IsAudience (listed self.now.lists object) }
     {
-        self.list(object).get(i).copied()
+        self.walk(object).nth(i)
     }
 
     /// How many stations watch an object, at most 64.
     pub fn count(&self, object: u16) -> usize
         requires object_least { 1 ≤ object }
-        requires object_most { object ≤ length self.now }
-        ensures count { result ≡ length (listed self.now object) }
-        ensures lawful { IsAudience (listed self.now object) }
+        requires object_most { object ≤ length self.now.lists }
+        ensures count { result ≡ length (listed self.now.lists object) }
+        ensures lawful { IsAudience (listed self.now.lists object) }
     {
-        self.list(object).len()
+        self.walk(object).count()
     }
 
     /// The stations that watch an object, in the order of its list.
     pub fn walk(&self, object: u16) -> Walk<'_>
         requires object_least { 1 ≤ object }
-        requires object_most { object ≤ length self.now }
-        ensures entries { result ≡ listed self.now object }
-        ensures lawful { IsAudience (listed self.now object) }
+        requires object_most { object ≤ length self.now.lists }
+        ensures entries { result ≡ listed self.now.lists object }
+        ensures lawful { IsAudience (listed self.now.lists object) }
     {
-        Walk::over(self.list(object))
-    }
-
-    /// The list of an object.
-    fn list(&self, object: u16) -> &[Watcher]
-        requires object_least { 1 ≤ object }
-        requires object_most { object ≤ length self.now }
-        ensures entries { result.now ≡ listed self.now object }
-        ensures lawful { IsAudience (listed self.now object) }
-    {
-        self.audiences[usize::from(object) - 1].watchers()
+        Walk {
+            steps: self.lists.steps(usize::from(object) - 1),
+        }
     }
 }

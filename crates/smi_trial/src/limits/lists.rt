@@ -23,8 +23,8 @@ pub(crate) fn holds(alloc: Global) -> bool {
 
 /// Each station watches each object.
 fn are_filled(watchers: &mut Watchers) -> bool
-    requires { length watchers.old ≡ 640 }
-    ensures { length watchers.new ≡ 640 }
+    requires { length watchers.old.lists ≡ 640 }
+    ensures { length watchers.new.lists ≡ 640 }
 {
     let mut is_so = true;
     for object in 0..OBJECTS {
@@ -38,8 +38,8 @@ fn are_filled(watchers: &mut Watchers) -> bool
 
 /// One more station is refused at each object, and all that are there are found.
 fn are_full(watchers: &mut Watchers) -> bool
-    requires { length watchers.old ≡ 640 }
-    ensures { length watchers.new ≡ 640 }
+    requires { length watchers.old.lists ≡ 640 }
+    ensures { length watchers.new.lists ≡ 640 }
 {
     let mut is_so = true;
     for object in 0..OBJECTS {
@@ -56,7 +56,7 @@ fn are_full(watchers: &mut Watchers) -> bool
 /// Whether the stations stand in their order.
 fn is_listed(watchers: &Watchers, object: u16) -> bool
     requires least { 1 ≤ object }
-    requires most { object ≤ length watchers.now }
+    requires most { object ≤ length watchers.now.lists }
 {
     let mut station: u16 = 0;
     for watcher in watchers.walk(object) {
@@ -78,8 +78,8 @@ fn is_listed(watchers: &Watchers, object: u16) -> bool
 /// A station that watches every object of full lists begins anew with one object after the other, and
 /// at the end a station of no list is refused where 64 others watch.
 fn are_renewed(watchers: &mut Watchers) -> bool
-    requires { length watchers.old ≡ 640 }
-    ensures { length watchers.new ≡ 640 }
+    requires { length watchers.old.lists ≡ 640 }
+    ensures { length watchers.new.lists ≡ 640 }
 {
     let mut is_so = watchers.renew(OBJECTS, MOST + 1, 2) == Err(WatchFault::Full);
     for object in 0..OBJECTS {
@@ -93,8 +93,8 @@ fn are_renewed(watchers: &mut Watchers) -> bool
 
 /// All leave: one is in one list alone by now, the others are in all.
 fn are_left(watchers: &mut Watchers) -> bool
-    requires { length watchers.old ≡ 640 }
-    ensures { length watchers.new ≡ 640 }
+    requires { length watchers.old.lists ≡ 640 }
+    ensures { length watchers.new.lists ≡ 640 }
 {
     let mut is_so = watchers.leave(MOST) == 1;
     for station in 0..MOST - 1 {

@@ -40,7 +40,7 @@ invariant_of-self c =
     let same = c.loop-asked.auto.asked-items ∙ ap length was in
     let whole = in_place_of c.self.inside.asks.items c.loop-asked.asked-items c.self.inside.asks.len same (sym (ap length was) ∙ c.deref_mut-asked-items.ensures.len) in
     let list = c.loop-asked.invariant ∙ all_now f c.deref_mut-asked-items.result.now c.loop-asked.asked-index c.loop-asked-test.false ∙ ap (map f) was in
-    subst (λ (xs : List (Option ℕ)). IsDisplayed (record { tree = c.self.inside.tree.now; number = c.self.inside.number; published = c.self.inside.publisher; views = c.self.inside.view; named = c.self.inside.named.items; echoes = c.self.inside.echoes.items; watchers = c.self.inside.watchers; place = c.self.inside.place; asks = xs })) (sym (whole ∙ list)) (forgotten_kept _ c.self.invariant c.args.domain)
+    subst (λ (xs : List (Option ℕ)). IsDisplayed (record { tree = c.self.inside.tree.now; number = c.self.inside.number; published = c.self.inside.publisher; views = c.self.inside.view; named = c.self.inside.named.items; echoes = c.self.inside.echoes.items; watchers = c.self.inside.watchers.lists; place = c.self.inside.place; asks = xs })) (sym (whole ∙ list)) (forgotten_kept _ c.self.invariant c.args.domain)
 
 pub returns : goal.returns
 returns c =
@@ -49,5 +49,5 @@ returns c =
     let same = c.loop-asked.auto.asked-items ∙ ap length was in
     let whole = in_place_of c.self.inside.asks.items c.loop-asked.asked-items c.self.inside.asks.len same (sym (ap length was) ∙ c.deref_mut-asked-items.ensures.len) in
     let list = c.loop-asked.invariant ∙ all_now f c.deref_mut-asked-items.result.now c.loop-asked.asked-index c.loop-asked-test.false ∙ ap (map f) was in
-    let with_asks : List (Option ℕ) → Displayed = λ xs. record { tree = c.self.inside.tree.now; number = c.self.inside.number; published = c.self.inside.publisher; views = c.self.inside.view; named = c.self.inside.named.items; echoes = c.self.inside.echoes.items; watchers = c.self.inside.watchers; place = c.self.inside.place; asks = xs } in
+    let with_asks : List (Option ℕ) → Displayed = λ xs. record { tree = c.self.inside.tree.now; number = c.self.inside.number; published = c.self.inside.publisher; views = c.self.inside.view; named = c.self.inside.named.items; echoes = c.self.inside.echoes.items; watchers = c.self.inside.watchers.lists; place = c.self.inside.place; asks = xs } in
     rw (← c.self.view_is) (ap with_asks (whole ∙ list))

@@ -12,7 +12,7 @@ use Rattle.smi_display.proofs.displayed.Displayed.tick.Goals as goal
 
 pub returns-clause-display : goal.returns-clause-display
 returns-clause-display c =
-    let s : Displayed = record { tree = c.self.inside.tree.now; number = c.self.inside.number; published = c.self.inside.publisher; views = c.self.inside.view; named = c.self.inside.named.items; echoes = c.self.inside.echoes.items; watchers = c.self.inside.watchers; place = c.self.inside.place; asks = c.self.inside.asks.items } in
+    let s : Displayed = record { tree = c.self.inside.tree.now; number = c.self.inside.number; published = c.self.inside.publisher; views = c.self.inside.view; named = c.self.inside.named.items; echoes = c.self.inside.echoes.items; watchers = c.self.inside.watchers.lists; place = c.self.inside.place; asks = c.self.inside.asks.items } in
     let due = all_owed s.tree s.number (grants_of c.args.kept.now) (display_of s) in
     let swept = sweeps s.tree s.place first_place most_sent c.args.out.now due in
     let all = subst (λ (k : Displayed). sweeping c.offer_all.new.sweep c.offer_all.new.out ≡ offered (sweeping c.from-sweep.result c.args.out.now) (all_owed k.tree k.number (grants_of c.args.kept.now) (display_of k))) (sym c.self.view_is) c.offer_all.ensures ∙ ap (λ (w : Sweep). offered (sweeping w c.args.out.now) due) c.from-sweep.ensures in
@@ -23,7 +23,7 @@ returns-clause-display c =
 
 pub returns-clause-sent : goal.returns-clause-sent
 returns-clause-sent c =
-    let s : Displayed = record { tree = c.self.inside.tree.now; number = c.self.inside.number; published = c.self.inside.publisher; views = c.self.inside.view; named = c.self.inside.named.items; echoes = c.self.inside.echoes.items; watchers = c.self.inside.watchers; place = c.self.inside.place; asks = c.self.inside.asks.items } in
+    let s : Displayed = record { tree = c.self.inside.tree.now; number = c.self.inside.number; published = c.self.inside.publisher; views = c.self.inside.view; named = c.self.inside.named.items; echoes = c.self.inside.echoes.items; watchers = c.self.inside.watchers.lists; place = c.self.inside.place; asks = c.self.inside.asks.items } in
     let due = all_owed s.tree s.number (grants_of c.args.kept.now) (display_of s) in
     let swept = sweeps s.tree s.place first_place most_sent c.args.out.now due in
     let all = subst (λ (k : Displayed). sweeping c.offer_all.new.sweep c.offer_all.new.out ≡ offered (sweeping c.from-sweep.result c.args.out.now) (all_owed k.tree k.number (grants_of c.args.kept.now) (display_of k))) (sym c.self.view_is) c.offer_all.ensures ∙ ap (λ (w : Sweep). offered (sweeping w c.args.out.now) due) c.from-sweep.ensures in

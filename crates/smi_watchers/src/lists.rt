@@ -1,0 +1,300 @@
+//! The lists in which the cells stand: linking, without a pointer.
+use crate::answer::WatchAnswer;
+use crate::cell::{Cell, Links, Place};
+use crate::cells::Cells;
+use crate::steps::Steps;
+use std::alloc::{AllocError, Global};
+use std::marker::Model;
+use std_alloc::room::Vacant;
+
+/// In which of its two lists a cell is looked at.
+#[derive(Clone, Copy)]
+pub(crate) enum Axis {
+    Object,
+    Station,
+}
+
+/// The cells, and the head of each list.
+///
+/// A head is the node `None` of its list's ring, so that a cell is linked and unlinked in the same
+/// way wherever it stands. Contracts see the cells and the heads.
+pub(crate) struct Lists {
+    cells: Cells,
+    objects: Vec<Links>,
+    stations: Vec<Links>,
+    alloc: Global,
+}
+
+impl Model for Lists {
+    ghost use Rattle.smi_watchers.specs.Net.{Net};
+
+    ghost Value = { Net };
+
+    ghost view = { λ l. record { held = l.cells.held; objects = l.objects.items; stations = l.stations.items } };
+}
+
+impl Lists {
+    ghost use Rattle.std.specs.Prelude.{◌≡◌, ◌<◌, ◌≤◌, [], length, find, replicate, Some, None, IsSome, IfOk};
+    ghost use Rattle.smi_watchers.specs.Held.{found};
+    ghost use Rattle.smi_watchers.specs.Net.{
+      IsNode,
+      IsLinked,
+      MayLink,
+      neighbours,
+      with_links,
+      with_next,
+      with_prev,
+      unlinked,
+      linked,
+      cell_at,
+      with_cell,
+      without_cell,
+      no_links,
+      next,
+      taken_out,
+      put_in,
+      with_newer,
+    };
+    ghost use Rattle.smi_watchers.specs.Mesh.{IsWhole};
+    ghost use Rattle.smi_watchers.specs.Walked.{steps_of, place_in};
+    ghost use Rattle.smi_watchers.specs.Kept.{watcher_of};
+    ghost use Rattle.smi_watchers.specs.Watching.{answer_at};
+    ghost use Rattle.smi_watchers.specs.declared.cell.Place.{Place as Spot};
+
+    /// No cell, and a head for each list.
+    ///
+    /// Its error is want of memory.
+    pub fn new(alloc: Global, objects: u16, stations: u16) -> Result<Lists, AllocError>
+        ensures cells { IfOk result (λ lists. lists.held ≡ []) }
+        ensures objects { IfOk result (λ lists. lists.objects ≡ replicate objects no_links) }
+        ensures stations { IfOk result (λ lists. lists.stations ≡ replicate stations no_links) }
+    {
+        let none = Links {
+            before: None,
+            after: None,
+        };
+        let objects = Vec::from_elem(alloc, none, usize::from(objects))?;
+        let stations = Vec::from_elem(alloc, none, usize::from(stations))?;
+        Ok(Lists {
+            cells: Cells::new(),
+            objects,
+            stations,
+            alloc,
+        })
+    }
+
+    /// There is no cell left.
+    pub fn end(self)
+        requires { self.held ≡ [] }
+    {
+        let Lists {
+            cells,
+            objects: _,
+            stations: _,
+            alloc: _,
+        } = self;
+        cells.end();
+    }
+
+    /// What stands before and after a node of a list's ring: a cell, or the head where there is none.
+    fn links(&self, axis: Axis, list: usize, node: Option<Place>) -> Links
+        requires { IsNode axis list node self.now }
+        ensures { result ≡ neighbours axis list self.now node }
+    {
+        match node {
+            Some(place) => {
+                let cell = self.cells.read(place);
+                match axis {
+                    Axis::Object => cell.by_object,
+                    Axis::Station => cell.by_station,
+                }
+            }
+            None => match axis {
+                Axis::Object => self.objects[list],
+                Axis::Station => self.stations[list],
+            },
+        }
+    }
+
+    /// A node has other neighbours.
+    fn set_links(&mut self, axis: Axis, list: usize, node: Option<Place>, links: Links)
+        requires { IsNode axis list node self.old }
+        ensures { self.new ≡ with_links axis list node links self.old }
+    {
+        match node {
+            Some(place) => {
+                let mut cell = self.cells.read(place);
+                match axis {
+                    Axis::Object => cell.by_object = links,
+                    Axis::Station => cell.by_station = links,
+                }
+                self.cells.write(place, cell);
+            }
+            None => match axis {
+                Axis::Object => self.objects[list] = links,
+                Axis::Station => self.stations[list] = links,
+            },
+        }
+    }
+
+    /// Another node comes after one.
+    fn set_after(&mut self, axis: Axis, list: usize, node: Option<Place>, after: Option<Place>)
+        requires { IsNode axis list node self.old }
+        ensures { self.new ≡ with_next axis list node after self.old }
+    {
+        let links = self.links(axis, list, node);
+        let links = Links {
+            before: links.before,
+            after,
+        };
+        self.set_links(axis, list, node, links);
+    }
+
+    /// Another node comes before one.
+    fn set_before(&mut self, axis: Axis, list: usize, node: Option<Place>, before: Option<Place>)
+        requires { IsNode axis list node self.old }
+        ensures { self.new ≡ with_prev axis list node before self.old }
+    {
+        let links = self.links(axis, list, node);
+        let links = Links {
+            before,
+            after: links.after,
+        };
+        self.set_links(axis, list, node, links);
+    }
+
+    /// A cell is taken out of one of its lists: its neighbours are joined.
+    fn unlink(&mut self, axis: Axis, list: usize, place: Place)
+        requires { IsLinked axis list place self.old }
+        ensures { self.new ≡ unlinked axis list place self.old }
+    {
+        let Links { before, after } = self.links(axis, list, Some(place));
+        self.set_after(axis, list, before, after);
+        self.set_before(axis, list, after, before);
+    }
+
+    /// A cell becomes the last of a list.
+    fn link_last(&mut self, axis: Axis, list: usize, place: Place)
+        requires { MayLink axis list place self.old }
+        ensures { self.new ≡ linked axis list place self.old }
+    {
+        let last = self.links(axis, list, None).before;
+        let links = Links {
+            before: last,
+            after: None,
+        };
+        self.set_links(axis, list, Some(place), links);
+        self.set_after(axis, list, last, Some(place));
+        self.set_before(axis, list, None, Some(place));
+    }
+
+    /// The first cell of a list.
+    pub fn first(&self, axis: Axis, list: usize) -> Option<Place>
+        requires { IsNode axis list None self.now }
+        ensures { result ≡ next axis list self.now None }
+    {
+        self.links(axis, list, None).after
+    }
+
+    /// What a cell holds.
+    pub fn cell(&self, place: Place) -> Cell
+        requires { IsSome (found place.at self.now.held) }
+        ensures { result ≡ cell_at self.now place }
+    {
+        self.cells.read(place)
+    }
+
+    /// The cells of an object's list, in its order.
+    pub fn steps(&self, object: usize) -> Steps<'_>
+        requires whole { IsWhole self.now }
+        requires object { object < length self.now.objects }
+        ensures { result ≡ steps_of self.now object }
+    {
+        Steps {
+            lists: self,
+            next: self.first(Axis::Object, object),
+        }
+    }
+
+    /// Where the cell of a station stands in an object's list, if it does.
+    pub fn place_of(&self, object: usize, station: u16) -> Option<Place>
+        requires whole { IsWhole self.now }
+        requires object { object < length self.now.objects }
+        ensures { result ≡ place_in station (steps_of self.now object) }
+    {
+        for (place, cell) in self.steps(object) {
+            if cell.station == station {
+                return Some(place);
+            }
+        }
+        None
+    }
+
+    /// Room for one more cell.
+    ///
+    /// Its error is want of memory.
+    pub fn room(&self) -> Result<Vacant<Cell, Global>, AllocError> {
+        match Vacant::take(self.alloc) {
+            Ok(room) => Ok(room),
+            Err(_) => Err(AllocError),
+        }
+    }
+
+    /// A new cell, in neither list yet.
+    fn fill(&mut self, room: Vacant<Cell, Global>, cell: Cell) -> Place
+        ensures { (self.new ≡ with_cell result cell self.old) × (found result.at self.old.held ≡ None) }
+    {
+        self.cells.fill(room, cell)
+    }
+
+    /// A cell's block goes back to where it came from.
+    fn free(&mut self, place: Place)
+        requires { IsSome (found place.at self.old.held) }
+        ensures { self.new ≡ without_cell place self.old }
+    {
+        let room = self.cells.empty(place, self.alloc);
+        let _alloc = room.free();
+    }
+
+    /// A new cell is the last in the list of its object and in that of its station.
+    pub fn add(&mut self, room: Vacant<Cell, Global>, cell: Cell)
+        requires whole { IsWhole self.old }
+        requires object { cell.object < length self.old.objects }
+        requires station { cell.station < length self.old.stations }
+        ensures { (place : Spot) × (found place.at self.old.held ≡ None) × (self.new ≡ put_in place cell self.old) }
+    {
+        let place = self.fill(room, cell);
+        self.link_last(Axis::Object, usize::from(cell.object), place);
+        self.link_last(Axis::Station, usize::from(cell.station), place);
+    }
+
+    /// A cell is taken out of both of its lists and given back.
+    pub fn take_out(&mut self, place: Place)
+        requires whole { IsWhole self.old }
+        requires held { IsSome (found place.at self.old.held) }
+        ensures { self.new ≡ taken_out place self.old }
+    {
+        let cell = self.cell(place);
+        self.unlink(Axis::Object, usize::from(cell.object), place);
+        self.unlink(Axis::Station, usize::from(cell.station), place);
+        self.free(place);
+    }
+
+    /// A cell has this echo, if it is newer than its own.
+    pub fn renew_at(&mut self, place: Place, echo: u32) -> WatchAnswer
+        requires { IsSome (found place.at self.old.held) }
+        ensures answer { result ≡ answer_at (Some (watcher_of (cell_at self.old place))) echo }
+        ensures lists { self.new ≡ with_newer place echo self.old }
+    {
+        let mut cell = self.cells.read(place);
+        if cell.echo < echo {
+            cell.echo = echo;
+            self.cells.write(place, cell);
+            WatchAnswer::Replaced
+        } else if cell.echo == echo {
+            WatchAnswer::Present
+        } else {
+            WatchAnswer::Older
+        }
+    }
+}
