@@ -36,7 +36,7 @@ use Rattle.smi_law.proofs.Conditions.{objects_of}
 use Rattle.smi_law.proofs.GrantKinds.{put_here}
 use Rattle.smi_law.proofs.Lists.{In, in_both, from_mapped, from_chosen, from_flat, from_taken, from_kept, place_of}
 use Rattle.smi_law.proofs.SaysGrants.{due_says, operator_ours, number_some}
-use Rattle.smi_law.proofs.ShownStart.{kept_within}
+use Rattle.smi_protocol.proofs.KeptObjects.{kept_within}
 use Rattle.smi_law.proofs.Tidy.{Tidy, length_before}
 use Rattle.smi_law.proofs.Versions.{Somewhere, from_left}
 

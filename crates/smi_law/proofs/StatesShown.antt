@@ -42,7 +42,8 @@ use Rattle.smi_law.proofs.Lists.{In, in_range, Apart, same, apart_range}
 use Rattle.smi_law.proofs.Quiet.{noted_both}
 use Rattle.smi_law.proofs.Shows.{state_of, ToldWell, IsNewest, Shows, shows_silent, stands_before, showed_passed}
 use Rattle.smi_law.proofs.ShownNotice.{acts, rests}
-use Rattle.smi_law.proofs.ShownStart.{first_kept, none_listed, shows_started}
+use Rattle.smi_protocol.proofs.KeptObjects.{first_kept}
+use Rattle.smi_law.proofs.ShownStart.{none_listed, shows_started}
 use Rattle.smi_law.proofs.ShownStep.{acted}
 use Rattle.smi_law.proofs.Silent.{AllSilent, kept_silent}
 use Rattle.smi_law.proofs.Versions.{in_place}
