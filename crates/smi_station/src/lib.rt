@@ -1,0 +1,9 @@
+//! A station, as far as it is written: a planned step of its grants is saved and made.
+//!
+//! What is to come here joins the halves of a station (`smi_grants`, `smi_display`) and its store, and is to make of
+//! them, with each event, what `after_event` of `smi_protocol` says.
+#![tactic(auto)]
+
+mod making;
+
+pub use making::make;
