@@ -1,1 +1,4 @@
+pub mod Core
+pub mod Leaving
 pub mod Making
+pub mod Stirring

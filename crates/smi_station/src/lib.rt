@@ -4,6 +4,13 @@
 //! them, with each event, what `after_event` of `smi_protocol` says.
 #![tactic(auto)]
 
+mod halves;
+mod hearing;
 mod making;
+mod noticing;
+mod obeying;
+mod planning;
+mod reporting;
+mod stirring;
 
-pub use making::make;
+

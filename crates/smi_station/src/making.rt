@@ -1,13 +1,12 @@
 //! A planned step is saved and made, and what was to be handed out for it stays only where it is.
 
-ghost use Rattle.std.specs.Prelude.{◌≡◌, ◌⊎◌, ◌<◌, ◌≤◌, ◌+◌, OnOk, OnErr, IfOk};
-ghost use Rattle.smi_rows.specs.Store.{IsSame};
-ghost use Rattle.smi_grants.specs.Change.{with_saved, IsChange};
+ghost use Rattle.std.specs.Prelude.{◌≡◌, OnOk, OnErr, IfOk};
+ghost use Rattle.smi_grants.specs.Change.{IsChange};
 ghost use Rattle.smi_grants.specs.Kept.{grants_of};
 ghost use Rattle.smi_grants.specs.Plans.{Plans};
-ghost use Rattle.smi_grants.specs.Save.{IfKept, IfStopped, IfCounted};
 ghost use Rattle.smi_protocol.specs.GrantStep.{GrantStep};
 ghost use Rattle.smi_protocol.specs.Step.{heard_of, nothing_out};
+ghost use Rattle.smi_station.specs.Leaving.{Leaves};
 ghost use Rattle.smi_station.specs.Making.{row_of};
 
 use smi_grants::{Change, Kept, carry_out};
@@ -16,7 +15,7 @@ use smi_protocol::{Heard, StepFault};
 use smi_rows::Stable;
 
 /// A change is saved and then made. A fault leaves the grants as they were, and nothing is handed out.
-pub fn make<S: Stable>(
+pub(crate) fn make<S: Stable>(
     kept: &mut Kept<'_>,
     store: &mut S,
     out: &mut Out,
@@ -25,17 +24,11 @@ pub fn make<S: Stable>(
     requires { IsChange kept.old.tree kept.old.number change.now }
     ensures grants { (step : GrantStep) → Plans kept.old.tree kept.old.number (grants_of kept.old) step change.now → OnOk result (grants_of kept.new ≡ step.grants) }
     ensures heard { (step : GrantStep) → Plans kept.old.tree kept.old.number (grants_of kept.old) step change.now → IfOk result (λ heard. heard ≡ heard_of (row_of kept.old.tree kept.old.number step)) }
-    ensures saved { (step : GrantStep) → Plans kept.old.tree kept.old.number (grants_of kept.old) step change.now → S.is_honest store.new → S.is_open store.old → OnOk result (S.is_open store.new × IsSame (S.rows store.new) (with_saved (row_of kept.old.tree kept.old.number step) (S.rows store.old))) }
-    ensures kept { S.is_honest store.new → IfKept result (S.is_open store.old → S.is_open store.new × IsSame (S.rows store.new) (S.rows store.old)) }
-    ensures unsure { (step : GrantStep) → Plans kept.old.tree kept.old.number (grants_of kept.old) step change.now → S.is_honest store.new → S.is_open store.new → IfStopped result (IsSame (S.rows store.new) (S.rows store.old) ⊎ IsSame (S.rows store.new) (with_saved (row_of kept.old.tree kept.old.number step) (S.rows store.old))) }
+    ensures store { (step : GrantStep) → Plans kept.old.tree kept.old.number (grants_of kept.old) step change.now → Leaves S.is_honest S.is_open S.rows S.saves S.failures store.old store.new result (row_of kept.old.tree kept.old.number step) }
     ensures tree { OnOk result ((kept.new.tree ≡ kept.old.tree) × (kept.new.number ≡ kept.old.number)) }
     ensures unchanged { OnErr result (kept.new ≡ kept.old) }
     ensures out { OnOk result (out.new ≡ out.old) }
     ensures cleared { OnErr result (out.new ≡ nothing_out) }
-    ensures honest { S.is_honest store.new → S.is_honest store.old }
-    ensures saves { S.saves store.new ≤ S.saves store.old + 1 }
-    ensures failures { S.failures store.old ≤ S.failures store.new }
-    ensures cause { IfCounted result (S.failures store.old < S.failures store.new) }
 {
     let made = carry_out(kept, store, change);
     if made.is_err() {

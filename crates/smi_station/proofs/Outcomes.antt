@@ -1,0 +1,150 @@
+-- A step put together from what its parts hand out.
+use Rattle.std.proofs.Common.{ℕ, ◌≡◌, Bool, true, false, List, [], ◌∷◌, ◌++◌, map, take, Option, Some, None, refl, sym, ap, subst, ◌∙◌, append_assoc, append-nil}
+use Rattle.std.specs.Prelude.{◌==◌, ◌&&◌, if◌then◌else◌, nat_lt, not}
+use Rattle.std.specs.Option.{option_or}
+use Rattle.std.specs.List.{flat_map}
+use Rattle.smi_grant.specs.Keeper.{admits}
+use Rattle.smi_grant.specs.declared.Command.{Command}
+use Rattle.smi_grant.specs.declared.Command.TheVariants.{Do, Include, Exclude, Manual, Ignore}
+use Rattle.smi_grant.specs.declared.Shown.{Shown}
+use Rattle.smi_message.specs.Message.{Message}
+use Rattle.smi_message.specs.declared.Body.{Body}
+use Rattle.smi_message.specs.declared.Body.TheVariants as body
+use Rattle.smi_tree.specs.Hierarchy.{Hierarchy}
+use Rattle.smi_tree.specs.Lookups.{accepts, parent_of}
+use Rattle.smi_publish.specs.declared.condition.Condition.{Condition}
+use Rattle.smi_publish.specs.Publishing.{acted, evaluated}
+use Rattle.smi_view.specs.declared.Acceptance.{Acceptance}
+use Rattle.smi_view.specs.declared.Acceptance.TheVariants.{Accepted, OtherBoot, NotNewer}
+use Rattle.smi_protocol.specs.Display.{Display, Station}
+use Rattle.smi_protocol.specs.Grants.{Grants}
+use Rattle.smi_protocol.specs.GrantStep.{GrantStep}
+use Rattle.smi_protocol.specs.Showing.{Member, domain_of_body, followed, members_of, moved_by_body, moved_by_command, same_members, shown_to_all}
+use Rattle.smi_protocol.specs.Step.{Out, body_noticed, conditions_by, nothing_out, put_together}
+use Rattle.smi_protocol.specs.Watching.{Notice, is_watched, noticed, showed_if, told_state, unnoticed}
+use Rattle.smi_view.specs.Accepting.{acceptance}
+use Rattle.smi_protocol.specs.declared.order.Answer.{Answer}
+use Rattle.smi_protocol.specs.declared.order.Mark.{Mark}
+use Rattle.smi_out.specs.Handed.{answered_after, sent_after, with_notice}
+use Rattle.smi_out.proofs.Sending.{sent_first, sent_twice}
+use Rattle.smi_plan.specs.Handing.{with_step}
+use Rattle.smi_display.specs.Members.{Listed, are_same, followed_by, listed_of, same_numbers}
+use Rattle.smi_station.specs.Stirring.{acted_by, action_by, action_of, members_in, stirred}
+
+-- What is handed out.
+
+answered_first : (before more : List Answer) → answered_after before more ≡ before ++ more
+answered_first before [] = sym (append-nil before)
+answered_first before (a ∷ more) = answered_first (before ++ a ∷ []) more ∙ append_assoc before (a ∷ []) more
+
+or_none : {X : Type 0} (o : Option X) → option_or o None ≡ o
+or_none None = refl
+or_none (Some x) = refl
+
+-- the parts of a step, handed out one after the other, are what the step hands out
+pub parts_together : (h : Hierarchy) (number : ℕ) (s : Station) (g : GrantStep) (n : Notice) (conditions : ℕ → Option Condition) (passed : List Shown) (sends : List Message)
+    → sends ≡ flat_map (shown_to_all h number n.display.watchers) passed
+    → record (with_notice (with_step nothing_out g) n) { datagrams = sent_after (with_notice (with_step nothing_out g) n).datagrams sends } ≡ (put_together h number s g n conditions passed).out
+parts_together h number s g n conditions passed sends is =
+    ap (λ (xs : List Message). record { datagrams = xs; answers = answered_after (answered_after [] g.answers) n.answers; issued = option_or g.issued None; shown = option_or n.showed None }) datagrams
+    ∙ ap (λ (xs : List Answer). record { datagrams = all; answers = xs; issued = option_or g.issued None; shown = option_or n.showed None }) answers
+    ∙ ap (λ (o : Option Mark). record { datagrams = all; answers = g.answers ++ n.answers; issued = o; shown = option_or n.showed None }) (or_none g.issued)
+    ∙ ap (λ (o : Option Shown). record { datagrams = all; answers = g.answers ++ n.answers; issued = g.issued; shown = o }) (or_none n.showed)
+  where
+    shows : List Message
+    shows = flat_map (shown_to_all h number n.display.watchers) passed
+
+    all : List Message
+    all = (put_together h number s g n conditions passed).out.datagrams
+
+    datagrams : sent_after (sent_after (sent_after [] g.sends) n.sends) sends ≡ all
+    datagrams =
+        ap (sent_after (sent_after (sent_after [] g.sends) n.sends)) is
+        ∙ ap (λ (xs : List Message). sent_after xs shows) (sent_twice [] g.sends n.sends)
+        ∙ sent_twice [] (g.sends ++ n.sends) shows
+        ∙ sent_first ((g.sends ++ n.sends) ++ shows)
+
+    answers : answered_after (answered_after [] g.answers) n.answers ≡ g.answers ++ n.answers
+    answers = answered_first (answered_after [] g.answers) n.answers ∙ ap (λ (xs : List Answer). xs ++ n.answers) (answered_first [] g.answers)
+
+-- Members.
+
+and_swapped : (p a q b : Bool) → ((p && a) && (q && b)) ≡ (p && (q && (a && b)))
+and_swapped false a q b = refl
+and_swapped true false false b = refl
+and_swapped true true false b = refl
+and_swapped true false true b = refl
+and_swapped true true true b = refl
+
+listed_same : (a b : List Member) → are_same (listed_of a) (listed_of b) ≡ same_members a b
+listed_same [] [] = refl
+listed_same [] (y ∷ b) = refl
+listed_same (x ∷ a) [] = refl
+listed_same (x ∷ a) (y ∷ b) =
+    and_swapped (x.object == y.object) (same_numbers (listed_of a).objects (listed_of b).objects) (x.state == y.state) (same_numbers (listed_of a).states (listed_of b).states)
+    ∙ ap (λ z. x.object == y.object && (x.state == y.state && z)) (listed_same a b)
+
+listed_follows : (h : Hierarchy) (a b : List Member) (conditions : ℕ → Option Condition) (d : ℕ) → followed_by h (listed_of a) (listed_of b) conditions d ≡ followed h a b conditions d
+listed_follows h a b conditions d = ap (λ z. if z then conditions else evaluated h conditions d (listed_of b).states) (listed_same a b)
+
+-- Datagrams.
+
+module _ (h : Hierarchy) (number boot : ℕ) (s : Display) (from : ℕ) where
+  kept_if : (b : Bool) (m n : Notice) → m.display.conditions ≡ s.conditions → n.display.conditions ≡ s.conditions → (if b then m else n).display.conditions ≡ s.conditions
+  kept_if true m n a b = a
+  kept_if false m n a b = b
+
+  showed_stays : (state : Shown) (a : Acceptance) → (showed_if s state a).display.conditions ≡ s.conditions
+  showed_stays state Accepted = refl
+  showed_stays state OtherBoot = refl
+  showed_stays state NotNewer = refl
+
+  -- what a datagram tells leaves the states of the station's own objects alone
+  pub notice_stays : (b : Body) → (body_noticed h number boot s from b).display.conditions ≡ s.conditions
+  notice_stays (body.Ask d) = refl
+  notice_stays (body.Take d who seen) = refl
+  notice_stays (body.Drop d who e) = refl
+  notice_stays (body.Run d who e n c) = refl
+  notice_stays (body.Tell d r) = refl
+  notice_stays (body.Watch x echo) = kept_if (nat_lt echo (s.echoes from)) (unnoticed s) (noticed _ _ _) refl refl
+  notice_stays (body.State x echo v state) =
+      kept_if (not (echo == boot)) (unnoticed s) _ refl
+      (kept_if (is_watched h number s x) _ (noticed s _ []) (showed_stays (told_state x v state) (acceptance boot (s.shown x) echo v)) refl)
+  notice_stays (body.Unwatch x echo) = refl
+
+-- What a station has at hand comes to what is defined.
+
+module _ (h : Hierarchy) (s : Station) (grants : Grants) (display : Display) (same : display.conditions ≡ s.display.conditions) where
+  stirred_by : (o action : Option ℕ) (moved : ℕ → Option Condition) → ((d : ℕ) → o ≡ Some d → acted_by h display.conditions d action ≡ moved) → (o ≡ None → display.conditions ≡ moved)
+      → stirred h grants display (members_in h s.grants s.display o) action o ≡ conditions_by h s grants display moved o
+  stirred_by None action moved some none = none refl
+  stirred_by (Some d) action moved some none =
+      ap (λ (cs : ℕ → Option Condition). followed_by h (members_in h s.grants s.display (Some d)) (listed_of (members_of h grants cs display.shown d)) cs d) (some d refl)
+      ∙ listed_follows h (members_of h s.grants s.display.conditions s.display.shown d) (members_of h grants moved display.shown d) moved d
+
+  acted_is : (d : ℕ) (c : Command) → acted_by h display.conditions d (action_by h d c) ≡ moved_by_command h s.display.conditions d c
+  acted_is d (Do a) = by (accepts h d a)
+    where
+      by : (b : Bool) → acted_by h display.conditions d (if b then Some a else None) ≡ (if b then acted h s.display.conditions d a else s.display.conditions)
+      by true = ap (λ (cs : ℕ → Option Condition). acted h cs d a) same
+      by false = same
+  acted_is d (Include t) = same
+  acted_is d (Exclude t) = same
+  acted_is d (Manual t) = same
+  acted_is d (Ignore t) = same
+
+  ran_is : (d : ℕ) (c : Command) (b : Bool) → acted_by h display.conditions d (if b then action_by h d c else None) ≡ (if b then moved_by_command h s.display.conditions d c else s.display.conditions)
+  ran_is d c true = acted_is d c
+  ran_is d c false = same
+
+  -- the states of the objects after a datagram
+  pub body_stirs : (b : Body) → stirred h grants display (members_in h s.grants s.display (domain_of_body h b)) (action_of h s.grants b) (domain_of_body h b)
+      ≡ conditions_by h s grants display (moved_by_body h s.grants s.display.conditions b) (domain_of_body h b)
+  body_stirs (body.Ask d) = same
+  body_stirs (body.Take d who seen) = same
+  body_stirs (body.Drop d who e) = same
+  body_stirs (body.Run d who e n c) = stirred_by (Some d) (action_of h s.grants (body.Run d who e n c)) (moved_by_body h s.grants s.display.conditions (body.Run d who e n c)) (λ x is. let here : d ≡ x = cc in subst (λ y. acted_by h display.conditions y (action_of h s.grants (body.Run d who e n c)) ≡ moved_by_body h s.grants s.display.conditions (body.Run d who e n c)) here (ran_is d c (admits (s.grants.records d) who e n))) (λ is. absurd cc)
+  body_stirs (body.Tell d r) = stirred_by (parent_of h d) None s.display.conditions (λ x is. same) (λ is. same)
+  body_stirs (body.Watch x echo) = same
+  body_stirs (body.State x echo v state) = stirred_by (parent_of h x) None s.display.conditions (λ x is. same) (λ is. same)
+  body_stirs (body.Unwatch x echo) = same

@@ -1,0 +1,61 @@
+-- A station as it is kept: the half of its grants, the half of its display, and whether it has stopped.
+use Rattle.std.specs.Prelude.{ℕ, ◌≡◌, Bool, true, false, Result, Ok, Err, IfOk, OnOk, OnErr}
+use Rattle.smi_tree.specs.Hierarchy.{Hierarchy}
+use Rattle.smi_grants.specs.Kept.{Kept, grants_of}
+use Rattle.smi_display.specs.Displayed.{Displayed, display_of}
+use Rattle.smi_protocol.specs.Display.{Station}
+use Rattle.smi_protocol.specs.Sound.{IsSound}
+use Rattle.smi_protocol.specs.SoundDisplay.{MayChange}
+use Rattle.smi_protocol.specs.Step.{Out, Outcome, nothing_out}
+use Rattle.smi_protocol.specs.declared.event.Heard.{Heard}
+use Rattle.smi_protocol.specs.declared.event.StepFault.{StepFault}
+use Rattle.smi_protocol.specs.declared.event.StepFault.TheVariants.{Stopped}
+
+pub record Core : Type 0 where
+  pub kept : Kept
+  pub displayed : Displayed
+  pub is_stopped : Bool
+
+-- the station that two halves are
+abbrev pub station_with : Kept → Displayed → Bool → Station
+station_with k d stopped = record { grants = grants_of k; display = display_of d; is_stopped = stopped }
+
+abbrev pub station_of : Core → Station
+station_of c = station_with c.kept c.displayed c.is_stopped
+
+-- the halves are one station's in one boot, and its grants are sound
+pub record AreHalves (k : Kept) (d : Displayed) : Type 0 where
+  pub tree : d.tree ≡ k.tree
+  pub number : d.number ≡ k.number
+  pub boot : d.published.boot ≡ k.boot
+  pub sound : IsSound k.tree (grants_of k)
+
+-- each object of a station that runs may change once more
+pub record IsCore (c : Core) : Type 0 where
+  pub halves : AreHalves c.kept c.displayed
+  pub room : c.is_stopped ≡ false → MayChange (display_of c.displayed)
+
+abbrev pub core_with : Kept → Displayed → Bool → Core
+core_with k d stopped = record { kept = k; displayed = d; is_stopped = stopped }
+
+-- the tree and the number of the station
+abbrev pub tree_of : Core → Hierarchy
+tree_of c = c.kept.tree
+
+abbrev pub number_of : Core → ℕ
+number_of c = c.kept.number
+
+-- A step of the station comes to what is defined: the station afterwards, what it made of the event, and what is
+-- handed out; on a fault nothing is.
+pub record Steps (before after : Core) (o : Outcome) (handed : Out) (r : Result Heard StepFault) : Type 0 where
+  pub station : OnOk r (station_of after ≡ o.station)
+  pub heard : IfOk r (λ heard. heard ≡ o.heard)
+  pub out : OnOk r (handed ≡ o.out)
+  pub cleared : OnErr r (handed ≡ nothing_out)
+  pub tree : tree_of after ≡ tree_of before
+  pub number : number_of after ≡ number_of before
+
+-- a step has stopped its station
+abbrev pub is_stopped_by : Result Heard StepFault → Bool
+is_stopped_by (Err Stopped) = true
+is_stopped_by _ = false

@@ -1,0 +1,182 @@
+//! What an event makes a station's objects show anew.
+
+ghost use Rattle.std.specs.Prelude.{◌≡◌, false, IfSome, None};
+ghost use Rattle.smi_display.specs.Displayed.{display_of};
+ghost use Rattle.smi_display.specs.Listening.{KeepsTheRest};
+ghost use Rattle.smi_grants.specs.Kept.{grants_of};
+ghost use Rattle.smi_out.specs.Handed.{sent_after};
+ghost use Rattle.smi_protocol.specs.Refusals.{refusal_of_message};
+ghost use Rattle.smi_protocol.specs.Showing as showing;
+ghost use Rattle.smi_protocol.specs.SoundDisplay.{MayChange};
+ghost use Rattle.smi_publish.specs.Published.{changes_at};
+ghost use Rattle.smi_publish.specs.Publishing.{device_objects};
+ghost use Rattle.smi_tree.specs.Lawful.{IsBetween};
+ghost use Rattle.smi_tree.specs.Lookups.{domain_count};
+ghost use Rattle.smi_station.specs.Stirring.{action_by, action_of, acted_by, members_in, shown_anew, stirred};
+
+use smi_display::{Displayed, Members};
+use smi_grant::{Command, admit};
+use smi_grants::Kept;
+use smi_message::{Body, Datagram};
+use smi_out::Out;
+use smi_publish::Changes;
+use smi_tree::Tree;
+
+/// What an event finds, before anything has changed, of the domain whose members it may change.
+#[derive(Drop)]
+pub(crate) struct Found {
+    /// The domain, if there is one.
+    pub domain: Option<u16>,
+    /// Its members.
+    pub before: Members,
+    /// The action that runs there, if one does.
+    pub action: Option<u16>,
+}
+
+/// The domain whose members a datagram may change.
+fn domain_of(tree: &Tree, body: &Body) -> Option<u16>
+    ensures { result ≡ showing.domain_of_body tree.now body.now }
+{
+    match *body {
+        Body::Run(domain, _, _, _, _) => Some(domain),
+        Body::Tell(domain, _) => tree.parent(domain),
+        Body::State(object, _, _, _) => tree.parent(object),
+        Body::Ask(_) => None,
+        Body::Take(_, _, _) => None,
+        Body::Drop(_, _, _) => None,
+        Body::Watch(_, _) => None,
+        Body::Unwatch(_, _) => None,
+    }
+}
+
+/// The action by which a command moves the devices of its domain.
+fn action_by(tree: &Tree, domain: u16, command: Command) -> Option<u16>
+    ensures { result ≡ action_by tree.now domain command }
+{
+    match command {
+        Command::Do(action) => if tree.accepts(domain, action) {
+            Some(action)
+        } else {
+            None
+        },
+        Command::Include(_) => None,
+        Command::Exclude(_) => None,
+        Command::Manual(_) => None,
+        Command::Ignore(_) => None,
+    }
+}
+
+/// The action by which a datagram moves the devices of its domain.
+fn action_of(kept: &Kept<'_>, body: &Body) -> Option<u16>
+    ensures { result ≡ action_of kept.now.tree (grants_of kept.now) body.now }
+{
+    match *body {
+        Body::Run(domain, holder, epoch, number, command) => {
+            if admit(&kept.record(domain), holder, epoch, number) {
+                action_by(kept.tree(), domain, command)
+            } else {
+                None
+            }
+        }
+        Body::Ask(_) => None,
+        Body::Take(_, _, _) => None,
+        Body::Drop(_, _, _) => None,
+        Body::Tell(_, _) => None,
+        Body::Watch(_, _) => None,
+        Body::State(_, _, _, _) => None,
+        Body::Unwatch(_, _) => None,
+    }
+}
+
+/// The members of the domain, nobody where there is none.
+fn members_in(display: &Displayed<'_>, kept: &Kept<'_>, domain: Option<u16>) -> Members
+    requires { IfSome domain (IsBetween 1 (domain_count display.now.tree)) }
+    ensures { result ≡ members_in display.now.tree (grants_of kept.now) (display_of display.now) domain }
+{
+    match domain {
+        Some(domain) => display.members(kept, domain),
+        None => Members::new(),
+    }
+}
+
+/// What a datagram finds.
+pub(crate) fn find(display: &Displayed<'_>, kept: &Kept<'_>, datagram: &Datagram) -> Found
+    requires tree { kept.now.tree ≡ display.now.tree }
+    requires accepted { refusal_of_message kept.now.tree kept.now.number datagram.now ≡ None }
+    ensures domain { result.domain ≡ showing.domain_of_body display.now.tree datagram.now.body }
+    ensures before { result.before ≡ members_in display.now.tree (grants_of kept.now) (display_of display.now) (showing.domain_of_body display.now.tree datagram.now.body) }
+    ensures action { result.action ≡ action_of display.now.tree (grants_of kept.now) datagram.now.body }
+    ensures within { IfSome result.domain (IsBetween 1 (domain_count display.now.tree)) }
+{
+    let domain = domain_of(kept.tree(), &datagram.body);
+    Found {
+        domain,
+        before: members_in(display, kept, domain),
+        action: action_of(kept, &datagram.body),
+    }
+}
+
+/// The devices of a domain move, if an action runs there; what they show anew.
+fn act(display: &mut Displayed<'_>, domain: u16, action: Option<u16>) -> Changes
+    requires domain { IsBetween 1 (domain_count display.old.tree) domain }
+    requires room { MayChange (display_of display.old) }
+    ensures display { display_of display.new ≡ record (display_of display.old) { conditions = acted_by display.old.tree (display_of display.old).conditions domain action } }
+    ensures changes { result ≡ changes_at display.old.published.boot (display_of display.old).conditions (acted_by display.old.tree (display_of display.old).conditions domain action) (device_objects display.old.tree domain) }
+    ensures few { length result < most_changes }
+    ensures shown { AllByRecursion (IsShown display.old.tree) result }
+    ensures rest { KeepsTheRest display.old display.new }
+{
+    match action {
+        Some(action) => display.act(domain, action),
+        None => Changes::new(),
+    }
+}
+
+ghost use Rattle.std.specs.Prelude.{◌<◌, length};
+ghost use Rattle.std.specs.List.{AllByRecursion};
+ghost use Rattle.smi_protocol.specs.SoundDisplay.{IsShown};
+ghost use Rattle.smi_publish.specs.Published.{most_changes};
+
+/// The devices of the domain that was found move, and its unit follows; what they show anew is told to whoever
+/// watches them. Whether one of them has come to the last sequence.
+pub(crate) fn stir(
+    display: &mut Displayed<'_>,
+    kept: &Kept<'_>,
+    out: &mut Out,
+    found: &Found,
+) -> bool
+    requires domain { IfSome found.now.domain (IsBetween 1 (domain_count display.old.tree)) }
+    requires room { MayChange (display_of display.old) }
+    ensures display { display_of display.new ≡ record (display_of display.old) { conditions = stirred display.old.tree (grants_of kept.now) (display_of display.old) found.now.before found.now.action found.now.domain } }
+    ensures sent { out.new ≡ record out.old { datagrams = sent_after out.old.datagrams (shown_anew display.old.tree display.old.number display.old.published.boot (display_of display.old) (display_of display.new).conditions found.now.domain) } }
+    ensures spent { result ≡ showing.is_spent (showing.passed_in display.old.tree display.old.published.boot (display_of display.old).conditions (display_of display.new).conditions found.now.domain) }
+    ensures room { result ≡ false → MayChange (display_of display.new) }
+    ensures rest { KeepsTheRest display.old display.new }
+{
+    match found.domain {
+        Some(domain) => stir_domain(display, kept, out, found, domain),
+        None => false,
+    }
+}
+
+/// The same in this domain.
+fn stir_domain(
+    display: &mut Displayed<'_>,
+    kept: &Kept<'_>,
+    out: &mut Out,
+    found: &Found,
+    domain: u16,
+) -> bool
+    requires domain { IsBetween 1 (domain_count display.old.tree) domain }
+    requires room { MayChange (display_of display.old) }
+    ensures display { display_of display.new ≡ record (display_of display.old) { conditions = stirred display.old.tree (grants_of kept.now) (display_of display.old) found.now.before found.now.action (Some domain) } }
+    ensures sent { out.new ≡ record out.old { datagrams = sent_after out.old.datagrams (shown_anew display.old.tree display.old.number display.old.published.boot (display_of display.old) (display_of display.new).conditions (Some domain)) } }
+    ensures spent { result ≡ showing.is_spent (showing.passed_in display.old.tree display.old.published.boot (display_of display.old).conditions (display_of display.new).conditions (Some domain)) }
+    ensures room { result ≡ false → MayChange (display_of display.new) }
+    ensures rest { KeepsTheRest display.old display.new }
+{
+    let mut changes = act(display, domain, found.action);
+    display.show_anew(out, kept, domain, &found.before, &mut changes)
+}
+
+ghost use Rattle.std.specs.Prelude.{Some};
