@@ -1,3 +1,6 @@
 pub mod Accepted
 pub mod Passing
+pub mod Stirred
+pub mod Quiet
+pub mod Reported
 pub mod Outcomes

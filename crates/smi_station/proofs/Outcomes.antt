@@ -1,9 +1,12 @@
 -- A step put together from what its parts hand out.
-use Rattle.std.proofs.Common.{ℕ, ◌≡◌, Bool, true, false, List, [], ◌∷◌, ◌++◌, map, take, Option, Some, None, refl, sym, ap, subst, ◌∙◌, append_assoc, append-nil}
+use Rattle.std.proofs.Common.{ℕ, ◌≡◌, ◌≤◌, length, arith, Bool, true, false, List, [], ◌∷◌, ◌++◌, map, take, Option, Some, None, refl, sym, ap, subst, ◌∙◌, append_assoc, append-nil}
 use Rattle.std.specs.Prelude.{◌==◌, ◌&&◌, if◌then◌else◌, nat_lt, not}
 use Rattle.std.specs.Option.{option_or}
 use Rattle.std.specs.List.{flat_map}
-use Rattle.smi_grant.specs.Keeper.{admits}
+use Rattle.smi_grant.specs.Keeper.{admits, take_after}
+use Rattle.smi_grant.specs.declared.Holder.{Holder}
+use Rattle.smi_grant.specs.declared.Verdict.{Verdict}
+use Rattle.smi_grant.specs.declared.Verdict.TheVariants.{New, Same}
 use Rattle.smi_grant.specs.declared.Command.{Command}
 use Rattle.smi_grant.specs.declared.Command.TheVariants.{Do, Include, Exclude, Manual, Ignore}
 use Rattle.smi_grant.specs.declared.Shown.{Shown}
@@ -18,8 +21,11 @@ use Rattle.smi_view.specs.declared.Acceptance.{Acceptance}
 use Rattle.smi_view.specs.declared.Acceptance.TheVariants.{Accepted, OtherBoot, NotNewer}
 use Rattle.smi_protocol.specs.Display.{Display, Station}
 use Rattle.smi_protocol.specs.Grants.{Grants}
-use Rattle.smi_protocol.specs.GrantStep.{GrantStep}
-use Rattle.smi_protocol.specs.Showing.{Member, domain_of_body, followed, members_of, moved_by_body, moved_by_command, same_members, shown_to_all}
+use Rattle.smi_protocol.specs.GrantStep.{GrantStep, waits_for_children}
+use Rattle.smi_protocol.specs.Children.{own_code}
+use Rattle.smi_protocol.specs.Keeping.{answered, commanded, decided, ran, run_comes, take_comes}
+use Rattle.smi_protocol.specs.declared.entry.Entry.{Entry}
+use Rattle.smi_protocol.specs.Showing.{Member, domain_of_body, followed, is_spent, members_of, moved_by_body, moved_by_command, same_members, shown_to_all}
 use Rattle.smi_protocol.specs.Step.{Out, body_noticed, conditions_by, nothing_out, put_together}
 use Rattle.smi_protocol.specs.Watching.{Notice, is_watched, noticed, showed_if, told_state, unnoticed}
 use Rattle.smi_view.specs.Accepting.{acceptance}
@@ -67,6 +73,15 @@ parts_together h number s g n conditions passed sends is =
     answers : answered_after (answered_after [] g.answers) n.answers ≡ g.answers ++ n.answers
     answers = answered_first (answered_after [] g.answers) n.answers ∙ ap (λ (xs : List Answer). xs ++ n.answers) (answered_first [] g.answers)
 
+-- the station that it makes
+pub station_together : (h : Hierarchy) (number : ℕ) (s : Station) (g : GrantStep) (n : Notice) (conditions : ℕ → Option Condition) (passed : List Shown) (grants : Grants) (display : Display) (stopped : Bool)
+    → grants ≡ g.grants → display ≡ record n.display { conditions = conditions } → stopped ≡ is_spent passed
+    → record { grants = grants; display = display; is_stopped = stopped } ≡ (put_together h number s g n conditions passed).station
+station_together h number s g n conditions passed grants display stopped a b c =
+    ap (λ (x : Grants). record { grants = x; display = display; is_stopped = stopped }) a
+    ∙ ap (λ (x : Display). record { grants = g.grants; display = x; is_stopped = stopped }) b
+    ∙ ap (λ x. record { grants = g.grants; display = record n.display { conditions = conditions }; is_stopped = x }) c
+
 -- Members.
 
 and_swapped : (p a q b : Bool) → ((p && a) && (q && b)) ≡ (p && (q && (a && b)))
@@ -84,7 +99,7 @@ listed_same (x ∷ a) (y ∷ b) =
     and_swapped (x.object == y.object) (same_numbers (listed_of a).objects (listed_of b).objects) (x.state == y.state) (same_numbers (listed_of a).states (listed_of b).states)
     ∙ ap (λ z. x.object == y.object && (x.state == y.state && z)) (listed_same a b)
 
-listed_follows : (h : Hierarchy) (a b : List Member) (conditions : ℕ → Option Condition) (d : ℕ) → followed_by h (listed_of a) (listed_of b) conditions d ≡ followed h a b conditions d
+pub listed_follows : (h : Hierarchy) (a b : List Member) (conditions : ℕ → Option Condition) (d : ℕ) → followed_by h (listed_of a) (listed_of b) conditions d ≡ followed h a b conditions d
 listed_follows h a b conditions d = ap (λ z. if z then conditions else evaluated h conditions d (listed_of b).states) (listed_same a b)
 
 -- Datagrams.
@@ -148,3 +163,20 @@ module _ (h : Hierarchy) (s : Station) (grants : Grants) (display : Display) (sa
   body_stirs (body.Watch x echo) = same
   body_stirs (body.State x echo v state) = stirred_by (parent_of h x) None s.display.conditions (λ x is. same) (λ is. same)
   body_stirs (body.Unwatch x echo) = same
+
+-- Keepers answer no operator.
+
+module _ (h : Hierarchy) (number : ℕ) (g : Grants) (from d : ℕ) where
+  decided_answers : (note : Entry) (v : Verdict) → length (with_step nothing_out (decided h number g from d note v)).answers ≤ 8
+  decided_answers note (New r) = omega arith
+  decided_answers note Same = omega arith
+
+  pub take_answers : (who : Holder) (seen : ℕ) → length (with_step nothing_out (take_comes h number g from d who seen)).answers ≤ 8
+  take_answers who seen = decided_answers _ (take_after (g.records d) who seen)
+
+  pub run_answers : (who : Holder) (e n : ℕ) (c : Command) → length (with_step nothing_out (run_comes h number g from d who e n c)).answers ≤ 8
+  run_answers who e n c = by (admits (g.records d) who e n)
+    where
+      by : (b : Bool) → length (with_step nothing_out (if b then ran h number g from d e n c (waits_for_children h (commanded h g d c) d) (own_code h g d c) else answered h number g from d)).answers ≤ 8
+      by true = omega arith
+      by false = omega arith

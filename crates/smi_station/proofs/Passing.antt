@@ -192,3 +192,8 @@ reported_shown h boot old d object state apart there = sym (chosen_one (change_a
     none y other =
         ap (λ (c : Option Condition). if differs (old y) c then option_map (shown boot y) c else None) (ap (λ b. if b then option_map (come_to state) (old y) else old y) other)
         ∙ ap (λ b. if b then option_map (shown boot y) (old y) else None) (differs_not (old y))
+
+-- what does not change shows nothing anew
+pub unchanged_shown : (boot : ℕ) (old : ℕ → Option Condition) (objects : List ℕ) → changes_at boot old old objects ≡ []
+unchanged_shown boot old [] = refl
+unchanged_shown boot old (x ∷ xs) = ap (λ (o : Option Shown). cons_option o (changes_at boot old old xs)) (ap (λ b. if b then shown_at boot old x else None) (differs_not (old x))) ∙ unchanged_shown boot old xs

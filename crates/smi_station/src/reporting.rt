@@ -29,6 +29,26 @@ fn changes_of(shown: Option<Shown>) -> Changes
 
 ghost use Rattle.smi_protocol.specs.Messages.{if_any};
 
+/// The domain of a device of the station.
+fn domain_of(kept: &Kept<'_>, device: u16) -> u16
+    requires kept { is_kept_by kept.now.tree kept.now.number (domain_count kept.now.tree + device) ≡ true }
+    requires least { 1 ≤ device }
+    ensures domain { IsBetween 1 (domain_count kept.now.tree) result }
+    ensures among { In (domain_count kept.now.tree + device) (device_objects kept.now.tree result) }
+    ensures of { publishing.domain_of kept.now.tree (domain_count kept.now.tree + device) ≡ Some result }
+    ensures device { IsBetween 1 (device_count kept.now.tree) device }
+{
+    let tree = kept.tree();
+    tree.device(device).domain
+}
+
+ghost use Rattle.std.specs.Prelude.{◌≤◌, ◌+◌, Some};
+ghost use Rattle.smi_protocol.specs.Sound.{In};
+ghost use Rattle.smi_publish.specs.Publishing as publishing;
+ghost use Rattle.smi_publish.specs.Publishing.{device_objects, is_kept_by};
+ghost use Rattle.smi_tree.specs.Lawful.{IsBetween};
+ghost use Rattle.smi_tree.specs.Lookups.{device_count, domain_count};
+
 /// A device that the station keeps reports its state. Whether one of its objects has come to the last sequence.
 pub(crate) fn report(
     kept: &Kept<'_>,
@@ -46,10 +66,12 @@ pub(crate) fn report(
     ensures halves { AreHalves kept.now display.new }
     ensures room { result ≡ false → MayChange (display_of display.new) }
 {
-    let domain = kept.tree().device(device).domain;
+    let domain = domain_of(kept, device);
     let before = display.members(kept, domain);
     let mut changes = changes_of(display.report(device, state));
-    display.show_anew(out, kept, domain, &before, &mut changes)
+    let is_spent = display.show_anew(out, kept, domain, &before, &mut changes);
+    let _tree = display.tree();
+    is_spent
 }
 
 /// Time passes.

@@ -1,6 +1,7 @@
 //! What an event makes a station's objects show anew.
 
-ghost use Rattle.std.specs.Prelude.{◌≡◌, false, IfSome, None};
+ghost use Rattle.std.specs.Prelude.{◌≡◌, true, false, IfSome, None};
+ghost use Rattle.smi_message.specs.Message.{is_body};
 ghost use Rattle.smi_display.specs.Displayed.{display_of};
 ghost use Rattle.smi_display.specs.Listening.{KeepsTheRest};
 ghost use Rattle.smi_grants.specs.Kept.{grants_of};
@@ -68,6 +69,7 @@ fn action_by(tree: &Tree, domain: u16, command: Command) -> Option<u16>
 
 /// The action by which a datagram moves the devices of its domain.
 fn action_of(kept: &Kept<'_>, body: &Body) -> Option<u16>
+    requires { is_body body.now ≡ true }
     ensures { result ≡ action_of kept.now.tree (grants_of kept.now) body.now }
 {
     match *body {
@@ -176,7 +178,9 @@ fn stir_domain(
     ensures rest { KeepsTheRest display.old display.new }
 {
     let mut changes = act(display, domain, found.action);
-    display.show_anew(out, kept, domain, &found.before, &mut changes)
+    let is_spent = display.show_anew(out, kept, domain, &found.before, &mut changes);
+    let _tree = display.tree();
+    is_spent
 }
 
 ghost use Rattle.std.specs.Prelude.{Some};

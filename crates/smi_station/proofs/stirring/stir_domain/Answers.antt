@@ -1,0 +1,48 @@
+use Rattle.std.proofs.Common.{◌≡◌, ◌∙◌, List, Some, sym, ap, subst}
+use Rattle.std.specs.Prelude.{ℕ, Option}
+use Rattle.smi_grant.specs.declared.Shown.{Shown}
+use Rattle.smi_message.specs.Message.{Message}
+use Rattle.smi_publish.specs.declared.condition.Condition.{Condition}
+use Rattle.smi_publish.specs.Published.{HasRoom, conditions_of}
+use Rattle.smi_out.specs.Handed.{sent_after}
+use Rattle.smi_protocol.specs.Display.{Display}
+use Rattle.smi_protocol.specs.Showing.{is_spent}
+use Rattle.smi_grants.specs.Kept.{grants_of}
+use Rattle.smi_display.specs.Displayed.{display_of}
+use Rattle.smi_station.specs.Stirring.{acted_by}
+use Rattle.smi_station.proofs.Passing.{acted_first}
+use Rattle.smi_station.proofs.Stirred.{all_shown, shown_sends, stirred_room, unit_room}
+use Rattle.smi_station.proofs.stirring.stir_domain.Goals as goal
+
+pub show_anew-is_spent-requires-clause-room : goal.show_anew-is_spent-requires-clause-room
+show_anew-is_spent-requires-clause-room c =
+    let d0 = c.args.display.now in
+    unit_room d0 c.act-changes.new.display (acted_by d0.tree (conditions_of d0.published) c.args.domain c.args.found.now.action) c.args.domain
+    c.requires.domain.most c.act-changes.ensures.display (acted_first d0.tree (conditions_of d0.published) c.args.domain c.args.found.now.action) c.requires.room
+
+pub returns-clause-sent : goal.returns-clause-sent
+returns-clause-sent c =
+    let d0 = c.args.display.now in
+    let mid = acted_by d0.tree (conditions_of d0.published) c.args.domain c.args.found.now.action in
+    c.show_anew-is_spent.ensures.sent
+    ∙ ap (λ (xs : List Message). record c.args.out.now { datagrams = sent_after c.args.out.now.datagrams xs })
+    (shown_sends d0 c.act-changes.new.display c.show_anew-is_spent.new.self (grants_of c.args.kept.now) c.args.found.now.before mid c.args.domain c.act-changes.result c.show_anew-is_spent.new.changes
+    c.requires.domain.most c.act-changes.ensures.rest c.act-changes.ensures.display (acted_first d0.tree (conditions_of d0.published) c.args.domain c.args.found.now.action) c.act-changes.ensures.changes c.show_anew-is_spent.ensures.display c.show_anew-is_spent.ensures.changes)
+
+pub returns-clause-spent : goal.returns-clause-spent
+returns-clause-spent c =
+    let d0 = c.args.display.now in
+    let mid = acted_by d0.tree (conditions_of d0.published) c.args.domain c.args.found.now.action in
+    c.show_anew-is_spent.ensures.spent
+    ∙ ap is_spent
+    (all_shown d0 c.act-changes.new.display c.show_anew-is_spent.new.self (grants_of c.args.kept.now) c.args.found.now.before mid c.args.domain c.act-changes.result c.show_anew-is_spent.new.changes
+    c.requires.domain.most c.act-changes.ensures.rest c.act-changes.ensures.display (acted_first d0.tree (conditions_of d0.published) c.args.domain c.args.found.now.action) c.act-changes.ensures.changes c.show_anew-is_spent.ensures.display c.show_anew-is_spent.ensures.changes)
+
+pub returns-clause-room : goal.returns-clause-room
+returns-clause-room c unspent =
+    let d0 = c.args.display.now in
+    let d2 = c.show_anew-is_spent.new.self in
+    let mid = acted_by d0.tree (conditions_of d0.published) c.args.domain c.args.found.now.action in
+    stirred_room d0 c.act-changes.new.display d2 (grants_of c.args.kept.now) c.args.found.now.before mid c.args.domain c.act-changes.result c.show_anew-is_spent.new.changes
+    c.requires.domain.most c.act-changes.ensures.rest c.act-changes.ensures.display (acted_first d0.tree (conditions_of d0.published) c.args.domain c.args.found.now.action) c.act-changes.ensures.changes c.show_anew-is_spent.ensures.display c.show_anew-is_spent.ensures.changes
+    d2.tree d2.number c.requires.room c.tree-tree.ensures.displayed.sound (sym c.show_anew-is_spent.ensures.spent ∙ unspent)
