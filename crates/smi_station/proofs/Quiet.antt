@@ -1,21 +1,32 @@
 -- Steps in which no object of the station changes.
-use Rattle.std.proofs.Common.{ℕ, ◌≡◌, Bool, true, false, List, [], refl, sym, ap, ◌∙◌, subst}
-use Rattle.std.specs.Prelude.{Option, None, if◌then◌else◌}
+use Rattle.std.proofs.Common.{ℕ, ◌≡◌, Bool, true, false, List, [], ◌∷◌, refl, sym, ap, ◌∙◌, subst}
+use Rattle.std.specs.Prelude.{Option, Some, None, Result, Ok, Err, if◌then◌else◌}
 use Rattle.smi_tree.specs.Hierarchy.{Hierarchy}
 use Rattle.smi_publish.specs.declared.condition.Condition.{Condition}
 use Rattle.smi_publish.specs.Published.{HasRoom}
 use Rattle.smi_protocol.specs.Display.{Display, Station}
-use Rattle.smi_protocol.specs.Grants.{Grants}
+use Rattle.smi_protocol.specs.Grants.{Grants, put}
 use Rattle.smi_protocol.specs.GrantStep.{GrantStep, unchanged}
-use Rattle.smi_protocol.specs.Happening.{Happening, Orders, Ticks}
-use Rattle.smi_protocol.specs.Ordering.{order_comes}
+use Rattle.smi_protocol.specs.Happening.{Happening, Orders, Ticks, answer}
+use Rattle.smi_protocol.specs.Ordering.{obeyed, order_comes}
+use Rattle.smi_protocol.specs.Sound.{IsSound}
+use Rattle.smi_command.specs.Order.{take_begun, drop_begun, command_issued}
+use Rattle.smi_command.specs.declared.Link.{Link}
+use Rattle.smi_grant.specs.declared.Command.{Command}
+use Rattle.smi_grant.specs.declared.Command.TheVariants.{Do, Include, Exclude, Manual, Ignore}
+use Rattle.smi_grant.specs.declared.Holder.TheVariants.{Operator}
 use Rattle.smi_protocol.specs.SoundDisplay.{MayChange}
 use Rattle.smi_protocol.specs.Step.{Out, accepted, nothing_out, put_together}
 use Rattle.smi_protocol.specs.Ticking.{tick_noticed}
-use Rattle.smi_protocol.specs.Watching.{Notice, is_child_unit, order_noticed}
+use Rattle.smi_protocol.specs.Watching.{Notice, is_child_unit, noticed, order_noticed}
+use Rattle.smi_protocol.specs.Messages.{object_home, unwatches}
 use Rattle.smi_protocol.specs.declared.order.Order.{Order}
 use Rattle.smi_protocol.specs.declared.order.Order.TheVariants as order
 use Rattle.smi_grants.specs.Kept.{Kept, grants_of}
+use Rattle.smi_grants.specs.Change.{changed}
+use Rattle.smi_grants.specs.declared.change.Change.{Change}
+use Rattle.smi_grants.specs.declared.change.Change.TheVariants as change
+use Rattle.smi_display.specs.Listening.{KeepsTheRest}
 use Rattle.smi_out.specs.Handed.{with_notice}
 use Rattle.smi_plan.specs.Handing.{with_step}
 use Rattle.smi_display.specs.Displayed.{Displayed, display_of}
@@ -54,7 +65,45 @@ module _ (k : Kept) (d0 d2 : Displayed) (halves : AreHalves k d0) (ticks : displ
   pub ticked_room : MayChange (display_of d0) → MayChange (display_of d2)
   ticked_room = quiet_room (display_of d0) (display_of d2) (ap (λ (s : Display). s.conditions) ticks)
 
+-- Halves.
+
+-- a change leaves the boot
+pub changed_boot : (h : Hierarchy) (g : Grants) (c : Change) → (changed h g c).boot ≡ g.boot
+changed_boot h g change.Nothing = refl
+changed_boot h g (change.Handed d r) = refl
+changed_boot h g (change.Linked o d l) = refl
+changed_boot h g (change.Ran d c r code) = refl
+changed_boot h g (change.Heard p d l r code) = refl
+
+-- both halves have stayed the station's
+pub still_halves : (k0 k2 : Kept) (d0 d2 : Displayed) (grants : Grants) → AreHalves k0 d0 → (k2.tree ≡ k0.tree) × (k2.number ≡ k0.number) × (k2.boot ≡ k0.boot) → KeepsTheRest d0 d2
+    → grants_of k2 ≡ grants → IsSound k0.tree grants → AreHalves k2 d2
+still_halves k0 k2 d0 d2 grants halves same rest is sound = record {
+  tree = rest.tree ∙ halves.tree ∙ sym same.0;
+  number = rest.number ∙ halves.number ∙ sym same.1;
+  boot = rest.boot ∙ halves.boot ∙ sym same.2;
+  sound = subst (λ (h : Hierarchy). IsSound h (grants_of k2)) (sym same.0) (subst (IsSound k0.tree) (sym is) sound);
+}
+
 -- Orders.
+
+obeyed_answers : (h : Hierarchy) (number : ℕ) (g : Grants) (o d : ℕ) (c : Option Command) (l : Result Link ℕ) → (obeyed h number g o d c l).answers ≡ []
+obeyed_answers h number g o d c (Ok l) = refl
+obeyed_answers h number g o d c (Err code) = refl
+
+-- operators are answered by what they are told
+pub order_answers : (h : Hierarchy) (number : ℕ) (g : Grants) (o : ℕ) (what : Order) → (order_comes h number g o what).answers ≡ []
+order_answers h number g o (order.Take d) = obeyed_answers h number g o d None (take_begun (g.links (Operator o) d))
+order_answers h number g o (order.Drop d) = obeyed_answers h number g o d None (drop_begun (g.links (Operator o) d))
+order_answers h number g o (order.Do d a) = obeyed_answers h number g o d (Some (Do a)) (command_issued (g.links (Operator o) d) (Do a))
+order_answers h number g o (order.Include d t) = obeyed_answers h number g o d (Some (Include t)) (command_issued (g.links (Operator o) d) (Include t))
+order_answers h number g o (order.Exclude d t) = obeyed_answers h number g o d (Some (Exclude t)) (command_issued (g.links (Operator o) d) (Exclude t))
+order_answers h number g o (order.Manual d t) = obeyed_answers h number g o d (Some (Manual t)) (command_issued (g.links (Operator o) d) (Manual t))
+order_answers h number g o (order.Ignore d t) = obeyed_answers h number g o d (Some (Ignore t)) (command_issued (g.links (Operator o) d) (Ignore t))
+order_answers h number g o (order.Ask d) = refl
+order_answers h number g o (order.Watch x) = refl
+order_answers h number g o (order.Unwatch x) = refl
+order_answers h number g o (order.Report device s) = refl
 
 -- an order leaves the states of the station's own objects alone
 pub order_stays : (h : Hierarchy) (number boot : ℕ) (s : Display) (o : ℕ) (what : Order) → (order_noticed h number boot s o what).display.conditions ≡ s.conditions
@@ -69,7 +118,7 @@ order_stays h number boot s o (order.Ask d) = refl
 order_stays h number boot s o (order.Watch x) = refl
 order_stays h number boot s o (order.Unwatch x) = by (is_child_unit h number x)
   where
-    by : (b : Bool) → (if b then _ else _).display.conditions ≡ s.conditions
+    by : (b : Bool) → (λ (n : Notice). n.display.conditions ≡ s.conditions) (if b then noticed s [] (answer o (order.Unwatch x) 0 ∷ []) else noticed (record s { named = put s.named x false }) (unwatches h number boot (object_home h x) x ∷ []) (answer o (order.Unwatch x) 0 ∷ []))
     by true = refl
     by false = refl
 order_stays h number boot s o (order.Report device state) = refl

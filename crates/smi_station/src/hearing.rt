@@ -47,10 +47,15 @@ pub(crate) fn hear<S: Stable>(
     ensures unchanged { OnErr result ((kept.new ≡ kept.old) × (display.new ≡ display.old) × (is_stopped.new ≡ false)) }
     ensures cleared { OnErr result (out.new ≡ nothing_out) }
 {
+    let _tree = kept.tree();
     let change = plan(out, kept, datagram);
     let found = find(display, kept, datagram);
-    let heard = make(kept, store, out, &change)?;
-    notice(display, out, datagram);
-    *is_stopped = stir(display, kept, out, &found);
-    Ok(heard)
+    match make(kept, store, out, &change) {
+        Ok(heard) => {
+            notice(display, out, datagram);
+            *is_stopped = stir(display, kept, out, &found);
+            Ok(heard)
+        }
+        Err(fault) => Err(fault),
+    }
 }

@@ -41,8 +41,13 @@ pub(crate) fn obey<S: Stable>(
     ensures unchanged { OnErr result ((kept.new ≡ kept.old) × (display.new ≡ display.old)) }
     ensures cleared { OnErr result (out.new ≡ nothing_out) }
 {
+    let _tree = kept.tree();
     let change = order(out, kept, operator, what);
-    let heard = make(kept, store, out, &change)?;
-    display.order_comes(out, operator, what);
-    Ok(heard)
+    match make(kept, store, out, &change) {
+        Ok(heard) => {
+            display.order_comes(out, operator, what);
+            Ok(heard)
+        }
+        Err(fault) => Err(fault),
+    }
 }
