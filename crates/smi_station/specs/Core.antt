@@ -9,7 +9,8 @@ use Rattle.smi_protocol.specs.SoundDisplay.{MayChange}
 use Rattle.smi_protocol.specs.Step.{Out, Outcome, nothing_out}
 use Rattle.smi_protocol.specs.declared.event.Heard.{Heard}
 use Rattle.smi_protocol.specs.declared.event.StepFault.{StepFault}
-use Rattle.smi_protocol.specs.declared.event.StepFault.TheVariants.{Stopped}
+use Rattle.smi_protocol.specs.declared.event.StepFault.TheVariants.{Memory, Stopped}
+use Rattle.smi_protocol.specs.declared.event.Heard.TheVariants.{Same}
 
 pub record Core : Type 0 where
   pub kept : Kept
@@ -59,3 +60,8 @@ pub record Steps (before after : Core) (o : Outcome) (handed : Out) (r : Result 
 abbrev pub is_stopped_by : Result Heard StepFault → Bool
 is_stopped_by (Err Stopped) = true
 is_stopped_by _ = false
+
+-- a watch saves nothing, and may want memory
+abbrev pub same_or_memory : {X Y : Type 0} → Result X Y → Result Heard StepFault
+same_or_memory (Ok x) = Ok Same
+same_or_memory (Err fault) = Err Memory

@@ -12,6 +12,7 @@ use smi_message::{Body, Datagram, decode};
 use smi_out::Out;
 use smi_protocol::{Answer, Event, Heard, Order, StepFault, Told};
 use smi_rows::Stable;
+use std::alloc::AllocError;
 use std::marker::Model;
 
 /// The half of the grants, the half of the display, and whether the station has stopped.
@@ -108,6 +109,18 @@ ghost use Rattle.std.specs.Prelude.{ℕ};
 ghost use Rattle.smi_protocol.specs.Happening.{Orders};
 ghost use Rattle.smi_protocol.specs.Step.{ordered_or_reported};
 ghost use Rattle.smi_protocol.specs.declared.Order.TheVariants.{Report};
+
+/// A watch saves nothing, and may want memory.
+fn same_or_memory(done: Result<(), AllocError>) -> Result<Heard, StepFault>
+    ensures { result ≡ same_or_memory done }
+{
+    match done {
+        Ok(()) => Ok(Heard::Same),
+        Err(_) => Err(StepFault::Memory),
+    }
+}
+
+ghost use Rattle.smi_station.specs.Core.{same_or_memory};
 
 /// The code of an order or a report that is not for this station.
 const NOT_HERE: u16 = 26;
@@ -260,10 +273,9 @@ impl<'a> Core<'a> {
         ensures unchanged { OnErr result (self.new ≡ self.old) }
         ensures fault { IfErr result (λ fault. fault ≡ Memory) }
     {
-        match self.display.watch_comes(out, datagram.from, watched.object, watched.echo) {
-            Ok(()) => Ok(Heard::Same),
-            Err(_) => Err(StepFault::Memory),
-        }
+        let done = self.display
+            .watch_comes(out, datagram.from, watched.object, watched.echo);
+        same_or_memory(done)
     }
 
     /// An operator orders.

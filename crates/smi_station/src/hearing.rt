@@ -44,10 +44,11 @@ pub(crate) fn hear<S: Stable>(
     ensures halves { OnOk result (AreHalves kept.new display.new) }
     ensures same { OnOk result ((kept.new.tree ≡ kept.old.tree) × (kept.new.number ≡ kept.old.number)) }
     ensures room { OnOk result (is_stopped.new ≡ false → MayChange (display_of display.new)) }
-    ensures unchanged { OnErr result ((kept.new ≡ kept.old) × (display.new ≡ display.old) × (is_stopped.new ≡ false)) }
+    ensures unchanged { OnErr result ((kept.new ≡ kept.old) × (display.new ≡ display.old)) }
+    ensures runs { OnErr result (is_stopped.new ≡ false) }
     ensures cleared { OnErr result (out.new ≡ nothing_out) }
 {
-    let _tree = kept.tree();
+    let (_tree, _from) = (kept.tree(), datagram.from);
     let change = plan(out, kept, datagram);
     let found = find(display, kept, datagram);
     match make(kept, store, out, &change) {

@@ -1,0 +1,35 @@
+use Rattle.std.proofs.Common.{◌≡◌, ◌∙◌, ◌++◌, ◌∷◌, [], Ok, Some, None, Bool, true, false, refl, ap, sym, subst}
+use Rattle.std.specs.Prelude.{Option, ℕ, Result, if◌then◌else◌}
+use Rattle.smi_tree.specs.Hierarchy.{Hierarchy}
+use Rattle.smi_message.specs.Message.{Message}
+use Rattle.smi_grants.specs.Kept.{grants_of}
+use Rattle.smi_protocol.specs.Happening.{Comes, Orders, Reports, Ticks, Happening}
+use Rattle.smi_protocol.specs.Refusals.{is_report_here, refusal_of, refusal_of_message}
+use Rattle.smi_protocol.specs.Step.{Out, accepted, after, after_event, after_reading, ordered_or_reported}
+use Rattle.smi_protocol.specs.declared.event.Event.{Event}
+use Rattle.smi_protocol.specs.declared.event.Event.TheVariants as event
+use Rattle.smi_protocol.specs.declared.event.Heard.{Heard}
+use Rattle.smi_protocol.specs.declared.event.Heard.TheVariants.{Refused, Same}
+use Rattle.smi_protocol.specs.declared.event.StepFault.{StepFault}
+use Rattle.smi_protocol.specs.declared.order.Order.{Order}
+use Rattle.smi_station.specs.Core.{Core, IsCore, Steps, core_with, number_of, station_of, station_with, tree_of}
+use Rattle.smi_station.specs.Leaving.{Leaves}
+use Rattle.smi_station.proofs.Steps.{made_core, made_steps, refused_steps, rests, running, stands, taken_steps, watched_core, watched_steps}
+use Rattle.smi_station.proofs.halves.Core.report.Goals as goal
+
+pub report-self-inside-requires-clause-room : goal.report-self-inside-requires-clause-room
+report-self-inside-requires-clause-room c =
+    let i = c.self.inside in
+    c.self.invariant.room (running i.kept i.display i.is_stopped c.args.self.now c.self.view_is c.requires.runs)
+
+pub returns-clause-step : goal.returns-clause-step
+returns-clause-step c =
+    let i = c.self.inside in
+    let here : is_report_here i.kept.tree i.kept.number c.args.device c.args.state ≡ true =
+        sym (ap (λ (h : Hierarchy). is_report_here h c.number.result c.args.device c.args.state) c.tree.ensures.value ∙ ap (λ n. is_report_here i.kept.tree n c.args.device c.args.state) c.number.ensures.value)
+        ∙ sym c.is_report_here.ensures ∙ c.if-not-is_report_here.false in
+    stands i.kept i.display i.is_stopped c.args.self.now c.self.view_is c.requires.runs
+    (λ (before : Core). Steps before (core_with i.kept c.report-self-inside.new.display c.report-self-inside.result) (after (tree_of before) (number_of before) (station_of before) (Reports c.args.device c.args.state)) c.report-self-inside.new.out (Ok Same))
+    (taken_steps (core_with i.kept i.display false) (core_with i.kept c.report-self-inside.new.display c.report-self-inside.result) (Reports c.args.device c.args.state) c.report-self-inside.new.out (Ok Same)
+      (ap (λ (b : Bool). if b then None else Some 26) here)
+      (record { station = c.report-self-inside.ensures.station; heard = refl; out = c.report-self-inside.ensures.out; cleared = tt; tree = refl; number = refl }))

@@ -1,0 +1,39 @@
+use Rattle.std.proofs.Common.{◌≡◌, ◌∙◌, ◌++◌, ◌∷◌, [], Ok, Some, None, false, ap, sym, subst}
+use Rattle.std.specs.Prelude.{Option, ℕ, Result}
+use Rattle.smi_tree.specs.Hierarchy.{Hierarchy}
+use Rattle.smi_message.specs.Message.{Message}
+use Rattle.smi_grants.specs.Kept.{grants_of}
+use Rattle.smi_protocol.specs.Happening.{Comes, Orders, Reports, Ticks, Happening}
+use Rattle.smi_protocol.specs.Refusals.{is_report_here, refusal_of, refusal_of_message}
+use Rattle.smi_protocol.specs.Step.{Out, accepted, after, after_event, after_reading, ordered_or_reported}
+use Rattle.smi_protocol.specs.declared.event.Event.{Event}
+use Rattle.smi_protocol.specs.declared.event.Event.TheVariants as event
+use Rattle.smi_protocol.specs.declared.event.Heard.{Heard}
+use Rattle.smi_protocol.specs.declared.event.Heard.TheVariants.{Refused, Same}
+use Rattle.smi_protocol.specs.declared.event.StepFault.{StepFault}
+use Rattle.smi_protocol.specs.declared.order.Order.{Order}
+use Rattle.smi_station.specs.Core.{Core, IsCore, Steps, core_with, number_of, station_of, station_with, tree_of}
+use Rattle.smi_station.specs.Leaving.{Leaves}
+use Rattle.smi_station.proofs.Steps.{made_core, made_steps, refused_steps, rests, running, stands, taken_steps, watched_core, watched_steps}
+use Rattle.smi_station.proofs.halves.Core.take.Goals as goal
+
+pub returns-in-Datagram-clause-step : goal.returns-in-Datagram-clause-step
+returns-in-Datagram-clause-step g c =
+    let now = c.args.self.now in
+    subst (λ (e : Event). Steps now c.read.new.self (after_event (tree_of now) (number_of now) (station_of now) e) c.read.new.out c.read.result) (sym c.in-Datagram.is) c.read.ensures.step
+
+pub returns-in-Order-clause-step : goal.returns-in-Order-clause-step
+returns-in-Order-clause-step g c =
+    let now = c.args.self.now in
+    subst (λ (e : Event). Steps now c.order.new.self (after_event (tree_of now) (number_of now) (station_of now) e) c.order.new.out c.order.result) (sym c.in-Order.is) c.order.ensures.step
+
+pub returns-in-Order-clause-store : goal.returns-in-Order-clause-store
+returns-in-Order-clause-store g c =
+    let now = c.args.self.now in
+    subst (λ (e : Event). Leaves g.S.Stable.is_honest g.S.Stable.is_open g.S.Stable.rows g.S.Stable.saves g.S.Stable.failures c.args.store.now c.order.new.store c.order.result (after_event (tree_of now) (number_of now) (station_of now) e).saved)
+    (sym c.in-Order.is) c.order.ensures.store
+
+pub returns-in-Report-clause-step : goal.returns-in-Report-clause-step
+returns-in-Report-clause-step g c =
+    let now = c.args.self.now in
+    subst (λ (e : Event). Steps now c.report.new.self (after_event (tree_of now) (number_of now) (station_of now) e) c.report.new.out c.report.result) (sym c.in-Report.is) c.report.ensures.step

@@ -1,0 +1,27 @@
+use Rattle.std.proofs.Common.{◌≡◌, ◌∙◌, ◌++◌, ◌∷◌, [], Ok, Some, None, false, refl, ap, sym, subst}
+use Rattle.std.specs.Prelude.{Option, ℕ, Result}
+use Rattle.smi_tree.specs.Hierarchy.{Hierarchy}
+use Rattle.smi_message.specs.Message.{Message}
+use Rattle.smi_grants.specs.Kept.{grants_of}
+use Rattle.smi_protocol.specs.Happening.{Comes, Orders, Reports, Ticks, Happening}
+use Rattle.smi_protocol.specs.Refusals.{is_report_here, refusal_of, refusal_of_message}
+use Rattle.smi_protocol.specs.Step.{Out, accepted, after, after_event, after_reading, ordered_or_reported}
+use Rattle.smi_protocol.specs.declared.event.Event.{Event}
+use Rattle.smi_protocol.specs.declared.event.Event.TheVariants as event
+use Rattle.smi_protocol.specs.declared.event.Heard.{Heard}
+use Rattle.smi_protocol.specs.declared.event.Heard.TheVariants.{Refused, Same}
+use Rattle.smi_protocol.specs.declared.event.StepFault.{StepFault}
+use Rattle.smi_protocol.specs.declared.order.Order.{Order}
+use Rattle.smi_station.specs.Core.{Core, IsCore, Steps, core_with, number_of, station_of, station_with, tree_of}
+use Rattle.smi_station.specs.Leaving.{Leaves}
+use Rattle.smi_station.proofs.Steps.{made_core, made_steps, refused_steps, rests, running, stands, taken_steps, watched_core, watched_steps}
+use Rattle.smi_station.proofs.halves.Core.tick.Goals as goal
+
+pub returns-clause-step : goal.returns-clause-step
+returns-clause-step c =
+    let i = c.self.inside in
+    let runs = running i.kept i.display i.is_stopped c.args.self.now c.self.view_is c.requires.runs in
+    stands i.kept i.display i.is_stopped c.args.self.now c.self.view_is c.requires.runs
+    (λ (before : Core). Steps before (core_with i.kept c.tick.new.display i.is_stopped) (accepted (tree_of before) (number_of before) (station_of before) Ticks) c.tick.new.out (Ok Same))
+    (subst (λ b. Steps (core_with i.kept i.display false) (core_with i.kept c.tick.new.display b) (accepted i.kept.tree i.kept.number (station_with i.kept i.display false) Ticks) c.tick.new.out (Ok Same)) (sym runs)
+      (record { station = c.tick.ensures.station; heard = refl; out = c.tick.ensures.out; cleared = tt; tree = refl; number = refl }))
