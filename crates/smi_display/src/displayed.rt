@@ -1,3 +1,4 @@
+use smi_grant::Shown;
 use smi_protocol::Place;
 use smi_publish::Publisher;
 use smi_tree::Tree;
@@ -126,5 +127,12 @@ impl<'a> Displayed<'a> {
         ensures value { result ≡ self.now.published.boot }
     {
         self.publisher.boot()
+    }
+
+    /// What an object shows, if the station keeps it.
+    pub fn current(&self, object: u16) -> Option<Shown>
+        ensures { result ≡ shown_at self.now.published.boot (display_of self.now).conditions object }
+    {
+        self.publisher.current(object)
     }
 }

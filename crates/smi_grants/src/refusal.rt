@@ -59,7 +59,7 @@ fn is_body_of(tree: &Tree, from: u16, to: u16, body: &Body) -> bool
 }
 
 /// Whether a station may speak for a holder of the domain.
-fn speaks_for(tree: &Tree, from: u16, domain: u16, holder: Holder) -> bool
+pub fn speaks_for(tree: &Tree, from: u16, domain: u16, holder: Holder) -> bool
     ensures { result ≡ spec.speaks_for tree.now from domain holder }
 {
     is_holder_of(tree, domain, holder) && is_at(tree, holder, from)

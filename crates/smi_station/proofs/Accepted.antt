@@ -75,8 +75,7 @@ module _ (h : Hierarchy) (tree : IsTree h) (number : ℕ) (m : Message) (fits : 
       let r = and_parts (is_between 1 last_number n) _ f.1 in
       let i = and_parts (nat_le 1 n) (nat_le n last_number) r.0 in
       let k = and_parts (is_keeper h number d) _ a.1 in
-      let s = and_parts (speaks_for h m.from d who) _ k.1 in
-      (
+      let s = and_parts (speaks_for h m.from d who) _ k.1 in (
         record { domain = (kept_there h tree number d k.0).0; party = p.0; range = p.1; holder = (and_parts (is_holder_of h d who) _ s.0).0 },
         leb-true n last_number i.1,
         record { range = r.1; known = s.1 },

@@ -106,7 +106,7 @@ module _ (k0 k2 : Kept) (d0 d1 d2 : Displayed) (m : Message) (domain action : Op
       ap (λ (h : Hierarchy). passed_in h d1.published.boot (display_of d1).conditions (display_of d2).conditions domain) tree_is
       ∙ ap (λ b. passed_in h b (display_of d1).conditions (display_of d2).conditions domain) (rest.boot ∙ halves.boot)
       ∙ ap (λ (cs : ℕ → Option Condition). passed_in h k0.boot cs (display_of d2).conditions domain)
-        (ap (λ (s : Display). s.conditions) noticed ∙ notice_stays h k0.number k0.boot (display_of d0) m.from m.body)
+      (ap (λ (s : Display). s.conditions) noticed ∙ notice_stays h k0.number k0.boot (display_of d0) m.from m.body)
       ∙ ap (λ (s : Display). passed_in h k0.boot (display_of d0).conditions s.conditions domain) display_then
       ∙ ap (passed_in h k0.boot (display_of d0).conditions defined) domain_same
 
@@ -127,5 +127,5 @@ module _ (k0 k2 : Kept) (d0 d1 d2 : Displayed) (m : Message) (domain action : Op
   heard_out before_sends after_sends told sent =
       sent
       ∙ ap (λ (o : Out). record o { datagrams = sent_after o.datagrams (shown_anew d1.tree d1.number d1.published.boot (display_of d1) (display_of d2).conditions domain) })
-        (told ∙ ap (with_notice (with_step nothing_out g)) noticed_same)
+      (told ∙ ap (with_notice (with_step nothing_out g)) noticed_same)
       ∙ parts_together h k0.number s g n defined passed (shown_anew d1.tree d1.number d1.published.boot (display_of d1) (display_of d2).conditions domain) sends_same

@@ -144,7 +144,7 @@ module _ (boot : ℕ) (old mid new : ℕ → Option Condition) (devices : List �
       by (Some c) is differ sound a =
           below c.sequence sound.sequence
           (any_not (λ (s : Shown). s.version.sequence == last_sequence) (shown boot x c) (changes_at boot old new (devices ++ d ∷ [])) unspent
-            (in_chosen (change_at boot old new) x (shown boot x c) (devices ++ d ∷ []) a (there c is differ)))
+          (in_chosen (change_at boot old new) x (shown boot x c) (devices ++ d ∷ []) a (there c is differ)))
 
 -- The steps that a station takes.
 

@@ -18,9 +18,9 @@ use std::marker::Model;
 /// The half of the grants, the half of the display, and whether the station has stopped.
 #[derive(Drop)]
 pub(crate) struct Core<'a> {
-    kept: Kept<'a>,
-    display: Displayed<'a>,
-    is_stopped: bool,
+    pub(crate) kept: Kept<'a>,
+    pub(crate) display: Displayed<'a>,
+    pub(crate) is_stopped: bool,
 }
 
 impl<'a> Model for Core<'a> {
@@ -273,7 +273,8 @@ impl<'a> Core<'a> {
         ensures unchanged { OnErr result (self.new ≡ self.old) }
         ensures fault { IfErr result (λ fault. fault ≡ Memory) }
     {
-        let done = self.display
+        let done = self
+            .display
             .watch_comes(out, datagram.from, watched.object, watched.echo);
         same_or_memory(done)
     }
@@ -317,7 +318,14 @@ impl<'a> Core<'a> {
                 out.answer(refusal(operator, order, code));
                 Ok(Heard::Refused(code))
             }
-            None => obey(&mut self.kept, &mut self.display, store, out, operator, order),
+            None => obey(
+                &mut self.kept,
+                &mut self.display,
+                store,
+                out,
+                operator,
+                order,
+            ),
         }
     }
 

@@ -1,7 +1,12 @@
-//! A station, as far as it is written: a planned step of its grants is saved and made.
+//! A station of the control hierarchy: [`Station::step`] is one event.
 //!
-//! What is to come here joins the halves of a station (`smi_grants`, `smi_display`) and its store, and is to make of
-//! them, with each event, what `after_event` of `smi_protocol` says.
+//! A [`Station`] keeps the grants of its domains and the links of its operators and domains (`smi_grants`), the
+//! states of its objects and of those that it watches (`smi_display`), and a store of its rows. What an event makes
+//! of it is defined in `smi_protocol`, under `specs/Step.antt`, and a step is what is defined there, whole: the
+//! station afterwards, the row that is saved, and what is handed out.
+//!
+//! A step takes no memory but for the bytes of its row and for a new watcher. It looks at what its event touches: a
+//! domain, the one above it, its children and devices, and those who watch what has changed.
 #![tactic(auto)]
 
 mod halves;
@@ -10,7 +15,9 @@ mod making;
 mod noticing;
 mod obeying;
 mod planning;
+mod reading;
 mod reporting;
+mod station;
 mod stirring;
 
-
+pub use station::Station;

@@ -40,7 +40,7 @@ returns-in-Ok-clause-out g c =
     c.find-found.ensures.domain c.find-found.ensures.before c.find-found.ensures.action c.stir.ensures.display
     c.notice.new.out c.stir.new.out
     (c.notice.ensures.sent
-      ∙ ap (λ (o : Out). with_notice o (body_noticed d.tree d.number d.published.boot (display_of d) m.from m.body)) (c.in-Ok.ensures.out ∙ c.plan-change.ensures.sent))
+    ∙ ap (λ (o : Out). with_notice o (body_noticed d.tree d.number d.published.boot (display_of d) m.from m.body)) (c.in-Ok.ensures.out ∙ c.plan-change.ensures.sent))
     c.stir.ensures.sent
 
 pub returns-in-Ok-clause-store : goal.returns-in-Ok-clause-store

@@ -38,8 +38,8 @@ returns-in-Ok-clause-out g c =
     obeyed_out k c.make.new.kept d c.order_comes.new.self c.args.operator c.args.what.now c.requires.halves
     (c.in-Ok.ensures.grants step c.order-change.ensures.plan) c.order_comes.ensures.display c.order_comes.new.out
     (c.order_comes.ensures.sent
-      ∙ ap (λ (o : Out). with_notice o (order_noticed d.tree d.number d.published.boot (display_of d) c.args.operator c.args.what.now))
-      (c.in-Ok.ensures.out ∙ c.order-change.ensures.sent ∙ ap (λ (o : Out). with_step o step) c.requires.empty))
+    ∙ ap (λ (o : Out). with_notice o (order_noticed d.tree d.number d.published.boot (display_of d) c.args.operator c.args.what.now))
+    (c.in-Ok.ensures.out ∙ c.order-change.ensures.sent ∙ ap (λ (o : Out). with_step o step) c.requires.empty))
 
 pub returns-in-Ok-clause-store : goal.returns-in-Ok-clause-store
 returns-in-Ok-clause-store g c =

@@ -39,7 +39,7 @@ returns-clause-out c =
     c.show_anew-is_spent.ensures.display c.show_anew-is_spent.ensures.changes
     c.show_anew-is_spent.new.out
     (c.show_anew-is_spent.ensures.sent
-      ∙ ap (λ (o : Out). record o { datagrams = sent_after o.datagrams (flat_map (shown_to_all d1.tree d1.number d1.watchers) c.show_anew-is_spent.new.changes) }) c.requires.empty)
+    ∙ ap (λ (o : Out). record o { datagrams = sent_after o.datagrams (flat_map (shown_to_all d1.tree d1.number d1.watchers) c.show_anew-is_spent.new.changes) }) c.requires.empty)
 
 pub returns-clause-room : goal.returns-clause-room
 returns-clause-room c unspent =

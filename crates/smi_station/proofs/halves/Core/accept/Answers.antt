@@ -23,12 +23,12 @@ returns-in-None-clause-step g c =
     stands i.kept i.display i.is_stopped c.args.self.now c.self.view_is c.requires.runs
     (λ (before : Core). Steps before (core_with c.hear.new.kept c.hear.new.display c.hear.new.is_stopped) (accepted (tree_of before) (number_of before) (station_of before) (Comes c.args.datagram.now)) c.hear.new.out c.hear.result)
     (made_steps _ i.kept c.hear.new.kept i.display c.hear.new.display c.hear.new.is_stopped (accepted i.kept.tree i.kept.number (station_with i.kept i.display false) (Comes c.args.datagram.now)) c.hear.new.out c.hear.result
-      c.hear.ensures.station c.hear.ensures.heard c.hear.ensures.out c.hear.ensures.same c.hear.ensures.unchanged c.hear.ensures.cleared)
+    c.hear.ensures.station c.hear.ensures.heard c.hear.ensures.out c.hear.ensures.same c.hear.ensures.unchanged c.hear.ensures.cleared)
 
 pub returns-in-None-clause-store : goal.returns-in-None-clause-store
 returns-in-None-clause-store g c =
     let i = c.self.inside in
     stands i.kept i.display i.is_stopped c.args.self.now c.self.view_is c.requires.runs
     (λ (before : Core). Leaves g.S.Stable.is_honest g.S.Stable.is_open g.S.Stable.rows g.S.Stable.saves g.S.Stable.failures c.args.store.now c.hear.new.store c.hear.result
-      (accepted (tree_of before) (number_of before) (station_of before) (Comes c.args.datagram.now)).saved)
+    (accepted (tree_of before) (number_of before) (station_of before) (Comes c.args.datagram.now)).saved)
     c.hear.ensures.store

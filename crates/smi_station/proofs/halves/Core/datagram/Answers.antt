@@ -22,6 +22,6 @@ returns-in-None-clause-step g c =
     let now = c.args.self.now in
     taken_steps now c.accept.new.self (Comes c.args.datagram.now) c.accept.new.out c.accept.result
     (subst (λ (before : Core). refusal_of_message (tree_of before) (number_of before) c.args.datagram.now ≡ None) c.self.view_is
-      (sym (ap (λ (h : Hierarchy). refusal_of_message h c.number.result c.args.datagram.now) c.tree.ensures.value ∙ ap (λ n. refusal_of_message c.self.inside.kept.tree n c.args.datagram.now) c.number.ensures.value)
-        ∙ sym c.refusal_of_message.ensures ∙ c.in-None.is))
+    (sym (ap (λ (h : Hierarchy). refusal_of_message h c.number.result c.args.datagram.now) c.tree.ensures.value ∙ ap (λ n. refusal_of_message c.self.inside.kept.tree n c.args.datagram.now) c.number.ensures.value)
+    ∙ sym c.refusal_of_message.ensures ∙ c.in-None.is))
     c.accept.ensures.step

@@ -36,7 +36,7 @@ pub returns-in-Some-clause-store : goal.returns-in-Some-clause-store
 returns-in-Some-clause-store g c =
     subst (λ (row : Option Saved). Leaves g.S.Stable.is_honest g.S.Stable.is_open g.S.Stable.rows g.S.Stable.saves g.S.Stable.failures c.args.store.now c.args.store.now (Ok (Refused c.in-Some.code)) row)
     (sym (refused_saves c.args.self.now (Orders c.args.operator c.args.order.now) c.in-Some.code
-      (subst (λ (before : Core). refusal_of (tree_of before) (number_of before) (grants_of before.kept) (Orders c.args.operator c.args.order.now) ≡ Some c.in-Some.code) c.self.view_is (sym c.refusal_of_order.ensures ∙ c.in-Some.is))))
+    (subst (λ (before : Core). refusal_of (tree_of before) (number_of before) (grants_of before.kept) (Orders c.args.operator c.args.order.now) ≡ Some c.in-Some.code) c.self.view_is (sym c.refusal_of_order.ensures ∙ c.in-Some.is))))
     (rests g.S.Stable.is_honest g.S.Stable.is_open g.S.Stable.rows g.S.Stable.saves g.S.Stable.failures c.args.store.now (Ok (Refused c.in-Some.code)) tt)
 
 pub returns-in-None-clause-step : goal.returns-in-None-clause-step
@@ -46,9 +46,9 @@ returns-in-None-clause-step g c =
     stands i.kept i.display i.is_stopped c.args.self.now c.self.view_is c.requires.runs
     (λ (before : Core). Steps before (core_with c.obey.new.kept c.obey.new.display i.is_stopped) (after (tree_of before) (number_of before) (station_of before) (Orders c.args.operator c.args.order.now)) c.obey.new.out c.obey.result)
     (taken_steps (core_with i.kept i.display false) (core_with c.obey.new.kept c.obey.new.display i.is_stopped) (Orders c.args.operator c.args.order.now) c.obey.new.out c.obey.result (sym c.refusal_of_order.ensures ∙ c.in-None.is)
-      (subst (λ b. Steps (core_with i.kept i.display false) (core_with c.obey.new.kept c.obey.new.display b) (accepted i.kept.tree i.kept.number (station_with i.kept i.display false) (Orders c.args.operator c.args.order.now)) c.obey.new.out c.obey.result) (sym runs)
-        (made_steps _ i.kept c.obey.new.kept i.display c.obey.new.display false (accepted i.kept.tree i.kept.number (station_with i.kept i.display false) (Orders c.args.operator c.args.order.now)) c.obey.new.out c.obey.result
-          c.obey.ensures.station c.obey.ensures.heard c.obey.ensures.out c.obey.ensures.same c.obey.ensures.unchanged c.obey.ensures.cleared)))
+    (subst (λ b. Steps (core_with i.kept i.display false) (core_with c.obey.new.kept c.obey.new.display b) (accepted i.kept.tree i.kept.number (station_with i.kept i.display false) (Orders c.args.operator c.args.order.now)) c.obey.new.out c.obey.result) (sym runs)
+    (made_steps _ i.kept c.obey.new.kept i.display c.obey.new.display false (accepted i.kept.tree i.kept.number (station_with i.kept i.display false) (Orders c.args.operator c.args.order.now)) c.obey.new.out c.obey.result
+    c.obey.ensures.station c.obey.ensures.heard c.obey.ensures.out c.obey.ensures.same c.obey.ensures.unchanged c.obey.ensures.cleared)))
 
 pub returns-in-None-clause-store : goal.returns-in-None-clause-store
 returns-in-None-clause-store g c =
@@ -56,4 +56,4 @@ returns-in-None-clause-store g c =
     stands i.kept i.display i.is_stopped c.args.self.now c.self.view_is c.requires.runs
     (λ (before : Core). Leaves g.S.Stable.is_honest g.S.Stable.is_open g.S.Stable.rows g.S.Stable.saves g.S.Stable.failures c.args.store.now c.obey.new.store c.obey.result (after (tree_of before) (number_of before) (station_of before) (Orders c.args.operator c.args.order.now)).saved)
     (subst (λ (row : Option Saved). Leaves g.S.Stable.is_honest g.S.Stable.is_open g.S.Stable.rows g.S.Stable.saves g.S.Stable.failures c.args.store.now c.obey.new.store c.obey.result row)
-      (sym (taken_saves (core_with i.kept i.display false) (Orders c.args.operator c.args.order.now) (sym c.refusal_of_order.ensures ∙ c.in-None.is))) c.obey.ensures.store)
+    (sym (taken_saves (core_with i.kept i.display false) (Orders c.args.operator c.args.order.now) (sym c.refusal_of_order.ensures ∙ c.in-None.is))) c.obey.ensures.store)

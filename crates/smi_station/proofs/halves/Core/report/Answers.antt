@@ -26,10 +26,10 @@ pub returns-clause-step : goal.returns-clause-step
 returns-clause-step c =
     let i = c.self.inside in
     let here : is_report_here i.kept.tree i.kept.number c.args.device c.args.state ≡ true =
-        sym (ap (λ (h : Hierarchy). is_report_here h c.number.result c.args.device c.args.state) c.tree.ensures.value ∙ ap (λ n. is_report_here i.kept.tree n c.args.device c.args.state) c.number.ensures.value)
-        ∙ sym c.is_report_here.ensures ∙ c.if-not-is_report_here.false in
+    sym (ap (λ (h : Hierarchy). is_report_here h c.number.result c.args.device c.args.state) c.tree.ensures.value ∙ ap (λ n. is_report_here i.kept.tree n c.args.device c.args.state) c.number.ensures.value)
+    ∙ sym c.is_report_here.ensures ∙ c.if-not-is_report_here.false in
     stands i.kept i.display i.is_stopped c.args.self.now c.self.view_is c.requires.runs
     (λ (before : Core). Steps before (core_with i.kept c.report-self-inside.new.display c.report-self-inside.result) (after (tree_of before) (number_of before) (station_of before) (Reports c.args.device c.args.state)) c.report-self-inside.new.out (Ok Same))
     (taken_steps (core_with i.kept i.display false) (core_with i.kept c.report-self-inside.new.display c.report-self-inside.result) (Reports c.args.device c.args.state) c.report-self-inside.new.out (Ok Same)
-      (ap (λ (b : Bool). if b then None else Some 26) here)
-      (record { station = c.report-self-inside.ensures.station; heard = refl; out = c.report-self-inside.ensures.out; cleared = tt; tree = refl; number = refl }))
+    (ap (λ (b : Bool). if b then None else Some 26) here)
+    (record { station = c.report-self-inside.ensures.station; heard = refl; out = c.report-self-inside.ensures.out; cleared = tt; tree = refl; number = refl }))

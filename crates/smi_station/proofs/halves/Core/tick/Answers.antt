@@ -24,4 +24,4 @@ returns-clause-step c =
     stands i.kept i.display i.is_stopped c.args.self.now c.self.view_is c.requires.runs
     (λ (before : Core). Steps before (core_with i.kept c.tick.new.display i.is_stopped) (accepted (tree_of before) (number_of before) (station_of before) Ticks) c.tick.new.out (Ok Same))
     (subst (λ b. Steps (core_with i.kept i.display false) (core_with i.kept c.tick.new.display b) (accepted i.kept.tree i.kept.number (station_with i.kept i.display false) Ticks) c.tick.new.out (Ok Same)) (sym runs)
-      (record { station = c.tick.ensures.station; heard = refl; out = c.tick.ensures.out; cleared = tt; tree = refl; number = refl }))
+    (record { station = c.tick.ensures.station; heard = refl; out = c.tick.ensures.out; cleared = tt; tree = refl; number = refl }))

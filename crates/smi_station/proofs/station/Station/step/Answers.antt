@@ -1,0 +1,17 @@
+use Rattle.std.proofs.Common.{◌≡◌, false, subst}
+use Rattle.smi_protocol.specs.Step.{after_event}
+use Rattle.smi_station.specs.Core.{Steps, number_of, station_of, tree_of}
+use Rattle.smi_station.specs.Leaving.{Leaves}
+use Rattle.smi_station.specs.Readers.{Whole}
+use Rattle.smi_station.proofs.station.Station.step.Goals as goal
+
+pub returns-clause-step : goal.returns-clause-step
+returns-clause-step g c =
+    subst (λ (before : Whole g.row.S.Denot). before.core.is_stopped ≡ false → Steps before.core c.step.new.self (after_event (tree_of before.core) (number_of before.core) (station_of before.core) c.args.event) c.step.new.out c.step.result)
+    c.self.view_is c.step.ensures.step
+
+pub returns-clause-store : goal.returns-clause-store
+returns-clause-store g c =
+    subst (λ (before : Whole g.row.S.Denot). before.core.is_stopped ≡ false → Leaves g.S.Stable.is_honest g.S.Stable.is_open g.S.Stable.rows g.S.Stable.saves g.S.Stable.failures before.store c.step.new.store c.step.result
+    (after_event (tree_of before.core) (number_of before.core) (station_of before.core) c.args.event).saved)
+    c.self.view_is c.step.ensures.store

@@ -1,0 +1,119 @@
+use crate::halves::Core;
+use smi_command::Link;
+use smi_grant::{Holder, Record, Shown};
+use smi_out::Out;
+use smi_protocol::{Event, Heard, StepFault};
+use smi_rows::{Mode, Stable};
+use std::marker::Model;
+
+/// A station: its part of the control hierarchy, and the store of its rows. Contracts see what it keeps, and the
+/// store.
+#[derive(Drop)]
+pub struct Station<'a, S> {
+    core: Core<'a>,
+    store: S,
+}
+
+impl<'a, S> Model for Station<'a, S> {
+    ghost use Rattle.smi_station.specs.Readers.{Whole};
+
+    ghost Value = { Whole S };
+
+    ghost view = { λ s. record { core = s.core; store = s.store } };
+}
+
+impl<'a, S> Station<'a, S> {
+    ghost use Rattle.std.specs.Prelude.{◌≡◌};
+    ghost use Rattle.smi_station.specs.Core.{station_of};
+    ghost use Rattle.smi_station.specs.Readers.{current_of, link_in, mode_in, record_in};
+    ghost use Rattle.smi_station.specs.Lending.{LendsStore};
+    ghost use Rattle.std.specs.Borrow.{sem};
+
+    /// How often the station has started, 1 to 4,000,000,000.
+    pub fn boot(&self) -> u32
+        ensures { result ≡ (station_of self.now.core).grants.boot }
+    {
+        self.core.boot()
+    }
+
+    /// Whether the station has stopped: a save was left unsure, or an object has come to its last sequence. It then
+    /// makes no step until it is opened again.
+    pub fn is_stopped(&self) -> bool
+        ensures { result ≡ (station_of self.now.core).is_stopped }
+    {
+        self.core.is_stopped()
+    }
+
+    /// The record of a domain, by its number from 1; none where the station does not keep it.
+    pub fn record(&self, domain: u16) -> Option<Record>
+        ensures { result ≡ record_in self.now.core domain }
+    {
+        self.core.record(domain)
+    }
+
+    /// The link of a holder to a domain, by its number from 1; none where the holder is of another station, or may
+    /// not hold the domain.
+    pub fn link(&self, holder: Holder, domain: u16) -> Option<Link>
+        ensures { result ≡ link_in self.now.core holder domain }
+    {
+        self.core.link(holder, domain)
+    }
+
+    /// The mode in which a domain is held by the one above it; none where the station does not keep that one.
+    pub fn mode(&self, domain: u16) -> Option<Mode>
+        ensures { result ≡ mode_in self.now.core domain }
+    {
+        self.core.mode(domain)
+    }
+
+    /// What an object shows: units by the numbers of their domains, then devices; none where the station does not
+    /// keep it.
+    pub fn current(&self, object: u16) -> Option<Shown>
+        ensures { result ≡ current_of (station_of self.now.core) object }
+    {
+        self.core.current(object)
+    }
+
+    /// The store of its rows, for one who leaves the rows as they are.
+    pub fn stable_mut(&mut self) -> &mut S
+        ensures* given_back { sem 𝓛 (LendsStore S.row self.entry result) }
+        ensures lent { result.now ≡ self.old.store }
+    {
+        &mut self.store
+    }
+
+    /// The station is given up for the store of its rows.
+    pub fn into_stable(self) -> S
+        ensures { result ≡ self.entry.store }
+    {
+        let Station { core: _, store } = self;
+        store
+    }
+}
+
+impl<'a, S: Stable> Station<'a, S> {
+    ghost use Rattle.std.specs.Prelude.{◌≡◌, true, false, Err};
+    ghost use Rattle.smi_grants.specs.Save.{IfKept, IfStopped};
+    ghost use Rattle.smi_protocol.specs.Step.{after_event, nothing_out};
+    ghost use Rattle.smi_protocol.specs.declared.event.StepFault.TheVariants.{Stopped};
+    ghost use Rattle.smi_station.specs.Core.{Steps, number_of, station_of, tree_of};
+    ghost use Rattle.smi_station.specs.Leaving.{Leaves};
+
+    /// An event comes to the station: bytes, an order, a report, or a tick. `out` then holds what the step hands out,
+    /// and nothing of an earlier one.
+    ///
+    /// A step saves before it changes anything and before anything is handed out. After `NotStored`, where the store
+    /// answered `Device`, and `Memory`, where memory was refused to the station or the store, the station and its
+    /// rows are unchanged. `Stopped` is answered by a station that has stopped, before all other tests, and where the
+    /// store answered `Unsure`: the station has then stopped, and its rows are as before or as after the step. After
+    /// each of the three nothing is handed out.
+    pub fn step(&mut self, event: Event<'_>, out: &mut Out) -> Result<Heard, StepFault>
+        ensures step { self.old.core.is_stopped ≡ false → Steps self.old.core self.new.core (after_event (tree_of self.old.core) (number_of self.old.core) (station_of self.old.core) event.entry) out.new result }
+        ensures store { self.old.core.is_stopped ≡ false → Leaves S.is_honest S.is_open S.rows S.saves S.failures self.old.store self.new.store result (after_event (tree_of self.old.core) (number_of self.old.core) (station_of self.old.core) event.entry).saved }
+        ensures kept { IfKept result (self.new.core ≡ self.old.core) }
+        ensures stops { IfStopped result (self.new.core ≡ record self.old.core { is_stopped = true }) }
+        ensures stopped { self.old.core.is_stopped ≡ true → (result ≡ Err Stopped) × (out.new ≡ nothing_out) × (self.new.store ≡ self.old.store) }
+    {
+        self.core.step(&mut self.store, event, out)
+    }
+}
