@@ -1,0 +1,4 @@
+pub mod Results
+pub mod SoundLoading
+pub mod Taking
+pub mod Opening
