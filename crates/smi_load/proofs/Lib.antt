@@ -2,3 +2,4 @@ pub mod Results
 pub mod SoundLoading
 pub mod Taking
 pub mod Opening
+pub mod Starts

@@ -22,12 +22,22 @@ abbrev pub grants_after : Result Kept OpenFault → Result Grants OpenFault
 grants_after (Ok kept) = Ok (grants_of kept)
 grants_after (Err fault) = Err fault
 
+-- the rows with this boot saved
+abbrev pub with_boot : ℕ → ℕ → Rows → Rows
+with_boot number boot rows = with_row (saved_boot number boot).key (saved_boot number boot).bytes rows
+
 -- the rows with the boot of one start more
 abbrev pub after_start : Hierarchy → ℕ → Rows → Rows
-after_start h number rows =
-    with_row (saved_boot number ((grants_in h number rows).boot + 1)).key (saved_boot number ((grants_in h number rows).boot + 1)).bytes rows
+after_start h number rows = with_boot number ((grants_in h number rows).boot + 1) rows
 
--- the rows are as they were, and that is known
+-- What is known of the store afterwards.
+
+-- a result that leaves no doubt of the rows
+abbrev pub IfCertain : {X : Type 0} → Result X OpenFault → Type 0 → Type 0
+IfCertain (Err (open_fault.Store store_fault.Unsure)) P = Unit {0}
+IfCertain _ P = P
+
+-- a fault that leaves no doubt of them
 abbrev pub IfUnchanged : {X : Type 0} → Result X OpenFault → Type 0 → Type 0
 IfUnchanged (Ok x) P = Unit {0}
 IfUnchanged (Err (open_fault.Store store_fault.Unsure)) P = Unit {0}
@@ -42,6 +52,16 @@ IfInDoubt _ P = Unit {0}
 abbrev pub IfStoreFailed : {X : Type 0} → Result X OpenFault → Type 0 → Type 0
 IfStoreFailed (Err (open_fault.Store fault)) P = P
 IfStoreFailed _ P = Unit {0}
+
+-- Faults.
+
+-- a fault that comes of a store or of memory
+abbrev pub IsOfStore : OpenFault → Type 0
+IsOfStore (open_fault.Store store_fault.Memory) = ⊥
+IsOfStore (open_fault.Store store_fault.Device) = Unit {0}
+IsOfStore (open_fault.Store store_fault.Unsure) = Unit {0}
+IsOfStore open_fault.Memory = Unit {0}
+IsOfStore _ = ⊥
 
 -- a fault that is not the store's
 abbrev pub IsNotOfStore : OpenFault → Type 0

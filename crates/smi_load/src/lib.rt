@@ -6,5 +6,7 @@
 
 mod reading;
 mod restoring;
+mod starting;
 
 pub use restoring::kept_of_rows;
+pub use starting::load_and_start;
