@@ -5,3 +5,4 @@ mod Among
 mod ChildTables
 mod Ordered
 mod Heard
+mod Restoring

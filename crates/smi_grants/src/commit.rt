@@ -44,7 +44,7 @@ impl<'a> Kept<'a> {
     }
 
     /// Another record of a domain.
-    fn put_record(&mut self, domain: u16, standing: Record)
+    pub(crate) fn put_record(&mut self, domain: u16, standing: Record)
         requires least { 1 ≤ domain }
         requires most { domain ≤ domain_count self.old.tree }
         ensures grants { grants_of self.new ≡ with_record (grants_of self.old) domain standing }
@@ -55,7 +55,7 @@ impl<'a> Kept<'a> {
     }
 
     /// Another code that a domain has gathered.
-    fn put_gathered(&mut self, domain: u16, code: u16)
+    pub(crate) fn put_gathered(&mut self, domain: u16, code: u16)
         requires least { 1 ≤ domain }
         requires most { domain ≤ domain_count self.old.tree }
         ensures grants { grants_of self.new ≡ with_gathered (grants_of self.old) domain code }
@@ -66,7 +66,7 @@ impl<'a> Kept<'a> {
     }
 
     /// Another link of an operator of the station.
-    fn put_operator_link(&mut self, operator: u16, domain: u16, link: Link)
+    pub(crate) fn put_operator_link(&mut self, operator: u16, domain: u16, link: Link)
         requires operator { is_number (operator_station_of self.old.tree operator) self.old.number ≡ true }
         requires least { 1 ≤ domain }
         requires most { domain ≤ domain_count self.old.tree }

@@ -9,6 +9,7 @@ mod deciding;
 mod hearing;
 mod kept;
 mod links;
+mod opening;
 mod ordering;
 mod refusal;
 mod row;

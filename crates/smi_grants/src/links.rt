@@ -1,5 +1,6 @@
 use smi_command::Link;
 use smi_tables::entry_of;
+use std::alloc::{AllocError, Global};
 use std::marker::Model;
 
 /// The links of one holder, by domain.
@@ -18,9 +19,17 @@ impl Model for Links {
 }
 
 impl Links {
-    ghost use Rattle.std.specs.Prelude.{◌≡◌, ◌≤◌, ◌-◌, length, slice_set};
+    ghost use Rattle.std.specs.Prelude.{◌≡◌, ◌≤◌, ◌-◌, length, slice_set, replicate, IfOk};
     ghost use Rattle.smi_command.specs.declared.Link.TheVariants.{Out};
     ghost use Rattle.smi_tables.specs.Entries.{entry_or};
+
+    /// The links to so many domains, of none of which anything was heard.
+    pub fn new(alloc: Global, domains: usize) -> Result<Links, AllocError>
+        ensures { IfOk result (λ links. links ≡ replicate domains (Out 0)) }
+    {
+        let links = vec![in alloc; Link::Out(0); domains]?;
+        Ok(Links { links })
+    }
 
     /// The link to a domain, `Out(0)` where none stands.
     pub fn link(&self, domain: u16) -> Link

@@ -1,0 +1,5 @@
+pub mod Results
+pub mod SoundLoading
+pub mod Taking
+pub mod Opening
+pub mod Starts

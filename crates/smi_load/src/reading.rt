@@ -1,0 +1,38 @@
+//! What rows say to a station.
+
+ghost use Rattle.std.specs.Prelude.{◌≡◌};
+ghost use Rattle.smi_message.specs.Message.{is_between};
+ghost use Rattle.smi_tree.specs.Lookups.{station_count};
+ghost use Rattle.smi_load.specs.Restoring.{Comes};
+ghost use Rattle.smi_load.specs.Restoring as spec;
+
+use smi_protocol::OpenFault;
+use smi_rows::{Row, RowFault, SavedRow};
+use smi_tree::Tree;
+use std::alloc::Global;
+
+/// Whether the tree has the station.
+pub(crate) fn has_station(tree: &Tree, number: u16) -> bool
+    ensures { result ≡ is_between 1 (station_count tree.now) number }
+{
+    1 <= number && number <= tree.station_count()
+}
+
+/// What a row says to the station; one of another station says nothing, and is not read.
+pub(crate) fn said_to(
+    alloc: Global,
+    tree: &Tree,
+    number: u16,
+    row: &SavedRow,
+) -> Result<Option<Row>, OpenFault>
+    ensures { Comes result (spec.said_to tree.now number row.now) }
+{
+    if row.key.station != number {
+        return Ok(None);
+    }
+    match Row::read(alloc, tree, row.key, &row.bytes) {
+        Ok(said) => Ok(Some(said)),
+        Err(RowFault::Code(code)) => Err(OpenFault::Row(row.key, code)),
+        Err(RowFault::Memory) => Err(OpenFault::Memory),
+    }
+}
