@@ -12,7 +12,7 @@ use smi_tree::Tree;
 use std::alloc::Global;
 
 /// Whether the tree has the station.
-pub(crate) fn has_station(tree: &Tree, number: u16) -> bool
+pub fn has_station(tree: &Tree, number: u16) -> bool
     ensures { result ≡ is_between 1 (station_count tree.now) number }
 {
     1 <= number && number <= tree.station_count()

@@ -9,7 +9,6 @@ ghost use Rattle.smi_protocol.specs.Sound.{IsSound};
 ghost use Rattle.smi_grants.specs.Kept.{grants_of};
 ghost use Rattle.smi_load.specs.Starting.{IfCertain, IfInDoubt, IfStoreFailed, IfUnchanged, IsOfStore, IsToldAsMemory, after_start, beginning_with, with_boot};
 
-use crate::reading::has_station;
 use crate::restoring::kept_of_rows;
 use smi_grants::Kept;
 use smi_protocol::OpenFault;
@@ -17,45 +16,12 @@ use smi_rows::{Key, SavedRow, Stable, StoreFault, write_boot};
 use smi_tree::Tree;
 use std::alloc::Global;
 
-/// What a station keeps that starts on this store: what its rows mean, and its boot raised by one and saved.
+/// What a station keeps that starts on this store: what its rows mean, and its boot raised by one, which is still to
+/// be saved.
 ///
-/// The faults stand in the order of [`kept_of_rows`]; a fault of the store, and `Memory`, come where they come. On
-/// each the rows are as before, but that after `Unsure` the boot is as before or one higher.
-pub fn load_and_start<'a, S: Stable>(
-    alloc: Global,
-    tree: &'a Tree,
-    number: u16,
-    store: &mut S,
-) -> Result<Kept<'a>, OpenFault>
-    ensures opens { S.is_honest store.new → Opens tree.now number (S.rows store.old) (beginning_with tree.now number result) }
-    ensures sound { IfOk result (λ kept. IsSound tree.now (grants_of kept)) }
-    ensures boot { IfOk result (λ kept. is_boot (grants_of kept).boot ≡ true) }
-    ensures tree { IfOk result (λ kept. kept.tree ≡ tree.now) }
-    ensures number { IfOk result (λ kept. kept.number ≡ number) }
-    // The raised boot is stored.
-    ensures saved { S.is_honest store.new → OnOk result (S.is_open store.new × IsSame (S.rows store.new) (after_start tree.now number (S.rows store.old))) }
-    ensures kept { S.is_honest store.new → S.is_open store.old → IfUnchanged result (S.is_open store.new × IsSame (S.rows store.new) (S.rows store.old)) }
-    ensures unsure { S.is_honest store.new → S.is_open store.old → S.is_open store.new → IfInDoubt result (IsSame (S.rows store.new) (S.rows store.old) ⊎ IsSame (S.rows store.new) (after_start tree.now number (S.rows store.old))) }
-    // A stop now leaves the boot as before or one higher.
-    ensures crash { S.is_honest store.new → S.is_open store.old → (r : Rows) → S.may_find store.new r → IsSame r (S.rows store.old) ⊎ IsSame r (after_start tree.now number (S.rows store.old)) }
-    ensures honest { S.is_honest store.new → S.is_honest store.old }
-    ensures saves { S.saves store.new ≤ S.saves store.old + 1 }
-    ensures failures { S.failures store.old ≤ S.failures store.new }
-    ensures cause { IfStoreFailed result (S.failures store.old < S.failures store.new) }
-    ensures fault { IfErr result IsToldAsMemory }
-{
-    if !has_station(tree, number) {
-        return Err(OpenFault::NoSuchStation);
-    }
-    let kept = loaded_kept(alloc, tree, number, store)?;
-    match save_boot(store, &kept) {
-        Ok(()) => Ok(kept),
-        Err(fault) => Err(fault),
-    }
-}
-
-/// What the rows of the store come to.
-fn loaded_kept<'a, S: Stable>(
+/// The faults stand in the order of [`kept_of_rows`]; a fault of the store, and `Memory`, come where they come. The
+/// rows stay.
+pub fn loaded_kept<'a, S: Stable>(
     alloc: Global,
     tree: &'a Tree,
     number: u16,
@@ -102,8 +68,9 @@ pub(crate) fn loaded<S: Stable>(store: &mut S) -> Result<Vec<SavedRow>, OpenFaul
     }
 }
 
-/// The boot is saved.
-fn save_boot<S: Stable>(store: &mut S, kept: &Kept<'_>) -> Result<(), OpenFault>
+/// The raised boot is saved. After a fault the rows are as before, but that after `Unsure` the boot is as before or as
+/// saved.
+pub fn save_boot<S: Stable>(store: &mut S, kept: &Kept<'_>) -> Result<(), OpenFault>
     ensures saved { S.is_honest store.new → OnOk result (S.is_open store.new × IsSame (S.rows store.new) (with_boot kept.now.number (grants_of kept.now).boot (S.rows store.old))) }
     ensures kept { S.is_honest store.new → S.is_open store.old → IfUnchanged result (S.is_open store.new × IsSame (S.rows store.new) (S.rows store.old)) }
     ensures unsure { S.is_honest store.new → S.is_open store.new → IfInDoubt result (IsSame (S.rows store.new) (S.rows store.old) ⊎ IsSame (S.rows store.new) (with_boot kept.now.number (grants_of kept.now).boot (S.rows store.old))) }

@@ -3,6 +3,7 @@ pub mod Passing
 pub mod Stirred
 pub mod Quiet
 pub mod Heard
+pub mod Started
 pub mod Steps
 pub mod Reported
 pub mod Outcomes

@@ -8,6 +8,7 @@ use Rattle.smi_protocol.specs.Sound.{IsSound}
 use Rattle.smi_protocol.specs.SoundDisplay.{MayChange}
 use Rattle.smi_protocol.specs.Step.{Out, Outcome, nothing_out}
 use Rattle.smi_protocol.specs.declared.event.Heard.{Heard}
+use Rattle.smi_protocol.specs.declared.fault.OpenFault.{OpenFault}
 use Rattle.smi_protocol.specs.declared.event.StepFault.{StepFault}
 use Rattle.smi_protocol.specs.declared.event.StepFault.TheVariants.{Memory, Stopped}
 use Rattle.smi_protocol.specs.declared.event.Heard.TheVariants.{Same}
@@ -65,3 +66,13 @@ is_stopped_by _ = false
 abbrev pub same_or_memory : {X Y : Type 0} → Result X Y → Result Heard StepFault
 same_or_memory (Ok x) = Ok Same
 same_or_memory (Err fault) = Err Memory
+
+-- it is that station of this tree
+pub record IsOf (h : Hierarchy) (n : ℕ) (c : Core) : Type 0 where
+  pub tree : tree_of c ≡ h
+  pub number : number_of c ≡ n
+
+-- the station that a start comes to
+abbrev pub begun : Result Core OpenFault → Result Station OpenFault
+begun (Ok core) = Ok (station_of core)
+begun (Err fault) = Err fault

@@ -14,6 +14,7 @@ mod hearing;
 mod making;
 mod noticing;
 mod obeying;
+mod opening;
 mod planning;
 mod reading;
 mod reporting;
