@@ -1,5 +1,5 @@
 -- What a station tells of itself: of what is not kept there it tells nothing.
-use Rattle.std.specs.Prelude.{ℕ, ◌&&◌, if◌then◌else◌, Option, Some, None}
+use Rattle.std.specs.Prelude.{ℕ, ◌&&◌, if◌then◌else◌, Option, Some, None, Result, Ok, Err}
 use Rattle.smi_grant.specs.declared.Holder.{Holder}
 use Rattle.smi_grant.specs.declared.Shown.{Shown}
 use Rattle.smi_grant.specs.Record.{Standing}
@@ -8,6 +8,7 @@ use Rattle.smi_tree.specs.Hierarchy.{Hierarchy}
 use Rattle.smi_publish.specs.Published.{shown_at}
 use Rattle.smi_rows.specs.declared.Mode.{Mode}
 use Rattle.smi_protocol.specs.Display.{Station}
+use Rattle.smi_protocol.specs.declared.fault.OpenFault.{OpenFault}
 use Rattle.smi_protocol.specs.Refusals.{has_domain, is_keeper, speaks_for}
 use Rattle.smi_protocol.specs.Watching.{is_child_unit}
 use Rattle.smi_station.specs.Core.{Core, number_of, station_of, tree_of}
@@ -42,3 +43,13 @@ link_in c who d = link_of (tree_of c) (number_of c) (station_of c) who d
 
 abbrev pub mode_in : Core → ℕ → Option Mode
 mode_in c d = mode_of (tree_of c) (number_of c) (station_of c) d
+
+-- What an open comes to: a station with its store, or a fault and the store.
+
+abbrev pub core_in : {S : Type 0} → Result (Whole S) (OpenFault × S) → Result Core OpenFault
+core_in (Ok s) = Ok s.core
+core_in (Err e) = Err e.0
+
+abbrev pub store_in : {S : Type 0} → Result (Whole S) (OpenFault × S) → S
+store_in (Ok s) = s.store
+store_in (Err e) = e.1

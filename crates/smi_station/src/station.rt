@@ -1,9 +1,12 @@
 use crate::halves::Core;
+use crate::opening::start;
 use smi_command::Link;
 use smi_grant::{Holder, Record, Shown};
 use smi_out::Out;
-use smi_protocol::{Event, Heard, StepFault};
+use smi_protocol::{Event, Heard, OpenFault, StepFault};
 use smi_rows::{Mode, Stable};
+use smi_tree::Tree;
+use std::alloc::Global;
 use std::marker::Model;
 
 /// A station: its part of the control hierarchy, and the store of its rows. Contracts see what it keeps, and the
@@ -92,12 +95,53 @@ impl<'a, S> Station<'a, S> {
 }
 
 impl<'a, S: Stable> Station<'a, S> {
+    ghost use Rattle.std.specs.Prelude.{◌≤◌, ◌<◌, ◌+◌, ◌⊎◌, IfErr, IfOk, OnOk};
+    ghost use Rattle.smi_rows.specs.Store.{Rows, IsSame};
+    ghost use Rattle.smi_protocol.specs.Loading.{Opens};
+    ghost use Rattle.smi_load.specs.Starting.{IfInDoubt, IfStoreFailed, IfUnchanged, IsToldAsMemory, after_start};
+    ghost use Rattle.smi_station.specs.Core.{IsOf, begun};
+    ghost use Rattle.smi_station.specs.Readers.{core_in, store_in};
     ghost use Rattle.std.specs.Prelude.{◌≡◌, true, false, Err};
     ghost use Rattle.smi_grants.specs.Save.{IfKept, IfStopped};
     ghost use Rattle.smi_protocol.specs.Step.{after_event, nothing_out};
     ghost use Rattle.smi_protocol.specs.declared.event.StepFault.TheVariants.{Stopped};
     ghost use Rattle.smi_station.specs.Core.{Steps, number_of, station_of, tree_of};
     ghost use Rattle.smi_station.specs.Leaving.{Leaves};
+
+    /// A station opens on the store of its rows, by its number of the tree: it is what the rows mean, one boot later,
+    /// and the raised boot is saved. All memory is taken and all rows are read before that. Rows of other stations
+    /// are left alone.
+    ///
+    /// A fault gives the store back. They are found in this order: `NoSuchStation`, where the tree has no such
+    /// station; `Row`, with the least key whose row is refused and the code of the test that it fails; `BootsSpent`,
+    /// where the station has started 4,000,000,000 times. `Store`, where the store failed, and `Memory`, where memory
+    /// was refused, come where they come. After each the rows are as before, but that after an unsure save the boot
+    /// may be one higher.
+    pub fn open(
+        alloc: Global,
+        tree: &'a Tree,
+        number: u16,
+        store: S,
+    ) -> Result<Station<'a, S>, (OpenFault, S)>
+        ensures opens { S.is_honest (store_in result) → Opens tree.now number (S.rows store) (begun (core_in result)) }
+        ensures of { IfOk (core_in result) (IsOf tree.now number) }
+        ensures saved { S.is_honest (store_in result) → OnOk result (S.is_open (store_in result) × IsSame (S.rows (store_in result)) (after_start tree.now number (S.rows store))) }
+        ensures kept { S.is_honest (store_in result) → S.is_open store → IfUnchanged (core_in result) (S.is_open (store_in result) × IsSame (S.rows (store_in result)) (S.rows store)) }
+        ensures unsure { S.is_honest (store_in result) → S.is_open store → S.is_open (store_in result) → IfInDoubt (core_in result) (IsSame (S.rows (store_in result)) (S.rows store) ⊎ IsSame (S.rows (store_in result)) (after_start tree.now number (S.rows store))) }
+        // A stop at any moment leaves the boot as before or one higher.
+        ensures crash { S.is_honest (store_in result) → S.is_open store → (r : Rows) → S.may_find (store_in result) r → IsSame r (S.rows store) ⊎ IsSame r (after_start tree.now number (S.rows store)) }
+        ensures honest { S.is_honest (store_in result) → S.is_honest store }
+        ensures saves { S.saves (store_in result) ≤ S.saves store + 1 }
+        ensures failures { S.failures store ≤ S.failures (store_in result) }
+        ensures cause { IfStoreFailed (core_in result) (S.failures store < S.failures (store_in result)) }
+        ensures fault { IfErr (core_in result) IsToldAsMemory }
+    {
+        let mut store = store;
+        match start(alloc, tree, number, &mut store) {
+            Ok(core) => Ok(Station { core, store }),
+            Err(fault) => Err((fault, store)),
+        }
+    }
 
     /// An event comes to the station: bytes, an order, a report, or a tick. `out` then holds what the step hands out,
     /// and nothing of an earlier one.
