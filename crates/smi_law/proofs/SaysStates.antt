@@ -37,7 +37,8 @@ use Rattle.smi_law.proofs.GrantKinds.{put_here}
 use Rattle.smi_law.proofs.Lists.{In, in_both, from_mapped, from_chosen, from_flat, from_taken, from_kept, place_of}
 use Rattle.smi_law.proofs.SaysGrants.{due_says, operator_ours, number_some}
 use Rattle.smi_protocol.proofs.KeptObjects.{kept_within}
-use Rattle.smi_law.proofs.Tidy.{Tidy, length_before}
+use Rattle.smi_protocol.specs.Tidy.{IsTidy}
+use Rattle.smi_law.proofs.Tidy.{length_before}
 use Rattle.smi_law.proofs.Versions.{Somewhere, from_left}
 
 -- A watch comes to its list.
@@ -102,7 +103,7 @@ module _ (h : Hierarchy) (number boot : ℕ) (old : Display) (s : Station) where
       by None i = absurd cc
       by (Some c) i = let j : shown boot x c ≡ v = cc in ap (λ (z : Shown). z.object) (sym j)
 
-  module _ (tree : IsTree h) (tidy : Tidy h old) where
+  module _ (tree : IsTree h) (tidy : IsTidy h old) where
     abbrev Lists : ℕ → ℕ → ℕ → List (List Watcher)
     Lists from x echo = lists_after (lists_before old from echo) x from echo
 

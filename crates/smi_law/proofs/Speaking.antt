@@ -24,14 +24,15 @@ use Rattle.smi_law.proofs.SaysGrants.{grants_say}
 use Rattle.smi_law.proofs.SaysStates.{Heir, watch_says, state_says, order_says, tick_says, shown_says}
 use Rattle.smi_law.proofs.Silent.{kept_silent}
 use Rattle.smi_law.proofs.StepKinds.{understood}
-use Rattle.smi_law.proofs.Tidy.{Tidy, all_tidy}
+use Rattle.smi_protocol.specs.Tidy.{IsTidy}
+use Rattle.smi_law.proofs.Tidy.{all_tidy}
 
 among_in : (m : Message) (ms : List Message) → Among m ms → In m ms
 among_in m [] a = absurd a
 among_in m (k ∷ ms) (inl is) = inl is
 among_in m (k ∷ ms) (inr a) = inr (among_in m ms a)
 
-module _ (h : Hierarchy) (tree : IsTree h) (number boot : ℕ) (old : Display) (tidy : Tidy h old) (s : Station) where
+module _ (h : Hierarchy) (tree : IsTree h) (number boot : ℕ) (old : Display) (tidy : IsTidy h old) (s : Station) where
   abbrev AllMay : List Message → Type 0
   AllMay ms = (m : Message) → In m ms → MaySend h number s m
 
@@ -52,7 +53,7 @@ module _ (h : Hierarchy) (tree : IsTree h) (number boot : ℕ) (old : Display) (
   body_says from (body.Drop d who e) ok calm heir = none_may
   body_says from (body.Run d who e n c) ok calm heir = none_may
 
-module _ (h : Hierarchy) (tree : IsTree h) (number : ℕ) (s : Station) (tidy : Tidy h s.display) where
+module _ (h : Hierarchy) (tree : IsTree h) (number : ℕ) (s : Station) (tidy : IsTidy h s.display) where
   abbrev Out : Happening → Station
   Out what = (answered_or h number s what None).station
 
@@ -82,7 +83,9 @@ module _ (h : Hierarchy) (tree : IsTree h) (number : ℕ) (s : Station) (tidy : 
         | inr b ↦ shown_says h number s.grants.boot s.display (Out what) n.display (heir_of what) s.display.conditions (domain_of_happening h what) m b
       ]
 
+-- whatever comes to a station whose lists are tidy
+pub one_speaks : (h : Hierarchy) → IsTree h → (number : ℕ) (s : Station) → IsTidy h s.display → (what : Happening) (m : Message) → Among m (after h number s what).out.datagrams → MaySend h number (after h number s what).station m
+one_speaks h tree number s tidy what m a = step_says h tree number s tidy what (refusal_of h number s.grants what) refl m (among_in m (after h number s what).out.datagrams a)
+
 pub speaks : (h : Hierarchy) → IsTree h → (past : List Entry) (w : World) → Reaches h past w → (number : ℕ) (what : Happening) → MayCome w what → (m : Message) → Among m (after h number (w.stations number) what).out.datagrams → MaySend h number (after h number (w.stations number) what).station m
-speaks h tree past w run number what may m a =
-    step_says h tree number (w.stations number) (all_tidy h past w run number) what (refusal_of h number (w.stations number).grants what) refl m
-    (among_in m (after h number (w.stations number) what).out.datagrams a)
+speaks h tree past w run number what may m a = one_speaks h tree number (w.stations number) (all_tidy h past w run number) what m a

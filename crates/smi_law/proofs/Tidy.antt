@@ -17,6 +17,7 @@ use Rattle.smi_protocol.specs.Grants.{Grants, put}
 use Rattle.smi_protocol.specs.Happening.{Happening, Comes, Orders, Reports, Ticks}
 use Rattle.smi_protocol.specs.Opening.{object_count, opened, first_display, saved_only}
 use Rattle.smi_protocol.specs.Refusals.{refusal_of}
+use Rattle.smi_protocol.specs.Tidy.{IsTidy}
 use Rattle.smi_protocol.specs.Step.{body_noticed, notice, answered_or, after as after_happening}
 use Rattle.smi_protocol.specs.Watching.{is_watched, is_child_unit, lists_before, is_full, lists_after, watch_comes, unwatch_comes, told_state, showed_if, state_comes, order_noticed}
 use Rattle.smi_protocol.specs.declared.Entry.{Entry}
@@ -29,10 +30,6 @@ use Rattle.smi_law.proofs.Lists.{In}
 use Rattle.smi_law.proofs.Moves.{at_put}
 use Rattle.smi_law.proofs.ShownStart.{none_listed}
 use Rattle.smi_law.proofs.Versions.{from_watched, from_unwatched}
-
-pub record Tidy (h : Hierarchy) (s : Display) : Type 0 where
-  pub lists : length s.watchers ≡ object_count h
-  pub greatest : (x station echo : ℕ) → In (watcher station echo) (listed s.watchers x) → echo ≤ s.echoes station
 
 -- as many lists as before
 length_set : (lists : List (List Watcher)) (i : ℕ) (ws : List Watcher) → length (slice_set lists i ws) ≡ length lists
@@ -52,7 +49,7 @@ length_first zero = refl
 length_first (suc n) = ap suc (length_first n)
 
 -- nothing of it changes
-kept_tidy : (h : Hierarchy) (s t : Display) → t.watchers ≡ s.watchers → t.echoes ≡ s.echoes → Tidy h s → Tidy h t
+kept_tidy : (h : Hierarchy) (s t : Display) → t.watchers ≡ s.watchers → t.echoes ≡ s.echoes → IsTidy h s → IsTidy h t
 kept_tidy h s t lists echoes tidy = record {
   lists = ap length lists ∙ tidy.lists;
   greatest = λ x station echo a. subst (λ (z : ℕ → ℕ). echo ≤ z station) (sym echoes) (tidy.greatest x station echo (subst (λ z. In (watcher station echo) (listed z x)) lists a));
@@ -72,8 +69,8 @@ length_after lists x from echo = by (is_full lists x from)
     by true = refl
     by false = length_set lists _ _
 
-module _ (h : Hierarchy) (number boot : ℕ) (s : Display) (tidy : Tidy h s) where
-  watch_tidy : (from x echo : ℕ) → Tidy h (watch_comes h number boot s from x echo).display
+module _ (h : Hierarchy) (number boot : ℕ) (s : Display) (tidy : IsTidy h s) where
+  watch_tidy : (from x echo : ℕ) → IsTidy h (watch_comes h number boot s from x echo).display
   watch_tidy from x echo = elim (either (nat_lt echo (s.echoes from))) [
     | inl t ↦ rw t tidy
     | inr f ↦ rw f (record {
@@ -101,18 +98,18 @@ module _ (h : Hierarchy) (number boot : ℕ) (s : Display) (tidy : Tidy h s) whe
               let k : put s.echoes from echo st ≡ echo = ap (put s.echoes from echo) i ∙ put_here s.echoes from echo in
               omega (arith, j, k)
 
-  unwatch_tidy : (from x echo : ℕ) → Tidy h (unwatch_comes s from x echo).display
+  unwatch_tidy : (from x echo : ℕ) → IsTidy h (unwatch_comes s from x echo).display
   unwatch_tidy from x echo = record {
     lists = length_set s.watchers _ _ ∙ tidy.lists;
     greatest = λ y station e a. let b = from_unwatched s.watchers from x echo y (watcher station e) a in tidy.greatest b.0 station e b.1;
   }
 
-  showed_tidy : (state : Shown) (a : Acceptance) → Tidy h (showed_if s state a).display
+  showed_tidy : (state : Shown) (a : Acceptance) → IsTidy h (showed_if s state a).display
   showed_tidy state Accepted = kept_tidy h s (showed_if s state Accepted).display refl refl tidy
   showed_tidy state OtherBoot = tidy
   showed_tidy state NotNewer = tidy
 
-  state_tidy : (from echo : ℕ) (state : Shown) → Tidy h (state_comes h number boot s from echo state).display
+  state_tidy : (from echo : ℕ) (state : Shown) → IsTidy h (state_comes h number boot s from echo state).display
   state_tidy from echo state = elim (either (not (echo == boot))) [
     | inl t ↦ rw t tidy
     | inr f ↦ rw f (elim (either (is_watched h number s state.object)) [
@@ -121,7 +118,7 @@ module _ (h : Hierarchy) (number boot : ℕ) (s : Display) (tidy : Tidy h s) whe
     ])
   ]
 
-  order_tidy : (o : ℕ) (what : Order) → Tidy h (order_noticed h number boot s o what).display
+  order_tidy : (o : ℕ) (what : Order) → IsTidy h (order_noticed h number boot s o what).display
   order_tidy o (order.Ask d) = kept_tidy h s (order_noticed h number boot s o (order.Ask d)).display refl refl tidy
   order_tidy o (order.Watch x) = kept_tidy h s (order_noticed h number boot s o (order.Watch x)).display refl refl tidy
   order_tidy o (order.Unwatch x) = elim (either (is_child_unit h number x)) [ inl t ↦ rw t tidy | inr f ↦ rw f (kept_tidy h s (record s { named = put s.named x false }) refl refl tidy) ]
@@ -134,7 +131,7 @@ module _ (h : Hierarchy) (number boot : ℕ) (s : Display) (tidy : Tidy h s) whe
   order_tidy o (order.Ignore d t) = tidy
   order_tidy o (order.Report device state) = tidy
 
-  body_tidy : (from : ℕ) (b : Body) → Tidy h (body_noticed h number boot s from b).display
+  body_tidy : (from : ℕ) (b : Body) → IsTidy h (body_noticed h number boot s from b).display
   body_tidy from (body.Tell d r) = kept_tidy h s (body_noticed h number boot s from (body.Tell d r)).display refl refl tidy
   body_tidy from (body.Watch x echo) = watch_tidy from x echo
   body_tidy from (body.State x echo v q) = state_tidy from echo (told_state x v q)
@@ -144,27 +141,27 @@ module _ (h : Hierarchy) (number boot : ℕ) (s : Display) (tidy : Tidy h s) whe
   body_tidy from (body.Drop d who e) = tidy
   body_tidy from (body.Run d who e n c) = tidy
 
-notice_tidy : (h : Hierarchy) (number : ℕ) (g : Grants) (s : Display) (what : Happening) → Tidy h s → Tidy h (notice h number g s what).display
+notice_tidy : (h : Hierarchy) (number : ℕ) (g : Grants) (s : Display) (what : Happening) → IsTidy h s → IsTidy h (notice h number g s what).display
 notice_tidy h number g s (Comes m) tidy = body_tidy h number g.boot s tidy m.from m.body
 notice_tidy h number g s (Orders o what) tidy = order_tidy h number g.boot s tidy o what
 notice_tidy h number g s (Reports device state) tidy = tidy
 notice_tidy h number g s Ticks tidy = kept_tidy h s (notice h number g s Ticks).display refl refl tidy
 
-after_tidy : (h : Hierarchy) (number : ℕ) (s : Station) (what : Happening) (o : Option ℕ) → Tidy h s.display → Tidy h (answered_or h number s what o).station.display
+pub after_tidy : (h : Hierarchy) (number : ℕ) (s : Station) (what : Happening) (o : Option ℕ) → IsTidy h s.display → IsTidy h (answered_or h number s what o).station.display
 after_tidy h number s what (Some code) tidy = tidy
 after_tidy h number s what None tidy =
     kept_tidy h (notice h number s.grants s.display what).display (answered_or h number s what None).station.display refl refl (notice_tidy h number s.grants s.display what tidy)
 
-first_tidy : (h : Hierarchy) (number : ℕ) → Tidy h (first_display h number)
+pub first_tidy : (h : Hierarchy) (number : ℕ) → IsTidy h (first_display h number)
 first_tidy h number = record {
   lists = length_first (object_count h);
   greatest = λ x station echo a. absurd (none_listed (object_count h) x (watcher station echo) a);
 }
 
-put_tidy : (h : Hierarchy) (w : World) (number : ℕ) (s : Station) → Tidy h s.display → ((n : ℕ) → Tidy h (w.stations n).display) → (n : ℕ) → Tidy h ((with_station w number s).stations n).display
-put_tidy h w number s here each n = at_put (λ (z : Station). Tidy h z.display) w.stations number s n (λ i. here) (each n)
+put_tidy : (h : Hierarchy) (w : World) (number : ℕ) (s : Station) → IsTidy h s.display → ((n : ℕ) → IsTidy h (w.stations n).display) → (n : ℕ) → IsTidy h ((with_station w number s).stations n).display
+put_tidy h w number s here each n = at_put (λ (z : Station). IsTidy h z.display) w.stations number s n (λ i. here) (each n)
 
-step_tidy : (h : Hierarchy) (w : World) (new : List Entry) (next : World) → Step h w new next → ((n : ℕ) → Tidy h (w.stations n).display) → (n : ℕ) → Tidy h (next.stations n).display
+step_tidy : (h : Hierarchy) (w : World) (new : List Entry) (next : World) → Step h w new next → ((n : ℕ) → IsTidy h (w.stations n).display) → (n : ℕ) → IsTidy h (next.stations n).display
 step_tidy h w new next (sends number m may) each n = each n
 step_tidy h w new next (steps number what runs may) each n =
     put_tidy h w number (after_happening h number (w.stations number) what).station (after_tidy h number (w.stations number) what (refusal_of h number (w.stations number).grants what) (each number)) each n
@@ -173,6 +170,6 @@ step_tidy h w new next (tells o what) each n = each n
 step_tidy h w new next (halts number) each n = put_tidy h w number (record (w.stations number) { is_stopped = true }) (each number) each n
 step_tidy h w new next (starts number boots) each n = put_tidy h w number (opened h number (w.stations number).grants) (first_tidy h number) each n
 
-pub all_tidy : (h : Hierarchy) (past : List Entry) (w : World) → Reaches h past w → (n : ℕ) → Tidy h (w.stations n).display
+pub all_tidy : (h : Hierarchy) (past : List Entry) (w : World) → Reaches h past w → (n : ℕ) → IsTidy h (w.stations n).display
 all_tidy h past w opens n = first_tidy h n
 all_tidy h past w (goes_on {past = before} {new = new} {w = old} {next = next} run step) n = step_tidy h old new next step (all_tidy h before old run) n

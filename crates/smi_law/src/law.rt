@@ -23,6 +23,9 @@ ghost use Rattle.smi_protocol.specs.declared.Entry.{Entry};
 ghost use Rattle.smi_protocol.specs.Happening.{Happening};
 ghost use Rattle.smi_protocol.specs.Sending.{MaySend};
 ghost use Rattle.smi_protocol.specs.Step.{after};
+ghost use Rattle.smi_protocol.specs.Display.{Station};
+ghost use Rattle.smi_protocol.specs.Opening.{first_display};
+ghost use Rattle.smi_protocol.specs.Tidy.{IsTidy};
 ghost use Rattle.smi_law.specs.declared.item.Item.{Item};
 ghost use Rattle.smi_law.specs.Known.{record_in, link_in};
 ghost use Rattle.smi_law.specs.Safe.{Forwards, NotOlderThanShown, RunsInOrder, Safe, SafeGrants, ShownWell, SoundRuns};
@@ -80,6 +83,16 @@ pub fn states_are_safe()
     ensures shown { (h : Hierarchy) (past : List Entry) (w : World) → IsTree h → Reaches h past w → ShownWell past }
     ensures echo { (h : Hierarchy) (past : List Entry) (w : World) (m : Message) (x : ℕ) (v : Version) (s : ℕ) → IsTree h → Reaches h past w →
         Among m w.sent → m.body ≡ State x (w.stations m.to).grants.boot v s → NotOlderThanShown m.to x v (before_start m.to past) }
+{}
+
+/// Whatever comes to a station of a tree whose lists of watchers are tidy (`IsTidy` of `smi_protocol`), each datagram
+/// that it sends in the step is one that it may send when the step is done. The lists are tidy at a start, and stay
+/// so whatever comes.
+pub fn what_is_sent_may_be_sent()
+    ensures starts { (h : Hierarchy) (number : ℕ) → IsTidy h (first_display h number) }
+    ensures stays { (h : Hierarchy) (number : ℕ) (s : Station) (what : Happening) → IsTidy h s.display → IsTidy h (after h number s what).station.display }
+    ensures may_send { (h : Hierarchy) (number : ℕ) (s : Station) (what : Happening) (m : Message) → IsTree h → IsTidy h s.display →
+        Among m (after h number s what).out.datagrams → MaySend h number (after h number s what).station m }
 {}
 
 /// In every world of a tree that can be reached: each datagram that a station sends in a step is one that it

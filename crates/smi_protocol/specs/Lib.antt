@@ -18,6 +18,7 @@ pub mod Sound
 pub mod SoundDisplay
 pub mod Step
 pub mod Ticking
+pub mod Tidy
 pub mod Watching
 pub mod Played
 pub mod examples
