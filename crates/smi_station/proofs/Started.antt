@@ -12,6 +12,8 @@ use Rattle.smi_protocol.specs.Loading.{Opens}
 use Rattle.smi_protocol.specs.Opening.{first_display}
 use Rattle.smi_protocol.specs.Sound.{IsSound}
 use Rattle.smi_protocol.specs.SoundDisplay.{MayChange}
+use Rattle.smi_protocol.specs.Tidy.{IsTidy}
+use Rattle.smi_law.proofs.Tidy.{first_tidy}
 use Rattle.smi_protocol.specs.declared.fault.OpenFault.{OpenFault}
 use Rattle.smi_protocol.specs.declared.fault.OpenFault.TheVariants as open_fault
 use Rattle.smi_grants.specs.Kept.{Kept, grants_of}
@@ -33,6 +35,7 @@ pub started_core : (h : Hierarchy) (number boot : ℕ) (k : Kept) (d : Displayed
     → IsCore (core_with k d false)
 started_core h number boot k d tree own sound d_tree d_number d_boot shows = record {
   halves = record { tree = d_tree ∙ sym tree; number = d_number ∙ sym own; boot = d_boot; sound = subst (λ (x : Hierarchy). IsSound x (grants_of k)) (sym tree) sound };
+  tidy = subst (λ (x : Hierarchy). IsTidy x (display_of d)) (sym tree) (subst (IsTidy h) (sym shows) (first_tidy h number));
   room = λ is. subst MayChange (sym shows) (first_room h number);
 }
 

@@ -1,5 +1,5 @@
 -- Steps of a station whose halves have been gone over one after the other.
-use Rattle.std.proofs.Common.{ℕ, ◌≡◌, ◌≤◌, ◌<◌, ◌+◌, Bool, true, false, List, [], ◌∷◌, Option, Some, None, Result, Ok, Err, refl, sym, ap, ◌∙◌, subst, arith}
+use Rattle.std.proofs.Common.{ℕ, ◌≡◌, ◌≤◌, ◌<◌, ◌+◌, Bool, true, false, List, [], ◌∷◌, Option, Some, None, Result, Ok, Err, inl, inr, refl, sym, ap, ◌∙◌, subst, arith}
 use Rattle.std.specs.Prelude.{IfOk, OnOk, OnErr, if◌then◌else◌}
 use Rattle.smi_tree.specs.Hierarchy.{Hierarchy}
 use Rattle.smi_message.specs.Message.{Message, is_boot}
@@ -7,10 +7,21 @@ use Rattle.smi_message.specs.declared.Body.TheVariants as body
 use Rattle.smi_rows.specs.Store.{Rows, Saved}
 use Rattle.smi_protocol.specs.Display.{Display, Station}
 use Rattle.smi_protocol.specs.GrantStep.{unchanged}
-use Rattle.smi_protocol.specs.Happening.{Happening, Comes, Reports}
+use Rattle.smi_protocol.specs.Happening.{Happening, Comes, Reports, Ticks}
 use Rattle.smi_protocol.specs.Refusals.{is_report_here, refusal_of}
 use Rattle.smi_protocol.specs.SoundDisplay.{MayChange}
-use Rattle.smi_protocol.specs.Step.{Out, Outcome, accepted, after, answered_or, nothing_out, refusal_answers}
+use Rattle.smi_protocol.specs.Tidy.{IsTidy}
+use Rattle.smi_law.proofs.Tidy.{after_tidy}
+use Rattle.smi_law.proofs.Speaking.{one_speaks}
+use Rattle.smi_law.specs.World.{Among}
+use Rattle.smi_message.specs.declared.Bad.{Bad}
+use Rattle.smi_message.specs.Spelling.{reading}
+use Rattle.smi_tree.specs.Lawful.{IsTree}
+use Rattle.smi_protocol.specs.Sending.{MaySend}
+use Rattle.smi_protocol.specs.Sound.{In}
+use Rattle.smi_protocol.specs.declared.event.Event.{Event}
+use Rattle.smi_protocol.specs.declared.event.Event.TheVariants as event
+use Rattle.smi_protocol.specs.Step.{Out, Outcome, accepted, after, after_event, after_reading, answered_or, ordered_or_reported, nothing_out, refusal_answers}
 use Rattle.smi_protocol.specs.Watching.{Notice, watch_comes}
 use Rattle.smi_protocol.specs.declared.event.Heard.{Heard}
 use Rattle.smi_protocol.specs.declared.event.Heard.TheVariants.{Refused, Same}
@@ -20,7 +31,7 @@ use Rattle.smi_grants.specs.Kept.{Kept, grants_of}
 use Rattle.smi_out.specs.Handed.{with_notice}
 use Rattle.smi_display.specs.Displayed.{Displayed, display_of}
 use Rattle.smi_display.specs.Listening.{KeepsTheRest}
-use Rattle.smi_station.specs.Core.{AreHalves, Core, IsCore, Steps, core_with, number_of, same_or_memory, station_of, station_with, tree_of}
+use Rattle.smi_station.specs.Core.{AreHalves, Core, IsCore, MaySendAll, Steps, core_with, number_of, same_or_memory, station_of, station_with, tree_of}
 use Rattle.smi_station.specs.Leaving.{Leaves}
 use Rattle.smi_station.proofs.Outcomes.{notice_stays}
 use Rattle.smi_station.proofs.Quiet.{quiet_out, quiet_room, quiet_station}
@@ -41,14 +52,27 @@ made_steps Q k0 k2 d0 d2 stopped o out (Ok x) station heard is same kept cleared
 made_steps Q k0 k2 d0 d2 stopped o out (Err e) station heard is same kept cleared =
     record { station = tt; heard = tt; out = tt; cleared = cleared; tree = ap (λ (k : Kept). k.tree) kept.0; number = ap (λ (k : Kept). k.number) kept.0 }
 
--- a station that runs on keeps its invariant
-pub made_core : (k0 k2 : Kept) (d0 d2 : Displayed) (r : Result Heard StepFault) → AreHalves k0 d0 → MayChange (display_of d0)
-    → OnOk r (AreHalves k2 d2) → OnOk r (MayChange (display_of d2)) → OnErr r ((k2 ≡ k0) × (d2 ≡ d0)) → IsCore (core_with k2 d2 false)
-made_core k0 k2 d0 d2 (Ok x) halves room now still kept = record { halves = now; room = λ is. still }
-made_core k0 k2 d0 d2 (Err e) halves room now still kept = record {
+-- lists that are tidy stay so
+pub made_tidy : (k0 k2 : Kept) (d0 d2 : Displayed) (stopped : Bool) (what : Happening) (r : Result Heard StepFault) → OnOk r (station_with k2 d2 stopped ≡ (accepted k0.tree k0.number (station_with k0 d0 false) what).station)
+    → OnOk r ((k2.tree ≡ k0.tree) × (k2.number ≡ k0.number)) → OnErr r ((k2 ≡ k0) × (d2 ≡ d0)) → IsTidy k0.tree (display_of d0) → IsTidy k2.tree (display_of d2)
+made_tidy k0 k2 d0 d2 stopped what (Ok x) is same kept tidy =
+    subst (λ (h : Hierarchy). IsTidy h (display_of d2)) (sym same.0) (subst (λ (s : Station). IsTidy k0.tree s.display) (sym is) (after_tidy k0.tree k0.number (station_with k0 d0 false) what None tidy))
+made_tidy k0 k2 d0 d2 stopped what (Err e) is same kept tidy = subst (λ (k : Kept). IsTidy k.tree (display_of d2)) (sym kept.0) (subst (λ (d : Displayed). IsTidy k0.tree (display_of d)) (sym kept.1) tidy)
+
+-- a station keeps its invariant
+pub made_core : (k0 k2 : Kept) (d0 d2 : Displayed) (stopped : Bool) (r : Result Heard StepFault) → AreHalves k0 d0 → MayChange (display_of d0)
+    → OnOk r (AreHalves k2 d2) → OnOk r (stopped ≡ false → MayChange (display_of d2)) → OnErr r ((k2 ≡ k0) × (d2 ≡ d0)) → IsTidy k2.tree (display_of d2) → IsCore (core_with k2 d2 stopped)
+made_core k0 k2 d0 d2 stopped (Ok x) halves room now still kept tidy = record { halves = now; tidy = tidy; room = still }
+made_core k0 k2 d0 d2 stopped (Err e) halves room now still kept tidy = record {
   halves = subst (λ (k : Kept). AreHalves k d2) (sym kept.0) (subst (λ (d : Displayed). AreHalves k0 d) (sym kept.1) halves);
+  tidy = tidy;
   room = λ is. subst (λ (d : Displayed). MayChange (display_of d)) (sym kept.1) room;
 }
+
+-- where it runs on whatever comes
+pub runs_on : (d2 : Displayed) (r : Result Heard StepFault) → OnOk r (MayChange (display_of d2)) → OnOk r (false ≡ false → MayChange (display_of d2))
+runs_on d2 (Ok x) room = λ is. room
+runs_on d2 (Err e) room = tt
 
 -- A refusal changes nothing.
 
@@ -131,12 +155,51 @@ module _ (k : Kept) (d0 d2 : Displayed) (m : Message) (x echo : ℕ) (halves : A
       }
       by (Err e) shown sent unsent = record { station = tt; heard = tt; out = tt; cleared = unsent ∙ empty; tree = refl; number = refl }
 
-  pub watched_core : {X Y : Type 0} (r : Result X Y) → MayChange (display_of d0) → KeepsTheRest d0 d2 → OnOk r (display_of d2 ≡ n.display) → OnErr r (d2 ≡ d0) → IsCore (core_with k d2 false)
-  watched_core r room rest shown same = record {
+  pub watched_core : {X Y : Type 0} (r : Result X Y) → IsTidy k.tree (display_of d0) → MayChange (display_of d0) → KeepsTheRest d0 d2 → OnOk r (display_of d2 ≡ n.display) → OnErr r (d2 ≡ d0) → IsCore (core_with k d2 false)
+  watched_core r tidy room rest shown same = record {
     halves = record { tree = rest.tree ∙ halves.tree; number = rest.number ∙ halves.number; boot = rest.boot ∙ halves.boot; sound = halves.sound };
+    tidy = still r shown same;
     room = λ is. quiet_room (display_of d0) (display_of d2) (by r shown same) room;
   }
     where
+      still : {X Y : Type 0} (r : Result X Y) → OnOk r (display_of d2 ≡ n.display) → OnErr r (d2 ≡ d0) → IsTidy k.tree (display_of d2)
+      still (Ok y) shown same =
+          let t = after_tidy k.tree k.number (station_with k d0 false) (Comes (record m { body = body.Watch x echo })) None tidy in
+          subst (IsTidy k.tree) (sym (shown ∙ ap (λ (n : Notice). n.display) same_notice)) (record { lists = t.lists; greatest = t.greatest })
+      still (Err e) shown same = subst (λ (d : Displayed). IsTidy k.tree (display_of d)) (sym same) tidy
+
       by : {X Y : Type 0} (r : Result X Y) → OnOk r (display_of d2 ≡ n.display) → OnErr r (d2 ≡ d0) → (display_of d2).conditions ≡ (display_of d0).conditions
       by (Ok y) shown same = ap (λ (s : Display). s.conditions) (shown ∙ ap (λ (n : Notice). n.display) same_notice) ∙ stays
       by (Err e) shown same = ap (λ (d : Displayed). (display_of d).conditions) same
+
+-- What is sent.
+
+module _ (h : Hierarchy) (tree : IsTree h) (number : ℕ) (s : Station) (tidy : IsTidy h s.display) where
+  among : (m : Message) (ms : List Message) → In m ms → Among m ms
+  among m [] a = absurd a
+  among m (k ∷ ms) (inl is) = inl is
+  among m (k ∷ ms) (inr a) = inr (among m ms a)
+
+  after_may : (what : Happening) (m : Message) → In m (after h number s what).out.datagrams → MaySend h number (after h number s what).station m
+  after_may what m a = one_speaks h tree number s tidy what m (among m (after h number s what).out.datagrams a)
+
+  reading_may : (r : Result Message Bad) (m : Message) → In m (after_reading h number s r).out.datagrams → MaySend h number (after_reading h number s r).station m
+  reading_may (Ok d) = after_may (Comes d)
+  reading_may (Err bad) = λ m a. absurd a
+
+  -- whatever comes
+  pub event_may : (e : Event) (m : Message) → In m (after_event h number s e).out.datagrams → MaySend h number (after_event h number s e).station m
+  event_may (event.Datagram bytes) = reading_may (reading bytes.now)
+  event_may (event.Order o what) = after_may (ordered_or_reported o what)
+  event_may (event.Report device state) = after_may (Reports device state)
+  event_may event.Tick = after_may Ticks
+
+-- a step sends what the station may send then
+pub steps_may : (before next : Core) (e : Event) (out : Out) (r : Result Heard StepFault) → IsTree (tree_of before) → IsTidy (tree_of before) (station_of before).display
+    → Steps before next (after_event (tree_of before) (number_of before) (station_of before) e) out r → OnOk r (MaySendAll next out.datagrams)
+steps_may before next e out (Ok x) tree tidy steps = λ m a.
+    subst (λ (h : Hierarchy). MaySend h (number_of next) (station_of next) m) (sym steps.tree)
+    (subst (λ n. MaySend (tree_of before) n (station_of next) m) (sym steps.number)
+    (subst (λ (s : Station). MaySend (tree_of before) (number_of before) s m) (sym steps.station)
+    (event_may (tree_of before) tree (number_of before) (station_of before) tidy e m (subst (λ (o : Out). In m o.datagrams) steps.out a))))
+steps_may before next e out (Err fault) tree tidy steps = tt

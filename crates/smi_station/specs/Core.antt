@@ -1,11 +1,14 @@
 -- A station as it is kept: the half of its grants, the half of its display, and whether it has stopped.
-use Rattle.std.specs.Prelude.{ℕ, ◌≡◌, Bool, true, false, Result, Ok, Err, IfOk, OnOk, OnErr}
+use Rattle.std.specs.Prelude.{ℕ, ◌≡◌, Bool, true, false, Result, Ok, Err, IfOk, OnOk, OnErr, List}
 use Rattle.smi_tree.specs.Hierarchy.{Hierarchy}
 use Rattle.smi_grants.specs.Kept.{Kept, grants_of}
 use Rattle.smi_display.specs.Displayed.{Displayed, display_of}
 use Rattle.smi_protocol.specs.Display.{Station}
-use Rattle.smi_protocol.specs.Sound.{IsSound}
+use Rattle.smi_message.specs.Message.{Message}
+use Rattle.smi_protocol.specs.Sending.{MaySend}
+use Rattle.smi_protocol.specs.Sound.{In, IsSound}
 use Rattle.smi_protocol.specs.SoundDisplay.{MayChange}
+use Rattle.smi_protocol.specs.Tidy.{IsTidy}
 use Rattle.smi_protocol.specs.Step.{Out, Outcome, nothing_out}
 use Rattle.smi_protocol.specs.declared.event.Heard.{Heard}
 use Rattle.smi_protocol.specs.declared.fault.OpenFault.{OpenFault}
@@ -32,9 +35,10 @@ pub record AreHalves (k : Kept) (d : Displayed) : Type 0 where
   pub boot : d.published.boot ≡ k.boot
   pub sound : IsSound k.tree (grants_of k)
 
--- each object of a station that runs may change once more
+-- its lists of watchers are tidy, and each object of a station that runs may change once more
 pub record IsCore (c : Core) : Type 0 where
   pub halves : AreHalves c.kept c.displayed
+  pub tidy : IsTidy c.kept.tree (display_of c.displayed)
   pub room : c.is_stopped ≡ false → MayChange (display_of c.displayed)
 
 abbrev pub core_with : Kept → Displayed → Bool → Core
@@ -76,3 +80,7 @@ pub record IsOf (h : Hierarchy) (n : ℕ) (c : Core) : Type 0 where
 abbrev pub begun : Result Core OpenFault → Result Station OpenFault
 begun (Ok core) = Ok (station_of core)
 begun (Err fault) = Err fault
+
+-- the station may send each of these datagrams
+abbrev pub MaySendAll : Core → List Message → Type 0
+MaySendAll c ms = (m : Message) → In m ms → MaySend (tree_of c) (number_of c) (station_of c) m

@@ -136,7 +136,7 @@ fn is_stopped_by(heard: &Result<Heard, StepFault>) -> bool
 }
 
 impl<'a> Core<'a> {
-    ghost use Rattle.std.specs.Prelude.{◌≡◌, true, false, None, Err, OnErr, IfErr, IsOk};
+    ghost use Rattle.std.specs.Prelude.{◌≡◌, true, false, None, Err, OnErr, OnOk, IfErr, IsOk};
     ghost use Rattle.smi_grants.specs.Kept.{grants_of};
     ghost use Rattle.smi_grants.specs.Save.{IfKept, IfStopped};
     ghost use Rattle.smi_message.specs.Spelling.{reading};
@@ -145,7 +145,7 @@ impl<'a> Core<'a> {
     ghost use Rattle.smi_protocol.specs.Step.{accepted, after, after_event, after_reading, nothing_out, ordered_or_reported};
     ghost use Rattle.smi_protocol.specs.Refusals.{refusal_of_message};
     ghost use Rattle.smi_protocol.specs.declared.event.StepFault.TheVariants.{Memory, Stopped};
-    ghost use Rattle.smi_station.specs.Core.{Steps, number_of, station_of, tree_of};
+    ghost use Rattle.smi_station.specs.Core.{MaySendAll, Steps, number_of, station_of, tree_of};
     ghost use Rattle.smi_station.specs.Leaving.{Leaves};
 
     /// An event comes. A station that has stopped makes no step.
@@ -157,6 +157,7 @@ impl<'a> Core<'a> {
     ) -> Result<Heard, StepFault>
         ensures step { self.old.is_stopped ≡ false → Steps self.old self.new (after_event (tree_of self.old) (number_of self.old) (station_of self.old) event.entry) out.new result }
         ensures store { self.old.is_stopped ≡ false → Leaves S.is_honest S.is_open S.rows S.saves S.failures store.old store.new result (after_event (tree_of self.old) (number_of self.old) (station_of self.old) event.entry).saved }
+        ensures may_send { self.old.is_stopped ≡ false → OnOk result (MaySendAll self.new out.new.datagrams) }
         ensures kept { IfKept result (self.new ≡ self.old) }
         ensures stops { IfStopped result (self.new ≡ record self.old { is_stopped = true }) }
         ensures stopped { self.old.is_stopped ≡ true → (result ≡ Err Stopped) × (out.new ≡ nothing_out) × (store.new ≡ store.old) }
@@ -183,8 +184,10 @@ impl<'a> Core<'a> {
         requires empty { out.old ≡ nothing_out }
         ensures step { Steps self.old self.new (after_event (tree_of self.old) (number_of self.old) (station_of self.old) event.entry) out.new result }
         ensures store { Leaves S.is_honest S.is_open S.rows S.saves S.failures store.old store.new result (after_event (tree_of self.old) (number_of self.old) (station_of self.old) event.entry).saved }
+        ensures may_send { OnOk result (MaySendAll self.new out.new.datagrams) }
         ensures unchanged { OnErr result (self.new ≡ self.old) }
     {
+        let _tree = self.kept.tree();
         match event {
             Event::Datagram(bytes) => self.read(store, out, bytes),
             Event::Order(operator, order) => self.order(store, out, operator, &order),

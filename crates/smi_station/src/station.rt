@@ -105,7 +105,7 @@ impl<'a, S: Stable> Station<'a, S> {
     ghost use Rattle.smi_grants.specs.Save.{IfKept, IfStopped};
     ghost use Rattle.smi_protocol.specs.Step.{after_event, nothing_out};
     ghost use Rattle.smi_protocol.specs.declared.event.StepFault.TheVariants.{Stopped};
-    ghost use Rattle.smi_station.specs.Core.{Steps, number_of, station_of, tree_of};
+    ghost use Rattle.smi_station.specs.Core.{MaySendAll, Steps, number_of, station_of, tree_of};
     ghost use Rattle.smi_station.specs.Leaving.{Leaves};
 
     /// A station opens on the store of its rows, by its number of the tree: it is what the rows mean, one boot later,
@@ -154,6 +154,8 @@ impl<'a, S: Stable> Station<'a, S> {
     pub fn step(&mut self, event: Event<'_>, out: &mut Out) -> Result<Heard, StepFault>
         ensures step { self.old.core.is_stopped ≡ false → Steps self.old.core self.new.core (after_event (tree_of self.old.core) (number_of self.old.core) (station_of self.old.core) event.entry) out.new result }
         ensures store { self.old.core.is_stopped ≡ false → Leaves S.is_honest S.is_open S.rows S.saves S.failures self.old.store self.new.store result (after_event (tree_of self.old.core) (number_of self.old.core) (station_of self.old.core) event.entry).saved }
+        // Each datagram is one that the station may send, now and at any time until its next step.
+        ensures may_send { self.old.core.is_stopped ≡ false → OnOk result (MaySendAll self.new.core out.new.datagrams) }
         ensures kept { IfKept result (self.new.core ≡ self.old.core) }
         ensures stops { IfStopped result (self.new.core ≡ record self.old.core { is_stopped = true }) }
         ensures stopped { self.old.core.is_stopped ≡ true → (result ≡ Err Stopped) × (out.new ≡ nothing_out) × (self.new.store ≡ self.old.store) }

@@ -13,10 +13,12 @@ returns-in-Ok-clause-saved g c = λ honest.
     let before = c.in-Ok.ensures.honest honest in
     let loaded = c.in_ok-core.ensures in
     let there = loaded.certain before (loaded.open before) in
-    let saved = c.in-Ok.ensures.saved honest in
-    (saved.0, boot_saved c.args.tree.now c.args.number (g.S.Stable.rows c.args.store.now) (g.S.Stable.rows c.loaded.new.store) c.core.inside.kept
-    (subst (λ (x : Core). Opens c.args.tree.now c.args.number (g.S.Stable.rows c.args.store.now) (beginning_with c.args.tree.now c.args.number (Ok x.kept))) (sym c.core.view_is) (loaded.begins before))
-    there.1 (ap (λ (x : Core). x.kept.number) c.core.view_is ∙ loaded.of.number) (g.S.Stable.rows c.save_boot.new.store) saved.1)
+    let saved = c.in-Ok.ensures.saved honest in (
+      saved.0,
+      boot_saved c.args.tree.now c.args.number (g.S.Stable.rows c.args.store.now) (g.S.Stable.rows c.loaded.new.store) c.core.inside.kept
+          (subst (λ (x : Core). Opens c.args.tree.now c.args.number (g.S.Stable.rows c.args.store.now) (beginning_with c.args.tree.now c.args.number (Ok x.kept))) (sym c.core.view_is) (loaded.begins before))
+          there.1 (ap (λ (x : Core). x.kept.number) c.core.view_is ∙ loaded.of.number) (g.S.Stable.rows c.save_boot.new.store) saved.1,
+    )
 
 pub returns-in-Ok-clause-crash : goal.returns-in-Ok-clause-crash
 returns-in-Ok-clause-crash g c = λ honest live r may.

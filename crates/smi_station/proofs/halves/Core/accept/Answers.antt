@@ -14,8 +14,15 @@ use Rattle.smi_protocol.specs.declared.event.StepFault.{StepFault}
 use Rattle.smi_protocol.specs.declared.order.Order.{Order}
 use Rattle.smi_station.specs.Core.{Core, IsCore, Steps, core_with, number_of, station_of, station_with, tree_of}
 use Rattle.smi_station.specs.Leaving.{Leaves}
-use Rattle.smi_station.proofs.Steps.{made_core, made_steps, refused_steps, rests, running, stands, taken_steps, watched_core, watched_steps}
+use Rattle.smi_station.proofs.Steps.{made_core, made_steps, made_tidy, refused_steps, rests, running, stands, taken_steps, watched_core, watched_steps}
 use Rattle.smi_station.proofs.halves.Core.accept.Goals as goal
+
+pub invariant_of-self : goal.invariant_of-self
+invariant_of-self g c =
+    let i = c.self.inside in
+    let runs = running i.kept i.display i.is_stopped c.args.self.now c.self.view_is c.requires.runs in
+    made_core i.kept c.hear.new.kept i.display c.hear.new.display c.hear.new.is_stopped c.hear.result c.self.invariant.halves (c.self.invariant.room runs) c.hear.ensures.halves c.hear.ensures.room c.hear.ensures.unchanged
+    (made_tidy i.kept c.hear.new.kept i.display c.hear.new.display c.hear.new.is_stopped (Comes c.args.datagram.now) c.hear.result c.hear.ensures.station c.hear.ensures.same c.hear.ensures.unchanged c.self.invariant.tidy)
 
 pub returns-in-None-clause-step : goal.returns-in-None-clause-step
 returns-in-None-clause-step g c =

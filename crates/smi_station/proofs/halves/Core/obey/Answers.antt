@@ -16,7 +16,7 @@ use Rattle.smi_station.specs.Core.{Core, IsCore, Steps, core_with, number_of, st
 use Rattle.smi_protocol.specs.declared.order.Answer.{Answer}
 use Rattle.smi_rows.specs.Store.{Saved}
 use Rattle.smi_station.specs.Leaving.{Leaves}
-use Rattle.smi_station.proofs.Steps.{made_core, made_steps, refused_saves, refused_steps, rests, running, stands, taken_saves, taken_steps, watched_core, watched_steps}
+use Rattle.smi_station.proofs.Steps.{made_core, made_steps, made_tidy, runs_on, refused_saves, refused_steps, rests, running, stands, taken_saves, taken_steps, watched_core, watched_steps}
 use Rattle.smi_station.proofs.halves.Core.obey.Goals as goal
 
 pub invariant_of-self : goal.invariant_of-self
@@ -24,7 +24,8 @@ invariant_of-self g c =
     let i = c.self.inside in
     let runs = running i.kept i.display i.is_stopped c.args.self.now c.self.view_is c.requires.runs in
     subst (λ b. IsCore (core_with c.obey.new.kept c.obey.new.display b)) (sym runs)
-    (made_core i.kept c.obey.new.kept i.display c.obey.new.display c.obey.result c.self.invariant.halves (c.self.invariant.room runs) c.obey.ensures.halves c.obey.ensures.room c.obey.ensures.unchanged)
+    (made_core i.kept c.obey.new.kept i.display c.obey.new.display false c.obey.result c.self.invariant.halves (c.self.invariant.room runs) c.obey.ensures.halves (runs_on c.obey.new.display c.obey.result c.obey.ensures.room) c.obey.ensures.unchanged
+    (made_tidy i.kept c.obey.new.kept i.display c.obey.new.display false (Orders c.args.operator c.args.order.now) c.obey.result c.obey.ensures.station c.obey.ensures.same c.obey.ensures.unchanged c.self.invariant.tidy))
 
 pub returns-in-Some-clause-step : goal.returns-in-Some-clause-step
 returns-in-Some-clause-step g c =

@@ -14,8 +14,18 @@ use Rattle.smi_protocol.specs.declared.event.StepFault.{StepFault}
 use Rattle.smi_protocol.specs.declared.order.Order.{Order}
 use Rattle.smi_station.specs.Core.{Core, IsCore, Steps, core_with, number_of, station_of, station_with, tree_of}
 use Rattle.smi_station.specs.Leaving.{Leaves}
-use Rattle.smi_station.proofs.Steps.{made_core, made_steps, refused_steps, rests, running, stands, taken_steps, watched_core, watched_steps}
+use Rattle.smi_station.proofs.Steps.{made_core, made_steps, made_tidy, refused_steps, rests, running, stands, taken_steps, watched_core, watched_steps}
 use Rattle.smi_station.proofs.halves.Core.report.Goals as goal
+
+pub invariant_of-self : goal.invariant_of-self
+invariant_of-self c =
+    let i = c.self.inside in
+    let d2 = c.report-self-inside.new.display in
+    record {
+      halves = c.report-self-inside.ensures.halves;
+      tidy = made_tidy i.kept i.kept i.display d2 c.report-self-inside.result (Reports c.args.device c.args.state) (Ok Same) c.report-self-inside.ensures.station (refl, refl) tt c.self.invariant.tidy;
+      room = c.report-self-inside.ensures.room;
+    }
 
 pub report-self-inside-requires-clause-room : goal.report-self-inside-requires-clause-room
 report-self-inside-requires-clause-room c =

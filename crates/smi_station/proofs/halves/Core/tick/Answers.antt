@@ -14,8 +14,17 @@ use Rattle.smi_protocol.specs.declared.event.StepFault.{StepFault}
 use Rattle.smi_protocol.specs.declared.order.Order.{Order}
 use Rattle.smi_station.specs.Core.{Core, IsCore, Steps, core_with, number_of, station_of, station_with, tree_of}
 use Rattle.smi_station.specs.Leaving.{Leaves}
-use Rattle.smi_station.proofs.Steps.{made_core, made_steps, refused_steps, rests, running, stands, taken_steps, watched_core, watched_steps}
+use Rattle.smi_station.proofs.Steps.{made_core, made_steps, made_tidy, refused_steps, rests, running, stands, taken_steps, watched_core, watched_steps}
 use Rattle.smi_station.proofs.halves.Core.tick.Goals as goal
+
+pub invariant_of-self : goal.invariant_of-self
+invariant_of-self c =
+    let i = c.self.inside in
+    record {
+      halves = c.tick.ensures.halves;
+      tidy = made_tidy i.kept i.kept i.display c.tick.new.display false Ticks (Ok Same) c.tick.ensures.station (refl, refl) tt c.self.invariant.tidy;
+      room = λ is. c.tick.ensures.room;
+    }
 
 pub returns-clause-step : goal.returns-clause-step
 returns-clause-step c =

@@ -24,7 +24,7 @@ invariant_of-self c =
     subst (λ b. IsCore (core_with i.kept c.watch_comes-done.new.self b)) (sym runs)
     (watched_core i.kept i.display c.watch_comes-done.new.self (record { from = c.datagram.inside.from; to = c.datagram.inside.to; tree = c.datagram.inside.tree; body = c.datagram.inside.body }) c.args.watched.object c.args.watched.echo c.self.invariant.halves
     (ap (λ (m : Message). m.body) c.datagram.view_is ∙ c.requires.body) c.watch_comes-done.result
-    (c.self.invariant.room runs) c.watch_comes-done.ensures.rest c.watch_comes-done.ensures.display c.watch_comes-done.ensures.err)
+    c.self.invariant.tidy (c.self.invariant.room runs) c.watch_comes-done.ensures.rest c.watch_comes-done.ensures.display c.watch_comes-done.ensures.err)
 
 pub returns-clause-step : goal.returns-clause-step
 returns-clause-step c =
