@@ -3,3 +3,5 @@ pub mod SoundLoading
 pub mod Taking
 pub mod Opening
 pub mod Starts
+pub mod Renewing
+pub mod Migrated
