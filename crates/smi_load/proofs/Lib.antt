@@ -2,6 +2,7 @@ pub mod Results
 pub mod SoundLoading
 pub mod Taking
 pub mod Opening
+pub mod Saving
 pub mod Starts
-pub mod Renewing
+pub mod Rewritten
 pub mod Migrated

@@ -1,5 +1,5 @@
 -- Rows of older schemas written anew in the newest.
-use Rattle.std.specs.Prelude.{ℕ, ◌≡◌, ◌⊎◌, ◌==◌, ◌&&◌, not, true, false, Bool, List, [], ◌∷◌, Option, Some, None, option_map, Result, Ok, Err, if◌then◌else◌}
+use Rattle.std.specs.Prelude.{ℕ, ◌≡◌, ◌⊎◌, ◌==◌, ◌&&◌, not, true, false, Bool, List, [], ◌∷◌, Option, Some, None, option_map, take, Result, Ok, Err, if◌then◌else◌}
 use Rattle.std.specs.List.{filter_map}
 use Rattle.std.specs.Option.{option_map_or}
 use Rattle.smi_tree.specs.Hierarchy.{Hierarchy}
@@ -12,7 +12,7 @@ use Rattle.smi_rows.specs.Key.{kind_of}
 use Rattle.smi_rows.specs.Layout.{row_bytes}
 use Rattle.smi_rows.specs.Reading.{row_of}
 use Rattle.smi_rows.specs.Schema.{newest}
-use Rattle.smi_rows.specs.Store.{Rows, Saved, is_before, saved, with_row}
+use Rattle.smi_rows.specs.Store.{IsSame, Rows, Saved, is_before, saved, with_row}
 use Rattle.smi_protocol.specs.Loading.{AllRead, IsFirstFault, IsStation, read, said}
 use Rattle.smi_protocol.specs.declared.fault.OpenFault.{OpenFault}
 use Rattle.smi_protocol.specs.declared.fault.OpenFault.TheVariants as open_fault
@@ -79,6 +79,11 @@ IfRefused _ P = Unit {0}
 
 -- Row by row.
 
+-- whether it was told, and not what
+abbrev pub only_told : {X : Type 0} → Result X OpenFault → Result (Unit {0}) OpenFault
+only_told (Ok x) = Ok tt
+only_told (Err fault) = Err fault
+
 -- the rows are told, or the fault of the first that has one
 abbrev pub all_told : Hierarchy → ℕ → List Saved → Result (Unit {0}) OpenFault
 all_told h number [] = Ok tt
@@ -96,3 +101,8 @@ renewals h number list = filter_map (renewal h number) list
 abbrev pub over : Rows → List Saved → Rows
 over rows [] = rows
 over rows (r ∷ more) = over (with_row r.key r.bytes rows) more
+
+-- so many of them, the first ones
+pub record IsSavedPartly (before : Rows) (list : List Saved) (after : Rows) : Type 0 where
+  pub count : ℕ
+  pub rows : IsSame after (over before (take count list))

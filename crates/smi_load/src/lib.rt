@@ -4,7 +4,9 @@
 //! raised boot.
 #![tactic(auto)]
 
+mod migrating;
 mod reading;
+mod renewing;
 mod restoring;
 mod starting;
 
