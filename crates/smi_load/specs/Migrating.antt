@@ -12,7 +12,7 @@ use Rattle.smi_rows.specs.Key.{kind_of}
 use Rattle.smi_rows.specs.Layout.{row_bytes}
 use Rattle.smi_rows.specs.Reading.{row_of}
 use Rattle.smi_rows.specs.Schema.{newest}
-use Rattle.smi_rows.specs.Store.{IsSame, Rows, Saved, is_before, saved, with_row}
+use Rattle.smi_rows.specs.Store.{IsListing, IsSame, Rows, Saved, is_before, saved, with_row}
 use Rattle.smi_protocol.specs.Loading.{AllRead, IsFirstFault, IsStation, read, said}
 use Rattle.smi_protocol.specs.declared.fault.OpenFault.{OpenFault}
 use Rattle.smi_protocol.specs.declared.fault.OpenFault.TheVariants as open_fault
@@ -101,6 +101,13 @@ renewals h number list = filter_map (renewal h number) list
 abbrev pub over : Rows → List Saved → Rows
 over rows [] = rows
 over rows (r ∷ more) = over (with_row r.key r.bytes rows) more
+
+-- rows that are read and of which these are to be saved anew
+pub record IsToRenew (h : Hierarchy) (number : ℕ) (rows : Rows) (anew : List Saved) : Type 0 where
+  pub list : List Saved
+  pub listing : IsListing rows list
+  pub told : all_told h number list ≡ Ok tt
+  pub renewed : anew ≡ renewals h number list
 
 -- so many of them, the first ones
 pub record IsSavedPartly (before : Rows) (list : List Saved) (after : Rows) : Type 0 where

@@ -10,5 +10,6 @@ mod renewing;
 mod restoring;
 mod starting;
 
+pub use migrating::migrate;
 pub use restoring::kept_of_rows;
 pub use starting::load_and_start;

@@ -8,6 +8,7 @@ ghost use Rattle.smi_load.specs.Restoring.{Comes};
 ghost use Rattle.smi_load.specs.Restoring as restoring;
 ghost use Rattle.smi_load.specs.Migrating.{all_told, only_told};
 ghost use Rattle.smi_load.specs.Migrating as spec;
+ghost use Rattle.smi_load.specs.Starting.{IsNotOfStore};
 
 use crate::reading::said_to;
 use smi_protocol::OpenFault;
@@ -24,6 +25,7 @@ pub(crate) fn renewals(
 ) -> Result<Vec<SavedRow>, OpenFault>
     ensures told { Comes (only_told result) (all_told tree.now number rows.now) }
     ensures list { IfOk result (λ list. list.items ≡ spec.renewals tree.now number rows.now) }
+    ensures fault { IfErr result IsNotOfStore }
 {
     let mut list = Vec::new(alloc);
     for row in rows {
@@ -41,6 +43,7 @@ fn renew(
 ) -> Result<(), OpenFault>
     ensures told { Comes result (only_told (restoring.said_to tree.now number row.now)) }
     ensures list { OnOk result (list.new.items ≡ list.old.items ++ cons_option (spec.renewal tree.now number row.now) []) }
+    ensures fault { IfErr result IsNotOfStore }
 {
     match renewal(*list.allocator(), tree, number, row)? {
         None => Ok(()),
@@ -60,6 +63,7 @@ fn renewal(
 ) -> Result<Option<SavedRow>, OpenFault>
     ensures told { Comes (only_told result) (only_told (restoring.said_to tree.now number row.now)) }
     ensures anew { IfOk result (λ anew. anew ≡ spec.renewal tree.now number row.now) }
+    ensures fault { IfErr result IsNotOfStore }
 {
     match said_to(alloc, tree, number, row)? {
         None => Ok(None),
