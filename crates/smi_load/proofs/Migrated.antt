@@ -1,13 +1,12 @@
 -- Rows written anew one after the other come to all rows in their newest schemas.
 use Rattle.std.proofs.Common.{ℕ, zero, suc, ◌≡◌, ◌≤◌, ◌<◌, ◌+◌, ◌*◌, ◌^◌, ◌⊎◌, inl, inr, Bool, true, false, List, [], ◌∷◌, length, take, Option, Some, None, Result, Ok, Err, refl, sym, ap, ◌∙◌, subst, arith}
 use Rattle.std.specs.Prelude.{◌==◌, ◌&&◌, not, nat_lt, count_by, if◌then◌else◌, option_and_then, option_map}
-use Rattle.std.specs.List.{AllByRecursion, cons_option, filter_map}
+use Rattle.std.specs.List.{AllByRecursion, cons_option}
 use Rattle.std.specs.Option.{option_map_or}
 use Rattle.std.proofs.lemmas.Bool.{and_from, and_parts, eqb-true}
 use Rattle.std.proofs.lemmas.Bool.Decides.{nat_tests}
 use Rattle.std.proofs.lemmas.List.Recursion.{is_count_by}
 use mathlib.Core.Path.{fun_ext}
-use Rattle.smi_grant.specs.declared.Holder.TheVariants.{Operator}
 use Rattle.smi_tree.specs.Hierarchy.{Hierarchy}
 use Rattle.smi_tree.specs.Lawful.{IsTree}
 use Rattle.smi_tree.specs.Lookups.{operator_station_of}
@@ -29,7 +28,7 @@ use Rattle.smi_protocol.specs.declared.fault.OpenFault.TheVariants as open_fault
 use Rattle.smi_protocol.proofs.Ranges.{kept_there, number_within}
 use Rattle.smi_protocol.proofs.Tables.{number_is}
 use Rattle.smi_load.specs.Migrating.{IsPartly, IsSavedPartly, IsToRenew, Migrates, SaysTheSame, about, all_told, in_newest, in_newest_if, is_older, is_renewed, newest_bytes, over, renewal, renewals, schema_in}
-use Rattle.smi_load.specs.Restoring.{Comes, and_then, as_told, own_row, restored, said_to}
+use Rattle.smi_load.specs.Restoring.{Comes, and_then, as_told, restored, said_to}
 use Rattle.smi_load.proofs.Opening.{all_read, before_chain, clash, first_of, first_refused, not_again, not_behind, not_found, over_found, rest_rises}
 use Rattle.smi_load.proofs.Rewritten.{key_about, newest_reads, newest_stays}
 use Rattle.smi_load.proofs.SoundLoading.{said_row}

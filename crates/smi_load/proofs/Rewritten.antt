@@ -1,7 +1,6 @@
 -- What is written anew reads as before.
-use Rattle.std.proofs.Common.{ℕ, ◌≡◌, ◌≤◌, Bool, true, false, List, [], ◌∷◌, length, Option, Some, None, Result, Ok, Err, refl, sym, ap, ◌∙◌, subst, arith}
+use Rattle.std.proofs.Common.{ℕ, ◌≡◌, ◌≤◌, Bool, true, false, List, [], ◌∷◌, length, Some, None, Ok, refl, sym, ap, ◌∙◌, subst, arith}
 use Rattle.std.specs.Prelude.{◌==◌, ◌&&◌, nat_le, if◌then◌else◌}
-use Rattle.std.specs.List.{list_all}
 use Rattle.std.proofs.lemmas.Bool.{and_from, and_parts, leb-true}
 use Rattle.std.proofs.lemmas.Bool.Decides.{nat_tests}
 use Rattle.smi_grant.specs.declared.Command.{Command}
@@ -21,10 +20,9 @@ use Rattle.smi_rows.specs.declared.Schema.{Schema}
 use Rattle.smi_rows.specs.declared.StoredLink.{StoredLink}
 use Rattle.smi_rows.specs.Key.{kind_of}
 use Rattle.smi_rows.specs.Layout.{HasFewLinks, row_bytes}
-use Rattle.smi_rows.specs.Ranges.{are_links_in, are_pending_in, count_not_out, each_command_in, each_link_in, is_between, is_command_in, is_domain_in, is_grant_epoch, is_grant_in, is_held, is_link_in, is_mode_in, is_operator_in, is_row_of, is_standing, is_work_in, rises_above}
+use Rattle.smi_rows.specs.Ranges.{are_links_in, are_pending_in, count_not_out, each_command_in, each_link_in, is_between, is_command_in, is_grant_epoch, is_grant_in, is_held, is_link_in, is_mode_in, is_row_of, is_standing, is_work_in, rises_above}
 use Rattle.smi_rows.specs.Reading.{row_of}
 use Rattle.smi_rows.specs.Schema.{has_modes, last_verb, most_pending_in, newest, schema_of}
-use Rattle.smi_rows.specs.Stored.{KeptDomain}
 use Rattle.smi_rows.specs.Written.{IsRow, IsWrittenIn}
 use Rattle.smi_rows.proofs.Again.{rising-few}
 use Rattle.smi_rows.proofs.Laws.{row_is_read}

@@ -1,12 +1,12 @@
 -- Rows saved one after the other.
-use Rattle.std.proofs.Common.{◌≡◌, ◌+◌, ◌<◌, ◌≤◌, ◌++◌, ℕ, List, [], ◌∷◌, length, take, get_or, Result, Ok, Err, ◌⊎◌, inl, inr, refl, ap, sym, ◌∙◌, arith}
+use Rattle.std.proofs.Common.{◌≡◌, ◌+◌, ◌<◌, ◌≤◌, ◌++◌, ℕ, List, [], ◌∷◌, length, take, get_or, Err, ◌⊎◌, inl, inr, refl, ap, sym, ◌∙◌, arith}
 use Rattle.std.proofs.lemmas.List.{take_more}
 use mathlib.Core.Path.{fun_ext}
 use Rattle.smi_rows.specs.declared.StoreFault.TheVariants as store_fault
 use Rattle.smi_rows.specs.Store.{IsSame, Rows, Saved, with_row}
 use Rattle.smi_protocol.specs.declared.fault.OpenFault.{OpenFault}
 use Rattle.smi_protocol.specs.declared.fault.OpenFault.TheVariants as open_fault
-use Rattle.smi_load.specs.Migrating.{IsSavedPartly, over}
+use Rattle.smi_load.specs.Migrating.{over}
 use Rattle.smi_load.specs.Starting.{IfCertain, IfInDoubt, IfStoreFailed, IfUnchanged}
 
 over_more : (rows : Rows) (xs : List Saved) (r : Saved) → over rows (xs ++ r ∷ []) ≡ with_row r.key r.bytes (over rows xs)

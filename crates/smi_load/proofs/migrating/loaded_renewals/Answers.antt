@@ -1,7 +1,5 @@
-use Rattle.std.proofs.Common.{◌≡◌, List, Result, Ok, Err, true, sym, subst, arith}
-use Rattle.std.specs.Prelude.{nat_le, ◌&&◌}
+use Rattle.std.proofs.Common.{List, Result, Ok, Err, true, sym, subst, arith}
 use Rattle.std.proofs.lemmas.Bool.Decides.{nat_tests}
-use Rattle.smi_tree.specs.Lookups.{station_count}
 use Rattle.smi_rows.specs.Store.{IsListing, Rows, Saved}
 use Rattle.smi_protocol.specs.Loading.{IsStation}
 use Rattle.smi_protocol.specs.declared.fault.OpenFault.{OpenFault}

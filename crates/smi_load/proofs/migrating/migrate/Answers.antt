@@ -1,4 +1,4 @@
-use Rattle.std.proofs.Common.{◌≡◌, ◌∙◌, ◌+◌, ℕ, List, length, ap, sym, subst, arith}
+use Rattle.std.proofs.Common.{◌≡◌, ◌∙◌, List, length, ap, sym, subst, arith}
 use Rattle.smi_rows.specs.Store.{Saved}
 use Rattle.smi_load.specs.Migrating.{IsToRenew}
 use Rattle.smi_load.proofs.Migrated.{count_to_renew, few_to_renew, saved_partly, saved_wholly}

@@ -1,8 +1,8 @@
-use Rattle.std.proofs.Common.{◌≡◌, ◌≤◌, ◌+◌, ◌⊎◌, inl, inr, ℕ, List, length, take, refl, sym, ap, ◌∙◌, arith}
+use Rattle.std.proofs.Common.{◌+◌, inl, inr, List, refl, ap, ◌∙◌, arith}
 use Rattle.std.proofs.lemmas.List.{take_all}
 use Rattle.std.proofs.lemmas.Result.{err_from_is_err_and}
-use Rattle.smi_rows.specs.Store.{IsSame, Rows, Saved, with_row}
-use Rattle.smi_load.specs.Migrating.{IsSavedPartly, over}
+use Rattle.smi_rows.specs.Store.{Saved}
+use Rattle.smi_load.specs.Migrating.{over}
 use Rattle.smi_load.proofs.Saving.{certain_then, either_way, failed_more, one_more}
 use Rattle.smi_load.proofs.migrating.save_all.Goals as goal
 
@@ -47,7 +47,7 @@ returns-in_err-save_row-clause-cause g c =
     (failed_more (Unit {0}) (Unit {0}) c.in_err-save_row.field-0.0 (g.S.Stable.failures c.args.store.now) (g.S.Stable.failures c.loop-row.store) (g.S.Stable.failures c.save_row.new.store) c.loop-row.invariant.failures c.in_err-save_row.ensures.cause)
 
 pub loop-row-init : goal.loop-row-init
-loop-row-init g c = record { honest = λ honest. honest; rows = λ honest live. (live, λ k. refl); saves = omega arith; failures = omega arith; }
+loop-row-init g c = record { honest = λ honest. honest; rows = λ honest live. (live, λ k. refl); saves = omega arith; failures = omega arith }
 
 pub loop-row-preserved : goal.loop-row-preserved
 loop-row-preserved g c =

@@ -1,4 +1,4 @@
-use Rattle.std.proofs.Common.{◌≡◌, Option, Some, Result, Ok, Err, ap, sym, ◌∙◌, subst}
+use Rattle.std.proofs.Common.{◌≡◌, Option, Some, Result, Ok, Err, ap, sym, ◌∙◌}
 use Rattle.std.specs.Prelude.{IfOk, if◌then◌else◌, None}
 use Rattle.smi_rows.specs.declared.Row.{Row}
 use Rattle.smi_rows.specs.Store.{Saved, saved}
