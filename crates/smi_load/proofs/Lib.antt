@@ -6,3 +6,4 @@ pub mod Saving
 pub mod Starts
 pub mod Rewritten
 pub mod Migrated
+pub mod Twice

@@ -27,7 +27,7 @@ use Rattle.smi_protocol.specs.declared.fault.OpenFault.{OpenFault}
 use Rattle.smi_protocol.specs.declared.fault.OpenFault.TheVariants as open_fault
 use Rattle.smi_protocol.proofs.Ranges.{kept_there, number_within}
 use Rattle.smi_protocol.proofs.Tables.{number_is}
-use Rattle.smi_load.specs.Migrating.{IsPartly, IsSavedPartly, IsToRenew, Migrates, SaysTheSame, about, all_told, in_newest, in_newest_if, is_older, is_renewed, newest_bytes, over, renewal, renewals, schema_in}
+use Rattle.smi_load.specs.Migrating.{Counts, IsPartly, IsSavedPartly, IsToRenew, Migrates, SaysTheSame, about, all_told, in_newest, in_newest_if, is_older, is_renewed, newest_bytes, over, renewal, renewals, schema_in}
 use Rattle.smi_load.specs.Restoring.{Comes, and_then, as_told, restored, said_to}
 use Rattle.smi_load.proofs.Opening.{all_read, before_chain, clash, first_of, first_refused, not_again, not_behind, not_found, over_found, rest_rises}
 use Rattle.smi_load.proofs.Rewritten.{key_about, newest_reads, newest_stays}
@@ -355,7 +355,7 @@ module _ (h : Hierarchy) (number : ℕ) where
 
   -- What they say.
 
-  newest_says : (rows : Rows) (k : Key) → said h (in_newest h number rows) k ≡ said h rows k
+  pub newest_says : (rows : Rows) (k : Key) → said h (in_newest h number rows) k ≡ said h rows k
   newest_says rows k = by (k.station == number) (said h rows k) refl
     where
       by : (t : Bool) (o : Option Row) → said h rows k ≡ o → option_and_then (λ b. read (row_of h k b)) (if t then in_newest_if (said h rows k) (rows k) else rows k) ≡ said h rows k
@@ -506,6 +506,10 @@ module _ (h : Hierarchy) (number : ℕ) (rows : Rows) (items : List Saved) (to :
   count_to_renew list listing =
       ap length to.renewed ∙ counted h number to.list to.told
       ∙ ap (λ (xs : List Saved). count_by (is_renewed number) xs) (listed_once to.list list to.listing.rises listing.rises (λ k. to.listing.same k ∙ sym (listing.same k)))
+
+  -- so many there are
+  pub are_counted : (n : ℕ) → n ≡ length items → Counts number rows n
+  are_counted n is = record { list = to.list; listing = to.listing; count = is ∙ ap length to.renewed ∙ counted h number to.list to.told }
 
 -- rows that are as they were are partly renewed
 pub none_renewed : (h : Hierarchy) (number : ℕ) (before after : Rows) → IsSame after before → IsPartly h number before after

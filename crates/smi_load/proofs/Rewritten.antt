@@ -144,6 +144,12 @@ kind_is s kind.Operator (row.Boot boot) range = clash (sym range)
 kind_is s kind.Operator (row.Domain d) range = clash (sym range)
 kind_is s kind.Operator (row.Operator links) range = refl
 
+-- the schema of a row is its first byte
+pub schema_first : (n : ℕ) (r : Row) → schema_in (row_bytes n r) ≡ n
+schema_first n (row.Boot boot) = refl
+schema_first n (row.Domain d) = refl
+schema_first n (row.Operator links) = refl
+
 module _ (h : Hierarchy) (k : Key) (b : List ℕ) (r : Row) (is : IsRow h k b r) where
   s : Schema
   s = is.0.0
@@ -179,18 +185,10 @@ module _ (h : Hierarchy) (k : Key) (b : List ℕ) (r : Row) (is : IsRow h k b r)
 
   -- a row in the newest schema is written so
   pub newest_stays : (schema_in b == newest (about r)) ≡ true → b ≡ newest_bytes r
-  newest_stays new = written.bytes ∙ ap (λ n. row_bytes n r) (sym (first is.0.0.number) ∙ ap schema_in (sym written.bytes) ∙ number_is (schema_in b) (newest (about r)) new)
+  newest_stays new = written.bytes ∙ ap (λ n. row_bytes n r) (sym (schema_first is.0.0.number r) ∙ ap schema_in (sym written.bytes) ∙ number_is (schema_in b) (newest (about r)) new)
     where
       number_is : (m n : ℕ) → (m == n) ≡ true → m ≡ n
       number_is m n t = grind (arith, nat_tests)
-
-      first : (n : ℕ) → schema_in (row_bytes n r) ≡ n
-      first n = by r
-        where
-          by : (r : Row) → schema_in (row_bytes n r) ≡ n
-          by (row.Boot boot) = refl
-          by (row.Domain d) = refl
-          by (row.Operator links) = refl
 
   -- its links are few
   pub few_links : HasFewLinks r

@@ -1,5 +1,5 @@
 -- Rows of older schemas written anew in the newest.
-use Rattle.std.specs.Prelude.{ℕ, ◌≡◌, ◌⊎◌, ◌==◌, ◌&&◌, not, true, false, Bool, List, [], ◌∷◌, Option, Some, None, option_map, take, Result, Ok, Err, if◌then◌else◌}
+use Rattle.std.specs.Prelude.{ℕ, ◌≡◌, ◌⊎◌, ◌==◌, ◌&&◌, not, true, false, Bool, List, [], ◌∷◌, Option, Some, None, option_map, count_by, take, Result, Ok, Err, if◌then◌else◌}
 use Rattle.std.specs.List.{filter_map}
 use Rattle.std.specs.Option.{option_map_or}
 use Rattle.smi_tree.specs.Hierarchy.{Hierarchy}
@@ -76,6 +76,12 @@ abbrev pub IfRefused : {X : Type 0} → Result X OpenFault → Type 0 → Type 0
 IfRefused (Err open_fault.NoSuchStation) P = P
 IfRefused (Err (open_fault.Row k code)) P = P
 IfRefused _ P = Unit {0}
+
+-- so many of the station's rows are of older schemas
+pub record Counts (number : ℕ) (rows : Rows) (n : ℕ) : Type 0 where
+  pub list : List Saved
+  pub listing : IsListing rows list
+  pub count : n ≡ count_by (is_renewed number) list
 
 -- Row by row.
 

@@ -3,7 +3,7 @@
 ghost use Rattle.std.specs.Prelude.{◌≡◌, ◌⊎◌, ◌<◌, ◌≤◌, ◌+◌, ◌^◌, length, List, count_by, IfOk, IfErr, OnOk};
 ghost use Rattle.smi_tree.specs.Lookups.{station_count};
 ghost use Rattle.smi_rows.specs.Store.{Rows, Saved, IsListing, IsSame, with_row};
-ghost use Rattle.smi_load.specs.Migrating.{IfRefused, IsPartly, IsSavedPartly, IsToRenew, Migrates, in_newest, is_renewed, over};
+ghost use Rattle.smi_load.specs.Migrating.{Counts, IfRefused, IsPartly, IsSavedPartly, IsToRenew, Migrates, in_newest, is_renewed, over};
 ghost use Rattle.smi_load.specs.Starting.{IfCertain, IfInDoubt, IfStoreFailed, IfUnchanged, IsOfStore, IsToldAsMemory};
 
 use crate::reading::has_station;
@@ -27,7 +27,8 @@ pub fn migrate<S: Stable>(
 ) -> Result<u32, OpenFault>
     ensures migrates { S.is_honest store.new → Migrates tree.now number (S.rows store.old) result }
     ensures newest { S.is_honest store.new → OnOk result (S.is_open store.new × IsSame (S.rows store.new) (in_newest tree.now number (S.rows store.old))) }
-    ensures count { S.is_honest store.new → (list : List Saved) → IsListing (S.rows store.old) list → IfOk result (λ n. n ≡ count_by (is_renewed number) list) }
+    ensures count { S.is_honest store.new → IfOk result (λ n. Counts number (S.rows store.old) n) }
+    ensures counted { S.is_honest store.new → (list : List Saved) → IsListing (S.rows store.old) list → IfOk result (λ n. n ≡ count_by (is_renewed number) list) }
     // Whatever it answers, and where it stops, some of the rows are saved by rising key, and all say what they said.
     ensures partly { S.is_honest store.new → S.is_open store.old → S.is_open store.new → IsPartly tree.now number (S.rows store.old) (S.rows store.new) }
     ensures crash { S.is_honest store.new → S.is_open store.old → (r : Rows) → S.may_find store.new r → IsPartly tree.now number (S.rows store.old) r }

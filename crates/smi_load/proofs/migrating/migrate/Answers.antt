@@ -1,7 +1,7 @@
 use Rattle.std.proofs.Common.{◌≡◌, ◌∙◌, List, length, ap, sym, subst, arith}
 use Rattle.smi_rows.specs.Store.{Saved}
 use Rattle.smi_load.specs.Migrating.{IsToRenew}
-use Rattle.smi_load.proofs.Migrated.{count_to_renew, few_to_renew, saved_partly, saved_wholly}
+use Rattle.smi_load.proofs.Migrated.{are_counted, count_to_renew, few_to_renew, saved_partly, saved_wholly}
 use Rattle.smi_load.proofs.migrating.migrate.Goals as goal
 
 pub returns-in-Ok-clause-newest : goal.returns-in-Ok-clause-newest
@@ -16,7 +16,16 @@ returns-in-Ok-clause-newest g c = λ honest.
     (saved.0, saved_wholly h c.args.number (g.S.Stable.rows c.args.store.now) c.deref.result.now to (g.S.Stable.rows c.loaded_renewals.new.store) there.1 (g.S.Stable.rows c.save_all.new.store) saved.1)
 
 pub returns-in-Ok-clause-count : goal.returns-in-Ok-clause-count
-returns-in-Ok-clause-count g c = λ honest list listing.
+returns-in-Ok-clause-count g c = λ honest.
+    let h = c.args.tree.now in
+    let before = c.in-Ok.ensures.honest honest in
+    let found = c.in_ok-anew.ensures.anew before in
+    let to = subst (λ (xs : List Saved). IsToRenew h c.args.number (g.S.Stable.rows c.args.store.now) xs) (sym c.deref-in-Ok.ensures.value) found.1 in
+    are_counted h c.args.number (g.S.Stable.rows c.args.store.now) c.deref-in-Ok.result.now to c.count_of.result
+    (c.count_of.ensures (few_to_renew h c.args.number (g.S.Stable.rows c.args.store.now) c.deref-in-Ok.result.now to c.has_station.ensures.tree))
+
+pub returns-in-Ok-clause-counted : goal.returns-in-Ok-clause-counted
+returns-in-Ok-clause-counted g c = λ honest list listing.
     let h = c.args.tree.now in
     let before = c.in-Ok.ensures.honest honest in
     let found = c.in_ok-anew.ensures.anew before in
