@@ -67,6 +67,13 @@ impl<'a> Kept<'a> {
         self.number
     }
 
+    /// How often the station has started.
+    pub fn boot(&self) -> u32
+        ensures { result ≡ (grants_of self.now).boot }
+    {
+        self.boot
+    }
+
     /// The allocator of the tables.
     pub fn alloc(&self) -> Global {
         *self.records.allocator()

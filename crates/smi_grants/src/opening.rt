@@ -50,13 +50,6 @@ impl<'a> Kept<'a> {
         })
     }
 
-    /// How often the station has started.
-    pub fn boot(&self) -> u32
-        ensures { result ≡ (grants_of self.now).boot }
-    {
-        self.boot
-    }
-
     /// The station has started so often.
     pub fn put_boot(&mut self, boot: u32)
         ensures grants { grants_of self.new ≡ record (grants_of self.old) { boot = boot } }

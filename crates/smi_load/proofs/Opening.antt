@@ -26,27 +26,28 @@ use Rattle.smi_protocol.specs.Sound.{IsSound}
 use Rattle.smi_protocol.specs.declared.fault.OpenFault.{OpenFault}
 use Rattle.smi_protocol.specs.declared.fault.OpenFault.TheVariants as open_fault
 use Rattle.smi_grants.specs.Kept.{Kept, grants_of}
+use Rattle.smi_load.specs.Migrating.{over}
 use Rattle.smi_load.specs.Restoring.{Comes, and_then, as_told, own_row, raised, restored, said_to, started}
 use Rattle.smi_load.specs.Starting.{IsNotOfStore, beginning_with, grants_after}
 use Rattle.smi_load.proofs.SoundLoading.{grants_sound, said_row}
-use Rattle.smi_load.proofs.Taking.{no_rows, none_mean, over, restored_means}
+use Rattle.smi_load.proofs.Taking.{no_rows, none_mean, restored_means}
 
-clash : {X : Type 0} → true ≡ false → X
+pub clash : {X : Type 0} → true ≡ false → X
 clash e = absurd cc
 
 -- Keys that rise.
 
-before_chain : (a b c : Key) → is_before a b ≡ true → is_before b c ≡ true → is_before a c ≡ true
+pub before_chain : (a b c : Key) → is_before a b ≡ true → is_before b c ≡ true → is_before a c ≡ true
 before_chain a b c first second = grind (arith, nat_tests)
 
-not_behind : (a b : Key) → is_before b a ≡ true → is_before a b ≡ false
+pub not_behind : (a b : Key) → is_before b a ≡ true → is_before a b ≡ false
 not_behind a b first = grind (arith, nat_tests)
 
-not_itself : (a : Key) → is_before a a ≡ false
+pub not_itself : (a : Key) → is_before a a ≡ false
 not_itself a = grind (arith, nat_tests)
 
 -- what does not stand behind a key is not in a list that rises from it
-not_found : (low : Key) (list : List Saved) (k : Key) → rises_after low list ≡ true → is_before low k ≡ false → found_in list k ≡ None
+pub not_found : (low : Key) (list : List Saved) (k : Key) → rises_after low list ≡ true → is_before low k ≡ false → found_in list k ≡ None
 not_found low [] k rising early = refl
 not_found low (r ∷ more) k rising early = by (same_key r.key k) (is_before r.key k) refl refl (λ j. not_found r.key more k parts.1 j)
   where
@@ -59,18 +60,18 @@ not_found low (r ∷ more) k rising early = by (same_key r.key k) (is_before r.k
     by false false same i rest = rest i
 
 -- nor what is at the key itself
-not_again : (r : Saved) (more : List Saved) (k : Key) → rises_after r.key more ≡ true → same_key r.key k ≡ true → found_in more k ≡ None
+pub not_again : (r : Saved) (more : List Saved) (k : Key) → rises_after r.key more ≡ true → same_key r.key k ≡ true → found_in more k ≡ None
 not_again r more k rising same = not_found r.key more k rising (ap (is_before r.key) (sym (same-is r.key k same)) ∙ not_itself r.key)
 
-rest_rises : (r : Saved) (more : List Saved) → rises (r ∷ more) ≡ true → rises more ≡ true
+pub rest_rises : (r : Saved) (more : List Saved) → rises (r ∷ more) ≡ true → rises more ≡ true
 rest_rises r [] rising = refl
 rest_rises r (s ∷ more) rising = (and_parts (is_before r.key s.key) _ rising).1
 
-abbrev first_of : Option (List ℕ) → Option (List ℕ) → Option (List ℕ)
+abbrev pub first_of : Option (List ℕ) → Option (List ℕ) → Option (List ℕ)
 first_of None other = other
 first_of (Some b) other = Some b
 
-over_found : (rows : Rows) (list : List Saved) (k : Key) → rises list ≡ true → over rows list k ≡ first_of (found_in list k) (rows k)
+pub over_found : (rows : Rows) (list : List Saved) (k : Key) → rises list ≡ true → over rows list k ≡ first_of (found_in list k) (rows k)
 over_found rows [] k rising = refl
 over_found rows (r ∷ more) k rising = over_found (with_row r.key r.bytes rows) more k (rest_rises r more rising) ∙ by (same_key r.key k) refl
   where

@@ -1,7 +1,8 @@
 -- Results that come to what they are to be.
-use Rattle.std.proofs.Common.{◌≡◌, Result, Ok, Err, ap}
+use Rattle.std.proofs.Common.{◌≡◌, Result, Ok, Err, refl, ap}
 use Rattle.smi_protocol.specs.declared.fault.OpenFault.{OpenFault}
 use Rattle.smi_protocol.specs.declared.fault.OpenFault.TheVariants.{NoSuchStation, Row, BootsSpent, Store, Memory}
+use Rattle.smi_load.specs.Migrating.{only_told}
 use Rattle.smi_load.specs.Restoring.{Comes, and_then}
 
 -- a fault stays what it is when more was to follow
@@ -19,3 +20,8 @@ comes_so (Err (Row k code)) s is = is
 comes_so (Err BootsSpent) s is = is
 comes_so (Err (Store fault)) s is = is
 comes_so (Err Memory) s is = tt
+
+-- what follows whatever was told
+pub whatever_told : {X Y : Type 0} (y : Result Y OpenFault) (r : Result X OpenFault) → and_then (λ u. y) (only_told r) ≡ and_then (λ x. y) r
+whatever_told y (Ok x) = refl
+whatever_told y (Err fault) = refl

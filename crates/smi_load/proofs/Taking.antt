@@ -37,6 +37,7 @@ use Rattle.smi_protocol.specs.Loading.{boot_of, domain_in, domain_of, grants_in,
 use Rattle.smi_protocol.specs.SavedRows.{key}
 use Rattle.smi_protocol.specs.declared.fault.OpenFault.{OpenFault}
 use Rattle.smi_grants.specs.Restored.{with_domain, with_operator}
+use Rattle.smi_load.specs.Migrating.{over}
 use Rattle.smi_load.specs.Restoring.{IsOwn, and_then, as_said, as_told, own_row, restored, said_to}
 use Rattle.smi_load.proofs.SoundLoading.{IsKeptDomain, IsKeptOperator, domain_kept, domain_row_kept, operator_kept, operator_row_kept, said_row}
 
@@ -170,7 +171,7 @@ key_at : (k : Key) (number d o : ℕ) → k.station ≡ number → k.domain ≡ 
 key_at k number d o station domain operator = ap (λ n. key n k.domain k.operator) station ∙ ap (λ n. key number n k.operator) domain ∙ ap (λ n. key number d n) operator
 
 -- the key of a row tells what it is about
-abbrev kind_for : Row → RowKind
+abbrev pub kind_for : Row → RowKind
 kind_for (row.Boot boot) = kind.Boot
 kind_for (row.Domain d) = kind.Domain
 kind_for (row.Operator links) = kind.Operator
@@ -190,7 +191,7 @@ key_kind : (h : Hierarchy) (k : Key) (b : List ℕ) (r : Row) → IsRow h k b r 
 key_kind h k b r is = let w : IsWrittenIn is.0.0 k b r = is.0.1 in w.kind ∙ ap Some (row_kind is.0.0 is.0.0.kind r w.range)
 
 -- what is nothing of the key is 0
-abbrev IsAbout : RowKind → Bool → Bool → Type 0
+abbrev pub IsAbout : RowKind → Bool → Bool → Type 0
 IsAbout kind.Boot o d = (o ≡ true) × (d ≡ true)
 IsAbout kind.Domain o d = (o ≡ true) × (d ≡ false)
 IsAbout kind.Operator o d = (o ≡ false) × (d ≡ true)
@@ -204,7 +205,7 @@ about k a is = by (k.operator == 0) (k.domain == 0) is
     by false true i = let same : kind.Operator ≡ a = cc in subst (λ z. IsAbout z false true) same (refl, refl)
     by false false i = absurd cc
 
-row_about : (h : Hierarchy) (k : Key) (b : List ℕ) (r : Row) → row_of h k b ≡ Ok r → IsAbout (kind_for r) (k.operator == 0) (k.domain == 0)
+pub row_about : (h : Hierarchy) (k : Key) (b : List ℕ) (r : Row) → row_of h k b ≡ Ok r → IsAbout (kind_for r) (k.operator == 0) (k.domain == 0)
 row_about h k b r is = about k (kind_for r) (key_kind h k b r (read_is_row h k b r is))
 
 -- nothing is said of a domain or an operator under the key of the boot
@@ -333,7 +334,7 @@ told_own h number r said is = by (r.key.station == number) refl is
     by false mine i = absurd cc
 
 -- a row of which it is told nothing is another's
-told_none : (h : Hierarchy) (number : ℕ) (r : Saved) → said_to h number r ≡ Ok None → (r.key.station == number) ≡ false
+pub told_none : (h : Hierarchy) (number : ℕ) (r : Saved) → said_to h number r ≡ Ok None → (r.key.station == number) ≡ false
 told_none h number r is = by (r.key.station == number) refl is
   where
     never : (x : Result Row RowFault) → own_row r.key x ≡ Ok None → ⊥
@@ -357,11 +358,6 @@ row_taken h number rows r None is = other_taken h number rows r.bytes r.key (tol
 row_taken h number rows r (Some said) is = let own = told_own h number r said is in own_taken h number rows r.bytes r.key said own.0 own.1
 
 -- All rows.
-
--- the rows with those of a list saved one after the other
-abbrev pub over : Rows → List Saved → Rows
-over rows [] = rows
-over rows (r ∷ more) = over (with_row r.key r.bytes rows) more
 
 abbrev pub no_rows : Rows
 no_rows k = None

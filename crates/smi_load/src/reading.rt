@@ -1,10 +1,12 @@
 //! What rows say to a station.
 
-ghost use Rattle.std.specs.Prelude.{◌≡◌};
+ghost use Rattle.std.specs.Prelude.{◌≡◌, IfErr};
 ghost use Rattle.smi_message.specs.Message.{is_between};
+ghost use Rattle.smi_tree.specs.Lawful.{IsTree};
 ghost use Rattle.smi_tree.specs.Lookups.{station_count};
 ghost use Rattle.smi_load.specs.Restoring.{Comes};
 ghost use Rattle.smi_load.specs.Restoring as spec;
+ghost use Rattle.smi_load.specs.Starting.{IsNotOfStore};
 
 use smi_protocol::OpenFault;
 use smi_rows::{Row, RowFault, SavedRow};
@@ -13,9 +15,11 @@ use std::alloc::Global;
 
 /// Whether the tree has the station.
 pub fn has_station(tree: &Tree, number: u16) -> bool
-    ensures { result ≡ is_between 1 (station_count tree.now) number }
+    ensures there { result ≡ is_between 1 (station_count tree.now) number }
+    ensures tree { IsTree tree.now }
 {
-    1 <= number && number <= tree.station_count()
+    let stations = tree.station_count();
+    1 <= number && number <= stations
 }
 
 /// What a row says to the station; one of another station says nothing, and is not read.
@@ -25,7 +29,8 @@ pub(crate) fn said_to(
     number: u16,
     row: &SavedRow,
 ) -> Result<Option<Row>, OpenFault>
-    ensures { Comes result (spec.said_to tree.now number row.now) }
+    ensures said { Comes result (spec.said_to tree.now number row.now) }
+    ensures fault { IfErr result IsNotOfStore }
 {
     if row.key.station != number {
         return Ok(None);

@@ -11,7 +11,7 @@ use Rattle.smi_load.proofs.restoring.kept_of_rows.Goals as goal
 
 pub returns-clause-opens : goal.returns-clause-opens
 returns-clause-opens c = λ all listing.
-    opens_as c.args.tree.now c.args.number c.args.rows.now all listing (sym c.has_station.ensures ∙ c.if-not-has_station.false) c.kept_of.result c.kept_of.ensures.comes
+    opens_as c.args.tree.now c.args.number c.args.rows.now all listing (sym c.has_station.ensures.there ∙ c.if-not-has_station.false) c.kept_of.result c.kept_of.ensures.comes
 
 pub returns-clause-sound : goal.returns-clause-sound
 returns-clause-sound c = go c.kept_of.result c.kept_of.ensures.comes

@@ -13,7 +13,7 @@ told : (c : goal.After-said-in-Some-1) → said_to c.args.kept.now.tree c.args.k
 told c =
     ap (λ (h : Hierarchy). said_to h c.args.kept.now.number c.args.row.now) (sym c.tree.ensures.value)
     ∙ ap (λ n. said_to c.tree.result.now n c.args.row.now) (sym c.number.ensures.value)
-    ∙ c.in_ok-said_to.ensures
+    ∙ c.in_ok-said_to.ensures.said
     ∙ ap (λ (o : Option Row). Ok o) c.in-Some.is
 
 pub put-requires-clause-own : goal.put-requires-clause-own
@@ -27,7 +27,7 @@ returns-in-Some-clause-comes c =
     let all =
     ap (λ (h : Hierarchy). said_to h k.number c.args.row.now) (sym c.tree.ensures.value)
     ∙ ap (λ n. said_to c.tree.result.now n c.args.row.now) (sym c.number.ensures.value)
-    ∙ c.in_ok-said_to.ensures
+    ∙ c.in_ok-said_to.ensures.said
     ∙ ap (λ (o : Option Row). Ok o) c.in-Some.is in
     ap (and_then (λ said. Ok (as_told k.tree (grants_of k) c.args.row.now.key said))) all
     ∙ ap (λ (r : Saved). Ok (as_said k.tree (grants_of k) r.key c.in-Some.said)) (sym c.row.view_is)

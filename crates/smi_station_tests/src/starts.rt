@@ -1,0 +1,202 @@
+//! Starts and migrations over a store in memory.
+
+use smi_grant::Holder;
+use smi_load::{load_and_start, migrate};
+use smi_protocol::OpenFault;
+use smi_rows::{Key, MemoryStable, SavedRow, Stable, StoreFault};
+use smi_tree::Tree;
+use std::alloc::Global;
+use std::test::Fail;
+
+// Stations A 1 and B 2, operators ANN 1 at A and BOB 2 at B, domains DCS 1 at A and TPC 2 at B under it.
+const TREE: &[u8] =
+    b"tree 17\nstate OFF\naction CONFIGURE\naction START\nstation A 127.0.0.1:9001\nstation B 127.0.0.1:9002\noperator ANN A\noperator BOB B\nunitclass UNIT OFF\ndomain DCS A UNIT -\ndomain TPC B UNIT DCS\n";
+
+const fn key(station: u16, domain: u16, operator: u16) -> Key {
+    Key {
+        station,
+        domain,
+        operator,
+    }
+}
+
+const A: u16 = 1;
+
+const B: u16 = 2;
+
+// The boot 2 of a station, in the newest schema and in the first.
+const BOOT: &[u8] = &[2, 0, 0, 0, 0, 0, 0, 2];
+
+const BOOT_1: &[u8] = &[1, 0, 0, 0, 0, 0, 0, 2];
+
+// The next boot, and the last that there is.
+const NEXT: &[u8] = &[2, 0, 0, 0, 0, 0, 0, 3];
+
+const LAST: &[u8] = &[2, 0, 0, 0, 0xEE, 0x6B, 0x28, 0x00];
+
+// BOB holds DCS at epoch 1.
+const TAKEN: &[u8] = &[
+    2, 1, 0, 2, 0, 0, 0, 0, 0, 0, 0, 1, 0, 0, 0, 0, 0, 0, 0, 0, 0, 0, 0, 0,
+];
+
+const TAKEN_1: &[u8] = &[
+    1, 1, 0, 2, 0, 0, 0, 0, 0, 0, 0, 1, 0, 0, 0, 0, 0, 0, 0, 0, 0, 0, 0, 0,
+];
+
+// The same row without its last byte.
+const SHORT: &[u8] = &[
+    2, 1, 0, 2, 0, 0, 0, 0, 0, 0, 0, 1, 0, 0, 0, 0, 0, 0, 0, 0, 0, 0, 0,
+];
+
+// BOB holds TPC at epoch 1, and no command is issued.
+const HELD: &[u8] = &[
+    3, 0, 0, 1, 0, 2, 2, 0, 0, 0, 0, 0, 0, 0, 0, 1, 0, 0, 0, 0, 0, 0, 0, 0,
+];
+
+const HELD_1: &[u8] = &[
+    1, 0, 0, 1, 0, 2, 2, 0, 0, 0, 0, 0, 0, 0, 0, 1, 0, 0, 0, 0, 0, 0, 0, 0,
+];
+
+type Rows = [(Key, &'static [u8]); 3];
+
+fn rows_of(boot: &'static [u8], domain: &'static [u8], operator: &'static [u8]) -> Rows {
+    [
+        (key(A, 0, 0), boot),
+        (key(A, 1, 0), domain),
+        (key(B, 0, 2), operator),
+    ]
+}
+
+fn save_all(store: &mut MemoryStable, rows: Rows) -> Result<(), StoreFault> {
+    for (key, bytes) in rows {
+        store.save(key, bytes)?;
+    }
+    Ok(())
+}
+
+fn are(list: &[SavedRow], rows: Rows) -> bool {
+    list.len() == 3
+        && list.iter().zip(rows).all(|(row, wanted)| row.key == wanted.0
+            && row.bytes.as_slice() == wanted.1)
+}
+
+/// Whether the store has these rows and no other.
+fn has(store: &mut MemoryStable, rows: Rows) -> Result<bool, StoreFault> {
+    let list = store.load()?;
+    Ok(are(&list, rows))
+}
+
+/// What a start at a store comes to: the boot and who holds DCS.
+fn started(
+    alloc: Global,
+    tree: &Tree,
+    station: u16,
+    store: &mut MemoryStable,
+) -> Result<(u32, Holder), OpenFault> {
+    let kept = load_and_start(alloc, tree, station, store)?;
+    Ok((kept.boot(), kept.record(1).holder))
+}
+
+/// A start at a store of these rows, and whether the store then has those.
+fn start(
+    alloc: Global,
+    tree: &Tree,
+    station: u16,
+    before: Rows,
+    after: Rows,
+) -> Result<(Result<(u32, Holder), OpenFault>, bool), StoreFault> {
+    let mut store = MemoryStable::new(alloc);
+    save_all(&mut store, before)?;
+    let start = started(alloc, tree, station, &mut store);
+    let left = has(&mut store, after)?;
+    Ok((start, left))
+}
+
+type Start = (u16, Rows, Rows, Result<(u32, Holder), OpenFault>);
+
+fn starts() -> [Start; 6] {
+    let rows = rows_of(BOOT, TAKEN, HELD);
+    let last = rows_of(LAST, TAKEN, HELD);
+    let short = rows_of(BOOT, SHORT, HELD);
+    [
+        (
+            A,
+            rows,
+            rows_of(NEXT, TAKEN, HELD),
+            Ok((3, Holder::Operator(2))),
+        ),
+        (
+            A,
+            rows_of(BOOT_1, TAKEN_1, HELD),
+            rows_of(NEXT, TAKEN_1, HELD),
+            Ok((3, Holder::Operator(2))),
+        ),
+        (
+            A,
+            rows_of(BOOT, TAKEN, SHORT),
+            rows_of(NEXT, TAKEN, SHORT),
+            Ok((3, Holder::Operator(2))),
+        ),
+        (A, last, last, Err(OpenFault::BootsSpent)),
+        (A, short, short, Err(OpenFault::Row(key(A, 1, 0), 1))),
+        (3, short, short, Err(OpenFault::NoSuchStation)),
+    ]
+}
+
+fn starts_as_told(alloc: Global, tree: &Tree) -> Result<bool, StoreFault> {
+    for (station, before, after, wanted) in starts() {
+        if start(alloc, tree, station, before, after)? != (wanted, true) {
+            return Ok(false);
+        }
+    }
+    Ok(true)
+}
+
+/// Two migrations of a store of rows in their first schemas: what each comes to, and whether the store then has those.
+fn migrations(
+    alloc: Global,
+    tree: &Tree,
+    station: u16,
+    after: Rows,
+) -> Result<([Result<u32, OpenFault>; 2], bool), StoreFault> {
+    let mut store = MemoryStable::new(alloc);
+    save_all(&mut store, rows_of(BOOT_1, TAKEN_1, HELD_1))?;
+    let first = migrate(alloc, tree, station, &mut store);
+    let second = migrate(alloc, tree, station, &mut store);
+    let left = has(&mut store, after)?;
+    Ok(([first, second], left))
+}
+
+fn migrates_as_told(alloc: Global, tree: &Tree) -> Result<bool, StoreFault> {
+    for (station, after, count) in [
+        (A, rows_of(BOOT, TAKEN, HELD_1), 2),
+        (B, rows_of(BOOT_1, TAKEN_1, HELD), 1),
+    ] {
+        if migrations(alloc, tree, station, after)? != ([Ok(count), Ok(0)], true) {
+            return Ok(false);
+        }
+    }
+    Ok(true)
+}
+
+fn both_as_told(alloc: Global, tree: &Tree) -> Result<[bool; 2], StoreFault> {
+    let starts = starts_as_told(alloc, tree)?;
+    let migrations = migrates_as_told(alloc, tree)?;
+    Ok([starts, migrations])
+}
+
+// One function owns the tree: whatever owns one is dear to prove.
+fn holds(alloc: Global) -> Result<[bool; 2], Fail> {
+    let tree = Tree::read(alloc, TREE)?;
+    match both_as_told(alloc, &tree) {
+        Ok(held) => Ok(held),
+        Err(_) => Err(Fail::from("the store failed")),
+    }
+}
+
+#[test]
+fn starts_and_migrations(rt: HostRuntime) -> Result<(), Fail> {
+    let held = holds(rt.alloc())?;
+    assert_eq!(rt; held, [true, true]);
+    Ok(())
+}
