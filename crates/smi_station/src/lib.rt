@@ -21,4 +21,5 @@ mod reporting;
 mod station;
 mod stirring;
 
+pub use smi_load::migrate;
 pub use station::Station;
