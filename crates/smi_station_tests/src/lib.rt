@@ -1,5 +1,7 @@
-//! Tests of how a station starts, by public functions and by rows as docs/FORMATS.md writes them.
+//! Tests of a station by its public functions: how it starts, and the worked examples of docs/EXAMPLES.md.
 #![tactic(auto)]
 
+#[cfg(test)]
+mod plays;
 #[cfg(test)]
 mod starts;

@@ -1,9 +1,9 @@
 //! Starts and migrations over a store in memory.
 
 use smi_grant::Holder;
-use smi_load::{load_and_start, migrate};
 use smi_protocol::OpenFault;
 use smi_rows::{Key, MemoryStable, SavedRow, Stable, StoreFault};
+use smi_station::{Station, migrate};
 use smi_tree::Tree;
 use std::alloc::Global;
 use std::test::Fail;
@@ -86,16 +86,25 @@ fn has(store: &mut MemoryStable, rows: Rows) -> Result<bool, StoreFault> {
     Ok(are(&list, rows))
 }
 
-/// What a start at a store comes to: the boot and who holds DCS.
+/// The boot of a station, and who holds DCS there.
+fn told(station: &Station<'_, MemoryStable>) -> (u32, Option<Holder>) {
+    (station.boot(), station.record(1).map(|record| record.holder))
+}
+
+/// What a start at a store comes to, and the store then.
 fn started(
     alloc: Global,
     tree: &Tree,
     station: u16,
-    store: &mut MemoryStable,
-) -> Result<(u32, Holder), OpenFault> {
-    let kept = load_and_start(alloc, tree, station, store)?;
-    Ok((kept.boot(), kept.record(1).holder))
+    store: MemoryStable,
+) -> (Result<(u32, Option<Holder>), OpenFault>, MemoryStable) {
+    match Station::open(alloc, tree, station, store) {
+        Ok(station) => (Ok(told(&station)), station.into_stable()),
+        Err((fault, store)) => (Err(fault), store),
+    }
 }
+
+type Outcome = Result<(u32, Option<Holder>), OpenFault>;
 
 /// A start at a store of these rows, and whether the store then has those.
 fn start(
@@ -104,15 +113,15 @@ fn start(
     station: u16,
     before: Rows,
     after: Rows,
-) -> Result<(Result<(u32, Holder), OpenFault>, bool), StoreFault> {
+) -> Result<(Outcome, bool), StoreFault> {
     let mut store = MemoryStable::new(alloc);
     save_all(&mut store, before)?;
-    let start = started(alloc, tree, station, &mut store);
+    let (start, mut store) = started(alloc, tree, station, store);
     let left = has(&mut store, after)?;
     Ok((start, left))
 }
 
-type Start = (u16, Rows, Rows, Result<(u32, Holder), OpenFault>);
+type Start = (u16, Rows, Rows, Outcome);
 
 fn starts() -> [Start; 6] {
     let rows = rows_of(BOOT, TAKEN, HELD);
@@ -123,19 +132,19 @@ fn starts() -> [Start; 6] {
             A,
             rows,
             rows_of(NEXT, TAKEN, HELD),
-            Ok((3, Holder::Operator(2))),
+            Ok((3, Some(Holder::Operator(2)))),
         ),
         (
             A,
             rows_of(BOOT_1, TAKEN_1, HELD),
             rows_of(NEXT, TAKEN_1, HELD),
-            Ok((3, Holder::Operator(2))),
+            Ok((3, Some(Holder::Operator(2)))),
         ),
         (
             A,
             rows_of(BOOT, TAKEN, SHORT),
             rows_of(NEXT, TAKEN, SHORT),
-            Ok((3, Holder::Operator(2))),
+            Ok((3, Some(Holder::Operator(2)))),
         ),
         (A, last, last, Err(OpenFault::BootsSpent)),
         (A, short, short, Err(OpenFault::Row(key(A, 1, 0), 1))),
