@@ -23,7 +23,7 @@ ghost use Rattle.smi_protocol.specs.declared.Entry.{Entry};
 ghost use Rattle.smi_protocol.specs.Happening.{Happening};
 ghost use Rattle.smi_protocol.specs.Sending.{MaySend};
 ghost use Rattle.smi_protocol.specs.Step.{after};
-ghost use Rattle.smi_law.specs.declared.item.Item.{Item};
+ghost use Rattle.smi_item.specs.declared.item.Item.{Item};
 ghost use Rattle.smi_law.specs.Known.{record_in, link_in};
 ghost use Rattle.smi_law.specs.Safe.{Forwards, NotOlderThanShown, RunsInOrder, Safe, SafeGrants, ShownWell, SoundRuns};
 ghost use Rattle.smi_law.specs.Schedule.{World, turn, trace_of};
