@@ -1,0 +1,6 @@
+pub mod Words
+pub mod Said
+pub mod Known
+pub mod Line
+pub mod Schedule
+pub mod Drawn
