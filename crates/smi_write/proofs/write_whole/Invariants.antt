@@ -1,6 +1,6 @@
 use Rattle.std.proofs.Common.{◌≤◌, take, length}
 use Rattle.std.specs.Io.KnownBytes.{Appends}
-use Rattle.smi_tools.proofs.answer.write_whole.Given as goal
+use Rattle.smi_write.proofs.write_whole.Given as goal
 
 abbrev pub invariant-tries : goal.invariant-tries
 invariant-tries g l = record {

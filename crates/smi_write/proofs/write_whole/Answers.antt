@@ -1,9 +1,9 @@
 use Rattle.std.proofs.Common.{ℕ, take, arith, sym, subst}
 use Rattle.std.specs.Io.KnownBytes.{Appends}
 use Rattle.std.proofs.KnownBytes.{Appends-kept}
-use Rattle.smi_tools.proofs.Written.{more_written}
-use Rattle.smi_tools.proofs.answer.write_whole.Goals as goal
-use Rattle.smi_tools.proofs.answer.write_whole.Goals.{in-Ok, in-Err+else-ne}
+use Rattle.smi_write.proofs.Written.{more_written}
+use Rattle.smi_write.proofs.write_whole.Goals as goal
+use Rattle.smi_write.proofs.write_whole.Goals.{in-Ok, in-Err+else-ne}
 
 pub tries-preserved : goal.tries-preserved
 tries-preserved g c =
