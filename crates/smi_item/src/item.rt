@@ -5,7 +5,7 @@ use smi_rows::Plan;
 /// What may come to a station. Stations, operators and devices have their numbers of the tree.
 #[derive(Clone, Copy, Debug, PartialEq, Eq)]
 pub enum Deed {
-    /// The datagram that was sent so-manieth, from 1, is delivered.
+    /// The k-th datagram that was sent, from 1, is delivered.
     Deliver(u64),
     /// The datagram that was sent so many before the newest is delivered.
     Recent(u64),
@@ -22,7 +22,7 @@ pub enum Deed {
 pub enum Moment {
     /// Before the save: it has not landed.
     Before,
-    /// Behind the save.
+    /// After the save.
     After,
 }
 

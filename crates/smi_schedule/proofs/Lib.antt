@@ -1,2 +1,3 @@
+mod Cuts
 mod Draws
-mod Lines
+mod LineByLine

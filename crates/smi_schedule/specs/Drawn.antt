@@ -55,7 +55,7 @@ item_of h word = item_by h (word % 16) (word / 16) word
 abbrev pub seeded : ℕ → Lcg
 seeded seed = pcg32_of_seed (pcg32_seed 16 seed)
 
--- the next word of a generator, and the generator behind it
+-- the next word of a generator, and the generator after it
 abbrev pub word_of : Lcg → ℕ
 word_of words = (pcg32 words).0
 

@@ -46,7 +46,7 @@ of_two make words = do
   names ← declaration.two_names words
   Ok (make names.0 names.1)
 
--- what the words behind an order's word say
+-- what the words after an order's word say
 abbrev pub order_of : OrderWord → List (List ℕ) → Result SaidOrder Fault
 order_of order.Take words = of_one (λ d. said_order.Take d) words
 order_of order.Drop words = of_one (λ d. said_order.Drop d) words
@@ -69,7 +69,7 @@ order_line words = do
   who ← name operator.0
   Ok (said_deed.Order who what)
 
--- what the words behind a deed's word say
+-- what the words after a deed's word say
 abbrev pub deed_of : DeedWord → List (List ℕ) → Result SaidDeed Fault
 deed_of deed.Deliver words = do
   number ← one_number 1 words
@@ -112,7 +112,7 @@ fail_line words = do
   where_to ← name station.0
   Ok (said.Fail where_to how what)
 
--- what the words behind a line's first word say
+-- what the words after a line's first word say
 abbrev pub said_of : LineWord → List (List ℕ) → Result Said Fault
 said_of (line.Do word) words = do
   what ← deed_of word words

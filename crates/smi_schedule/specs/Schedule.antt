@@ -11,7 +11,7 @@ use Rattle.smi_schedule.specs.declared.schedule.ScheduleFault.{ScheduleFault}
 use Rattle.smi_schedule.specs.declared.schedule.ScheduleFault.TheVariants.{Line, Memory}
 use Rattle.smi_schedule.specs.Line.{item_in}
 
--- the items of a line that stands, and then those of the lines behind it; a faulty line ends it
+-- the items of a line that stands, and then those of the lines after it; a faulty line ends it
 abbrev pub items_on : Result (Option Item) Fault → List Item → List Item
 items_on (Ok None) more = more
 items_on (Ok (Some item)) more = item ∷ more
@@ -26,7 +26,7 @@ items_before_fault h (line ∷ more) = items_on (item_in h line) (items_before_f
 abbrev pub at_line : ℕ → Fault → ScheduleFault
 at_line number fault = Line number (fault_number fault)
 
--- the fault of a line, or else that of the lines behind it
+-- the fault of a line, or else that of the lines after it
 abbrev pub fault_or : ℕ → Result (Option Item) Fault → Option ScheduleFault → Option ScheduleFault
 fault_or number (Ok item) later = later
 fault_or number (Err fault) later = Some (at_line number fault)
@@ -57,7 +57,7 @@ Reads view (Ok items) reading = reading ≡ Ok (view items)
 Reads view (Err Memory) reading = Unit {0}
 Reads view (Err (Line number code)) reading = reading ≡ Err (Line number code)
 
--- a line was read behind the items of the lines above it
+-- a line was read after the items of the lines above it
 abbrev pub ReadsLine : {X : Type 0} → List Item → Result (Option Item) Fault → ℕ → Result X ScheduleFault → List Item → Type 0
 ReadsLine old said number (Ok done) new = (item : Option Item) × (said ≡ Ok item) × (new ≡ old ++ option_to_list item)
 ReadsLine old said number (Err Memory) new = Unit {0}

@@ -45,7 +45,7 @@ order_word word =
     else (if bytes_eq word (codes "unwatch") then Some order.Unwatch
     else None)))))))))
 
--- where a station stops: before its save lands, or behind it
+-- where a station stops: before its save lands, or after it
 abbrev pub moment_of : List ℕ → Option Moment
 moment_of word =
     if bytes_eq word (codes "before") then Some moment.Before

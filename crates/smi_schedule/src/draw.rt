@@ -107,7 +107,7 @@ impl Drawer {
     }
 }
 
-/// The first so many items that a seed draws. Want of memory is answered where a growth was refused, and nowhere else.
+/// The first so many items that a seed draws. Out of memory is answered only where an allocation was refused.
 pub fn draw_schedule(
     alloc: Global,
     tree: &Tree,

@@ -68,7 +68,7 @@ fn one_number(least: u64, text: &[u8]) -> Result<u64, Fault>
     number_within(least, MOST, word.text()).ok_or(Fault::Malformed)
 }
 
-/// What the words behind an order's word say.
+/// What the words after an order's word say.
 fn order_of(word: OrderWord, text: &[u8]) -> Result<SaidOrder<'_>, Fault>
     ensures { result ≡ spec.order_of word (words text.now) }
 {
@@ -114,7 +114,7 @@ fn order_line(text: &[u8]) -> Result<SaidDeed<'_>, Fault>
     Ok(SaidDeed::Order(operator, order))
 }
 
-/// What the words behind a deed's word say.
+/// What the words after a deed's word say.
 fn deed_of(word: DeedWord, text: &[u8]) -> Result<SaidDeed<'_>, Fault>
     ensures { result ≡ spec.deed_of word (words text.now) }
 {
@@ -166,7 +166,7 @@ fn fail_line(text: &[u8]) -> Result<Said<'_>, Fault>
     Ok(Said::Fail(station, plan, deed))
 }
 
-/// What the words behind a line's first word say.
+/// What the words after a line's first word say.
 ///
 /// The words that a line says by itself are tested first, then the count of its words, then its names and numbers.
 pub(crate) fn said_of(word: LineWord, text: &[u8]) -> Result<Said<'_>, Fault>

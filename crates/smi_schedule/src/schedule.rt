@@ -45,7 +45,7 @@ impl<T: Drop> From<AllocFailed<T>> for ScheduleFault {
     }
 }
 
-/// Reads one line behind the items of the lines above it.
+/// Reads one line after the items of the lines above it.
 fn read_line(
     items: &mut Vec<Item>,
     tree: &Tree,
@@ -82,8 +82,8 @@ fn read_lines(alloc: Global, tree: &Tree, bytes: &[u8]) -> Result<Vec<Item>, Sch
 
 /// The items that the lines of a text let happen, or its first faulty line with its first fault.
 ///
-/// A text of more than 256 KiB is refused before its lines. Want of memory is answered where a growth was refused, and
-/// nowhere else.
+/// A text of more than 256 KiB is refused before its lines. Out of memory is answered only where an allocation was
+/// refused.
 #[tactic(auto, unfolding(crate::specs::Schedule::schedule_of))]
 pub fn read_schedule(alloc: Global, tree: &Tree, bytes: &[u8]) -> Result<Vec<Item>, ScheduleFault>
     ensures { Reads (λ items. items.items) result (schedule_of tree.now bytes.now) }

@@ -70,7 +70,7 @@ command_words h (command.Exclude t) = codes "exclude" ∷ domain_word h t ∷ []
 command_words h (command.Manual t) = codes "manual" ∷ domain_word h t ∷ []
 command_words h (command.Ignore t) = codes "ignore" ∷ domain_word h t ∷ []
 
--- an order, as a schedule has it behind the operator
+-- an order, as a schedule has it after the operator
 abbrev pub order_words : Hierarchy → Order → List (List ℕ)
 order_words h (order.Take d) = codes "take" ∷ domain_word h d ∷ []
 order_words h (order.Drop d) = codes "drop" ∷ domain_word h d ∷ []

@@ -38,5 +38,5 @@ pub use name::Name;
 pub use number::{Address, number_within};
 pub use read::{MOST_BYTES_OF_A_LINE, is_comment};
 pub use row::{Device, Domain};
-pub use text::{Word, first_line, first_word};
+pub use text::{Word, first_line, first_word, length_of_line, without_return};
 pub use tree::Tree;

@@ -53,7 +53,7 @@ pub(crate) fn length_before(text: &[u8], mark: Mark) -> usize
 
 /// How many bytes stand before the first line feed of a text, all where there is none.
 #[inline(always)]
-fn length_of_line(text: &[u8]) -> usize
+pub fn length_of_line(text: &[u8]) -> usize
     ensures place { result ≡ position_or_len is_line_feed text.now }
     ensures within { result ≤ length text.now }
 {
@@ -83,7 +83,7 @@ pub fn first_line(text: &[u8]) -> Option<(&[u8], &[u8])>
 }
 
 /// A line without the carriage return at its end.
-fn without_return(line: &[u8]) -> &[u8]
+pub fn without_return(line: &[u8]) -> &[u8]
     ensures { result.now ≡ strip_carriage_return line.now }
 {
     if line.last() == Some(&b'\r') {

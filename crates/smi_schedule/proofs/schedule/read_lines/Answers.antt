@@ -5,7 +5,7 @@ use Rattle.std.proofs.lemmas.Result.{err_from_is_err_and}
 use Rattle.std.specs.Global.{Vec}
 use Rattle.smi_item.specs.declared.item.Item.{Item}
 use Rattle.smi_schedule.specs.Schedule.{items_before_fault}
-use Rattle.smi_schedule.proofs.Lines.{items-line, fault-line, refused, ended}
+use Rattle.smi_schedule.proofs.LineByLine.{items-line, fault-line, refused, ended}
 use Rattle.smi_schedule.proofs.schedule.read_lines.Goals as goal
 
 pub returns-in_err-read_line : goal.returns-in_err-read_line

@@ -1,4 +1,4 @@
--- What one line of a schedule makes of the items and the fault of the lines behind it.
+-- What one line of a schedule makes of the items and the fault of the lines after it.
 use Rattle.std.proofs.Common.{◌≡◌, ℕ, ◌+◌, List, [], ◌∷◌, ◌++◌, Option, Some, None, Result, Ok, Err, refl, sym, ap, ◌∙◌, append-nil}
 use Rattle.std.specs.Option.{option_to_list}
 use Rattle.smi_tree.specs.Hierarchy.{Hierarchy}
@@ -13,7 +13,7 @@ stands : (said : Result (Option Item) Fault) (item : Option Item) (more : List I
 stands said None more e = rw e refl
 stands said (Some x) more e = rw e refl
 
--- a line that stands puts its item before those of the lines behind it
+-- a line that stands puts its item before those of the lines after it
 pub items-line : (h : Hierarchy) (line : List ℕ) (more ls : List (List ℕ)) (item : Option Item) → ls ≡ line ∷ more → item_in h line ≡ Ok item
     → items_before_fault h ls ≡ option_to_list item ++ items_before_fault h more
 unfolding items_before_fault
