@@ -99,8 +99,8 @@ stop_line words = do
   moment ← next_word station.1
   when ← ok_or (moment_of moment.0) UnknownWord
   what ← deed_in moment.1
-  where_to ← name station.0
-  Ok (said.Stop where_to when what)
+  own ← name station.0
+  Ok (said.Stop own when what)
 
 -- a station, how its save fails, and in which deed
 unfoldable pub fail_line : List (List ℕ) → Result Said Fault
@@ -109,8 +109,8 @@ fail_line words = do
   plan ← next_word station.1
   how ← ok_or (plan_of plan.0) UnknownWord
   what ← deed_in plan.1
-  where_to ← name station.0
-  Ok (said.Fail where_to how what)
+  own ← name station.0
+  Ok (said.Fail own how what)
 
 -- what the words after a line's first word say
 abbrev pub said_of : LineWord → List (List ℕ) → Result Said Fault

@@ -79,7 +79,7 @@ fn replace(line: &mut Vec<u8>, bytes: &[u8]) -> Result<(), AllocError>
 }
 
 impl Lines {
-    ghost use Rattle.std.specs.Prelude.{ℕ, ◌≡◌, ◌<◌, ◌++◌, [], List, Some, length, OnOk, MatchOption, IfNone};
+    ghost use Rattle.std.specs.Prelude.{ℕ, ◌≡◌, ◌<◌, ◌^◌, ◌++◌, [], List, Some, length, OnOk, MatchOption, IfNone};
     ghost use Rattle.std.specs.List.{position_or_len};
     ghost use Rattle.std.specs.Io.KnownBytes.{IsAtEnd, Keeps};
     ghost use Rattle.smi_tree.specs.Text.{is_line_feed};
@@ -89,6 +89,7 @@ impl Lines {
     pub fn new(alloc: Global) -> Lines
         ensures line { result.line ≡ [] }
         ensures rest { result.rest ≡ [] }
+        ensures reads { result.reads ≡ 2 ^ 32 }
     {
         Lines {
             read: Vec::new(alloc),
