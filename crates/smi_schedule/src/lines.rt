@@ -117,7 +117,8 @@ impl Lines {
     fn take_line(&mut self, end: usize) -> Cut
         requires within { end < length self.old.rest }
         requires first { end ≡ position_or_len is_line_feed self.old.rest }
-        ensures { (later : List ℕ) → CutsText result (self.old.rest ++ later) self.new.line (Some (self.new.rest ++ later)) }
+        ensures { (later : List ℕ) →
+            CutsText result (self.old.rest ++ later) self.new.line (Some (self.new.rest ++ later)) }
     {
         let at = self.from + end;
         let line = without_return(&self.read[self.from..at]);
@@ -151,7 +152,8 @@ impl Lines {
     fn cut_read(&mut self) -> Option<Cut>
         ensures { MatchOption result
             ((self.new ≡ self.old) × (position_or_len is_line_feed self.old.rest ≡ length self.old.rest))
-            (λ cut. (later : List ℕ) → CutsText cut (self.old.rest ++ later) self.new.line (Some (self.new.rest ++ later))) }
+            (λ cut. (later : List ℕ) →
+            CutsText cut (self.old.rest ++ later) self.new.line (Some (self.new.rest ++ later))) }
     {
         let rest = self.rest();
         let end = length_of_line(rest);
@@ -179,8 +181,10 @@ impl Lines {
     /// Reads once.
     fn fill<R: Read>(&mut self, reader: &mut R) -> Filled
         requires { 0 < self.old.reads }
-        ensures more { result ≡ Filled.More → Keeps (left self.old (R.remaining reader.old)) (left self.new (R.remaining reader.new)) }
-        ensures end { result ≡ Filled.End → (self.new.rest ≡ self.old.rest) × Keeps (R.remaining reader.old) (R.remaining reader.new) × IsAtEnd (R.remaining reader.new) }
+        ensures more { result ≡ Filled.More →
+            Keeps (left self.old (R.remaining reader.old)) (left self.new (R.remaining reader.new)) }
+        ensures end { result ≡ Filled.End → (self.new.rest ≡ self.old.rest) ×
+            Keeps (R.remaining reader.old) (R.remaining reader.new) × IsAtEnd (R.remaining reader.new) }
         ensures reads { self.new.reads < self.old.reads }
     {
         self.reads -= 1;
@@ -202,7 +206,8 @@ impl Lines {
     fn step<R: Read>(&mut self, reader: &mut R) -> Option<Cut>
         ensures cut { MatchOption result
             (Keeps (left self.old (R.remaining reader.old)) (left self.new (R.remaining reader.new)))
-            (λ cut. Cuts cut (left self.old (R.remaining reader.old)) self.new.line (left self.new (R.remaining reader.new))) }
+            (λ cut. Cuts cut
+            (left self.old (R.remaining reader.old)) self.new.line (left self.new (R.remaining reader.new))) }
         ensures reads { IfNone result (self.new.reads < self.old.reads) }
     {
         if let Some(cut) = self.cut_read() {
@@ -223,7 +228,8 @@ impl Lines {
     ///
     /// After anything but a [`Line`](Cut::Line) no more lines are to be had.
     pub fn cut<R: Read>(&mut self, reader: &mut R) -> Cut
-        ensures { Cuts result (left self.old (R.remaining reader.old)) self.new.line (left self.new (R.remaining reader.new)) }
+        ensures { Cuts result
+            (left self.old (R.remaining reader.old)) self.new.line (left self.new (R.remaining reader.new)) }
     {
         loop {
             if let Some(cut) = self.step(reader) {

@@ -22,7 +22,8 @@ use smi_tree::Tree;
 use std::alloc::AllocError;
 
 fn spell_booted(text: &mut Vec<u8>, tree: &Tree, station: u16, boot: u32) -> Result<(), AllocError>
-    ensures { OnOk result (text.new.items ≡ line_of (codes "booted") (station_word tree.now station ∷ decimal boot ∷ [])) }
+    ensures { OnOk result (text.new.items ≡
+        line_of (codes "booted") (station_word tree.now station ∷ decimal boot ∷ [])) }
 {
     begin(text, b"booted")?;
     push_called(text, names::station(tree, station), station)?;
@@ -37,7 +38,8 @@ fn spell_granted(
     epoch: u64,
     holder: Holder,
 ) -> Result<(), AllocError>
-    ensures { OnOk result (text.new.items ≡ line_of (codes "granted") (domain_word tree.now domain ∷ decimal epoch ∷ holder_word tree.now holder ∷ [])) }
+    ensures { OnOk result (text.new.items ≡
+        line_of (codes "granted") (domain_word tree.now domain ∷ decimal epoch ∷ holder_word tree.now holder ∷ [])) }
 {
     begin(text, b"granted")?;
     push_called(text, names::domain(tree, domain), domain)?;
@@ -47,7 +49,8 @@ fn spell_granted(
 }
 
 fn spell_freed(text: &mut Vec<u8>, tree: &Tree, domain: u16, epoch: u64) -> Result<(), AllocError>
-    ensures { OnOk result (text.new.items ≡ line_of (codes "freed") (domain_word tree.now domain ∷ decimal epoch ∷ [])) }
+    ensures { OnOk result (text.new.items ≡
+        line_of (codes "freed") (domain_word tree.now domain ∷ decimal epoch ∷ [])) }
 {
     begin(text, b"freed")?;
     push_called(text, names::domain(tree, domain), domain)?;
@@ -65,7 +68,8 @@ fn push_numbered(
     command: Command,
 ) -> Result<(), AllocError>
     ensures { OnOk result (text.new.items ≡
-        line_of text.old.items (domain_word tree.now domain ∷ decimal epoch ∷ decimal number ∷ command_words tree.now command)) }
+        line_of text.old.items
+        (domain_word tree.now domain ∷ decimal epoch ∷ decimal number ∷ command_words tree.now command)) }
 {
     push_called(text, names::domain(tree, domain), domain)?;
     push_number(text, epoch)?;
@@ -84,7 +88,9 @@ fn spell_ordered(
     command: Command,
 ) -> Result<(), AllocError>
     ensures { OnOk result (text.new.items ≡
-        line_of (codes "ordered") (operator_word tree.now operator ∷ domain_word tree.now domain ∷ decimal epoch ∷ decimal number ∷ command_words tree.now command)) }
+        line_of (codes "ordered")
+        (operator_word tree.now operator ∷ domain_word tree.now domain ∷ decimal epoch
+        ∷ decimal number ∷ command_words tree.now command)) }
 {
     begin(text, b"ordered")?;
     push_called(text, names::operator(tree, operator), operator)?;
@@ -100,7 +106,8 @@ fn spell_ran(
     command: Command,
 ) -> Result<(), AllocError>
     ensures { OnOk result (text.new.items ≡
-        line_of (codes "ran") (domain_word tree.now domain ∷ decimal epoch ∷ decimal number ∷ command_words tree.now command)) }
+        line_of (codes "ran")
+        (domain_word tree.now domain ∷ decimal epoch ∷ decimal number ∷ command_words tree.now command)) }
 {
     begin(text, b"ran")?;
     push_numbered(text, tree, domain, epoch, number, command)
@@ -115,7 +122,8 @@ fn spell_link(
     domain: u16,
     epoch: u64,
 ) -> Result<(), AllocError>
-    ensures { OnOk result (text.new.items ≡ line_of word.now (holder_word tree.now holder ∷ domain_word tree.now domain ∷ decimal epoch ∷ [])) }
+    ensures { OnOk result (text.new.items ≡
+        line_of word.now (holder_word tree.now holder ∷ domain_word tree.now domain ∷ decimal epoch ∷ [])) }
 {
     begin(text, word)?;
     push_holder(text, tree, holder)?;
@@ -125,7 +133,8 @@ fn spell_link(
 }
 
 fn spell_mode(text: &mut Vec<u8>, tree: &Tree, domain: u16, mode: Mode) -> Result<(), AllocError>
-    ensures { OnOk result (text.new.items ≡ line_of (codes "mode") (domain_word tree.now domain ∷ mode_word mode ∷ [])) }
+    ensures { OnOk result (text.new.items ≡
+        line_of (codes "mode") (domain_word tree.now domain ∷ mode_word mode ∷ [])) }
 {
     begin(text, b"mode")?;
     push_called(text, names::domain(tree, domain), domain)?;
@@ -142,7 +151,8 @@ fn spell_settled(
     outcome: u16,
 ) -> Result<(), AllocError>
     ensures { OnOk result (text.new.items ≡
-        line_of (codes "settled") (domain_word tree.now domain ∷ decimal epoch ∷ decimal number ∷ decimal outcome ∷ [])) }
+        line_of (codes "settled")
+        (domain_word tree.now domain ∷ decimal epoch ∷ decimal number ∷ decimal outcome ∷ [])) }
 {
     begin(text, b"settled")?;
     push_called(text, names::domain(tree, domain), domain)?;
@@ -168,7 +178,8 @@ fn spell_showed(
     station: u16,
     shown: Shown,
 ) -> Result<(), AllocError>
-    ensures { OnOk result (text.new.items ≡ line_of (codes "showed") (station_word tree.now station ∷ shown_words tree.now shown)) }
+    ensures { OnOk result (text.new.items ≡
+        line_of (codes "showed") (station_word tree.now station ∷ shown_words tree.now shown)) }
 {
     begin(text, b"showed")?;
     push_called(text, names::station(tree, station), station)?;

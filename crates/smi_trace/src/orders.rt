@@ -87,7 +87,8 @@ fn push_with_target(
     domain: u16,
     target: u16,
 ) -> Result<(), AllocError>
-    ensures { OnOk result (text.new.items ≡ ((text.old.items ++ 32 ∷ word.now) ++ 32 ∷ domain_word tree.now domain) ++ 32 ∷ domain_word tree.now target) }
+    ensures { OnOk result (text.new.items ≡
+        ((text.old.items ++ 32 ∷ word.now) ++ 32 ∷ domain_word tree.now domain) ++ 32 ∷ domain_word tree.now target) }
 {
     push_with_domain(text, tree, word, domain)?;
     push_called(text, names::domain(tree, target), target)

@@ -52,7 +52,8 @@ pub fn write_line<W: Write>(
     line: &Line,
 ) -> Result<(), Unwritten>
     ensures all { OnOk result (Appends (W.contents writer.old) (W.contents writer.new) (line_text tree.now line.now)) }
-    ensures prefix { (n : ℕ) × Appends (W.contents writer.old) (W.contents writer.new) (take n (line_text tree.now line.now)) }
+    ensures prefix { (n : ℕ) ×
+        Appends (W.contents writer.old) (W.contents writer.new) (take n (line_text tree.now line.now)) }
     ensures memory { result ≡ Err Unwritten.Memory → writer.new ≡ writer.old }
 {
     spell(text, tree, line)?;
@@ -69,8 +70,10 @@ pub fn write_lines<W: Write>(
     tree: &Tree,
     lines: &[Line],
 ) -> Result<(), Unwritten>
-    ensures all { OnOk result (Appends (W.contents writer.old) (W.contents writer.new) (trace_text tree.now lines.now)) }
-    ensures prefix { (n : ℕ) × Appends (W.contents writer.old) (W.contents writer.new) (take n (trace_text tree.now lines.now)) }
+    ensures all { OnOk result
+        (Appends (W.contents writer.old) (W.contents writer.new) (trace_text tree.now lines.now)) }
+    ensures prefix { (n : ℕ) ×
+        Appends (W.contents writer.old) (W.contents writer.new) (take n (trace_text tree.now lines.now)) }
     ensures memory { result ≡ Err Unwritten.Memory →
         (k : ℕ) × Appends (W.contents writer.old) (W.contents writer.new) (trace_text tree.now (take k lines.now)) }
 {
