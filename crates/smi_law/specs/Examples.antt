@@ -4,12 +4,12 @@ use Rattle.smi_tree.specs.Hierarchy.{Hierarchy}
 use Rattle.smi_protocol.specs.declared.Entry.{Entry}
 use Rattle.smi_protocol.specs.Played.{Act, Deliver, OrderAt, ReportAt, Tick, Restart, StopAfter, Line as ExampleLine, Sending, sending_of}
 use Rattle.smi_law.specs.Schedule.{trace_of, opening_lines}
-use Rattle.smi_law.specs.declared.item.Deed.TheVariants as deed
-use Rattle.smi_law.specs.declared.item.Moment.TheVariants as moment
-use Rattle.smi_law.specs.declared.item.Item.{Item}
-use Rattle.smi_law.specs.declared.item.Item.TheVariants as item
-use Rattle.smi_law.specs.declared.item.Line.{Line}
-use Rattle.smi_law.specs.declared.item.Line.TheVariants as line
+use Rattle.smi_item.specs.declared.item.Deed.TheVariants as deed
+use Rattle.smi_item.specs.declared.item.Moment.TheVariants as moment
+use Rattle.smi_item.specs.declared.item.Item.{Item}
+use Rattle.smi_item.specs.declared.item.Item.TheVariants as item
+use Rattle.smi_item.specs.declared.item.Line.{Line}
+use Rattle.smi_item.specs.declared.item.Line.TheVariants as line
 
 -- the item of an act
 abbrev pub item_of : Act → Item

@@ -9,9 +9,9 @@ use Rattle.smi_protocol.specs.examples.Commands.{B_started_again}
 use Rattle.smi_protocol.specs.examples.WorkedTree.{A, B, BOB, DCS, TPC, HV, OFF}
 use Rattle.smi_protocol.specs.examples.Words.{bob_told, passed}
 use Rattle.smi_law.specs.Examples.{ItemLine, line_of, Shown, Says}
-use Rattle.smi_law.specs.declared.item.Deed.{Deed}
-use Rattle.smi_law.specs.declared.item.Deed.TheVariants as deed
-use Rattle.smi_law.specs.declared.item.Item.TheVariants as item
+use Rattle.smi_item.specs.declared.item.Deed.{Deed}
+use Rattle.smi_item.specs.declared.item.Deed.TheVariants as deed
+use Rattle.smi_item.specs.declared.item.Item.TheVariants as item
 
 -- BOB orders to take TPC
 abbrev pub bob_takes : Deed

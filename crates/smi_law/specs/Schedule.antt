@@ -13,13 +13,13 @@ use Rattle.smi_protocol.specs.Grants.{put}
 use Rattle.smi_protocol.specs.Happening.{Happening, Comes, Orders, Reports, Ticks, answer, told_entry}
 use Rattle.smi_protocol.specs.Opening.{first_opened, opened, opening_entries, saved_only}
 use Rattle.smi_protocol.specs.Step.{Outcome, after, ordered_or_reported}
-use Rattle.smi_law.specs.declared.item.Deed.{Deed}
-use Rattle.smi_law.specs.declared.item.Deed.TheVariants as deed
-use Rattle.smi_law.specs.declared.item.Moment.TheVariants as moment
-use Rattle.smi_law.specs.declared.item.Item.{Item}
-use Rattle.smi_law.specs.declared.item.Item.TheVariants as item
-use Rattle.smi_law.specs.declared.item.Line.{Line}
-use Rattle.smi_law.specs.declared.item.Line.TheVariants as line
+use Rattle.smi_item.specs.declared.item.Deed.{Deed}
+use Rattle.smi_item.specs.declared.item.Deed.TheVariants as deed
+use Rattle.smi_item.specs.declared.item.Moment.TheVariants as moment
+use Rattle.smi_item.specs.declared.item.Item.{Item}
+use Rattle.smi_item.specs.declared.item.Item.TheVariants as item
+use Rattle.smi_item.specs.declared.item.Line.{Line}
+use Rattle.smi_item.specs.declared.item.Line.TheVariants as line
 
 -- the stations, and all datagrams that were ever sent, in their order
 pub record World : Type 0 where

@@ -26,7 +26,7 @@ ghost use Rattle.smi_protocol.specs.Step.{after};
 ghost use Rattle.smi_protocol.specs.Display.{Station};
 ghost use Rattle.smi_protocol.specs.Opening.{first_display};
 ghost use Rattle.smi_protocol.specs.Tidy.{IsTidy};
-ghost use Rattle.smi_law.specs.declared.item.Item.{Item};
+ghost use Rattle.smi_item.specs.declared.item.Item.{Item};
 ghost use Rattle.smi_law.specs.Known.{record_in, link_in};
 ghost use Rattle.smi_law.specs.Safe.{Forwards, NotOlderThanShown, RunsInOrder, Safe, SafeGrants, ShownWell, SoundRuns};
 ghost use Rattle.smi_law.specs.Schedule.{World, turn, trace_of};

@@ -1,5 +1,4 @@
 pub mod Tellable
 pub mod Pieces
 pub mod Going
-pub mod Written
 pub mod Lines

@@ -9,6 +9,7 @@ ghost use Rattle.smi_tools.specs.Answer.{IsDone, answers, ending, first_fault, p
 
 use crate::keeper::Keeper;
 use smi_message::{Bad, Refusal};
+use smi_write::write_whole;
 use std::io::{ErrorKind, Read, Write};
 
 /// The most reads that an input may take: after them a reader counts as faulty.
@@ -31,33 +32,6 @@ pub enum Answered {
     WriteFault,
     /// There was no memory for a buffer of the caller's. Nothing is read or written. `answer` never says so.
     Memory,
-}
-
-/// A write failed, or the writer takes no more.
-#[derive(Clone, Copy, Debug, PartialEq, Eq)]
-pub struct NotWritten;
-
-/// Writes all of the bytes. On an error a front of them is written.
-fn write_whole<W: Write>(writer: &mut W, bytes: &[u8]) -> Result<(), NotWritten>
-    ensures all { OnOk result (Appends (W.contents writer.old) (W.contents writer.new) bytes.now) }
-    ensures front { (n : ℕ) × Appends (W.contents writer.old) (W.contents writer.new) (take n bytes.now) }
-{
-    let mut at = 0;
-    'tries: for _ in 0..u32::MAX {
-        if at == bytes.len() {
-            return Ok(());
-        }
-        match writer.write(&bytes[at..]) {
-            Ok(0) => return Err(NotWritten),
-            Ok(n) => at += n,
-            Err(e) => {
-                if e.kind() != ErrorKind::Interrupted {
-                    return Err(NotWritten);
-                }
-            }
-        }
-    }
-    Err(NotWritten)
 }
 
 /// How far the datagrams of some bytes are answered.

@@ -108,9 +108,9 @@ ghost use Rattle.smi_tree.specs.Declaration.{
   rule_line,
 };
 
-/// The one word of a text.
+/// The one word of a text. With none, or with more, its count of words is wrong.
 #[inline(always)]
-fn one(text: &[u8]) -> Result<Word<'_>, Fault>
+pub fn one_word(text: &[u8]) -> Result<Word<'_>, Fault>
     ensures { Gives (λ word. word) result (one (words text.now)) }
 {
     let Some((word, rest)) = first_word(text) else {
@@ -129,7 +129,7 @@ fn two(text: &[u8]) -> Result<(Word<'_>, Word<'_>), Fault>
     let Some((first, rest)) = first_word(text) else {
         return Err(Fault::WordCount);
     };
-    let second = one(rest)?;
+    let second = one_word(rest)?;
     Ok((first, second))
 }
 
@@ -188,18 +188,20 @@ fn name(word: Word<'_>) -> Result<Name<'_>, Fault>
     Name::read(word).ok_or(Fault::Malformed)
 }
 
+/// The one word of a text, where it is well formed as a name.
 #[inline(always)]
 #[tactic(auto, unfolding(crate::specs::Declaration::one_name))]
-fn one_name(text: &[u8]) -> Result<Name<'_>, Fault>
+pub fn one_name(text: &[u8]) -> Result<Name<'_>, Fault>
     ensures { result ≡ one_name (words text.now) }
 {
-    let word = one(text)?;
+    let word = one_word(text)?;
     name(word)
 }
 
+/// The two words of a text, where both are well formed as names; their count is tested first.
 #[inline(always)]
 #[tactic(auto, unfolding(crate::specs::Declaration::two_names))]
-fn two_names(text: &[u8]) -> Result<(Name<'_>, Name<'_>), Fault>
+pub fn two_names(text: &[u8]) -> Result<(Name<'_>, Name<'_>), Fault>
     ensures { result ≡ two_names (words text.now) }
 {
     let (first, second) = two(text)?;
@@ -237,7 +239,7 @@ fn four_names(text: &[u8]) -> Result<(Name<'_>, Name<'_>, Name<'_>, Name<'_>), F
 fn tree_line(text: &[u8]) -> Result<Declaration<'_>, Fault>
     ensures { result ≡ tree_line (words text.now) }
 {
-    let word = one(text)?;
+    let word = one_word(text)?;
     let number = number_within(1, 65_535, word.text()).ok_or(Fault::Malformed)?;
     Ok(Declaration::Tree(number as u16))
 }

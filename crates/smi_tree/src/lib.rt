@@ -8,6 +8,9 @@
 //! The layers above rely on this: a `Tree` is lawful, with every number one that is there, every parent before its
 //! children and every limit kept; each look-up is the tree's table and takes no memory; and a unit's state is the
 //! target of the first rule that holds over its members.
+//!
+//! Schedules are texts of the same kind of lines: what cuts and reads them ([`first_line`], [`first_word`],
+//! [`one_name`], [`number_within`] ..) is public for them.
 #![tactic(auto)]
 
 mod actions;
@@ -29,7 +32,11 @@ mod tables;
 mod text;
 mod tree;
 
+pub use declaration::{one_name, one_word, two_names};
 pub use fault::{Fault, TreeFault};
-pub use number::Address;
+pub use name::Name;
+pub use number::{Address, number_within};
+pub use read::{MOST_BYTES_OF_A_LINE, is_comment};
 pub use row::{Device, Domain};
+pub use text::{Word, first_line, first_word, length_of_line, without_return};
 pub use tree::Tree;

@@ -18,7 +18,7 @@ const MOST_BYTES: usize = 16;
 
 /// A name as a file has it.
 #[derive(Drop)]
-pub(crate) struct Name<'a> {
+pub struct Name<'a> {
     text: &'a [u8],
 }
 
@@ -137,7 +137,7 @@ impl<'a> Name<'a> {
 
     /// The name that a word is, where it is one: 1 to 16 bytes of `A` to `Z`, `0` to `9` and `_`, the first a letter.
     #[inline(always)]
-    pub(crate) fn read(word: Word<'a>) -> Option<Name<'a>>
+    pub fn read(word: Word<'a>) -> Option<Name<'a>>
         ensures { result ≡ name_of word.entry }
     {
         if is_name(&word) {
@@ -145,6 +145,14 @@ impl<'a> Name<'a> {
         } else {
             None
         }
+    }
+
+    /// Its bytes.
+    #[inline(always)]
+    pub fn text(&self) -> &'a [u8]
+        ensures { result.now ≡ self.now }
+    {
+        self.text
     }
 
     /// The same text, to be looked up.

@@ -34,7 +34,7 @@ pub(crate) fn is_digit(byte: u8) -> bool
 }
 
 /// The number that a word stands for, where it is one of this range.
-pub(crate) fn number_within(least: u64, most: u64, word: &[u8]) -> Option<u64>
+pub fn number_within(least: u64, most: u64, word: &[u8]) -> Option<u64>
     ensures { result ≡ number_within least most word.now }
 {
     if !is_number(word) {

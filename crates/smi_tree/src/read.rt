@@ -13,9 +13,10 @@ use crate::text::{first_line, first_word};
 use std::alloc::Global;
 
 /// The most bytes of a line, without its line feed and the carriage return before it.
-const MOST_BYTES_OF_A_LINE: usize = 200;
+pub const MOST_BYTES_OF_A_LINE: usize = 200;
 
-fn is_comment(word: &[u8]) -> bool
+/// Whether a line that begins with this word is a comment.
+pub fn is_comment(word: &[u8]) -> bool
     ensures { result ≡ is_comment word.now }
 {
     match word {

@@ -53,7 +53,7 @@ pub(crate) fn length_before(text: &[u8], mark: Mark) -> usize
 
 /// How many bytes stand before the first line feed of a text, all where there is none.
 #[inline(always)]
-fn length_of_line(text: &[u8]) -> usize
+pub fn length_of_line(text: &[u8]) -> usize
     ensures place { result ≡ position_or_len is_line_feed text.now }
     ensures within { result ≤ length text.now }
 {
@@ -66,7 +66,7 @@ fn length_of_line(text: &[u8]) -> usize
 /// The first line of a text, and what follows it.
 ///
 /// A carriage return before the line feed is no part of the line.
-pub(crate) fn first_line(text: &[u8]) -> Option<(&[u8], &[u8])>
+pub fn first_line(text: &[u8]) -> Option<(&[u8], &[u8])>
     ensures { MatchOption result (lines text.now ≡ [])
         (λ cut. (lines text.now ≡ cut.0.now ∷ lines cut.1.now) × (length cut.1.now < length text.now)) }
 {
@@ -83,7 +83,7 @@ pub(crate) fn first_line(text: &[u8]) -> Option<(&[u8], &[u8])>
 }
 
 /// A line without the carriage return at its end.
-fn without_return(line: &[u8]) -> &[u8]
+pub fn without_return(line: &[u8]) -> &[u8]
     ensures { result.now ≡ strip_carriage_return line.now }
 {
     if line.last() == Some(&b'\r') {
@@ -95,7 +95,7 @@ fn without_return(line: &[u8]) -> &[u8]
 
 /// A word of a line, and whether each of its bytes is one of a name's.
 #[derive(Drop)]
-pub(crate) struct Word<'a> {
+pub struct Word<'a> {
     text: &'a [u8],
     has_name_bytes_alone: bool,
 }
@@ -119,7 +119,7 @@ impl<'a> Word<'a> {
 
     /// Its bytes.
     #[inline(always)]
-    pub(crate) fn text(&self) -> &'a [u8]
+    pub fn text(&self) -> &'a [u8]
         ensures { result.now ≡ self.now }
     {
         self.text
@@ -157,7 +157,7 @@ fn word_before_blank(text: &[u8]) -> (usize, bool)
 
 /// The first word of a line, and what follows it.
 #[inline(always)]
-pub(crate) fn first_word(line: &[u8]) -> Option<(Word<'_>, &[u8])>
+pub fn first_word(line: &[u8]) -> Option<(Word<'_>, &[u8])>
     ensures { MatchOption result (words line.now ≡ []) (λ cut. words line.now ≡ cut.0 ∷ words cut.1.now) }
 {
     for start in 0..line.len() {

@@ -52,7 +52,7 @@ returns-in_default-clause-front g c =
       | in-Err+else-ne u ↦ rw (u.end-is) (read_failed a (remaining c.reads.reader) b c.reads.rest c.reads.block c.read.new.buf _ c.reads.keeper c.reads.count w0 w (omega arith) c.reads.invariant.going u.in-Err.ensures.bytes)
     ] in
     let leads : Leads c.reads.keeper _ c.answer_each-progress.new.keeper n _ told = (c.answer_each-progress.ensures.answered, c.answer_each-progress.ensures.ending) in
-    front_more a b _ _ told c.write_whole.ensures.front.0 c.reads.keeper c.answer_each-progress.new.keeper c.reads.count n w0 w (contents c.write_whole.new.writer) going leads c.write_whole.ensures.front.1
+    front_more a b _ _ told c.write_whole.ensures.prefix.0 c.reads.keeper c.answer_each-progress.new.keeper c.reads.count n w0 w (contents c.write_whole.new.writer) going leads c.write_whole.ensures.prefix.1
 
 pub returns-in-Some-clause-done : goal.returns-in-Some-clause-done
 returns-in-Some-clause-done g c =

@@ -1,0 +1,95 @@
+//! Whole schedules.
+
+ghost use Rattle.std.specs.Prelude.{◌≡◌};
+ghost use Rattle.std.specs.Str.Lines.{lines};
+ghost use Rattle.smi_schedule.specs.Line.{item_in};
+ghost use Rattle.smi_schedule.specs.Schedule.{Reads, ReadsLine, items_of, schedule_of};
+
+use crate::line::read_item;
+use smi_item::Item;
+use smi_tree::{Fault, Tree, first_line};
+use std::alloc::{AllocError, AllocFailed, Global};
+
+/// The most bytes of a schedule that is read as a whole.
+const MOST_BYTES: usize = 256 * 1024;
+
+/// Why a schedule was not read.
+#[derive(Clone, Copy, Debug, PartialEq, Eq)]
+pub enum ScheduleFault {
+    /// The line of this number, counting all lines from 1, has the [fault](Fault::number) of the second. Line 0 is
+    /// the schedule itself.
+    Line(u64, u16),
+    /// Memory ran out.
+    Memory,
+}
+
+impl From<AllocError> for ScheduleFault {
+    ghost use Rattle.std.specs.Prelude.{◌≡◌};
+    ghost use Rattle.smi_schedule.specs.declared.schedule.ScheduleFault.TheVariants as schedule_fault;
+
+    ghost from_gives = { λ _ fault. fault ≡ schedule_fault.Memory };
+
+    fn from(_refused: AllocError) -> ScheduleFault {
+        ScheduleFault::Memory
+    }
+}
+
+impl<T: Drop> From<AllocFailed<T>> for ScheduleFault {
+    ghost use Rattle.std.specs.Prelude.{◌≡◌};
+    ghost use Rattle.smi_schedule.specs.declared.schedule.ScheduleFault.TheVariants as schedule_fault;
+
+    ghost from_gives = { λ _ fault. fault ≡ schedule_fault.Memory };
+
+    fn from(_refused: AllocFailed<T>) -> ScheduleFault {
+        ScheduleFault::Memory
+    }
+}
+
+/// Reads one line after the items of the lines above it.
+fn read_line(
+    items: &mut Vec<Item>,
+    tree: &Tree,
+    number: u64,
+    line: &[u8],
+) -> Result<(), ScheduleFault>
+    ensures { ReadsLine items.old.items (item_in tree.now line.now) number result items.new.items }
+{
+    match read_item(tree, line) {
+        Ok(Some(item)) => {
+            items.push(item)?;
+            Ok(())
+        }
+        Ok(None) => Ok(()),
+        Err(fault) => Err(ScheduleFault::Line(number, fault.number())),
+    }
+}
+
+/// The items of the lines of a text, or its first faulty line.
+fn read_lines(alloc: Global, tree: &Tree, bytes: &[u8]) -> Result<Vec<Item>, ScheduleFault>
+    ensures { Reads (λ items. items.items) result (items_of tree.now (lines bytes.now)) }
+{
+    let mut items = Vec::new(alloc);
+    let mut rest = bytes;
+    let mut number = 0;
+    while let Some(cut) = first_line(rest) {
+        let (line, after) = cut;
+        number += 1;
+        read_line(&mut items, tree, number, line)?;
+        rest = after;
+    }
+    Ok(items)
+}
+
+/// The items that the lines of a text let happen, or its first faulty line with its first fault.
+///
+/// A text of more than 256 KiB is refused before its lines. Out of memory is answered only where an allocation was
+/// refused.
+#[tactic(auto, unfolding(crate::specs::Schedule::schedule_of))]
+pub fn read_schedule(alloc: Global, tree: &Tree, bytes: &[u8]) -> Result<Vec<Item>, ScheduleFault>
+    ensures { Reads (λ items. items.items) result (schedule_of tree.now bytes.now) }
+{
+    if bytes.len() > MOST_BYTES {
+        return Err(ScheduleFault::Line(0, Fault::FileTooLong.number()));
+    }
+    read_lines(alloc, tree, bytes)
+}

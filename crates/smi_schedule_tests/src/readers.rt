@@ -1,0 +1,92 @@
+//! Lines that are cut from a reader.
+
+use smi_schedule::{Cut, Lines};
+use std::alloc::{AllocError, Global};
+use std::cmp::min;
+use std::io::{self, ErrorKind, Read};
+use std::test::Fail;
+
+/// A reader that gives at most `most` bytes at once, is interrupted once, and may fail at its end.
+#[derive(Drop)]
+struct Trickle<'a> {
+    bytes: &'a [u8],
+    most: usize,
+    is_interrupted: bool,
+    fails: bool,
+}
+
+impl Read for Trickle<'_> {
+    fn read(&mut self, buf: &mut [u8]) -> io::Result<usize> {
+        if self.is_interrupted {
+            self.is_interrupted = false;
+            return Err(ErrorKind::Interrupted.into());
+        }
+        let count = min(min(self.bytes.len(), buf.len()), self.most);
+        if count == 0 && self.fails {
+            return Err(ErrorKind::Other.into());
+        }
+        let (now, later) = self.bytes.split_at(count);
+        buf[..count].copy_from_slice(now);
+        self.bytes = later;
+        Ok(count)
+    }
+}
+
+/// The lines of a text, each with a bar after it, and how the reading ended.
+fn cut_all(
+    alloc: Global,
+    bytes: &[u8],
+    most: usize,
+    fails: bool,
+) -> Result<(Vec<u8>, Cut), AllocError> {
+    let mut reader = Trickle {
+        bytes,
+        most,
+        is_interrupted: true,
+        fails,
+    };
+    let mut lines = Lines::new(alloc);
+    let mut all = Vec::new(alloc);
+    for _ in 0..100 {
+        let cut = lines.cut(&mut reader);
+        if cut != Cut::Line {
+            return Ok((all, cut));
+        }
+        all.extend_from_slice(lines.line())?;
+        all.push(b'|')?;
+    }
+    Ok((all, Cut::Line))
+}
+
+const TEXTS: [(&[u8], bool, &[u8], Cut); 8] = [
+    (b"", false, b"", Cut::End),
+    (b"a\nbc\n", false, b"a|bc|", Cut::End),
+    (b"a\nbc", false, b"a|bc|", Cut::End),
+    (b"a\r\nbc\r\r\n", false, b"a|bc\r|", Cut::End),
+    (b"a\r", false, b"a\r|", Cut::End),
+    (b"\n\n", false, b"||", Cut::End),
+    (b"a\nbc", true, b"a|", Cut::ReadFault),
+    (b"", true, b"", Cut::ReadFault),
+];
+
+#[test]
+fn texts(rt: HostRuntime) -> Result<(), Fail> {
+    for (bytes, fails, want, end) in TEXTS {
+        for most in [1, 2, 1024] {
+            let (all, cut) = cut_all(rt.alloc(), bytes, most, fails)?;
+            assert!(rt; all.as_slice() == want && cut == end, "{bytes:?} by {most}");
+        }
+    }
+    Ok(())
+}
+
+#[test]
+fn long_texts(rt: HostRuntime) -> Result<(), Fail> {
+    let table = [(201, Cut::End), (202, Cut::TooLong), (5000, Cut::TooLong)];
+    for (length, end) in table {
+        let bytes = vec![in rt.alloc(); b'x'; length]?;
+        let (_, cut) = cut_all(rt.alloc(), bytes.as_slice(), 7, false)?;
+        assert_eq!(rt; cut, end, "{length} bytes");
+    }
+    Ok(())
+}
