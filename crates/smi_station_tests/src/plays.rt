@@ -1,6 +1,6 @@
 //! Worked examples, played on two stations that exchange their datagrams.
 
-use smi_grant::{Holder, Phase, Record, Shown, Version};
+use smi_grant::{Holder, Shown, Version};
 use smi_message::encode;
 use smi_out::Out;
 use smi_protocol::{Event, Heard, Order};
@@ -10,7 +10,8 @@ use smi_tree::Tree;
 use std::alloc::{AllocError, Global};
 use std::test::Fail;
 
-const TREE: &[u8] = b"tree 17\nstate OFF\nstate READY\nstate RUNNING\nstate ERROR\naction CONFIGURE\naction START\naction STOP\nstation A 127.0.0.1:9001\nstation B 127.0.0.1:9002\noperator ANN A\noperator BOB B\ndevclass DEV OFF\nmove DEV OFF CONFIGURE READY\nmove DEV READY START RUNNING\nunitclass UNIT OFF\naccept UNIT CONFIGURE\naccept UNIT START\nany UNIT ERROR ERROR\nall UNIT RUNNING RUNNING\nall UNIT READY READY\nall UNIT OFF OFF\ndomain DCS A UNIT -\ndomain TPC B UNIT DCS\ndevice HV TPC DEV\n";
+const TREE: &[u8] =
+    b"tree 17\nstate OFF\nstate READY\nstate RUNNING\nstate ERROR\naction CONFIGURE\naction START\naction STOP\nstation A 127.0.0.1:9001\nstation B 127.0.0.1:9002\noperator ANN A\noperator BOB B\ndevclass DEV OFF\nmove DEV OFF CONFIGURE READY\nmove DEV READY START RUNNING\nunitclass UNIT OFF\naccept UNIT CONFIGURE\naccept UNIT START\nany UNIT ERROR ERROR\nall UNIT RUNNING RUNNING\nall UNIT READY READY\nall UNIT OFF OFF\ndomain DCS A UNIT -\ndomain TPC B UNIT DCS\ndevice HV TPC DEV\n";
 
 const A: u16 = 1;
 
@@ -76,16 +77,46 @@ const fn row(
 /// "Configured through the hierarchy", from the first take on, and the first datagram once more.
 fn configured() -> [Play; 14] {
     [
-        row(A, Input::Order(ANN, Order::Take(DCS)), Heard::Done, &[(TAKE, A)], &[]),
+        row(
+            A,
+            Input::Order(ANN, Order::Take(DCS)),
+            Heard::Done,
+            &[(TAKE, A)],
+            &[],
+        ),
         row(A, Input::Deliver(1), Heard::Done, &[(TELL, A)], &[]),
         row(A, Input::Deliver(2), Heard::Done, &[], &[(ANN, 0)]),
-        row(A, Input::Order(ANN, Order::Include(DCS, TPC)), Heard::Done, &[(RUN, A)], &[]),
-        row(A, Input::Deliver(3), Heard::Done, &[(TELL, A), (TAKE, B)], &[]),
+        row(
+            A,
+            Input::Order(ANN, Order::Include(DCS, TPC)),
+            Heard::Done,
+            &[(RUN, A)],
+            &[],
+        ),
+        row(
+            A,
+            Input::Deliver(3),
+            Heard::Done,
+            &[(TELL, A), (TAKE, B)],
+            &[],
+        ),
         row(B, Input::Deliver(5), Heard::Done, &[(TELL, A)], &[]),
         row(A, Input::Deliver(6), Heard::Done, &[(TELL, A)], &[]),
         row(A, Input::Deliver(7), Heard::Done, &[], &[(ANN, 0)]),
-        row(A, Input::Order(ANN, Order::Do(DCS, CONFIGURE)), Heard::Done, &[(RUN, A)], &[]),
-        row(A, Input::Deliver(8), Heard::Done, &[(TELL, A), (RUN, B)], &[]),
+        row(
+            A,
+            Input::Order(ANN, Order::Do(DCS, CONFIGURE)),
+            Heard::Done,
+            &[(RUN, A)],
+            &[],
+        ),
+        row(
+            A,
+            Input::Deliver(8),
+            Heard::Done,
+            &[(TELL, A), (RUN, B)],
+            &[],
+        ),
         row(B, Input::Deliver(10), Heard::Done, &[(TELL, A)], &[]),
         row(A, Input::Deliver(11), Heard::Done, &[(TELL, A)], &[]),
         row(A, Input::Deliver(12), Heard::Done, &[], &[(ANN, 0)]),
@@ -96,14 +127,32 @@ fn configured() -> [Play; 14] {
 /// "Take and drop", with an order that is not for the station, and a datagram that is for the other one.
 fn taken_and_dropped() -> [Play; 9] {
     [
-        row(B, Input::Order(BOB, Order::Take(TPC)), Heard::Done, &[(TAKE, B)], &[]),
+        row(
+            B,
+            Input::Order(BOB, Order::Take(TPC)),
+            Heard::Done,
+            &[(TAKE, B)],
+            &[],
+        ),
         row(B, Input::Deliver(1), Heard::Done, &[(TELL, B)], &[]),
         row(B, Input::Deliver(2), Heard::Done, &[], &[(BOB, 0)]),
-        row(B, Input::Order(BOB, Order::Drop(TPC)), Heard::Done, &[(DROP, B)], &[]),
+        row(
+            B,
+            Input::Order(BOB, Order::Drop(TPC)),
+            Heard::Done,
+            &[(DROP, B)],
+            &[],
+        ),
         row(B, Input::Deliver(3), Heard::Done, &[(TELL, B)], &[]),
         row(B, Input::Deliver(4), Heard::Done, &[], &[(BOB, 0)]),
         row(B, Input::Deliver(1), Heard::Same, &[(TELL, B)], &[]),
-        row(B, Input::Order(ANN, Order::Take(TPC)), Heard::Refused(26), &[], &[(ANN, 26)]),
+        row(
+            B,
+            Input::Order(ANN, Order::Take(TPC)),
+            Heard::Refused(26),
+            &[],
+            &[(ANN, 26)],
+        ),
         row(A, Input::Deliver(1), Heard::Refused(8), &[], &[]),
     ]
 }
@@ -119,8 +168,14 @@ fn is_as_told(out: &Out, row: &Play) -> bool {
     let answers = out.answers();
     sent.len() == row.sent.len()
         && answers.len() == row.answers.len()
-        && sent.iter().zip(row.sent).all(|(datagram, wanted)| address(&encode(datagram)) == *wanted)
-        && answers.iter().zip(row.answers).all(|(answer, wanted)| (answer.operator, answer.told.code) == *wanted)
+        && sent
+            .iter()
+            .zip(row.sent)
+            .all(|(datagram, wanted)| address(&encode(datagram)) == *wanted)
+        && answers.iter().zip(row.answers).all(|(answer, wanted)| (
+            answer.operator,
+            answer.told.code,
+        ) == *wanted)
 }
 
 /// What is sent goes behind all that was sent before.
@@ -173,24 +228,46 @@ fn play_all(
     Ok(good)
 }
 
+/// Epoch, holder and last number of a domain.
+type Stands = (u64, Holder, u32);
+
 /// What a station tells of itself at the end.
-type Told = (Option<Record>, Option<Shown>, Option<Shown>);
+type Told = (Option<Stands>, Option<Shown>, Option<Shown>);
 
 fn told(station: &Station<'_, MemoryStable>, domain: u16) -> Told {
-    (station.record(domain), station.current(domain), station.current(HV))
+    let stands = station
+        .record(domain)
+        .map(|record| (record.epoch, record.holder, record.last));
+    (stands, station.current(domain), station.current(HV))
 }
 
-/// A worked example at stations that start: how many rows came out as told, and what the stations then tell of DCS
-/// and of TPC.
-fn played(alloc: Global, tree: &Tree, rows: &[Play]) -> Result<(usize, Told, Told), Fail> {
-    let Ok(mut a) = Station::open(alloc, tree, A, MemoryStable::new(alloc)) else {
-        return Err(Fail::from("A did not open"));
-    };
-    let Ok(mut b) = Station::open(alloc, tree, B, MemoryStable::new(alloc)) else {
-        return Err(Fail::from("B did not open"));
-    };
-    let good = play_all(alloc, &mut a, &mut b, rows)?;
-    Ok((good, told(&a, DCS), told(&b, TPC)))
+/// How many rows came out as told, and what the stations then tell of DCS and of TPC.
+type Played = Result<(usize, Told, Told), Fail>;
+
+/// A worked example at A and B, of which B is still to start. One function owns a station, and ends in one place.
+fn with_b(alloc: Global, tree: &Tree, a: &mut Station<'_, MemoryStable>, rows: &[Play]) -> Played {
+    match Station::open(alloc, tree, B, MemoryStable::new(alloc)) {
+        Ok(mut b) => at_both(alloc, a, &mut b, rows),
+        Err(_) => Err(Fail::from("B did not open")),
+    }
+}
+
+fn at_both(
+    alloc: Global,
+    a: &mut Station<'_, MemoryStable>,
+    b: &mut Station<'_, MemoryStable>,
+    rows: &[Play],
+) -> Played {
+    let good = play_all(alloc, a, b, rows)?;
+    Ok((good, told(a, DCS), told(b, TPC)))
+}
+
+/// A worked example at stations that start.
+fn played(alloc: Global, tree: &Tree, rows: &[Play]) -> Played {
+    match Station::open(alloc, tree, A, MemoryStable::new(alloc)) {
+        Ok(mut a) => with_b(alloc, tree, &mut a, rows),
+        Err(_) => Err(Fail::from("A did not open")),
+    }
 }
 
 const fn ready(object: u16) -> Option<Shown> {
@@ -215,39 +292,32 @@ const fn off(object: u16) -> Option<Shown> {
     })
 }
 
-const fn record(epoch: u64, holder: Holder, last: u32) -> Option<Record> {
-    Some(Record {
-        epoch,
-        holder,
-        last,
-        phase: Phase::Settled,
-        outcome: 0,
-    })
+fn at_tree(alloc: Global, tree: &Tree) -> Result<[(usize, Told, Told); 2], Fail> {
+    let configured = played(alloc, tree, &configured())?;
+    let dropped = played(alloc, tree, &taken_and_dropped())?;
+    Ok([configured, dropped])
 }
 
 fn both(alloc: Global) -> Result<[(usize, Told, Told); 2], Fail> {
     let tree = Tree::read(alloc, TREE)?;
-    let configured = played(alloc, &tree, &configured())?;
-    let dropped = played(alloc, &tree, &taken_and_dropped())?;
-    Ok([configured, dropped])
+    at_tree(alloc, &tree)
 }
 
 #[test]
 fn worked_examples(rt: HostRuntime) -> Result<(), Fail> {
     let held = both(rt.alloc())?;
-    assert_eq!(
-        rt;
+    assert_eq!(rt;
         held,
         [
             (
                 14,
-                (record(1, Holder::Operator(ANN), 2), off(DCS), None),
-                (record(1, Holder::Domain(DCS), 1), ready(TPC), ready(HV)),
+                (Some((1, Holder::Operator(ANN), 2)), off(DCS), None),
+                (Some((1, Holder::Domain(DCS), 1)), ready(TPC), ready(HV)),
             ),
             (
                 9,
-                (record(0, Holder::Free, 0), off(DCS), None),
-                (record(2, Holder::Free, 0), off(TPC), off(HV)),
+                (Some((0, Holder::Free, 0)), off(DCS), None),
+                (Some((2, Holder::Free, 0)), off(TPC), off(HV)),
             ),
         ]
     );

@@ -88,7 +88,10 @@ fn has(store: &mut MemoryStable, rows: Rows) -> Result<bool, StoreFault> {
 
 /// The boot of a station, and who holds DCS there.
 fn told(station: &Station<'_, MemoryStable>) -> (u32, Option<Holder>) {
-    (station.boot(), station.record(1).map(|record| record.holder))
+    (
+        station.boot(),
+        station.record(1).map(|record| record.holder),
+    )
 }
 
 /// What a start at a store comes to, and the store then.
