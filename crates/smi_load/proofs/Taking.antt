@@ -41,7 +41,7 @@ use Rattle.smi_load.specs.Migrating.{over}
 use Rattle.smi_load.specs.Restoring.{IsOwn, and_then, as_said, as_told, own_row, restored, said_to}
 use Rattle.smi_load.proofs.SoundLoading.{IsKeptDomain, IsKeptOperator, domain_kept, domain_row_kept, operator_kept, operator_row_kept, said_row}
 
-clash : {X : Type 0} → true ≡ false → X
+pub clash : {X : Type 0} → true ≡ false → X
 clash e = absurd cc
 
 -- Grants from what is kept of domains and operators.
@@ -294,7 +294,7 @@ module _ (h : Hierarchy) (number : ℕ) (rows : Rows) (b : List ℕ) where
       with x y = said_with h rows (key number 0 o) b (row.Operator links) is (key number x y)
 
   -- a row of the station
-  own_taken : (k : Key) (r : Row) → k.station ≡ number → row_of h k b ≡ Ok r → grants_in h number (with_row k b rows) ≡ as_said h (grants_in h number rows) k r
+  pub own_taken : (k : Key) (r : Row) → k.station ≡ number → row_of h k b ≡ Ok r → grants_in h number (with_row k b rows) ≡ as_said h (grants_in h number rows) k r
   own_taken k (row.Boot boot) mine is =
       let a = row_about h k b (row.Boot boot) is in
       let same : k ≡ key number 0 0 = key_at k number 0 0 mine (eqb-true k.domain 0 a.1) (eqb-true k.operator 0 a.0) in
