@@ -9,3 +9,4 @@ pub mod Migrated
 pub mod Twice
 pub mod Changes
 pub mod SavedAgain
+pub mod Restarting

@@ -1,5 +1,5 @@
 -- With the row that a step saves, the rows say what the station keeps after it.
-use Rattle.std.proofs.Common.{ℕ, ◌≡◌, Bool, true, false, List, Option, Some, None, Result, Ok, Err, refl, sym, ap, ◌∙◌, subst, arith}
+use Rattle.std.proofs.Common.{ℕ, ◌≡◌, Bool, true, false, Option, Some, None, Ok, refl, sym, ap, ◌∙◌, subst, arith}
 use Rattle.std.specs.Prelude.{◌==◌, ◌&&◌, if◌then◌else◌, option_and_then, option_map}
 use Rattle.std.proofs.lemmas.Bool.{and_parts, eqb-true}
 use mathlib.Core.Path.{fun_ext}
@@ -24,11 +24,11 @@ use Rattle.smi_rows.specs.Reading.{row_of}
 use Rattle.smi_rows.specs.Store.{Rows, Saved, same_key, with_row}
 use Rattle.smi_rows.proofs.Keys.{same-is}
 use Rattle.smi_rows.proofs.Laws.{row_is_read}
-use Rattle.smi_protocol.specs.Grants.{Grants, put}
+use Rattle.smi_protocol.specs.Grants.{Grants}
 use Rattle.smi_protocol.specs.GrantsOf.{grant_step}
 use Rattle.smi_protocol.specs.GrantStep.{OfDomain, OfOperator, Touched}
 use Rattle.smi_protocol.specs.Happening.{Happening}
-use Rattle.smi_protocol.specs.Loading.{AllRead, fault_in, grants_in, stored_at}
+use Rattle.smi_protocol.specs.Loading.{AllRead, fault_in, stored_at}
 use Rattle.smi_protocol.specs.Refusals.{refusal_of}
 use Rattle.smi_protocol.specs.SavedRows.{child_links, domain_row, is_new, operator_links, operator_row, saved_row}
 use Rattle.smi_protocol.specs.Sound.{IsSayable, IsSound}

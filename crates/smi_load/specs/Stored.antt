@@ -1,5 +1,5 @@
 -- Rows that say all that a station keeps.
-use Rattle.std.specs.Prelude.{ℕ, ◌≡◌, ◌≢◌, Option, None, Result, Ok, Err}
+use Rattle.std.specs.Prelude.{ℕ, ◌≡◌, ◌≢◌, None, Result, Ok, Err}
 use Rattle.smi_message.specs.Message.{last_boot}
 use Rattle.smi_tree.specs.Hierarchy.{Hierarchy}
 use Rattle.smi_rows.specs.Store.{Rows}
