@@ -41,7 +41,7 @@ use Rattle.smi_load.specs.Migrating.{over}
 use Rattle.smi_load.specs.Restoring.{IsOwn, and_then, as_said, as_told, own_row, restored, said_to}
 use Rattle.smi_load.proofs.SoundLoading.{IsKeptDomain, IsKeptOperator, domain_kept, domain_row_kept, operator_kept, operator_row_kept, said_row}
 
-pub clash : {X : Type 0} → true ≡ false → X
+clash : {X : Type 0} → true ≡ false → X
 clash e = absurd cc
 
 -- Grants from what is kept of domains and operators.
