@@ -7,3 +7,6 @@ pub mod Starts
 pub mod Rewritten
 pub mod Migrated
 pub mod Twice
+pub mod Changes
+pub mod SavedAgain
+pub mod Restarting

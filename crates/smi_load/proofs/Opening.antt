@@ -198,7 +198,7 @@ module _ (h : Hierarchy) (number : ℕ) where
 -- The boot.
 
 -- a station has not started more often than it can
-boot_within : (h : Hierarchy) (number : ℕ) (rows : Rows) → (grants_in h number rows).boot ≤ last_boot
+pub boot_within : (h : Hierarchy) (number : ℕ) (rows : Rows) → (grants_in h number rows).boot ≤ last_boot
 boot_within h number rows = by (said h rows (key number 0 0)) refl
   where
     of_row : (r : Row) (b : List ℕ) → IsRow h (key number 0 0) b r → boot_of (Some r) ≤ last_boot

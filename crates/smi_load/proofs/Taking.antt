@@ -46,16 +46,16 @@ clash e = absurd cc
 
 -- Grants from what is kept of domains and operators.
 
-abbrev meant_link : (ℕ → KeptDomain) → (ℕ → List StoredLink) → Holder → ℕ → Link
+abbrev pub meant_link : (ℕ → KeptDomain) → (ℕ → List StoredLink) → Holder → ℕ → Link
 meant_link ds os Free x = Out 0
 meant_link ds os (Operator o) x = (stored_at (os o) x).link
 meant_link ds os (Domain p) x = (stored_at (ds p).links x).link
 
-abbrev meant_mode : (ℕ → KeptDomain) → ℕ → Option ℕ → Mode
+abbrev pub meant_mode : (ℕ → KeptDomain) → ℕ → Option ℕ → Mode
 meant_mode ds x None = Included
 meant_mode ds x (Some p) = (stored_at (ds p).links x).mode
 
-abbrev meant : Hierarchy → ℕ → (ℕ → KeptDomain) → (ℕ → List StoredLink) → Grants
+abbrev pub meant : Hierarchy → ℕ → (ℕ → KeptDomain) → (ℕ → List StoredLink) → Grants
 meant h boot ds os = record {
   boot = boot;
   records = λ d. (ds d).standing;
@@ -64,10 +64,10 @@ meant h boot ds os = record {
   modes = λ x. meant_mode ds x (parent_of h x);
 }
 
-abbrev boot_in : Hierarchy → ℕ → Rows → ℕ
+abbrev pub boot_in : Hierarchy → ℕ → Rows → ℕ
 boot_in h number rows = boot_of (said h rows (key number 0 0))
 
-in_rows : (h : Hierarchy) (number : ℕ) (rows : Rows) → grants_in h number rows ≡ meant h (boot_in h number rows) (domain_in h number rows) (operator_in h number rows)
+pub in_rows : (h : Hierarchy) (number : ℕ) (rows : Rows) → grants_in h number rows ≡ meant h (boot_in h number rows) (domain_in h number rows) (operator_in h number rows)
 in_rows h number rows =
     ap (λ (t : Holder → ℕ → Link). record (grants_in h number rows) { links = t }) (fun_ext (λ who. fun_ext (λ x. link who x)))
     ∙ ap (λ (t : ℕ → Mode). record (meant h (boot_in h number rows) (domain_in h number rows) (operator_in h number rows)) { modes = t }) (fun_ext (λ x. mode x (parent_of h x)))
@@ -222,7 +222,7 @@ boot_said h number rows = by (said h rows (key number 0 0)) refl
     by (Some r) is = let there = said_row h rows (key number 0 0) r is in of_row r there.0 there.1
 
 -- the same of all domains and operators
-same_meant : (h : Hierarchy) (a b : ℕ) (ds es : ℕ → KeptDomain) (os ps : ℕ → List StoredLink) → a ≡ b → ((x : ℕ) → ds x ≡ es x) → ((x : ℕ) → os x ≡ ps x) → meant h a ds os ≡ meant h b es ps
+pub same_meant : (h : Hierarchy) (a b : ℕ) (ds es : ℕ → KeptDomain) (os ps : ℕ → List StoredLink) → a ≡ b → ((x : ℕ) → ds x ≡ es x) → ((x : ℕ) → os x ≡ ps x) → meant h a ds os ≡ meant h b es ps
 same_meant h a b ds es os ps boot domains operators =
     let all : ds ≡ es = fun_ext domains in
     let others : os ≡ ps = fun_ext operators in
@@ -294,7 +294,7 @@ module _ (h : Hierarchy) (number : ℕ) (rows : Rows) (b : List ℕ) where
       with x y = said_with h rows (key number 0 o) b (row.Operator links) is (key number x y)
 
   -- a row of the station
-  own_taken : (k : Key) (r : Row) → k.station ≡ number → row_of h k b ≡ Ok r → grants_in h number (with_row k b rows) ≡ as_said h (grants_in h number rows) k r
+  pub own_taken : (k : Key) (r : Row) → k.station ≡ number → row_of h k b ≡ Ok r → grants_in h number (with_row k b rows) ≡ as_said h (grants_in h number rows) k r
   own_taken k (row.Boot boot) mine is =
       let a = row_about h k b (row.Boot boot) is in
       let same : k ≡ key number 0 0 = key_at k number 0 0 mine (eqb-true k.domain 0 a.1) (eqb-true k.operator 0 a.0) in

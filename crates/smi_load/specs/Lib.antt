@@ -1,3 +1,4 @@
 pub mod Restoring
 pub mod Starting
+pub mod Stored
 pub mod Migrating
