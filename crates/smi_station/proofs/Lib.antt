@@ -5,5 +5,6 @@ pub mod Quiet
 pub mod Heard
 pub mod Started
 pub mod Steps
+pub mod Stored
 pub mod Reported
 pub mod Outcomes

@@ -5,6 +5,8 @@ use Rattle.smi_grants.specs.Kept.{Kept, grants_of}
 use Rattle.smi_display.specs.Displayed.{Displayed, display_of}
 use Rattle.smi_protocol.specs.Display.{Station}
 use Rattle.smi_message.specs.Message.{Message}
+use Rattle.smi_rows.specs.Store.{Rows}
+use Rattle.smi_load.specs.Stored.{IsStored}
 use Rattle.smi_protocol.specs.Sending.{MaySend}
 use Rattle.smi_protocol.specs.Sound.{In, IsSound}
 use Rattle.smi_protocol.specs.SoundDisplay.{MayChange}
@@ -84,3 +86,7 @@ begun (Err fault) = Err fault
 -- the station may send each of these datagrams
 abbrev pub MaySendAll : Core → List Message → Type 0
 MaySendAll c ms = (m : Message) → In m ms → MaySend (tree_of c) (number_of c) (station_of c) m
+
+-- these rows say all that the station keeps: started on them, it is what it is now, one boot later
+abbrev pub IsStoredIn : Rows → Core → Type 0
+IsStoredIn rows c = IsStored (tree_of c) (number_of c) (station_of c).grants rows

@@ -31,8 +31,17 @@ fn is_child_unit(tree: &Tree, number: u16, object: u16) -> bool
 
 impl<'a> Core<'a> {
     ghost use Rattle.std.specs.Prelude.{◌≡◌};
+    ghost use Rattle.smi_tree.specs.Lawful.{IsTree};
     ghost use Rattle.smi_station.specs.Core.{number_of, station_of, tree_of};
     ghost use Rattle.smi_station.specs.Readers.{current_of, link_in, mode_in, record_in};
+
+    /// The tree of the station.
+    pub(crate) fn tree(&self) -> &'a Tree
+        ensures value { result.now ≡ tree_of self.now }
+        ensures lawful { IsTree (tree_of self.now) }
+    {
+        self.kept.tree()
+    }
 
     /// How often the station has started.
     pub(crate) fn boot(&self) -> u32

@@ -99,7 +99,7 @@ impl<'a, S: Stable> Station<'a, S> {
     ghost use Rattle.smi_rows.specs.Store.{Rows, IsSame};
     ghost use Rattle.smi_protocol.specs.Loading.{Opens};
     ghost use Rattle.smi_load.specs.Starting.{IfInDoubt, IfStoreFailed, IfUnchanged, IsToldAsMemory, after_start};
-    ghost use Rattle.smi_station.specs.Core.{IsOf, begun};
+    ghost use Rattle.smi_station.specs.Core.{IsOf, IsStoredIn, begun};
     ghost use Rattle.smi_station.specs.Readers.{core_in, store_in};
     ghost use Rattle.std.specs.Prelude.{◌≡◌, true, false, Err};
     ghost use Rattle.smi_grants.specs.Save.{IfKept, IfStopped};
@@ -125,6 +125,8 @@ impl<'a, S: Stable> Station<'a, S> {
     ) -> Result<Station<'a, S>, (OpenFault, S)>
         ensures opens { S.is_honest (store_in result) → Opens tree.now number (S.rows store) (begun (core_in result)) }
         ensures of { IfOk (core_in result) (IsOf tree.now number) }
+        // They then say all that the station keeps.
+        ensures stored { S.is_honest (store_in result) → IfOk (core_in result) (IsStoredIn (S.rows (store_in result))) }
         ensures saved { S.is_honest (store_in result) → OnOk result (S.is_open (store_in result) × IsSame (S.rows (store_in result)) (after_start tree.now number (S.rows store))) }
         ensures kept { S.is_honest (store_in result) → S.is_open store → IfUnchanged (core_in result) (S.is_open (store_in result) × IsSame (S.rows (store_in result)) (S.rows store)) }
         ensures unsure { S.is_honest (store_in result) → S.is_open store → S.is_open (store_in result) → IfInDoubt (core_in result) (IsSame (S.rows (store_in result)) (S.rows store) ⊎ IsSame (S.rows (store_in result)) (after_start tree.now number (S.rows store))) }
@@ -154,12 +156,15 @@ impl<'a, S: Stable> Station<'a, S> {
     pub fn step(&mut self, event: Event<'_>, out: &mut Out) -> Result<Heard, StepFault>
         ensures step { self.old.core.is_stopped ≡ false → Steps self.old.core self.new.core (after_event (tree_of self.old.core) (number_of self.old.core) (station_of self.old.core) event.entry) out.new result }
         ensures store { self.old.core.is_stopped ≡ false → Leaves S.is_honest S.is_open S.rows S.saves S.failures self.old.store self.new.store result (after_event (tree_of self.old.core) (number_of self.old.core) (station_of self.old.core) event.entry).saved }
+        // Rows that said all that the station kept do so after the step.
+        ensures stored { self.old.core.is_stopped ≡ false → S.is_honest self.new.store → S.is_open self.old.store → IsStoredIn (S.rows self.old.store) self.old.core → OnOk result (IsStoredIn (S.rows self.new.store) self.new.core) }
         // Each datagram is one that the station may send, now and at any time until its next step.
         ensures may_send { self.old.core.is_stopped ≡ false → OnOk result (MaySendAll self.new.core out.new.datagrams) }
         ensures kept { IfKept result (self.new.core ≡ self.old.core) }
         ensures stops { IfStopped result (self.new.core ≡ record self.old.core { is_stopped = true }) }
         ensures stopped { self.old.core.is_stopped ≡ true → (result ≡ Err Stopped) × (out.new ≡ nothing_out) × (self.new.store ≡ self.old.store) }
     {
+        let _tree = self.core.tree();
         self.core.step(&mut self.store, event, out)
     }
 }

@@ -1,6 +1,9 @@
 use Rattle.std.proofs.Common.{◌≡◌, false, subst}
 use Rattle.smi_protocol.specs.Step.{after_event}
-use Rattle.smi_station.specs.Core.{Steps, number_of, station_of, tree_of}
+use Rattle.std.specs.Prelude.{OnOk}
+use Rattle.smi_tree.specs.Lawful.{IsTree}
+use Rattle.smi_station.proofs.Stored.{step_stored}
+use Rattle.smi_station.specs.Core.{Core, IsStoredIn, Steps, number_of, station_of, tree_of}
 use Rattle.smi_station.specs.Leaving.{Leaves}
 use Rattle.smi_station.specs.Readers.{Whole}
 use Rattle.smi_station.proofs.station.Station.step.Goals as goal
@@ -15,3 +18,11 @@ returns-clause-store g c =
     subst (λ (before : Whole g.row.S.Denot). before.core.is_stopped ≡ false → Leaves g.S.Stable.is_honest g.S.Stable.is_open g.S.Stable.rows g.S.Stable.saves g.S.Stable.failures before.store c.step.new.store c.step.result
     (after_event (tree_of before.core) (number_of before.core) (station_of before.core) c.args.event).saved)
     c.self.view_is c.step.ensures.store
+
+pub returns-clause-stored : goal.returns-clause-stored
+returns-clause-stored g c =
+    subst (λ (before : Whole g.row.S.Denot). before.core.is_stopped ≡ false → g.S.Stable.is_honest c.step.new.store → g.S.Stable.is_open before.store → IsStoredIn (g.S.Stable.rows before.store) before.core → OnOk c.step.result (IsStoredIn (g.S.Stable.rows c.step.new.store) c.step.new.self))
+    c.self.view_is
+    (λ runs honest opened stored.
+    step_stored (g.S.Stable.is_open c.step.new.store) c.self.inside.core c.step.new.self c.args.event c.step.new.out c.step.result (g.S.Stable.rows c.self.inside.store) (g.S.Stable.rows c.step.new.store)
+    c.tree-tree.ensures.lawful (c.step.ensures.step runs) ((c.step.ensures.store runs).saved honest opened) stored)

@@ -1,0 +1,39 @@
+-- What a step and a start leave in the store says all that the station keeps.
+use Rattle.std.proofs.Common.{ℕ, ◌≡◌, Result, Ok, Err, sym, subst, ◌∙◌}
+use Rattle.std.specs.Prelude.{IfOk, OnOk}
+use mathlib.Core.Path.{fun_ext}
+use Rattle.smi_tree.specs.Hierarchy.{Hierarchy}
+use Rattle.smi_tree.specs.Lawful.{IsTree}
+use Rattle.smi_rows.specs.Store.{IsSame, Rows}
+use Rattle.smi_protocol.specs.Display.{Station}
+use Rattle.smi_protocol.specs.Loading.{Opens}
+use Rattle.smi_protocol.specs.Step.{Out, after_event}
+use Rattle.smi_protocol.specs.declared.event.Event.{Event}
+use Rattle.smi_protocol.specs.declared.event.Heard.{Heard}
+use Rattle.smi_protocol.specs.declared.event.StepFault.{StepFault}
+use Rattle.smi_protocol.specs.declared.fault.OpenFault.{OpenFault}
+use Rattle.smi_grants.specs.Change.{with_saved}
+use Rattle.smi_load.specs.Starting.{after_start}
+use Rattle.smi_load.specs.Stored.{IsStored}
+use Rattle.smi_load.proofs.Restarting.{event_stored, opens_stored}
+use Rattle.smi_station.specs.Core.{Core, IsOf, IsStoredIn, Steps, begun, number_of, station_of, tree_of}
+
+-- a step
+pub step_stored : (X : Type 0) (before next : Core) (e : Event) (handed : Out) (r : Result Heard StepFault) (old new : Rows) → IsTree (tree_of before)
+    → Steps before next (after_event (tree_of before) (number_of before) (station_of before) e) handed r
+    → OnOk r (X × IsSame new (with_saved (after_event (tree_of before) (number_of before) (station_of before) e).saved old)) → IsStoredIn old before → OnOk r (IsStoredIn new next)
+step_stored X before next e handed (Err fault) old new tree steps saved stored = tt
+step_stored X before next e handed (Ok x) old new tree steps saved stored =
+    subst (λ (h : Hierarchy). IsStored h (number_of next) (station_of next).grants new) (sym steps.tree)
+    (subst (λ n. IsStored (tree_of before) n (station_of next).grants new) (sym steps.number)
+    (subst (λ (s : Station). IsStored (tree_of before) (number_of before) s.grants new) (sym steps.station)
+    (subst (IsStored (tree_of before) (number_of before) (after_event (tree_of before) (number_of before) (station_of before) e).station.grants) (sym (fun_ext saved.1))
+    (event_stored (tree_of before) (number_of before) (station_of before) old e tree stored))))
+
+-- a start
+pub start_stored : (h : Hierarchy) (number : ℕ) (X : Type 0) (r : Result Core OpenFault) (old new : Rows) → Opens h number old (begun r) → IfOk r (IsOf h number) → OnOk r (X × IsSame new (after_start h number old)) → IfOk r (IsStoredIn new)
+start_stored h number X (Err fault) old new opens of saved = tt
+start_stored h number X (Ok core) old new opens of saved =
+    subst (λ (x : Hierarchy). IsStored x (number_of core) (station_of core).grants new) (sym of.tree)
+    (subst (λ n. IsStored h n (station_of core).grants new) (sym of.number)
+    (subst (IsStored h number (station_of core).grants) (sym (fun_ext saved.1)) (opens_stored h number old (station_of core) opens)))
