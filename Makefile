@@ -2,7 +2,7 @@
 
 SOURCES := crates.txt $(shell find crates -path '*/out' -prune -o -type f \( -name '*.rt' -o -name '*.antt' \) -print)
 
-.PHONY: smi run try test gate check cases edits edits-test costs bench
+.PHONY: smi run try test gate record check cases edits edits-test costs bench
 
 # The program, proved and built, at bin/smi.
 smi: bin/smi
@@ -26,9 +26,13 @@ try:
 test:
 	@python3 tools/gate.py
 
-# The same with the edits of every crate. It alone writes edits.ok.
+# The same with the edits of every crate, which it then writes into edits.ok.
 gate:
 	@python3 tools/gate.py --all
+
+# The edits of some crates, which stand in edits.ok then where all are refused: make record CRATE='smi_grant smi_tree'.
+record:
+	@python3 tools/gate.py --record $(CRATE)
 
 # One crate, over what earlier checks kept: make check CRATE=smi_grant
 check:

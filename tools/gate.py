@@ -1,12 +1,13 @@
 """The gate: every proof and every test from nothing, the command lines, and the edits that must be refused.
 
-usage: gate.py [--all]
+usage: gate.py [--all | --record CRATE..]
 
 It runs `rt ci`, the cases of tests/command_lines.py on the programs that this has built, and the edits in
-crates/CRATE/edits/ (tools/edits.py) of each crate whose sum is not in the record edits.ok: a line of it says that a whole
-gate saw all edits of the crate refused, with the same toolchain, tools, sources, specs, proofs and edits, and the same
+crates/CRATE/edits/ (tools/edits.py) of each crate whose sum is not in the record edits.ok: a line of it says that all
+edits of the crate were seen refused, with the same toolchain, tools, sources, specs, proofs and edits, and the same
 sources, specs and proofs of the crates below it. What is not tried for that is counted apart and not as passed. --all
-reads no record, tries the edits of every crate, and writes the record.
+reads no record, tries the edits of every crate, and writes the record. --record tries the edits of these crates alone,
+and writes the lines of those of which all are refused; the lines of other crates stay.
 
 The last line is 'N passed, M failed'.
 """
@@ -110,7 +111,22 @@ def try_edits(is_whole, since, sums):
     return part.end(passed + refused, failed + others, more)
 
 
+def record(names):
+    """The edits of these crates, and their lines of the record where all are refused."""
+    crates = [crate for crate in kit.crates() if crate.name in names]
+    before = {crate.name: kit.sum_of(crate) for crate in crates}
+    tried = edits.try_all(crates, "edits")
+    well = {name for name, of in tried.items() if of and all(it.how == edits.REFUSED for it in of)}
+    same = {crate.name for crate in crates if kit.sum_of(crate) == before[crate.name]}
+    write_record({**recorded(), **{name: before[name] for name in well & same}})
+    print("%d refused, %d not" % edits.summary(tried))
+    sys.exit(0 if well == set(names) else 1)
+
+
 def main():
+    if sys.argv[1:2] == ["--record"] and sys.argv[2:]:
+        os.chdir(kit.ROOT)
+        record(sys.argv[2:])
     is_whole = sys.argv[1:] == ["--all"]
     if sys.argv[1:] and not is_whole:
         sys.exit(__doc__.split("\n\n")[1])
