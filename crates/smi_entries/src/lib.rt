@@ -1,0 +1,12 @@
+//! What an event leaves in a trace by its save.
+//!
+//! Each function reads it off a station's grants before the step is made (`smi_protocol`, the field `entries` in
+//! `specs/GrantStep.antt`). Nothing here takes memory or fails.
+#![tactic(auto)]
+
+mod asking;
+mod entries;
+mod ordering;
+
+pub use entries::{Entries, MOST_ENTRIES};
+pub use ordering::of_order;
