@@ -11,7 +11,7 @@ use smi_grants::Kept;
 use smi_protocol::Entry;
 
 /// A take: the domain is granted, where it is.
-pub(crate) fn of_take(kept: &Kept<'_>, domain: u16, holder: Holder, seen: u64) -> Entries
+pub fn of_take(kept: &Kept<'_>, domain: u16, holder: Holder, seen: u64) -> Entries
     requires party { is_free holder ≡ false }
     ensures { (from : ℕ) → result ≡ (keeping.take_comes kept.now.tree kept.now.number (grants_of kept.now) from domain holder seen).entries }
 {
@@ -27,7 +27,7 @@ pub(crate) fn of_take(kept: &Kept<'_>, domain: u16, holder: Holder, seen: u64) -
 }
 
 /// A drop: the domain becomes free, where it does.
-pub(crate) fn of_drop(kept: &Kept<'_>, domain: u16, holder: Holder, epoch: u64) -> Entries
+pub fn of_drop(kept: &Kept<'_>, domain: u16, holder: Holder, epoch: u64) -> Entries
     requires party { is_free holder ≡ false }
     ensures { (from : ℕ) → result ≡ (keeping.drop_comes kept.now.tree kept.now.number (grants_of kept.now) from domain holder epoch).entries }
 {

@@ -7,6 +7,11 @@
 mod asking;
 mod entries;
 mod ordering;
+mod running;
+mod telling;
 
+pub use asking::{of_drop, of_take};
+pub use running::of_run;
+pub use telling::of_tell;
 pub use entries::{Entries, MOST_ENTRIES};
 pub use ordering::of_order;
