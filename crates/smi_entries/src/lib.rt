@@ -5,13 +5,15 @@
 #![tactic(auto)]
 
 mod asking;
+mod coming;
 mod entries;
 mod ordering;
 mod running;
 mod telling;
 
 pub use asking::{of_drop, of_take};
-pub use running::of_run;
-pub use telling::of_tell;
+pub use coming::of_datagram;
 pub use entries::{Entries, MOST_ENTRIES};
 pub use ordering::of_order;
+pub use running::of_run;
+pub use telling::of_tell;

@@ -77,8 +77,18 @@ pub fn of_order(kept: &Kept<'_>, operator: u16, order: &Order) -> Entries
         Order::Exclude(domain, target) => {
             of_command(kept, operator, domain, Command::Exclude(target))
         }
-        Order::Manual(domain, target) => of_command(kept, operator, domain, Command::Manual(target)),
-        Order::Ignore(domain, target) => of_command(kept, operator, domain, Command::Ignore(target)),
+        Order::Manual(domain, target) => of_command(
+            kept,
+            operator,
+            domain,
+            Command::Manual(target),
+        ),
+        Order::Ignore(domain, target) => of_command(
+            kept,
+            operator,
+            domain,
+            Command::Ignore(target),
+        ),
         Order::Ask(_) => Entries::new(),
         Order::Watch(_) => Entries::new(),
         Order::Unwatch(_) => Entries::new(),
