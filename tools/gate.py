@@ -24,7 +24,7 @@ import kit
 
 RECORD = os.path.join(kit.ROOT, "edits.ok")
 PROGRAMS = ("smi", "smi_trial")
-HEAD = "# The crates whose edits `make gate` last saw refused, each with the sum of what that rests on (tools/gate.py).\n"
+HEAD = "# The crates whose edits were all seen refused, each with the sum of what that rests on (tools/gate.py).\n"
 
 
 class Part:
