@@ -6,7 +6,8 @@
 //! station afterwards, the row that is saved, and what is handed out.
 //!
 //! A step takes no memory but for the bytes of its row and for a new watcher. It looks at what its event touches: a
-//! domain, the one above it, its children and devices, and those who watch what has changed.
+//! domain, the one above it, its children and devices, and those who watch what has changed; but an order to take a
+//! domain counts its operator's links over all domains, and a tick goes over all that may be due.
 #![tactic(auto)]
 
 mod halves;
