@@ -1,4 +1,5 @@
 pub mod Fronts
+pub mod Places
 pub mod Changing
 pub mod Firsts
 pub mod Desks

@@ -1,5 +1,5 @@
 -- Orders in work: which may be in work together, and when their answers are handed out.
-use Rattle.std.specs.Prelude.{ℕ, ◌==◌, ◌-◌, ◌&&◌, ◌||◌, nat_lt, Bool, false, List, [], ◌∷◌, length, set, slice_get, Option, Some, None, option_map}
+use Rattle.std.specs.Prelude.{ℕ, ◌≡◌, ◌<◌, ◌==◌, ◌-◌, ◌&&◌, ◌||◌, nat_lt, Bool, false, if◌then◌else◌, List, [], ◌∷◌, length, set, slice_get, Option, Some, None, IfSome, option_map}
 use Rattle.std.specs.Option.{option_map_or}
 use Rattle.std.specs.List.{list_all}
 use Rattle.smi_grant.specs.Record.{Standing}
@@ -8,6 +8,7 @@ use Rattle.smi_protocol.specs.declared.order.Told.{Told}
 use Rattle.smi_protocol.specs.declared.order.Order.{Order}
 use Rattle.smi_protocol.specs.declared.order.Order.TheVariants as order
 use Rattle.smi_operator.specs.declared.work.Ending.{Ending}
+use Rattle.smi_operator.specs.declared.work.Work.{Work}
 use Rattle.smi_operator.specs.declared.work.Entry.{Entry}
 
 -- so many orders of a seat may be in work at a time
@@ -75,6 +76,24 @@ ended_at work i x = changed_at (λ e. ended_by e x) i work
 -- the newest order became this command
 abbrev pub newest_marked : List Entry → Mark → List Entry
 newest_marked work m = changed_at (λ e. marked_by e m) (length work - 1) work
+
+-- the place of the newest order in work
+abbrev pub newest_of : List Entry → Option ℕ
+newest_of work = if length work == 0 then None else Some (length work - 1)
+
+-- an answer is of an order in work: where a command was issued, of the order that became it, else of the same order
+abbrev pub IsAnsweredBy : Order → Option Mark → Work → Type 0
+IsAnsweredBy o (Some m) w = w.mark ≡ Some m
+IsAnsweredBy o None w = w.order ≡ o
+
+-- no order in work before this place is what the answer is of
+abbrev pub IsOfNone : Order → Option Mark → List Entry → ℕ → Type 0
+IsOfNone o m work most = (i : ℕ) → i < most → IfSome (slice_get work i) (λ e. IsAnsweredBy o m e.work → ⊥)
+
+-- the place of the oldest order in work that an answer is of, if there is one
+abbrev pub IsPlaceOf : Order → Option Mark → List Entry → Option ℕ → Type 0
+IsPlaceOf o m work (Some i) = (i < length work) × IfSome (slice_get work i) (λ e. IsAnsweredBy o m e.work) × IsOfNone o m work i
+IsPlaceOf o m work None = IsOfNone o m work (length work)
 
 -- The answers of the oldest orders are handed out, up to one that has not ended.
 

@@ -1,7 +1,7 @@
 //! The desk, at which a station serves its seats.
 
 ghost use Rattle.std.specs.Prelude.{◌≡◌, ◌<◌, length, IsTrue, IfSome, Some, slice_get, option_map, true};
-ghost use Rattle.smi_operator.specs.Working.{may_join};
+ghost use Rattle.smi_operator.specs.Working.{IsPlaceOf, may_join, newest_of};
 ghost use Rattle.smi_operator.specs.Sides.{Steps, Gives, Answers, Marks, post_at, seat_count, work_of, left, room, IsEndedAt, Met, Stays};
 
 use crate::ends::{Desk, Finished};
@@ -60,6 +60,23 @@ impl Desk {
         ensures { IfSome (post_at self.now seat) (λ p. result ≡ option_map (λ e. e.work) (slice_get (work_of p) place)) }
     {
         self.posts[seat].in_work(place)
+    }
+
+    /// Where the newest order in work of a seat stands, the oldest at 0; none where none is in work.
+    pub fn newest(&self, seat: usize) -> Option<usize>
+        requires { seat < seat_count self.now }
+        ensures { IfSome (post_at self.now seat) (λ p. result ≡ newest_of (work_of p)) }
+    {
+        self.posts[seat].newest()
+    }
+
+    /// Where the order in work of a seat stands that an answer is of, the oldest such order: of an issued command the
+    /// order that became this command, of any other answer an order that is the same.
+    pub fn place_of(&self, seat: usize, order: Order, mark: Option<Mark>) -> Option<usize>
+        requires { seat < seat_count self.now }
+        ensures { IfSome (post_at self.now seat) (λ p. IsPlaceOf order mark (work_of p) result) }
+    {
+        self.posts[seat].place_of(order, mark)
     }
 
     /// Compares the lists of a seat that has ended with those of the desk: the orders given begin those submitted,

@@ -2,12 +2,12 @@
 
 ghost use Rattle.std.specs.Prelude.{◌≡◌, ◌<◌, ◌≤◌, ◌+◌, ◌++◌, ◌∷◌, [], length, true, slice_get, Some, IfSome, IfNone, option_map};
 ghost use mathlib.Core.List.{IsPrefix};
-ghost use Rattle.smi_operator.specs.Working.{begun, ending, may_join, ended_at, newest_marked, handed_out, still_in_work};
+ghost use Rattle.smi_operator.specs.Working.{IsPlaceOf, begun, ending, may_join, ended_at, newest_marked, newest_of, handed_out, still_in_work};
 ghost use Rattle.smi_operator.specs.Sides.{given, answered, left, room, SamePost};
 
 use crate::ends::Post;
 use crate::handing::hand_out;
-use crate::work::{Ending, Entry, Work, end_at, mark_newest, may_join};
+use crate::work::{Ending, Entry, Work, end_at, mark_newest, may_join, place_of};
 use smi_grant::Record;
 use smi_protocol::{Mark, Order};
 
@@ -70,5 +70,19 @@ impl Post {
     {
         let entry = self.work.as_slice().get(place)?;
         Some(entry.work)
+    }
+
+    /// Where the newest order in work stands.
+    pub(crate) fn newest(&self) -> Option<usize>
+        ensures { result ≡ newest_of self.now.work.items }
+    {
+        self.work.len().checked_sub(1)
+    }
+
+    /// Where the oldest order in work stands that an answer is of.
+    pub(crate) fn place_of(&self, order: Order, mark: Option<Mark>) -> Option<usize>
+        ensures { IsPlaceOf order mark self.now.work.items result }
+    {
+        place_of(self.work.as_slice(), order, mark)
     }
 }

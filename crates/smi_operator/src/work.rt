@@ -128,6 +128,31 @@ fn commanded(order: Order) -> Option<u16>
     }
 }
 
+/// Whether an answer is of an order in work: that of an issued command is of the order that became the command, any
+/// other of an order that is the same.
+fn is_answered_by(entry: &Entry, order: Order, mark: Option<Mark>) -> bool
+    ensures { Decides result (spec.IsAnsweredBy order mark entry.now.work) }
+{
+    match mark {
+        Some(_) => entry.work.mark == mark,
+        None => entry.work.order == order,
+    }
+}
+
+ghost use Rattle.std.specs.Bool.{Decides};
+
+/// Where the oldest order in work stands that an answer is of.
+pub(crate) fn place_of(work: &[Entry], order: Order, mark: Option<Mark>) -> Option<usize>
+    ensures { spec.IsPlaceOf order mark work.now result }
+{
+    for (place, entry) in work.iter().enumerate() {
+        if is_answered_by(entry, order, mark) {
+            return Some(place);
+        }
+    }
+    None
+}
+
 fn is_on(order: Order, domain: u16) -> bool
     ensures { result ≡ spec.is_on domain order }
 {

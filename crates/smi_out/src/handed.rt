@@ -34,7 +34,8 @@ impl Model for Out {
 }
 
 impl Out {
-    ghost use Rattle.std.specs.Prelude.{◌≡◌, ◌<◌, ◌++◌, ◌∷◌, [], length, Some};
+    ghost use Rattle.std.specs.Prelude.{◌≡◌, ◌<◌, ◌≤◌, ◌++◌, ◌∷◌, [], length, Some};
+    ghost use Rattle.smi_protocol.specs.Ticking.{most_sent};
     ghost use Rattle.smi_protocol.specs.Step.{nothing_out};
     ghost use Rattle.smi_out.specs.Handed.{most_answers, sent_after};
 
@@ -69,7 +70,8 @@ impl Out {
 
     /// The datagrams to send, in their order, each to its receiver.
     pub fn datagrams(&self) -> &[Datagram]
-        ensures { result.now ≡ self.now.datagrams }
+        ensures value { result.now ≡ self.now.datagrams }
+        ensures few { length result.now ≤ most_sent }
     {
         &self.datagrams[..self.sent]
     }

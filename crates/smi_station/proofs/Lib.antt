@@ -8,3 +8,4 @@ pub mod Steps
 pub mod Stored
 pub mod Reported
 pub mod Outcomes
+pub mod Saves

@@ -3,7 +3,8 @@ use Rattle.std.proofs.Common.{ℕ, ◌≡◌, Result, Ok, Err, sym, subst, ◌�
 use Rattle.std.specs.Prelude.{IfOk, OnOk}
 use mathlib.Core.Path.{fun_ext}
 use Rattle.smi_tree.specs.Hierarchy.{Hierarchy}
-use Rattle.smi_tree.specs.Lawful.{IsTree}
+use Rattle.smi_tree.specs.Lawful.{IsBetween, IsTree}
+use Rattle.smi_tree.specs.Lookups.{station_count}
 use Rattle.smi_rows.specs.Store.{IsSame, Rows}
 use Rattle.smi_protocol.specs.Display.{Station}
 use Rattle.smi_protocol.specs.Loading.{Opens}
@@ -14,8 +15,8 @@ use Rattle.smi_protocol.specs.declared.event.StepFault.{StepFault}
 use Rattle.smi_protocol.specs.declared.fault.OpenFault.{OpenFault}
 use Rattle.smi_grants.specs.Change.{with_saved}
 use Rattle.smi_load.specs.Starting.{after_start}
-use Rattle.smi_load.specs.Stored.{IsStored}
-use Rattle.smi_load.proofs.Restarting.{event_stored, opens_stored}
+use Rattle.smi_load.specs.Stored.{IsStored, Restarts}
+use Rattle.smi_load.proofs.Restarting.{event_stored, only_restarts, opens_stored}
 use Rattle.smi_station.specs.Core.{Core, IsOf, IsStoredIn, Steps, begun, number_of, station_of, tree_of}
 
 -- a step
@@ -37,3 +38,10 @@ start_stored h number X (Ok core) old new opens of saved =
     subst (λ (x : Hierarchy). IsStored x (number_of core) (station_of core).grants new) (sym of.tree)
     (subst (λ n. IsStored h n (station_of core).grants new) (sym of.number)
     (subst (IsStored h number (station_of core).grants) (sym (fun_ext saved.1)) (opens_stored h number old (station_of core) opens)))
+
+-- a restart is one of what the station kept
+pub start_restarts : (h : Hierarchy) (number : ℕ) (before : Core) (rows : Rows) (r : Result Core OpenFault) → h ≡ tree_of before → number ≡ number_of before → IsBetween 1 (station_count (tree_of before)) (number_of before)
+    → IsStoredIn rows before → Opens h number rows (begun r) → Restarts (tree_of before) (number_of before) (station_of before).grants (begun r)
+start_restarts h number before rows r tree own there stored opens =
+    only_restarts (tree_of before) (number_of before) (station_of before).grants rows there stored (begun r)
+    (subst (λ (x : Hierarchy). Opens x (number_of before) rows (begun r)) tree (subst (λ n. Opens h n rows (begun r)) own opens))

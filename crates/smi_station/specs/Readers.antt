@@ -1,10 +1,11 @@
 -- What a station tells of itself: of what is not kept there it tells nothing.
-use Rattle.std.specs.Prelude.{ℕ, ◌&&◌, if◌then◌else◌, Option, Some, None, Result, Ok, Err}
+use Rattle.std.specs.Prelude.{ℕ, ◌&&◌, if◌then◌else◌, List, Option, Some, None, Result, Ok, Err}
 use Rattle.smi_grant.specs.declared.Holder.{Holder}
 use Rattle.smi_grant.specs.declared.Shown.{Shown}
 use Rattle.smi_grant.specs.Record.{Standing}
 use Rattle.smi_command.specs.declared.Link.{Link}
 use Rattle.smi_tree.specs.Hierarchy.{Hierarchy}
+use Rattle.smi_tree.specs.Lookups.{operators_of}
 use Rattle.smi_publish.specs.Published.{shown_at}
 use Rattle.smi_rows.specs.declared.Mode.{Mode}
 use Rattle.smi_protocol.specs.Display.{Station}
@@ -34,6 +35,10 @@ mode_of h number s d = if is_child_unit h number d then Some (s.grants.modes d) 
 abbrev pub current_of : Station → ℕ → Option Shown
 current_of s x = shown_at s.grants.boot s.display.conditions x
 
+-- the operators of the station
+abbrev pub operators_in : Core → List ℕ
+operators_in c = operators_of (tree_of c) (number_of c)
+
 -- the same of a station as it is kept
 abbrev pub record_in : Core → ℕ → Option Standing
 record_in c d = record_of (tree_of c) (number_of c) (station_of c) d
@@ -53,3 +58,8 @@ core_in (Err e) = Err e.0
 abbrev pub store_in : {S : Type 0} → Result (Whole S) (OpenFault × S) → S
 store_in (Ok s) = s.store
 store_in (Err e) = e.1
+
+-- what a restart comes to: the station as it is then, or a fault
+abbrev pub restarted : {X : Type 0} → Core → Result X OpenFault → Result Core OpenFault
+restarted c (Ok x) = Ok c
+restarted c (Err fault) = Err fault

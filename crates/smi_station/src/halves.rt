@@ -80,13 +80,13 @@ ghost use Rattle.smi_station.specs.Stirring.{is_watch};
 
 /// A report of a device's state.
 #[derive(Clone, Copy)]
-struct Reported {
+pub(crate) struct Reported {
     device: u16,
     state: u16,
 }
 
 /// The report that an order holds, if it holds one.
-fn reported_in(order: &Order) -> Option<Reported>
+pub(crate) fn reported_in(order: &Order) -> Option<Reported>
     ensures report { IfSome result (λ reported. order.now ≡ Report reported.device reported.state) }
     ensures other { (operator : ℕ) → result ≡ None → ordered_or_reported operator order.now ≡ Orders operator order.now }
 {

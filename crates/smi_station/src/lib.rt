@@ -19,6 +19,8 @@ mod opening;
 mod planning;
 mod reading;
 mod reporting;
+mod restarting;
+mod saving;
 mod station;
 mod stirring;
 

@@ -33,7 +33,7 @@ impl<'a> Core<'a> {
     ghost use Rattle.std.specs.Prelude.{◌≡◌};
     ghost use Rattle.smi_tree.specs.Lawful.{IsTree};
     ghost use Rattle.smi_station.specs.Core.{number_of, station_of, tree_of};
-    ghost use Rattle.smi_station.specs.Readers.{current_of, link_in, mode_in, record_in};
+    ghost use Rattle.smi_station.specs.Readers.{current_of, link_in, mode_in, operators_in, record_in};
 
     /// The tree of the station.
     pub(crate) fn tree(&self) -> &'a Tree
@@ -41,6 +41,14 @@ impl<'a> Core<'a> {
         ensures lawful { IsTree (tree_of self.now) }
     {
         self.kept.tree()
+    }
+
+    /// The operators of the station.
+    pub(crate) fn operators(&self) -> &'a [u16]
+        ensures { result.now ≡ operators_in self.now }
+    {
+        let tree = self.kept.tree();
+        tree.operators(self.kept.number())
     }
 
     /// How often the station has started.

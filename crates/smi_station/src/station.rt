@@ -2,6 +2,7 @@ use crate::halves::Core;
 use crate::opening::start;
 use smi_command::Link;
 use smi_grant::{Holder, Record, Shown};
+use smi_grants::Kept;
 use smi_out::Out;
 use smi_protocol::{Event, Heard, OpenFault, StepFault};
 use smi_rows::{Mode, Stable};
@@ -13,8 +14,8 @@ use std::marker::Model;
 /// store.
 #[derive(Drop)]
 pub struct Station<'a, S> {
-    core: Core<'a>,
-    store: S,
+    pub(crate) core: Core<'a>,
+    pub(crate) store: S,
 }
 
 impl<'a, S> Model for Station<'a, S> {
@@ -28,7 +29,7 @@ impl<'a, S> Model for Station<'a, S> {
 impl<'a, S> Station<'a, S> {
     ghost use Rattle.std.specs.Prelude.{◌≡◌};
     ghost use Rattle.smi_station.specs.Core.{station_of};
-    ghost use Rattle.smi_station.specs.Readers.{current_of, link_in, mode_in, record_in};
+    ghost use Rattle.smi_station.specs.Readers.{current_of, link_in, mode_in, operators_in, record_in};
     ghost use Rattle.smi_station.specs.Lending.{LendsStore};
     ghost use Rattle.std.specs.Borrow.{sem};
 
@@ -45,6 +46,13 @@ impl<'a, S> Station<'a, S> {
         ensures { result ≡ (station_of self.now.core).is_stopped }
     {
         self.core.is_stopped()
+    }
+
+    /// The operators of the station, by number.
+    pub fn operators(&self) -> &'a [u16]
+        ensures { result.now ≡ operators_in self.now.core }
+    {
+        self.core.operators()
     }
 
     /// The record of a domain, by its number from 1; none where the station does not keep it.
@@ -75,6 +83,13 @@ impl<'a, S> Station<'a, S> {
         ensures { result ≡ current_of (station_of self.now.core) object }
     {
         self.core.current(object)
+    }
+
+    /// What it keeps of grants.
+    pub fn grants(&self) -> &Kept<'a>
+        ensures { result.now ≡ self.now.core.kept }
+    {
+        &self.core.kept
     }
 
     /// The store of its rows, for one who leaves the rows as they are.
