@@ -3,10 +3,10 @@ use Rattle.std.proofs.Common.{ℕ, zero, suc, ◌≡◌, ◌+◌, ◌-◌, Bool,
 use Rattle.std.specs.Prelude.{◌==◌, ◌≢◌, ◌++◌, not, Option, Some, None, option_map, is_some, length, slice_get, map, if◌then◌else◌}
 use Rattle.std.proofs.lemmas.Bool.{and_parts, eqb-true}
 use Rattle.std.proofs.lemmas.Bool.Decides.{nat_tests}
-use Rattle.smi_message.specs.Message.{Message, last_boot}
+use Rattle.smi_message.specs.Message.{Message, is_between, last_boot}
 use Rattle.smi_tree.specs.Hierarchy.{Hierarchy}
 use Rattle.smi_tree.specs.Lawful.{IsTree}
-use Rattle.smi_tree.specs.Lookups.{domain_count, operator_station_of}
+use Rattle.smi_tree.specs.Lookups.{domain_count, operator_station_of, station_count}
 use Rattle.smi_publish.specs.Publishing.{keeper_of}
 use Rattle.smi_rows.specs.declared.Plan.{Plan}
 use Rattle.smi_rows.specs.declared.Plan.TheVariants as plan
@@ -46,7 +46,7 @@ put_again table n s t = same_table (put (put table n s) n t) (put table n t) (λ
     by m true = refl
     by m false = refl
 
-put_same : (table : ℕ → Station) (n : ℕ) → put table n (table n) ≡ table
+pub put_same : (table : ℕ → Station) (n : ℕ) → put table n (table n) ≡ table
 put_same table n = same_table (put table n (table n)) table (λ m. by m (m == n) refl)
   where
     by : (m : ℕ) (b : Bool) → (m == n) ≡ b → (if b then table n else table m) ≡ table m
@@ -77,13 +77,17 @@ among_at (k ∷ ms) zero m is = let same : k ≡ m = cc in inl (sym same)
 among_at (k ∷ ms) (suc i) m is = inr (among_at ms i m is)
 
 -- whatever arrives may come
-abbrev Arrives : World → Option Arrival → Type 0
+abbrev pub Arrives : World → Option Arrival → Type 0
 Arrives w None = Unit {0}
 Arrives w (Some x) = MayCome w x.what
 
-delivered : (w : World) (o : Option Message) → ((m : Message) → o ≡ Some m → Among m w.sent) → Arrives w (delivery o)
-delivered w None sent = tt
-delivered w (Some m) sent = sent m refl
+delivered : (h : Hierarchy) (w : World) (o : Option Message) → ((m : Message) → o ≡ Some m → Among m w.sent) → Arrives w (delivery h o)
+delivered h w None sent = tt
+delivered h w (Some m) sent = by (is_between 1 (station_count h) m.to)
+  where
+    by : (b : Bool) → Arrives w (if b then Some (arrival (Comes m) m.to) else None)
+    by true = sent m refl
+    by false = tt
 
 given : (w : World) (what : Happening) → MayCome w what → (o : Option ℕ) → Arrives w (option_map (arrival what) o)
 given w what may None = tt
@@ -99,13 +103,13 @@ at_one h w (Reports device s) = by (device == 0)
 at_one h w (Comes m) = tt
 at_one h w Ticks = tt
 
-arrives : (h : Hierarchy) (w : World) (what : Deed) → Arrives w (arrival_of h w what)
+pub arrives : (h : Hierarchy) (w : World) (what : Deed) → Arrives w (arrival_of h w what)
 arrives h w (deed.Deliver k) = by (k == 0)
   where
-    by : (b : Bool) → Arrives w (if b then None else delivery (slice_get w.sent (k - 1)))
+    by : (b : Bool) → Arrives w (if b then None else delivery h (slice_get w.sent (k - 1)))
     by true = tt
-    by false = delivered w (slice_get w.sent (k - 1)) (λ m is. among_at w.sent (k - 1) m is)
-arrives h w (deed.Recent j) = delivered w (sent_before j w.sent) (by (is_some (slice_get w.sent j)))
+    by false = delivered h w (slice_get w.sent (k - 1)) (λ m is. among_at w.sent (k - 1) m is)
+arrives h w (deed.Recent j) = delivered h w (sent_before j w.sent) (by (is_some (slice_get w.sent j)))
   where
     by : (b : Bool) (m : Message) → (if b then slice_get w.sent (length w.sent - 1 - j) else None) ≡ Some m → Among m w.sent
     by true m is = among_at w.sent (length w.sent - 1 - j) m is

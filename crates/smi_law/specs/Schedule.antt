@@ -1,7 +1,7 @@
 -- What a schedule makes of the world, item by item, and the trace that it leaves.
 use Rattle.std.specs.Prelude.{ℕ, ◌+◌, ◌-◌, ◌==◌, ◌&&◌, not, Bool, true, false, if◌then◌else◌, List, [], ◌∷◌, ◌++◌, length, map, slice_get, Option, Some, None, option_map, is_some}
 use Rattle.std.specs.List.{flat_map, range_with_len}
-use Rattle.smi_message.specs.Message.{Message, last_boot}
+use Rattle.smi_message.specs.Message.{Message, is_between, last_boot}
 use Rattle.smi_tree.specs.Hierarchy.{Hierarchy}
 use Rattle.smi_tree.specs.Lookups.{station_count, domain_count, operator_station_of}
 use Rattle.smi_publish.specs.Publishing.{keeper_of}
@@ -57,9 +57,10 @@ pub record Arrival : Type 0 where
 abbrev pub arrival : Happening → ℕ → Arrival
 arrival what number = record { station = number; what = what }
 
--- a datagram comes to its receiver
-abbrev pub delivery : Option Message → Option Arrival
-delivery sent = option_map (λ m. arrival (Comes m) m.to) sent
+-- a datagram comes to its receiver, if the tree has that station
+abbrev pub delivery : Hierarchy → Option Message → Option Arrival
+delivery h None = None
+delivery h (Some m) = if is_between 1 (station_count h) m.to then Some (arrival (Comes m) m.to) else None
 
 -- the datagram that was sent so many before the newest
 abbrev pub sent_before : ℕ → List Message → Option Message
@@ -75,8 +76,8 @@ arrival_at h Ticks = None
 
 -- what a deed brings to which station, if it brings anything
 abbrev pub arrival_of : Hierarchy → World → Deed → Option Arrival
-arrival_of h w (deed.Deliver k) = if k == 0 then None else delivery (slice_get w.sent (k - 1))
-arrival_of h w (deed.Recent j) = delivery (sent_before j w.sent)
+arrival_of h w (deed.Deliver k) = if k == 0 then None else delivery h (slice_get w.sent (k - 1))
+arrival_of h w (deed.Recent j) = delivery h (sent_before j w.sent)
 arrival_of h w (deed.Order o what) = arrival_at h (ordered_or_reported o what)
 arrival_of h w (deed.Report device s) = arrival_at h (Reports device s)
 arrival_of h w (deed.Tick number) = Some (arrival Ticks number)

@@ -1,3 +1,4 @@
 mod Cuts
 mod Draws
 mod LineByLine
+pub mod NamedItems

@@ -5,3 +5,4 @@ pub mod Line
 pub mod Lines
 pub mod Schedule
 pub mod Drawn
+pub mod Naming

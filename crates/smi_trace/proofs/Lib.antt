@@ -1,1 +1,1 @@
-mod Prefixes
+pub mod Prefixes

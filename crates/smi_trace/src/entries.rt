@@ -163,7 +163,7 @@ fn spell_settled(
 }
 
 /// What an object shows, and the end of the line.
-fn push_shown(text: &mut Vec<u8>, tree: &Tree, shown: Shown) -> Result<(), AllocError>
+pub(crate) fn push_shown(text: &mut Vec<u8>, tree: &Tree, shown: Shown) -> Result<(), AllocError>
     ensures { OnOk result (text.new.items ≡ line_of text.old.items (shown_words tree.now shown)) }
 {
     push_called(text, names::object(tree, shown.object), shown.object)?;

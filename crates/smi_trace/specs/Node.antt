@@ -1,0 +1,16 @@
+-- The text of the lines that a running node prints and no trace has.
+use Rattle.std.specs.Prelude.{ℕ, List, [], ◌∷◌, Option, Some, None, codes}
+use Rattle.smi_grant.specs.declared.Shown.{Shown}
+use Rattle.smi_protocol.specs.declared.order.Told.{Told}
+use Rattle.smi_tree.specs.Hierarchy.{Hierarchy}
+use Rattle.smi_trace.specs.Text.{line_of, shown_words, with_words}
+use Rattle.smi_trace.specs.Words.{answer_words, object_word, order_words}
+
+-- a report, and how it ended
+abbrev pub report_text : Hierarchy → Told → List ℕ
+report_text h told = line_of (with_words (codes "told") (order_words h told.order)) (answer_words h told.code told.asked)
+
+-- what a board shows of an object
+abbrev pub board_text : Hierarchy → ℕ → Option Shown → List ℕ
+board_text h object None = line_of (codes "board") (object_word h object ∷ codes "none" ∷ [])
+board_text h object (Some shown) = line_of (codes "board") (shown_words h shown)
