@@ -1,0 +1,11 @@
+pub mod Asked
+pub mod Passes
+pub mod Starting
+pub mod Stepped
+pub mod Acts
+pub mod FailedActs
+pub mod Runs
+pub mod Opened
+pub mod Turns
+pub mod HeldPosts
+pub mod Reached

@@ -1,0 +1,9 @@
+pub mod Coming
+pub mod Left
+pub mod Turning
+pub mod Noting
+pub mod Passing
+pub mod Made
+pub mod Posts
+pub mod Tasks
+pub mod Running

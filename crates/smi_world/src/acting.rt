@@ -1,0 +1,93 @@
+//! What an item makes of one station.
+
+ghost use Rattle.std.specs.Prelude.{◌≡◌, ◌⊎◌, ◌||◌, ℕ, false, OnErr, OnOk};
+ghost use Rattle.smi_protocol.specs.Opening.{saved_only};
+ghost use Rattle.smi_tree.specs.Hierarchy.{Hierarchy};
+ghost use Rattle.smi_protocol.specs.Display.{Station as Defined};
+ghost use Rattle.smi_world.specs.Coming.{happening};
+ghost use Rattle.smi_world.specs.Posts.{IsPost, Makes};
+ghost use Rattle.smi_world.specs.Turning.{restart_act, step_act, stop_act};
+
+use crate::coming::Coming;
+use crate::left::Left;
+use crate::post::Post;
+use crate::stepping::make;
+use smi_entries::Entries;
+use smi_protocol::OpenFault;
+use smi_publish::Changes;
+use std::alloc::{AllocError, Global};
+
+/// Whether the station makes no step.
+pub(crate) fn is_stopped(post: &Post<'_>) -> bool
+    ensures { result ≡ (post.now.station.core.is_stopped || post.now.is_out) }
+{
+    post.station.is_stopped() || post.is_out
+}
+
+/// Something comes to the station.
+pub(crate) fn arrive(post: &mut Post<'_>, what: &Coming, left: &mut Left) -> Result<(), AllocError>
+    ensures makes { (h : Hierarchy) (number : ℕ) (s : Defined) → IsPost h number post.old s → OnOk result (Makes h number post.new left.new (step_act h number (happening what.now) s)) }
+    ensures same { (h : Hierarchy) (number : ℕ) (s : Defined) → IsPost h number post.old s → OnErr result (IsPost h number post.new s) }
+    ensures before { left.new.before ≡ left.old.before }
+{
+    if is_stopped(post) {
+        left.clear();
+        return Ok(());
+    }
+    make(&mut post.station, what, left)
+}
+
+/// The station starts again, after its save has left what it has; where its boots are spent, it stops.
+fn start_again(alloc: Global, post: &mut Post<'_>, left: &mut Left) -> Result<(), AllocError>
+    ensures makes { (h : Hierarchy) (number : ℕ) (s : Defined) → IsPost h number post.old s → OnOk result (Makes h number post.new left.new (restart_act h number left.old.kept s)) }
+    ensures same { (h : Hierarchy) (number : ℕ) (s : Defined) → IsPost h number post.old s → OnErr result (IsPost h number post.new s) }
+    ensures before { left.new.before ≡ left.old.before }
+{
+    left.station = post.station.grants().number();
+    left.passed = Changes::new();
+    left.out.clear();
+    match post.station.restart(alloc) {
+        Ok(()) => {
+            post.is_out = false;
+            left.started = Some(post.station.boot());
+            Ok(())
+        }
+        Err(OpenFault::BootsSpent) => {
+            post.is_out = true;
+            left.started = None;
+            Ok(())
+        }
+        Err(_) => Err(AllocError),
+    }
+}
+
+/// The station starts again.
+pub(crate) fn restart(alloc: Global, post: &mut Post<'_>, left: &mut Left) -> Result<(), AllocError>
+    ensures makes { (h : Hierarchy) (number : ℕ) (s : Defined) → IsPost h number post.old s → OnOk result (Makes h number post.new left.new (restart_act h number [] s)) }
+    ensures same { (h : Hierarchy) (number : ℕ) (s : Defined) → IsPost h number post.old s → OnErr result (IsPost h number post.new s) }
+    ensures before { left.new.before ≡ left.old.before }
+{
+    left.kept = Entries::new();
+    start_again(alloc, post, left)
+}
+
+ghost use Rattle.std.specs.Prelude.{[]};
+
+/// The station stops after its save, and starts again. Where memory is wanting for the start, it stays stopped.
+pub(crate) fn stop_after(
+    alloc: Global,
+    post: &mut Post<'_>,
+    what: &Coming,
+    left: &mut Left,
+) -> Result<(), AllocError>
+    ensures makes { (h : Hierarchy) (number : ℕ) (s : Defined) → IsPost h number post.old s → OnOk result (Makes h number post.new left.new (stop_act h number (happening what.now) s)) }
+    ensures halts { (h : Hierarchy) (number : ℕ) (s : Defined) → IsPost h number post.old s → OnErr result (IsPost h number post.new s ⊎ (s.is_stopped ≡ false) × IsPost h number post.new (saved_only h number s (happening what.now))) }
+    ensures before { left.new.before ≡ left.old.before }
+{
+    if is_stopped(post) {
+        return restart(alloc, post, left);
+    }
+    make(&mut post.station, what, left)?;
+    post.is_out = true;
+    start_again(alloc, post, left)
+}

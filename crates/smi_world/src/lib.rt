@@ -1,0 +1,30 @@
+//! A simulated world: the stations of a tree, each over a store in memory, and the traces of schedules.
+//!
+//! What an item of a schedule makes of the world, and what it leaves, is defined in `smi_law` (specs/Schedule). A
+//! [`World`] makes one item after the other, and [`run`] makes those of a whole schedule; every trace is safe at every
+//! moment.
+//!
+//! An item concerns one station. Something comes to it (`coming`), and it makes its step, starts again, or stops after
+//! its save (`acting`, `failing`); what is left of that is a [`Left`]. Which station that is, and whether the item names
+//! what the tree has, is told by `task` and `naming`.
+#![tactic(auto)]
+
+mod acting;
+mod coming;
+mod failing;
+mod left;
+mod naming;
+mod noting;
+mod opening;
+mod passing;
+mod post;
+mod running;
+mod stepping;
+mod task;
+mod turning;
+mod world;
+
+pub use left::Left;
+pub use opening::push_opening;
+pub use running::{Trace, WorldFault, run};
+pub use world::{ActFault, World};

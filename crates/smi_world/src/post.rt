@@ -1,0 +1,10 @@
+use smi_rows::MemoryStable;
+use smi_station::Station;
+
+/// A station of the world over a store in memory.
+#[derive(Drop)]
+pub(crate) struct Post<'a> {
+    pub station: Station<'a, MemoryStable>,
+    /// Whether a save that failed has stopped it.
+    pub is_out: bool,
+}
