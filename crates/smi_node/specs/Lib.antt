@@ -1,0 +1,6 @@
+pub mod Carried
+pub mod Linked
+pub mod Served
+pub mod Shown
+pub mod Told
+pub mod Turning

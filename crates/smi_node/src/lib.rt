@@ -1,0 +1,20 @@
+//! A node: a station that is served, over its link, for the seats of its operators, with a board of what it shows.
+//!
+//! [`carry`] takes one event to the station and carries on what follows its step: datagrams are sent, a shown state is
+//! published, and answers go to the orders in work that they are of. [`serve`] does nothing but that, turn after turn,
+//! with what comes over the link and what the seats give: begin there. Both are for any store, any link and any board;
+//! neither opens or reads anything, and what they wait for is the link and the board's readers.
+//!
+//! What they leave is a relation between the node before and after (`specs/Carried.antt` for one event,
+//! `specs/Served.antt` for turns), made of the relations that the layers below have: the station's own step, the link
+//! that sends, the desk that answers, the board that publishes.
+#![tactic(auto)]
+
+mod carrying;
+mod sending;
+mod serving;
+mod showing;
+mod telling;
+
+pub use carrying::{CarryFault, carry};
+pub use serving::{ServeFault, serve};
