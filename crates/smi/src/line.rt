@@ -1,8 +1,12 @@
 //! The command line.
 
 use clap::error::ErrorKind;
-use clap::{Arg, Command, Error};
+use clap::{Arg, ArgMatches, Command, Error};
+use smi_tree::number_within;
 use std::alloc::Global;
+
+/// The most turns of a node, and how many it serves where none are given.
+const MOST_TURNS: u32 = 1_000_000;
 
 /// What the command line asks for.
 #[derive(Clone, Copy, Debug, PartialEq, Eq)]
@@ -13,10 +17,21 @@ pub enum Line<'a> {
     Check(&'a str),
     /// List the rows of the store of this path.
     Rows(&'a str),
+    /// Run a node.
+    Node(NodeLine<'a>),
     /// The words are none of the forms: so are `help` and `--help`.
     Wrong,
     /// There was no memory to read the words.
     NoMemory,
+}
+
+/// A node: the path of its tree, the name of its station, the path of its store, and how many turns it serves.
+#[derive(Clone, Copy, Debug, PartialEq, Eq)]
+pub struct NodeLine<'a> {
+    pub tree: &'a str,
+    pub station: &'a str,
+    pub store: &'a str,
+    pub turns: u32,
 }
 
 /// What the words of a command line ask for, the program's own name first.
@@ -39,12 +54,45 @@ fn parsed<'a>(alloc: Global, words: &'a [String]) -> Result<Line<'a>, Error> {
     let command = Command::new(alloc, "smi")
         .subcommand(answer)?
         .subcommand(check)?
-        .subcommand(rows)?;
+        .subcommand(rows)?
+        .subcommand(node_command(alloc)?)?;
     let matches = command.try_get_matches_from(words)?;
     match matches.subcommand() {
         Some(("answer", _)) => Ok(Line::Answer),
         Some(("check", given)) => Ok(given.get_str("TREE").map_or(Line::Wrong, Line::Check)),
         Some(("rows", given)) => Ok(given.get_str("STORE").map_or(Line::Wrong, Line::Rows)),
+        Some(("node", given)) => Ok(node_line(given).map_or(Line::Wrong, Line::Node)),
         _ => Ok(Line::Wrong),
+    }
+}
+
+fn node_command<'a>(alloc: Global) -> Result<Command<'a>, Error> {
+    let turns = Arg::new(alloc, "T").long("turns");
+    Ok(
+        Command::new(alloc, "node")
+            .arg(Arg::new(alloc, "TREE").required(true))?
+            .arg(Arg::new(alloc, "STATION").required(true))?
+            .arg(Arg::new(alloc, "STORE").required(true))?
+            .arg(turns)?,
+    )
+}
+
+fn node_line<'a>(given: &ArgMatches<'a>) -> Option<NodeLine<'a>> {
+    Some(NodeLine {
+        tree: given.get_str("TREE")?,
+        station: given.get_str("STATION")?,
+        store: given.get_str("STORE")?,
+        turns: turns_of(given.get_str("T"))?,
+    })
+}
+
+/// How many turns a word asks for, where it is a number of turns; without a word the most.
+fn turns_of(word: Option<&str>) -> Option<u32> {
+    match word {
+        Some(word) => {
+            let turns = number_within(1, u64::from(MOST_TURNS), word.as_bytes())?;
+            u32::try_from(turns).ok()
+        }
+        None => Some(MOST_TURNS),
     }
 }

@@ -1,11 +1,12 @@
 //! `smi`: the program of the control hierarchy.
 //!
 //! What its commands do is proved in `smi_tools`: [`answer`], [`check`] and [`rows`]. `program` reads
-//! the command line and opens files, and `main` has the runtime.
+//! the command line and opens files, and `main` has the runtime. A node is run by `smi_crew`.
 #![tactic(auto)]
 
 mod file;
 mod line;
+mod node;
 mod program;
 mod store;
 #[cfg(test)]
@@ -15,14 +16,20 @@ mod words;
 use crate::status::no_memory;
 use program::program;
 pub use smi_tools::{answer, check, rows, status};
-use std::io;
 use std::process::ExitCode;
 use words::words_of;
 
 fn main(rt: HostRuntime) -> ExitCode {
     let mut faults = rt.stderr();
     let status = match words_of(&rt) {
-        Ok(words) => program(&rt, &words, rt.reader(), io::writer(&rt), &mut faults),
+        Ok(words) => program(
+            &rt,
+            &words,
+            rt.reader(),
+            rt.stdout(),
+            &mut faults,
+            rt.stderr(),
+        ),
         Err(_) => no_memory(&mut faults).code(),
     };
     ExitCode::from(status)

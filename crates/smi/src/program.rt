@@ -2,46 +2,52 @@
 
 use crate::file;
 use crate::line::{Line, line_of};
+use crate::node::run_node;
 use crate::store::Stores;
-use crate::words::Words;
+use crate::words::{Words, bytes_of};
+use smi_crew::Console;
 use smi_tools::answer::{Answered, answer};
 use smi_tools::check::check;
 use smi_tools::rows::Listed;
 use smi_tools::status::{Status, no_memory, read_fault, store_fault, write_fault, wrong_line};
 use std::alloc::Global;
 use std::io::{self, BufWriter, ErrorKind, Read, Write};
+use std::net::Net;
 use std::rt::Files;
+use std::sync::Wait;
+use std::thread::Threads;
+use std::time::Clock;
 
 /// How much of a tree file is read, in bytes: one more than the most that it may have.
 const MOST_TREE_BYTES: u64 = 256 * 1024 + 1;
 
 /// Does what the words of the command line ask for, and answers the exit status. What is amiss is
-/// told in one line on `faults`.
-pub fn program<H: Files + Stores + AllocGlobal, R: Read + Drop, W: Write + Drop, F: Write>(
-    host: &H,
-    words: &Words,
-    reader: R,
-    writer: W,
-    faults: &mut F,
-) -> u8 {
+/// told in one line on `faults`; what the thread of a node tells that reads lines, on `aside`, which is the same.
+pub fn program<
+    H: Files + Stores + Net + Wait + Threads + Clock + AllocGlobal + Clone + Drop + Send + 'static,
+    R: Read + Drop + Send + 'static,
+    W: Write + Drop + Send + 'static,
+    F: Write,
+    E: Write + Drop + Send + 'static,
+>(host: &H, words: &Words, reader: R, writer: W, faults: &mut F, aside: E) -> u8 {
     let alloc = host.alloc();
     match line_of(alloc, words.texts.as_slice()) {
         Line::Answer => {
             let (mut reader, mut writer) = (reader, writer);
             told(answer(&mut reader, &mut writer), faults).code()
         }
-        Line::Check(path) => check_file(host, path_of(words, path), writer, faults),
-        Line::Rows(path) => list_rows(host, path_of(words, path), writer, faults).code(),
+        Line::Check(path) => check_file(host, bytes_of(words, path), writer, faults),
+        Line::Rows(path) => list_rows(host, bytes_of(words, path), writer, faults).code(),
+        Line::Node(line) => {
+            let console = Console {
+                input: reader,
+                output: writer,
+                faults: aside,
+            };
+            run_node(host, words, line, console, faults).code()
+        }
         Line::Wrong => wrong_line(faults).code(),
         Line::NoMemory => no_memory(faults).code(),
-    }
-}
-
-/// The bytes of the path in a line: those of the word that is no text, where there is one.
-fn path_of<'a>(words: &'a Words, text: &'a str) -> &'a [u8] {
-    match &words.raw {
-        Some(bytes) => bytes.as_slice(),
-        None => text.as_bytes(),
     }
 }
 
@@ -77,7 +83,7 @@ fn check_file<H: Files + AllocGlobal, W: Write + Drop, F: Write>(
 }
 
 /// The bytes of a tree file, or as many as show that it is too long.
-fn tree_bytes<H: Files + AllocGlobal>(host: &H, path: &[u8]) -> io::Result<Vec<u8>> {
+pub fn tree_bytes<H: Files + AllocGlobal>(host: &H, path: &[u8]) -> io::Result<Vec<u8>> {
     let mut bytes = Vec::new(host.alloc());
     file::open(host, path)?
         .take(MOST_TREE_BYTES)

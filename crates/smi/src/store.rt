@@ -1,5 +1,8 @@
 //! Where the stable rows of a station are kept: a file of SQLite, and its log beside it.
 //!
+//! A node opens its store by itself: SQLite's exclusive lock stands on the file as long as the node runs, so that a
+//! second node is refused.
+//!
 //! A listing reads both files alone. It lists a copy of them in memory, so that it needs no leave to
 //! write, makes and leaves nothing, and stands in nobody's way: a station may run on the store, and any
 //! number of listings beside it.
@@ -7,7 +10,7 @@
 use crate::file::{beside, bytes_of, resolved};
 use smi_stable::{SqliteStable, StoreFault};
 use smi_tools::rows::{Listed, rows};
-use sqlite::{Connection, Error, ErrorCode, FileStore, Files, Options};
+use sqlite::{Connection, Error, ErrorCode, File, FileStore, Files, Options};
 use sqlite_disk::{Disk, Memory};
 use std::alloc::Global;
 use std::io::{self, ErrorKind, Write};
@@ -23,10 +26,16 @@ const ROOM: usize = 64 * 1024;
 
 const CALLS: u32 = 1_024;
 
-/// What lists stores by their paths.
+/// A store in a file.
+pub type FileStable = SqliteStable<FileStore<File>>;
+
+/// What opens and lists stores by their paths.
 pub trait Stores {
     /// Writes the rows of a store, a line each.
     fn list<W: Write>(&self, path: &[u8], writer: &mut W) -> Listed;
+
+    /// Opens a store, or makes it, for one who writes it alone: while it is open, nobody else can open it so.
+    fn open(&self, path: &[u8]) -> Result<FileStable, StoreFault>;
 }
 
 impl Stores for HostRuntime {
@@ -37,6 +46,32 @@ impl Stores for HostRuntime {
             Err(_) => Listed::StoreFault,
         }
     }
+
+    fn open(&self, path: &[u8]) -> Result<FileStable, StoreFault> {
+        let Ok(path) = str::from_utf8(path) else {
+            return Err(StoreFault::Device);
+        };
+        match Connection::open(self, path) {
+            Ok(connection) => adopted(connection),
+            Err(Error::SqliteFailure(ErrorCode::OutOfMemory)) => Err(StoreFault::Memory),
+            Err(_) => Err(StoreFault::Device),
+        }
+    }
+}
+
+fn adopted(connection: Connection<FileStore<File>>) -> Result<FileStable, StoreFault> {
+    match SqliteStable::adopt(connection) {
+        Ok(stable) => Ok(stable),
+        Err((fault, connection)) => {
+            let _ = connection.close();
+            Err(fault)
+        }
+    }
+}
+
+/// Closes a store: its log is copied into its file, as far as that can be done.
+pub fn close(stable: FileStable) {
+    let _ = stable.release().close();
 }
 
 /// The bytes of a store's file and of its log, and whether no other program is changing the file.

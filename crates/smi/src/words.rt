@@ -13,15 +13,15 @@ pub struct Words {
     /// Each word. One that is not UTF-8 has a sign in the place of what is no text, which no word of
     /// a form has.
     pub texts: Vec<String>,
-    /// The last word that is not UTF-8, the name left out. In a line of one of the forms it is the path.
-    pub raw: Option<Vec<u8>>,
+    /// The same words by their bytes.
+    pub bytes: Vec<Vec<u8>>,
 }
 
 /// The words of the command line. The error is want of memory.
 pub fn words_of(rt: &HostRuntime) -> Result<Words, AllocError> {
     let mut words = Words {
         texts: Vec::new(rt.alloc()),
-        raw: None,
+        bytes: Vec::new(rt.alloc()),
     };
     let mut buffer = std::vec![in rt.alloc(); 0u8; MOST_BYTES]?;
     for place in 0..usize::MAX {
@@ -40,12 +40,20 @@ pub fn words_of(rt: &HostRuntime) -> Result<Words, AllocError> {
 }
 
 fn add(rt: &HostRuntime, words: &mut Words, bytes: &[u8]) -> Result<(), AllocError> {
-    let is_name = words.texts.is_empty();
     words
         .texts
         .push(String::from_utf8_lossy(rt.alloc(), bytes)?)?;
-    if !is_name && str::from_utf8(bytes).is_err() {
-        words.raw = Some(Vec::from_slice(rt.alloc(), bytes)?);
-    }
+    words.bytes.push(Vec::from_slice(rt.alloc(), bytes)?)?;
     Ok(())
+}
+
+/// The bytes of the first word that reads so, behind the program's own name and the command.
+pub fn bytes_of<'a>(words: &'a Words, text: &'a str) -> &'a [u8] {
+    let pairs = words.texts.iter().zip(words.bytes.iter()).skip(2);
+    for (word, bytes) in pairs {
+        if word.as_str() == text {
+            return bytes.as_slice();
+        }
+    }
+    text.as_bytes()
 }

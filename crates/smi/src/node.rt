@@ -1,0 +1,116 @@
+//! A node: its tree file is read, its station found, its store opened, and then it is run.
+
+use crate::line::NodeLine;
+use crate::program::tree_bytes;
+use crate::store::{FileStable, Stores, close};
+use crate::words::{Words, bytes_of};
+use smi_crew::{Console, Plan, run};
+use smi_stable::StoreFault;
+use smi_tools::status::{Status, no_memory, read_fault, store_fault, wrong_line};
+use smi_tree::{Tree, TreeFault};
+use std::alloc::Global;
+use std::io::{ErrorKind, Read, Write};
+use std::net::Net;
+use std::rt::Files;
+use std::sync::{Arc, Wait};
+use std::thread::Threads;
+use std::time::Clock;
+
+/// The tree of a file, or what is told of it.
+fn read_tree<H: Files + AllocGlobal, F: Write>(
+    host: &H,
+    path: &[u8],
+    faults: &mut F,
+) -> Result<Tree, Status> {
+    let bytes = match tree_bytes(host, path) {
+        Ok(bytes) => bytes,
+        Err(e) if e.kind() == ErrorKind::OutOfMemory => return Err(no_memory(faults)),
+        Err(_) => return Err(read_fault(faults)),
+    };
+    match Tree::read(host.alloc(), bytes.as_slice()) {
+        Ok(tree) => Ok(tree),
+        Err(fault) => Err(tree_fault(fault, faults)),
+    }
+}
+
+fn tree_fault<F: Write>(fault: TreeFault, faults: &mut F) -> Status {
+    match fault {
+        TreeFault::Line(line, fault) => {
+            let _ = writeln!(faults, "tree line {line} fault {fault}");
+            Status::Refused
+        }
+        TreeFault::Memory => no_memory(faults),
+    }
+}
+
+/// A tree that both threads of a node read.
+fn shared<F: Write>(
+    alloc: Global,
+    tree: Tree,
+    faults: &mut F,
+) -> Result<Arc<Tree, Global>, Status> {
+    match Arc::new(alloc, tree) {
+        Ok(tree) => Ok(tree),
+        Err(_) => Err(no_memory(faults)),
+    }
+}
+
+/// What a node of this line is run with, as far as its words say it.
+fn plan_of<H: Files + AllocGlobal, F: Write>(
+    host: &H,
+    words: &Words,
+    line: NodeLine<'_>,
+    faults: &mut F,
+) -> Result<Plan, Status> {
+    let tree = read_tree(host, bytes_of(words, line.tree), faults)?;
+    let tree = shared(host.alloc(), tree, faults)?;
+    match tree.station_named(line.station.as_bytes()) {
+        Some(station) => Ok(Plan {
+            tree,
+            station,
+            turns: line.turns,
+        }),
+        None => Err(wrong_line(faults)),
+    }
+}
+
+/// The store of a path, or what is told of it.
+fn opened<H: Stores, F: Write>(
+    host: &H,
+    path: &[u8],
+    faults: &mut F,
+) -> Result<FileStable, Status> {
+    match host.open(path) {
+        Ok(stable) => Ok(stable),
+        Err(StoreFault::Memory) => Err(no_memory(faults)),
+        Err(_) => Err(store_fault(faults)),
+    }
+}
+
+/// Runs a node as its line says, and answers how it ended.
+pub fn run_node<
+    H: Files + Stores + Net + Wait + Threads + Clock + AllocGlobal + Clone + Drop + Send + 'static,
+    I: Read + Drop + Send + 'static,
+    O: Write + Drop + Send + 'static,
+    E: Write + Drop + Send + 'static,
+    F: Write,
+>(
+    host: &H,
+    words: &Words,
+    line: NodeLine<'_>,
+    console: Console<I, O, E>,
+    faults: &mut F,
+) -> Status {
+    let plan = match plan_of(host, words, line, faults) {
+        Ok(plan) => plan,
+        Err(status) => return status,
+    };
+    match opened(host, bytes_of(words, line.store), faults) {
+        Ok(stable) => {
+            let (status, stable) = run(host, &plan, stable, console, faults);
+            close(stable);
+            status
+        }
+        Err(status) => status,
+    }
+}

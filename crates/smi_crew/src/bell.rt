@@ -1,0 +1,25 @@
+//! How the thread that reads lines wakes the one that serves.
+
+use std::io;
+use std::net::{Net, SocketAddr, UdpSocket};
+
+/// A way to the node's own socket. What is sent over it is a datagram without bytes, which every station refuses and
+/// which changes nothing; but the turn that receives it looks at the seats, as every turn does.
+#[derive(Drop)]
+pub(crate) struct Bell {
+    socket: UdpSocket,
+    own: SocketAddr,
+}
+
+impl Bell {
+    /// A bell of a node that is reached at this address, over a socket at any port.
+    pub(crate) fn hung<R: Net>(rt: &R, own: SocketAddr) -> io::Result<Bell> {
+        let socket = UdpSocket::bind(rt, "0.0.0.0:0")?;
+        Ok(Bell { socket, own })
+    }
+
+    /// Wakes the node. Where that fails, it wakes by itself within ten milliseconds.
+    pub(crate) fn ring(&self) {
+        let _ = self.socket.send_to(&[], self.own);
+    }
+}

@@ -1,0 +1,38 @@
+//! Why a node does not begin, in words.
+
+use smi_protocol::OpenFault;
+use smi_tools::status::{Status, no_memory, store_fault, wrong_line};
+use std::io::Write;
+
+/// Tells why a station was not opened on its store, or its rows not brought into their newest schema.
+pub(crate) fn opening_fault<F: Write>(fault: OpenFault, faults: &mut F) -> Status {
+    match fault {
+        OpenFault::NoSuchStation => wrong_line(faults),
+        OpenFault::Row(key, code) => {
+            let _ = writeln!(
+                faults,
+                "row {} {} {} fault {code}",
+                key.station, key.domain, key.operator
+            );
+            Status::Refused
+        }
+        OpenFault::BootsSpent => told("boots spent", faults),
+        OpenFault::Store(_) => store_fault(faults),
+        OpenFault::Memory => no_memory(faults),
+    }
+}
+
+/// Tells that the node has no socket, or that its socket failed too often.
+pub(crate) fn link_fault<F: Write>(faults: &mut F) -> Status {
+    told("link fault", faults)
+}
+
+/// Tells that the station has stopped.
+pub(crate) fn stopped<F: Write>(faults: &mut F) -> Status {
+    told("stopped", faults)
+}
+
+fn told<F: Write>(what: &str, faults: &mut F) -> Status {
+    let _ = writeln!(faults, "{what}");
+    Status::Fault
+}
