@@ -2,7 +2,7 @@
 
 SOURCES := crates.txt $(shell find crates -path '*/out' -prune -o -type f \( -name '*.rt' -o -name '*.antt' \) -print)
 
-.PHONY: smi run try test gate record check cases edits edits-test costs bench
+.PHONY: smi run try test gate record check cases nodes soak edits edits-test costs bench
 
 # The program, proved and built, at bin/smi.
 smi: bin/smi
@@ -42,6 +42,14 @@ check:
 cases: bin/smi bin/smi_trial
 	@python3 tests/command_lines.py bin/smi bin/smi_trial $(if $(ONLY),'$(ONLY)')
 
+# Nodes as processes, three of them over UDP among them, or the cases whose name has a text: make nodes ONLY=store.
+nodes: bin/smi
+	@python3 tests/nodes.py bin/smi $(if $(ONLY),'$(ONLY)')
+
+# Three nodes behind a proxy that loses, repeats, delays and reorders, with kills: make soak WORDS='--seconds 3600 --seed 7'.
+soak: bin/smi
+	@python3 tests/soak.py bin/smi $(WORDS)
+
 # The edits that the prover must refuse, of all crates or of some: make edits CRATE='smi_grant smi_tree' ONLY=take JOBS=2.
 # The last line is 'N refused, M not'.
 edits:
@@ -57,6 +65,7 @@ costs:
 
 bench: bin/smi bin/smi_bench bin/smi_trial
 	python3 tests/bench.py bin/smi bin/smi_bench bin/smi_trial
+	python3 tests/bench_nodes.py bin/smi
 
 bin/smi_bench: $(SOURCES)
 	cd crates/smi_bench && rt run < /dev/null

@@ -2,7 +2,8 @@
 
 usage: gate.py [--all | --record CRATE..]
 
-It runs `rt ci`, the cases of tests/command_lines.py on the programs that this has built, and the edits in
+It runs `rt ci`, the cases of tests/command_lines.py and tests/nodes.py and a short soak (tests/soak.py) on the programs that
+this has built, and the edits in
 crates/CRATE/edits/ (tools/edits.py) of each crate whose sum is not in the record edits.ok: a line of it says that all
 edits of the crate were seen refused, with the same toolchain, tools, sources, specs, proofs and edits, and the same
 sources, specs and proofs of the crates below it. What is not tried for that is counted apart and not as passed. --all
@@ -24,6 +25,8 @@ import kit
 
 RECORD = os.path.join(kit.ROOT, "edits.ok")
 PROGRAMS = ("smi", "smi_trial")
+# How long the short soak takes, in seconds.
+SOAKED = 40
 HEAD = "# The crates whose edits were all seen refused, each with the sum of what that rests on (tools/gate.py).\n"
 
 
@@ -136,8 +139,11 @@ def main():
     parts = [Part("proofs and tests").end(*run(["rt", "ci"]))]
     if not parts[0].failed:
         take_programs(since)
-        cases = Part("command lines")
-        parts.append(cases.end(*run([sys.executable, "tests/command_lines.py", "bin/smi", "bin/smi_trial"])))
+        for name, words in [("command lines", ["tests/command_lines.py", "bin/smi", "bin/smi_trial"]),
+                            ("nodes", ["tests/nodes.py", "bin/smi"]),
+                            ("a short soak", ["tests/soak.py", "bin/smi", "--seconds", str(SOAKED)])]:
+            part = Part(name)
+            parts.append(part.end(*run([sys.executable, *words])))
         parts.append(try_edits(is_whole, since, sums))
     changed = [crate.name for crate in kit.crates() if kit.sum_of(crate) != sums[crate.name]]
     for part in parts:

@@ -1,0 +1,125 @@
+"""How fast a node is, beside the least that its saves and datagrams cost in the same run.
+
+usage: bench_nodes.py SMI
+
+A node whose operator is on the same machine takes a domain and drops it, again and again. Each of the two has three saves
+(the operator's row, the domain's, the operator's), each handed to the device once, and two datagrams beside the one that
+wakes the station. The floor is a program in C that makes as many plain writes of a page, where a save adds three to the
+log, each handed to the device, and as many datagrams to its own socket (tests/peer/floor.c). Both are run in turn, and each
+figure is the median of the rounds. Then the time from an order to its answer is measured through the pipes of a console,
+of a node at rest and of one that is sent datagrams all along.
+"""
+
+import os
+import socket
+import statistics
+import subprocess
+import sys
+import tempfile
+import threading
+import time
+
+import nodes
+
+HERE = os.path.dirname(os.path.abspath(__file__))
+ROUNDS = 5
+PAIRS = 300
+# Of a take and a drop: saves, and datagrams with those that wake the station.
+SAVES, DATAGRAMS = 6, 6
+# What a save adds to a log at least: a page and what stands before it.
+FRAME = 4096 + 24
+ASKS = 3000
+ORDERS = 300
+
+
+def floor_program(folder):
+    path = os.path.join(folder, "floor")
+    subprocess.run(["cc", "-O2", "-o", path, os.path.join(HERE, "peer", "floor.c")], check=True)
+    return path
+
+
+def lines_in(program, words, lines):
+    """How long a node takes for these lines, from its first answer to its last, in seconds, and its last answer."""
+    node = nodes.Node(program, words)
+    first = node.ask(lines[0], 60)
+    begun = time.perf_counter()
+    threading.Thread(target=lambda: [node.say(line) for line in lines[1:]], daemon=True).start()
+    answers = [first] + [node.lines.get(timeout=60) for _ in lines[1:]]
+    took = time.perf_counter() - begun
+    node.kill()
+    assert all(" 0" in answer for answer in answers), answers[-1]
+    return took
+
+
+def pairs(program, floor, folder):
+    """Takes with their drops a second, of a node and of the floor, in turn."""
+    ours, least = [], []
+    for place in range(ROUNDS):
+        words = [nodes.write_tree(folder, nodes.free_ports(2)), "A", os.path.join(folder, "store%d" % place)]
+        lines = ["order ANN ask DCS"] + ["order ANN take DCS", "order ANN drop DCS"] * PAIRS
+        ours.append(PAIRS / lines_in(program, words, lines))
+        command = [floor, os.path.join(folder, "plain"), PAIRS, SAVES, DATAGRAMS, FRAME]
+        told = subprocess.run(list(map(str, command)), stdout=subprocess.PIPE, check=True).stdout
+        least.append(PAIRS * 1e6 / int(told))
+    ours, least = statistics.median(ours), statistics.median(least)
+    print("node: %.0f takes with their drops a second; the same saves and datagrams in C %.0f; ratio %.2f" % (ours, least, ours / least))
+
+
+def orders(program, folder):
+    """Orders that save nothing, a second."""
+    words = [nodes.write_tree(folder, nodes.free_ports(2)), "A", os.path.join(folder, "asked")]
+    took = lines_in(program, words, ["order ANN watch TPC"] * ASKS)
+    print("node: %.0f orders a second that save nothing" % (ASKS / took))
+
+
+def latencies(node, line):
+    took = []
+    for _ in range(ORDERS):
+        time.sleep(0.002)
+        begun = time.perf_counter()
+        node.ask(line)
+        took.append(time.perf_counter() - begun)
+    took.sort()
+    return 1e3 * took[len(took) // 2], 1e3 * took[len(took) * 99 // 100]
+
+
+def flood(port, is_over):
+    """Some thousand datagrams a second, each an ask of station B."""
+    ask = bytes.fromhex("534d0101" + "0002" + "0001" + "0001" + "00" * 20 + "0011" + "00" * 12)
+    with socket.socket(socket.AF_INET, socket.SOCK_DGRAM) as out:
+        while not is_over.is_set():
+            out.sendto(ask, ("127.0.0.1", port))
+            time.sleep(0.0002)
+
+
+def answers(program, folder):
+    """How long an order waits for its answer: of a node at rest, and of a busy one."""
+    ports = nodes.free_ports(2)
+    words = [nodes.write_tree(folder, ports), "A", os.path.join(folder, "answered")]
+    for state in ("at rest", "busy"):
+        node, is_over = nodes.Node(program, words), threading.Event()
+        other = threading.Thread(target=flood, args=(ports[0], is_over))
+        if state == "busy":
+            other.start()
+        node.ask("order ANN watch TPC")
+        plain = latencies(node, "order ANN watch TPC")
+        node.ask("order ANN take DCS")
+        saved = latencies(node, "order ANN do DCS START")
+        is_over.set()
+        if state == "busy":
+            other.join()
+        node.kill()
+        print("node %s: an order that saves nothing is answered in %.2f ms (99 %%: %.2f); a command, with its three saves, in %.2f ms (99 %%: %.2f)"
+              % (state, *plain, *saved))
+
+
+def main():
+    program = os.path.abspath(sys.argv[1])
+    # On the disk that the repository is on, as a folder for temporary files may be in memory.
+    with tempfile.TemporaryDirectory(dir=os.path.dirname(program)) as folder:
+        pairs(program, floor_program(folder), folder)
+        orders(program, folder)
+        answers(program, folder)
+
+
+main()

@@ -1,0 +1,491 @@
+"""Nodes as processes: what each prints and how it ends, three of them over UDP, and what a store or an address does to one.
+
+usage: nodes.py SMI [TEXT]
+
+Each node has ports of its own. What it prints is compared with docs/FORMATS.md, "A node's lines". With a TEXT only the
+cases are run whose name has it. The last line is 'N passed, M failed'.
+"""
+
+import itertools
+import os
+import queue
+import shutil
+import socket
+import sqlite3
+import subprocess
+import sys
+import tempfile
+import threading
+import time
+
+import growths
+import stores
+import trees
+
+PATIENCE = 30
+# How many turns a node serves in a case that looks only at how it begins, and in one that talks to it.
+FEW, SOME = 20, 3000
+
+
+# Ports below those that the system gives to sockets that ask for any, so that none of these takes one.
+PORTS = (port for turn in itertools.count(os.getpid() * 61) for port in [12_000 + turn % 20_000])
+TAKING = threading.Lock()
+
+
+def is_free(port):
+    with socket.socket(socket.AF_INET, socket.SOCK_DGRAM) as one:
+        try:
+            one.bind(("127.0.0.1", port))
+        except OSError:
+            return False
+    return True
+
+
+def free_ports(count):
+    """So many ports that nobody uses, and that no other case is given."""
+    with TAKING:
+        return list(itertools.islice(filter(is_free, PORTS), count))
+
+
+def tree_lines(ports):
+    """The worked tree with these ports, and where there are three with station C and domain MUON."""
+    lines = trees.WORKED.replace(":9001", ":%d" % ports[0]).replace(":9002", ":%d" % ports[1]).splitlines()
+    if len(ports) > 2:
+        lines.insert(lines.index("station B 127.0.0.1:%d" % ports[1]) + 1, "station C 127.0.0.1:%d" % ports[2])
+        lines.insert(lines.index("domain TPC B UNIT DCS") + 1, "domain MUON C UNIT DCS")
+    return lines
+
+
+def write_tree(folder, ports, lines=None):
+    path = os.path.join(folder, "tree")
+    with open(path, "w", encoding="ascii") as file:
+        file.write("\n".join(lines or tree_lines(ports)) + "\n")
+    return path
+
+
+class Node:
+    """A node that runs, whose lines are read as they come."""
+
+    def __init__(self, program, words, **how):
+        self.begun = time.monotonic()
+        self.child = subprocess.Popen([program, "node", *map(str, words)], stdin=subprocess.PIPE, stdout=subprocess.PIPE,
+                                      stderr=subprocess.PIPE, text=True, **how)
+        self.lines, self.out, self.err = queue.Queue(), [], []
+        self.readers = [threading.Thread(target=self.take, args=it, daemon=True)
+                        for it in [(self.child.stdout, self.out), (self.child.stderr, self.err)]]
+        for reader in self.readers:
+            reader.start()
+
+    def take(self, stream, into):
+        for line in stream:
+            into.append(line.rstrip("\n"))
+            self.lines.put(into[-1])
+
+    def say(self, line):
+        self.child.stdin.write(line + "\n")
+        self.child.stdin.flush()
+
+    def ask(self, line, patience=PATIENCE):
+        """What it answers to a line; nothing where it does not in time."""
+        self.say(line)
+        try:
+            return self.lines.get(timeout=patience)
+        except queue.Empty:
+            return None
+
+    def kill(self):
+        self.child.kill()
+        self.end()
+
+    def end(self, patience=PATIENCE):
+        """What it has printed, what it has told, and its status; nothing where it does not end in time."""
+        try:
+            self.child.wait(patience)
+        except subprocess.TimeoutExpired:
+            self.child.kill()
+            self.child.wait()
+            return None
+        for reader in self.readers:
+            reader.join(patience)
+        return self.out, self.err, self.child.returncode
+
+
+def ran(program, words, given="", **how):
+    """A node with all of its input at once: what it printed and told, and its status."""
+    try:
+        done = subprocess.run([program, "node", *map(str, words)], input=given.encode(), stdout=subprocess.PIPE,
+                              stderr=subprocess.PIPE, timeout=PATIENCE, check=False, **how)
+    except subprocess.TimeoutExpired:
+        return None
+    return done.stdout.decode().splitlines(), done.stderr.decode().splitlines(), done.returncode
+
+
+def three_case(program, folder):
+    """Three nodes: a crew takes the top, includes both halves, and configures them."""
+    tree = write_tree(folder, free_ports(3))
+    orders = ["take DCS", "include DCS TPC", "include DCS MUON", "do DCS CONFIGURE"]
+    nodes = {}
+    for name in "CBA":
+        nodes[name] = Node(program, [tree, name, os.path.join(folder, name), "--turns", 2000])
+    told = [nodes["A"].ask("order ANN " + order) for order in orders]
+    yield "three nodes: the crew is told", told == ["told ANN %s 0" % order for order in orders]
+    ends = [nodes[name].end(60) for name in "ABC"]
+    yield "three nodes: how they end", ends == [(told, [], 0), ([], [], 0), ([], [], 0)]
+    yield "three nodes: under a minute", time.monotonic() - nodes["C"].begun < 60
+    rows = dict(row for name in "ABC" for row in stores.rows_in(os.path.join(folder, name)))
+    # DCS is at epoch 1, held by ANN, its third command settled; both children are held by it, at epoch 1.
+    held = "020100010000000000000001000000030000000000000002" + "".join(
+        "%04x02000000000000000001000000010000" % child + "0000" for child in (2, 3))
+    yield "three nodes: what the top has saved", rows[(1, 1, 0)] == held
+    yield "three nodes: what the halves have saved", [rows[(station, station, 0)] for station in (2, 3)] == [
+        "020200010000000000000001000000010000000000000000"] * 2
+
+
+def killed_case(program, folder):
+    """A node is killed between two orders, and goes on where it was."""
+    words = [write_tree(folder, free_ports(2)), "A", os.path.join(folder, "store"), "--turns", SOME]
+    node = Node(program, words)
+    told = [node.ask("order ANN " + order) for order in ("take DCS", "do DCS CONFIGURE")]
+    node.kill()
+    node = Node(program, words[:-1] + [100])
+    told += [node.ask("order ANN " + order) for order in ("take DCS", "do DCS START", "ask DCS", "drop DCS")]
+    wanted = ["take DCS 0", "do DCS CONFIGURE 0", "take DCS 23", "do DCS START 0", "ask DCS ANN 1 2 settled 0", "drop DCS 0"]
+    yield "a killed node goes on", told == ["told ANN " + line for line in wanted]
+    yield "a killed node ends well", node.end() == (["told ANN " + line for line in wanted[2:]], [], 0)
+    yield "a killed node has started twice", ((1, 0, 0), "0200000000000002") in stores.rows_in(words[2])
+
+
+LINES = [
+    ("order ANN take DCS", "told ANN take DCS 0"),
+    ("", None),
+    ("# order ANN drop DCS", None),
+    ("order BOB take TPC", "line 4 fault 5"),
+    ("deliver 1", "line 5 fault 1"),
+    ("tick A", "line 6 fault 1"),
+    ("order ANN", "line 7 fault 2"),
+    ("order ANN grab DCS", "line 8 fault 1"),
+    ("show", "line 9 fault 2"),
+    ("show DCS TPC", "line 10 fault 2"),
+    ("show dcs", "line 11 fault 3"),
+    ("show MUON", "line 12 fault 5"),
+    ("show ANN", "line 13 fault 5"),
+    ("show HV", "board HV none"),
+    ("report HV READY", "told report HV READY 26"),
+    ("report HV", "line 16 fault 2"),
+    ("report DCS READY", "line 17 fault 5"),
+    ("order ANN do DCS FLY", "line 18 fault 5"),
+    ("x" * 201, "line 19 fault 10"),
+    ("#" + "x" * 5000, "line 20 fault 10"),
+    ("order ANN watch TPC" + " " * 170 + "\r", "told ANN watch TPC 0"),
+    ("\torder  ANN\tdo DCS STOP ", "told ANN do DCS STOP 1"),
+    ("order ANN exclude DCS TPC", "told ANN exclude DCS TPC 4"),
+    ("order ANN include DCS DCS", "told ANN include DCS DCS 2"),
+    ("order ANN manual DCS TPC", "told ANN manual DCS TPC 4"),
+    ("order ANN ignore DCS TPC", "told ANN ignore DCS TPC 4"),
+    ("order ANN unwatch TPC", "told ANN unwatch TPC 0"),
+    ("order ANN ask DCS", "told ANN ask DCS ANN 1 5 settled 4"),
+    ("order ANN drop DCS", "told ANN drop DCS 0"),
+    ("order ANN drop DCS", "told ANN drop DCS 21"),
+    ("order ANN do DCS START", "told ANN do DCS START 21"),
+]
+
+
+def line_cases(program, folder):
+    """A line after the other, good and bad ones, each answered before the next; and the same all at once."""
+    tree = write_tree(folder, free_ports(2))
+    answers = [answer for _, answer in LINES if answer]
+    told = [line for line in answers if not line.startswith("line")], [line for line in answers if line.startswith("line")], 0
+    given = "\n".join(line for line, _ in LINES)
+    yield "lines of a crew", ran(program, [tree, "A", os.path.join(folder, "store"), "--turns", 300], given) == told
+    # Of a station with a device, its reports and what it shows of itself: nothing, for it watches no object of its own.
+    given = "report HV READY\nreport HV ERROR\norder BOB take TPC\norder BOB do TPC CONFIGURE\nshow HV\nshow TPC"
+    wanted = ["told report HV READY 0", "told report HV ERROR 0", "told BOB take TPC 0", "told BOB do TPC CONFIGURE 0",
+              "board HV none", "board TPC none"]
+    yield "lines with reports", ran(program, [tree, "B", os.path.join(folder, "other"), "--turns", 300], given) == (wanted, [], 0)
+
+
+def shown_case(program, folder):
+    """What one station's devices do is shown on the board of another, and does not go back when that one ends."""
+    tree = write_tree(folder, free_ports(2))
+    keeper = Node(program, [tree, "B", os.path.join(folder, "B"), "--turns", SOME])
+    other = Node(program, [tree, "A", os.path.join(folder, "A"), "--turns", SOME])
+    seen = []
+    for line, wanted in [("show TPC", "board TPC 1.0 OFF"), ("report HV READY", "told report HV READY 0"),
+                         ("show TPC", "board TPC 1.1 READY"), ("report HV RUNNING", "told report HV RUNNING 0"),
+                         ("show TPC", "board TPC 1.2 RUNNING")]:
+        node = keeper if line.startswith("report") else other
+        answer, until = node.ask(line), time.monotonic() + PATIENCE
+        while answer != wanted and line.startswith("show") and time.monotonic() < until:
+            time.sleep(0.02)
+            answer = node.ask(line)
+        seen.append(answer == wanted)
+    yield "a board of another station's objects", all(seen)
+    keeper.kill()
+    keeper = Node(program, [tree, "B", os.path.join(folder, "B"), "--turns", SOME])
+    answers = [other.ask("show TPC")]
+    until = time.monotonic() + PATIENCE
+    while answers[-1] != "board TPC 2.0 OFF" and time.monotonic() < until:
+        time.sleep(0.02)
+        answers.append(other.ask("show TPC"))
+    keeper.kill()
+    other.kill()
+    yield "a board of a station that was started again", sorted(set(answers)) == ["board TPC 1.2 RUNNING", "board TPC 2.0 OFF"] \
+        and answers == sorted(answers)
+
+
+STORE_FAULT = ([], ["store fault"], 3)
+
+
+def store_cases(program, folder):
+    """What stores do to a node that begins."""
+    tree = write_tree(folder, free_ports(2))
+
+    def begun(path, **how):
+        return ran(program, [tree, "A", path, "--turns", FEW], **how)
+
+    def path(name):
+        return os.path.join(folder, name)
+
+    well = ([], [], 0)
+    yield "a store in no folder", begun(os.path.join(folder, "none", "store")) == STORE_FAULT
+    yield "a store that is a folder", begun(folder) == STORE_FAULT
+    with open(path("text"), "wb") as file:
+        file.write(b"This is no database, and long enough to be seen as none.\n" * 20)
+    yield "a store that is a text", begun(path("text")) == STORE_FAULT
+    with open(path("text"), "rb") as file:
+        yield "a store that is a text is left", file.read() == b"This is no database, and long enough to be seen as none.\n" * 20
+    other = stores.store(path("other"), stores.TABLE.replace(" STRICT", ""), stores.ROWS)
+    yield "a store with another table", begun(other) == STORE_FAULT and stores.rows_in(other) == stores.ROWS
+    locked = stores.store(path("locked"), stores.TABLE, [])
+    file = sqlite3.connect(locked)
+    file.execute("BEGIN EXCLUSIVE")
+    yield "a store that another program writes", begun(locked) == STORE_FAULT
+    file.close()
+    yield "a store that another program has written", begun(locked) == well
+    yield "a store by no text", begun(path("no text \udcff")) == STORE_FAULT
+    # As another user, for whom the files may only be read.
+    sealed = path("sealed")
+    os.mkdir(sealed)
+    kept = stores.store(os.path.join(sealed, "store"), stores.TABLE, [])
+    os.chmod(kept, 0o444)
+    os.chmod(sealed, 0o555)
+    if os.geteuid():
+        as_other = {}
+    else:
+        # (the folder of the run is open to nobody else)
+        as_other = {"user": 65534, "group": 65534, "extra_groups": []}
+        at = folder
+        while at != os.path.dirname(at):
+            mode = os.stat(at).st_mode
+            if not mode & 0o001:
+                os.chmod(at, mode | 0o055)
+            at = os.path.dirname(at)
+    yield "a store that may not be written", begun(kept, **as_other) == STORE_FAULT
+    os.chmod(sealed, 0o755)
+
+
+def second_case(program, folder):
+    """A second node on a store is refused, and the first goes on."""
+    tree = write_tree(folder, free_ports(2))
+    words = [tree, "A", os.path.join(folder, "store"), "--turns", SOME]
+    node = Node(program, words)
+    told = [node.ask("order ANN take DCS")]
+    yield "a second node on a store", ran(program, words) == STORE_FAULT
+    told += [node.ask("order ANN do DCS CONFIGURE"), node.ask("order ANN drop DCS")]
+    node.kill()
+    yield "the first node goes on", told == ["told ANN take DCS 0", "told ANN do DCS CONFIGURE 0", "told ANN drop DCS 0"]
+
+
+BOOT = (1, 0, 0)
+
+
+def row_cases(program, folder):
+    """What rows do to a node that begins: refused ones, a spent boot, and such as are brought into their newest schema."""
+    tree = write_tree(folder, free_ports(2))
+
+    def begun(name, rows):
+        path = stores.store(os.path.join(folder, name), stores.TABLE, rows)
+        return ran(program, [tree, "A", path, "--turns", FEW]), stores.rows_in(path)
+
+    for name, rows, told in [
+        ("a row that is too short", [((1, 1, 0), "0201000200000000000000010000000000000000000000")], "row 1 1 0 fault 1"),
+        ("a row of no schema", [(BOOT, "0900000000000001")], "row 1 0 0 fault 2"),
+        ("a boot of 0", [(BOOT, "0200000000000000")], "row 1 0 0 fault 3"),
+        ("a row of both a domain and an operator", [(BOOT, "0200000000000001"), ((1, 1, 1), "00")], "row 1 1 1 fault 4"),
+        ("two rows that are refused", [((1, 1, 0), ""), ((1, 0, 1), "00")], "row 1 0 1 fault 2"),
+    ]:
+        yield name, begun(name, rows) == (([], [told], 1), sorted(rows))
+    spent = [(BOOT, "02000000ee6b2800")]
+    yield "boots that are spent", begun("spent", spent) == (([], ["boots spent"], 3), spent)
+    yield "the last boot", begun("last", [(BOOT, "02000000ee6b27ff")]) == (([], [], 0), spent)
+    # BOB's row is another station's and is left alone, whatever it says.
+    old = [(BOOT, "0100000000000002"), ((1, 1, 0), "010100010000000000000001000000000000000000000000"), ((2, 0, 2), "99")]
+    new = [(BOOT, "0200000000000003"), ((1, 1, 0), "020100010000000000000001000000000000000000000000"), ((2, 0, 2), "99")]
+    yield "rows of the first schema", begun("old", old) == (([], [], 0), new)
+
+
+def address_cases(program, folder):
+    """An address in use, and the order in which faults are found."""
+    ports = free_ports(2)
+    tree, store = write_tree(folder, ports), os.path.join(folder, "store")
+    with socket.socket(socket.AF_INET, socket.SOCK_DGRAM) as taken:
+        taken.bind(("127.0.0.1", ports[0]))
+        yield "an address in use", ran(program, [tree, "A", store, "--turns", FEW]) == ([], ["link fault"], 3)
+        # The socket is opened last: the station has started then.
+        yield "an address in use: the station was opened", stores.rows_in(store) == [(BOOT, "0200000000000001")]
+        nowhere, none = os.path.join(folder, "nowhere"), os.path.join(folder, "none", "store")
+        wrong = ([], ["wrong line"], 2)
+        for name, words, told in [
+            ("no tree file", [nowhere, "Z", none], ([], ["read fault"], 3)),
+            ("no station of that name", [tree, "Z", none], wrong),
+            ("a station's number", [tree, "1", none], wrong),
+            ("an operator for a station", [tree, "ANN", none], wrong),
+            ("no such store, nor address", [tree, "A", none], STORE_FAULT),
+            ("turns before a tree file that is not there", ["--turns", "0", nowhere, "A", store], wrong),
+        ]:
+            yield "faults in order: " + name, ran(program, words) == told
+    path = os.path.join(folder, "faulty")
+    with open(path, "w", encoding="ascii") as file:
+        file.write("tree 17\nstation A\n")
+    yield "faults in order: a faulty tree file", ran(program, [path, "Z", none]) == ([], ["tree line 2 fault 2"], 1)
+    for words in [[], [tree], [tree, "A"], [tree, "A", store, "B"], [tree, "A", store, "--turns"], [tree, "A", store, "--help"],
+                  ["help"], [tree, "A", store, "--turns", "5", "--turns", "5"], [tree, "A", store, "--steps", "5"],
+                  [tree, "A", store, "--", "--turns", "5"]] + [
+                      [tree, "A", store, "--turns", turns] for turns in ("0", "1000001", "-1", "1.5", "x", "", "00000000001")]:
+        yield "a node's words: %s" % words[1:], ran(program, words) == wrong
+    for words in [["--turns", FEW, tree, "A", store], [tree, "--turns=%d" % FEW, "A", store], [tree, "A", store, "--turns", "0000000003"]]:
+        yield "a node's words: %s" % words[-3:-1], ran(program, words) == ([], [], 0)
+
+
+def console_cases(program, folder):
+    """What a console does to a node: none of it ends the service."""
+    tree = write_tree(folder, free_ports(2))
+    words = [program, "node", tree, "A", os.path.join(folder, "store"), "--turns", str(FEW)]
+
+    def end(**how):
+        done = subprocess.run(words, stderr=subprocess.PIPE, timeout=PATIENCE, check=False, **how)
+        return done.stderr.decode().splitlines(), done.returncode
+
+    yield "no input", end(stdin=subprocess.DEVNULL, stdout=subprocess.DEVNULL) == ([], 0)
+    place = os.open(folder, os.O_RDONLY)
+    yield "an input that can't be read", end(stdin=place, stdout=subprocess.DEVNULL) == (["read fault"], 0)
+    os.close(place)
+    with open("/dev/full", "wb") as full:
+        yield "an output that can't be written", end(input=b"show DCS\nshow DCS\n", stdout=full) == (["write fault"], 0)
+    read, write = os.pipe()
+    yield "an input that never ends", end(stdin=read, stdout=subprocess.DEVNULL) == ([], 0)
+    os.close(read)
+    os.close(write)
+
+
+def hostile_case(program, folder):
+    """Bytes of all lengths, and datagrams of other trees and stations, between two orders."""
+    ports = free_ports(2)
+    tree = write_tree(folder, ports)
+    node = Node(program, [tree, "A", os.path.join(folder, "store"), "--turns", SOME])
+    told = [node.ask("order ANN take DCS")]
+    take = bytes.fromhex("534d01020002000100010100000200000000000000000001000000000000" + "0011" + "00" * 12)
+    with socket.socket(socket.AF_INET, socket.SOCK_DGRAM) as other:
+        for data in [b"", b"x", take[:-1], take + b"x", bytes(44), b"\xff" * 44, bytes(2000), take[:-13] + b"\x12" + bytes(12), take]:
+            for _ in range(20):
+                other.sendto(data, ("127.0.0.1", ports[0]))
+    told += [node.ask("order ANN do DCS CONFIGURE"), node.ask("order ANN ask DCS")]
+    node.kill()
+    yield "bytes that are no datagrams of the node", told == [
+        "told ANN take DCS 0", "told ANN do DCS CONFIGURE 0", "told ANN ask DCS ANN 1 1 settled 0"]
+
+
+def rest_case(program, folder):
+    """A node at rest leaves the processor alone, and an order to it is served at once."""
+    tree = write_tree(folder, free_ports(2))
+    node = Node(program, [tree, "A", os.path.join(folder, "store"), "--turns", SOME])
+    node.ask("order ANN watch TPC")
+
+    def used():
+        with open("/proc/%d/stat" % node.child.pid, encoding="ascii") as file:
+            fields = file.read().rsplit(")", 1)[1].split()
+        return (int(fields[11]) + int(fields[12])) / os.sysconf("SC_CLK_TCK")
+
+    before, begun = used(), time.monotonic()
+    time.sleep(3)
+    yield "a node at rest", (used() - before) / (time.monotonic() - begun) < 0.05
+    took = []
+    for _ in range(50):
+        time.sleep(0.003)
+        begun = time.monotonic()
+        node.ask("order ANN watch TPC")
+        took.append(time.monotonic() - begun)
+    node.kill()
+    # A turn of a node that nobody wakes takes ten milliseconds. An order to watch saves nothing.
+    yield "an order to a node at rest", sorted(took)[len(took) // 2] < 0.005
+
+
+def growth_cases(program, folder):
+    """Growths of a node refused, one in each run: it says so, or its reading thread does, or the order is told so, or it
+    does without. Every eighth growth is tried."""
+    refusing = growths.library(folder)
+    tree, given = write_tree(folder, free_ports(2)), os.path.join(folder, "given")
+    with open(given, "w", encoding="ascii") as file:
+        file.write("order ANN take DCS\nshow TPC\n")
+
+    def words(place):
+        return ["node", tree, "A", os.path.join(folder, "store%d" % place), "--turns", "12"]
+
+    count, whole = growths.counted(program, words(0), given, refusing, folder)
+    yield "growths of a node: all %d" % count, whole == (b"told ANN take DCS 0\nboard TPC none\n", b"", 0)
+    told = 0
+    for growth in range(1, count + 1, 8):
+        out, err, status = growths.run(program, words(growth), given, {"LD_PRELOAD": refusing, "REFUSE": str(growth)})
+        told += (out, err, status) != whole
+        yield "growths of a node: %d" % growth, (out, err, status) == whole or (out, err, status) == (
+            whole[0].replace(b"DCS 0", b"DCS 33"), b"", 0) or whole[0].startswith(out) and err == b"no memory\n" and status in (0, 4)
+    yield "growths of a node: %d of them needed" % told, told > 0
+
+
+# These run side by side, and those after them.
+CASES = [three_case, killed_case, line_cases, shown_case, store_cases, second_case, row_cases, address_cases, console_cases,
+         hostile_case, growth_cases]
+ALONE = [rest_case]
+
+
+def cases(program, folder, only=""):
+    """All cases: a name, and whether it was so; of those alone in whose name the text is."""
+    found, locks = {}, threading.Lock()
+
+    def run(place, make):
+        room = os.path.join(folder, "nodes%d" % place)
+        os.mkdir(room)
+        try:
+            done = list(make(program, room))
+        except (OSError, subprocess.SubprocessError, sqlite3.Error, KeyError, AssertionError) as error:
+            done = [("%s: %r" % (make.__name__, error), False)]
+        with locks:
+            found[place] = done
+
+    threads = [threading.Thread(target=run, args=it) for it in enumerate(CASES)]
+    for thread in threads:
+        thread.start()
+    for thread in threads:
+        thread.join()
+    for place, make in enumerate(ALONE, len(CASES)):
+        run(place, make)
+    return [case for place in sorted(found) for case in found[place] if only in case[0]]
+
+
+def main():
+    program, only = os.path.abspath(sys.argv[1]), sys.argv[2] if len(sys.argv) > 2 else ""
+    folder = tempfile.mkdtemp()
+    try:
+        done = cases(program, folder, only)
+    finally:
+        shutil.rmtree(folder, ignore_errors=True)
+    for name, held in done:
+        if not held:
+            print("FAILED " + name)
+    passed = sum(held for _, held in done)
+    print("%d passed, %d failed" % (passed, len(done) - passed))
+    sys.exit(1 if passed < len(done) or not done else 0)
+
+
+if __name__ == "__main__":
+    main()
