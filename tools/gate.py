@@ -2,17 +2,17 @@
 
 usage: gate.py [--all | --record CRATE..]
 
-It runs `rt ci`, the cases of tests/command_lines.py and tests/nodes.py and a short soak (tests/soak.py) on the programs that
-this has built, and the edits in
-crates/CRATE/edits/ (tools/edits.py) of each crate whose sum is not in the record edits.ok: a line of it says that all
-edits of the crate were seen refused, with the same toolchain, tools, sources, specs, proofs and edits, and the same
-sources, specs and proofs of the crates below it. What is not tried for that is counted apart and not as passed. --all
+It runs `rt ci`, the cases of tests/command_lines.py and tests/nodes.py and a short soak (tests/soak.py) on the programs
+that this has built, and the edits in crates/CRATE/edits/ (tools/edits.py) of each crate whose sum is not in the record
+edits.ok: a line of it says that all edits of the crate were seen refused, with the same toolchain, tools, sources,
+specs, proofs and edits, and the same sources, specs and proofs of the crates below it. What is not tried for that is counted apart and not as passed. --all
 reads no record, tries the edits of every crate, and writes the record. --record tries the edits of these crates alone,
 and writes the lines of those of which all are refused; the lines of other crates stay.
 
 The last line is 'N passed, M failed'.
 """
 
+import collections
 import os
 import re
 import shutil
@@ -27,6 +27,8 @@ RECORD = os.path.join(kit.ROOT, "edits.ok")
 PROGRAMS = ("smi", "smi_trial")
 # How long the short soak takes, in seconds.
 SOAKED = 40
+# How many lines of each crate that failed are told again at the end.
+TOLD_AGAIN = 12
 HEAD = "# The crates whose edits were all seen refused, each with the sum of what that rests on (tools/gate.py).\n"
 
 
@@ -50,13 +52,43 @@ class Part:
         return "%s: %d passed, %d failed%s (%.1f processor minutes)" % (self.name, self.passed, self.failed, self.more, self.minutes)
 
 
-def run(words):
+class Told:
+    """The last lines that were told of each crate, to be told again of those that failed."""
+
+    def __init__(self):
+        self.last, self.name, self.failed = {}, None, []
+
+    def take(self, line):
+        begun = re.fullmatch(r"== (\S+?)(: its tests)?\n", line)
+        ended = re.fullmatch(r"rt: (\S+?)(: its tests are)? (NOT )?PROVED\n", line, re.IGNORECASE)
+        if begun:
+            self.name = begun[1]
+            self.last[self.name] = collections.deque(maxlen=TOLD_AGAIN)
+        elif ended:
+            self.failed += [self.name] if self.name and ended[3] else []
+            self.name = None
+        elif self.name:
+            self.last[self.name].append(line)
+
+    def tell(self):
+        for name in self.failed:
+            print("== %s failed, and said last:\n%s" % (name, "".join(self.last[name])), end="")
+
+
+def free_space():
+    """What is free on the disk that the repository is on, since a full one fails every crate."""
+    return "%.1f GiB free on the disk" % (shutil.disk_usage(kit.ROOT).free / 2**30)
+
+
+def run(words, told=None):
     """Runs a command whose last line is 'N passed, M failed', and returns both numbers."""
     child = subprocess.Popen(words, cwd=kit.ROOT, stdout=subprocess.PIPE, text=True, errors="replace")
     last = ""
     for line in child.stdout:
         print(line, end="", flush=True)
         last = line
+        if told:
+            told.take(line)
     child.wait()
     found = re.fullmatch(r"(\d+) passed, (\d+) failed\n?", last)
     passed, failed = map(int, found.groups()) if found else (0, 1)
@@ -136,7 +168,11 @@ def main():
     os.chdir(kit.ROOT)
     since = time.time()
     sums = {crate.name: kit.sum_of(crate) for crate in kit.crates()}
-    parts = [Part("proofs and tests").end(*run(["rt", "ci"]))]
+    print(free_space(), flush=True)
+    told = Told()
+    parts = [Part("proofs and tests").end(*run(["rt", "ci"], told))]
+    told.tell()
+    print(free_space())
     if not parts[0].failed:
         take_programs(since)
         for name, words in [("command lines", ["tests/command_lines.py", "bin/smi", "bin/smi_trial"]),
