@@ -1,22 +1,20 @@
 -- What is made of a station whose save fails.
-use Rattle.std.proofs.Common.{ℕ, ◌≡◌, Bool, true, false, List, [], ◌++◌, Some, None, Option, Result, append-nil, refl, sym, ap, ◌∙◌, subst}
-use Rattle.std.specs.Prelude.{◌||◌, if◌then◌else◌, is_some, OnErr, OnOk, map}
-use Rattle.smi_grant.specs.declared.Shown.{Shown}
+use Rattle.std.proofs.Common.{ℕ, ◌≡◌, true, false, [], ◌++◌, None, Result, append-nil, refl, sym, ap, ◌∙◌, subst}
+use Rattle.std.specs.Prelude.{◌||◌, if◌then◌else◌, is_some, OnOk}
 use Rattle.smi_tree.specs.Hierarchy.{Hierarchy}
 use Rattle.smi_rows.specs.declared.Plan.{Plan}
 use Rattle.smi_rows.specs.declared.Plan.TheVariants as plan
 use Rattle.smi_rows.specs.Store.{found_in}
 use Rattle.smi_protocol.specs.Display.{Station}
 use Rattle.smi_protocol.specs.Happening.{Happening, told_entries}
-use Rattle.smi_protocol.specs.Step.{Out, Outcome, after, nothing_out, showed_entries}
-use Rattle.smi_protocol.specs.declared.entry.Entry.TheVariants as entry
+use Rattle.smi_protocol.specs.Step.{Out, Outcome, after, nothing_out}
 use Rattle.smi_law.specs.Schedule.{not_stored}
 use Rattle.smi_station.specs.Core.{IsOf, IsStoredIn, number_of, station_of, tree_of}
 use Rattle.smi_world.specs.declared.post.Post.{Post}
-use Rattle.smi_world.specs.Left.{Left, entries_left}
+use Rattle.smi_world.specs.Left.{Left}
 use Rattle.smi_world.specs.Made.{Leaves}
 use Rattle.smi_world.specs.Posts.{IsPost, Makes}
-use Rattle.smi_world.specs.Turning.{act, fail_act, failed_act, idle, step_act, step_of}
+use Rattle.smi_world.specs.Turning.{fail_act, failed_act, idle, step_act, step_of}
 use Rattle.smi_world.proofs.Acts.{or_true, same_step, saved_halts, saved_kept}
 
 module _ (h : Hierarchy) (number : ℕ) (s : Station) (p : Post) (is : IsPost h number p s) where

@@ -9,3 +9,6 @@ pub mod Opened
 pub mod Turns
 pub mod HeldPosts
 pub mod Reached
+pub mod Going
+pub mod Begun
+pub mod Drawing

@@ -9,7 +9,7 @@ use Rattle.smi_item.specs.declared.item.Line.{Line}
 use Rattle.smi_item.specs.declared.item.Line.TheVariants as line
 use Rattle.smi_load.proofs.Taking.{no_rows, none_mean}
 use Rattle.smi_protocol.specs.Display.{Station}
-use Rattle.smi_protocol.specs.Grants.{Grants, no_grants}
+use Rattle.smi_protocol.specs.Grants.{Grants}
 use Rattle.smi_protocol.specs.Loading.{Opens, grants_in}
 use Rattle.smi_protocol.specs.Opening.{first_opened, opened, opening_entries}
 use Rattle.smi_protocol.specs.declared.entry.Entry.{Entry}

@@ -1,6 +1,6 @@
 -- A world stays one that can be reached, whatever item is made of it.
-use Rattle.std.proofs.Common.{ℕ, ◌≡◌, Bool, true, false, List, [], ◌∷◌, ◌++◌, Some, None, Option, Result, Ok, Err, length, inl, inr, append-nil, refl, sym, ap, ◌∙◌, subst}
-use Rattle.std.specs.Prelude.{◌==◌, ◌&&◌, ◌⊎◌, not, is_ok, is_some, if◌then◌else◌, OnErr, OnOk}
+use Rattle.std.proofs.Common.{ℕ, ◌≡◌, Bool, true, false, List, [], ◌++◌, Some, None, Option, Result, Ok, Err, length, inl, inr, append-nil, refl, sym, ap, ◌∙◌, subst}
+use Rattle.std.specs.Prelude.{◌==◌, ◌⊎◌, is_ok, is_some, if◌then◌else◌, OnErr, OnOk}
 use Rattle.smi_message.specs.Message.{Message, last_boot}
 use Rattle.smi_tree.specs.Hierarchy.{Hierarchy}
 use Rattle.smi_tree.specs.Lawful.{IsTree}
@@ -8,10 +8,9 @@ use Rattle.smi_tree.specs.Lookups.{station_count}
 use Rattle.smi_rows.specs.declared.Plan.{Plan}
 use Rattle.smi_rows.specs.declared.Plan.TheVariants as plan
 use Rattle.smi_protocol.specs.Display.{Station}
-use Rattle.smi_protocol.specs.Grants.{put}
 use Rattle.smi_protocol.specs.Happening.{Happening}
 use Rattle.smi_protocol.specs.Opening.{first_opened, opened, opening_entries, saved_only}
-use Rattle.smi_protocol.specs.Step.{Outcome, after}
+use Rattle.smi_protocol.specs.Step.{after}
 use Rattle.smi_protocol.specs.declared.entry.Entry.{Entry}
 use Rattle.smi_item.specs.declared.item.Item.{Item}
 use Rattle.smi_item.specs.declared.item.Item.TheVariants as item
@@ -19,9 +18,9 @@ use Rattle.smi_item.specs.declared.item.Moment.TheVariants as moment
 use Rattle.smi_law.specs.Schedule.{Arrival, World, Turn, arrival_of, changed, done_by, failed, failing, first_world, is_at, nothing, opening_of, restarted, stepped, stopped_behind, turn}
 use Rattle.smi_law.specs.World.{MayCome, Reaches, goes_on, noted, opens, stops, with_station}
 use Rattle.smi_law.proofs.Bridge.{Arrives, arrives, turned}
-use Rattle.smi_world.specs.Left.{Left, entries_left}
-use Rattle.smi_world.specs.Posts.{ArePosts, Held, IsAt, IsMade, IsReached, held}
-use Rattle.smi_world.specs.Tasks.{Halted, IsUnmade, Turned}
+use Rattle.smi_world.specs.Left.{Left}
+use Rattle.smi_world.specs.Posts.{ArePosts, IsAt, IsMade, IsReached, held}
+use Rattle.smi_world.specs.Tasks.{Halted, Turned}
 use Rattle.smi_world.specs.declared.post.Post.{Post}
 
 -- what an item sends is sent

@@ -1,5 +1,5 @@
 -- What an item makes of the world is what its task makes of one station.
-use Rattle.std.proofs.Common.{ℕ, ◌≡◌, Bool, true, false, List, [], ◌∷◌, ◌++◌, Option, Some, None, append-nil, refl, sym, ap, ◌∙◌, subst}
+use Rattle.std.proofs.Common.{ℕ, ◌≡◌, Bool, true, false, List, [], ◌++◌, Option, Some, None, append-nil, refl, sym, ap, ◌∙◌, subst}
 use Rattle.std.specs.Prelude.{◌==◌, ◌&&◌, not, is_some, option_map, if◌then◌else◌}
 use Rattle.std.proofs.lemmas.Bool.{eqb-true}
 use Rattle.smi_message.specs.Message.{Message, last_boot}
@@ -11,7 +11,7 @@ use Rattle.smi_protocol.specs.Happening.{Happening}
 use Rattle.smi_protocol.specs.Opening.{opened, opening_entries, saved_only}
 use Rattle.smi_protocol.specs.Step.{Outcome, after}
 use Rattle.smi_protocol.specs.declared.entry.Entry.{Entry}
-use Rattle.smi_law.specs.Schedule.{Arrival, Turn, World, arrival, changed, done_by, failed, failing, nothing, restarted, stepped, stopped_behind}
+use Rattle.smi_law.specs.Schedule.{Turn, World, arrival, changed, done_by, failed, failing, nothing, restarted, stepped, stopped_behind}
 use Rattle.smi_law.proofs.Bridge.{put_same}
 use Rattle.smi_world.specs.Coming.{arrival_in, happening, what_comes_to}
 use Rattle.smi_world.specs.declared.coming.Arrival as coming
@@ -20,7 +20,7 @@ use Rattle.smi_world.specs.declared.task.Doing.{Doing}
 use Rattle.smi_world.specs.declared.task.Doing.TheVariants as doing
 use Rattle.smi_world.specs.declared.task.Task.{Task}
 use Rattle.smi_world.specs.Tasks.{turn_of}
-use Rattle.smi_world.specs.Turning.{act, fail_act, failed_act, idle, restart_act, step_act, step_of, stop_act, turn_at}
+use Rattle.smi_world.specs.Turning.{act, failed_act, idle, restart_act, step_act, step_of, stop_act, turn_at}
 
 -- a turn that leaves nothing
 abbrev silent : (ℕ → Station) → List Message → Turn

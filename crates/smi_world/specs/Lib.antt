@@ -7,3 +7,4 @@ pub mod Made
 pub mod Posts
 pub mod Tasks
 pub mod Running
+pub mod Streaming

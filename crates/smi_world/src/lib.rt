@@ -11,6 +11,7 @@
 
 mod acting;
 mod coming;
+mod drawn;
 mod failing;
 mod left;
 mod naming;
@@ -20,11 +21,14 @@ mod passing;
 mod post;
 mod running;
 mod stepping;
+mod streaming;
 mod task;
 mod turning;
 mod world;
 
+pub use drawn::stream_drawn;
 pub use left::Left;
 pub use opening::push_opening;
 pub use running::{Trace, WorldFault, run};
+pub use streaming::{Streamed, stream};
 pub use world::{ActFault, World};

@@ -1,4 +1,4 @@
-use Rattle.std.proofs.Common.{◌≡◌, ◌+◌, ◌++◌, List, Err, true, false, drop, get_or, ap, arith, subst, ◌∙◌}
+use Rattle.std.proofs.Common.{◌≡◌, ◌+◌, ◌++◌, Err, true, false, drop, get_or, ap, arith, subst, ◌∙◌}
 use Rattle.smi_tree.specs.Hierarchy.{Hierarchy}
 use Rattle.smi_item.specs.declared.item.Deed.TheVariants as deed
 use Rattle.smi_item.specs.declared.item.Item.TheVariants as item

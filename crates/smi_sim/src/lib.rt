@@ -1,0 +1,80 @@
+//! The simulator as a command runs it, over any reader and writers.
+//!
+//! [`sim`] runs a schedule that is read, [`sim_drawn`] one that is drawn. What they write is the text of the schedule's
+//! trace, which is safe at every moment (`stream` and `stream_drawn` of `smi_world`); what is amiss is told in one line.
+#![tactic(auto)]
+
+ghost use Rattle.std.specs.Prelude.{◌≡◌, ◌⊎◌, ℕ, IfSome, take};
+ghost use Rattle.std.specs.Str.Lines.{lines};
+ghost use Rattle.std.specs.Io.KnownBytes.{Appends};
+ghost use Rattle.smi_law.specs.Schedule.{trace_of};
+ghost use Rattle.smi_schedule.specs.Drawn.{schedule_drawn};
+ghost use Rattle.smi_trace.specs.Text.{trace_text};
+ghost use Rattle.smi_world.specs.Streaming.{ending_of, text_of};
+ghost use Rattle.smi_world.specs.declared.streaming.Streamed.TheVariants.{Ended};
+ghost use Rattle.smi_sim.specs.Ending.{HasFault};
+
+use smi_tools::status::{Status, no_memory, read_fault, write_fault};
+use smi_trace::Unwritten;
+use smi_tree::Tree;
+use smi_world::{Streamed, stream, stream_drawn};
+use std::alloc::Global;
+use std::io::{Read, Write};
+
+/// Runs a schedule: writes the text of its trace, reading a line and writing what it leaves before the next is read.
+/// Answers the exit status.
+///
+/// It is 0 where the whole trace is written, and 1 where a line is faulty, which is told on `faults` as
+/// `schedule line L fault C`: then the trace of the lines before it is written. It is 3 where a read or a write failed,
+/// and 4 for want of memory. (docs/FORMATS.md, "Schedules" and "The text of a trace".)
+pub fn sim<R: Read, W: Write, F: Write>(
+    alloc: Global,
+    tree: &Tree,
+    reader: &mut R,
+    writer: &mut W,
+    faults: &mut F,
+) -> u8
+    ensures ended { IfSome (R.remaining reader.old) (λ input. result ≡ 0 →
+        (ending_of tree.now (lines input) ≡ Ended)
+        × Appends (W.contents writer.old) (W.contents writer.new) (text_of tree.now (lines input))) }
+    ensures refused { IfSome (R.remaining reader.old) (λ input. result ≡ 1 →
+        HasFault tree.now (lines input)
+        × Appends (W.contents writer.old) (W.contents writer.new) (text_of tree.now (lines input))) }
+    ensures prefix { IfSome (R.remaining reader.old) (λ input. (n : ℕ) ×
+        Appends (W.contents writer.old) (W.contents writer.new) (take n (text_of tree.now (lines input)))) }
+    ensures status { (result ≡ 0) ⊎ (result ≡ 1) ⊎ (result ≡ 3) ⊎ (result ≡ 4) }
+{
+    match stream(alloc, tree, reader, writer) {
+        Streamed::Ended => Status::Done.code(),
+        Streamed::Faulty(line, fault) => {
+            let _ = writeln!(faults, "schedule line {line} fault {fault}");
+            Status::Refused.code()
+        }
+        Streamed::ReadFault => read_fault(faults).code(),
+        Streamed::WriteFault => write_fault(faults).code(),
+        Streamed::Memory => no_memory(faults).code(),
+    }
+}
+
+/// Runs the schedule of so many items that a seed draws, and writes the text of its trace while it is drawn. Answers
+/// the exit status: 0 where the whole trace is written, 3 where a write failed, and 4 for want of memory.
+pub fn sim_drawn<W: Write, F: Write>(
+    alloc: Global,
+    tree: &Tree,
+    seed: u64,
+    steps: u64,
+    writer: &mut W,
+    faults: &mut F,
+) -> u8
+    ensures ended { result ≡ 0 →
+        Appends (W.contents writer.old) (W.contents writer.new) (trace_text tree.now (trace_of tree.now (schedule_drawn tree.now seed steps))) }
+    ensures prefix { (n : ℕ) ×
+        Appends (W.contents writer.old) (W.contents writer.new) (take n (trace_text tree.now (trace_of tree.now (schedule_drawn tree.now seed steps)))) }
+    ensures status { (result ≡ 0) ⊎ (result ≡ 3) ⊎ (result ≡ 4) }
+{
+    match stream_drawn(alloc, tree, seed, steps, writer) {
+        Ok(()) => Status::Done.code(),
+        Err(Unwritten::Writer) => write_fault(faults).code(),
+        Err(Unwritten::Memory) => no_memory(faults).code(),
+    }
+}

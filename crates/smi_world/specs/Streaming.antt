@@ -1,0 +1,54 @@
+-- The trace of a schedule that is read line by line.
+use Rattle.std.specs.Prelude.{ℕ, ◌≡◌, List, [], Option, Some, None, Result, Ok, Err}
+use Rattle.smi_tree.specs.Fault.{fault_number}
+use Rattle.smi_tree.specs.Hierarchy.{Hierarchy}
+use Rattle.smi_tree.specs.declared.fault.Fault.{Fault}
+use Rattle.smi_item.specs.declared.item.Item.{Item}
+use Rattle.smi_item.specs.declared.item.Line.{Line}
+use Rattle.smi_schedule.specs.Schedule.{first_fault, items_before_fault}
+use Rattle.smi_schedule.specs.declared.schedule.ScheduleFault.{ScheduleFault}
+use Rattle.smi_schedule.specs.declared.schedule.ScheduleFault.TheVariants as schedule_fault
+use Rattle.smi_trace.specs.Text.{trace_text}
+use Rattle.smi_law.specs.Schedule.{World, lines_of, trace_of, turn}
+use Rattle.smi_world.specs.declared.streaming.Streamed.{Streamed}
+use Rattle.smi_world.specs.declared.streaming.Streamed.TheVariants as streamed
+
+-- what is written of these lines of a schedule: the trace of all items before the end or the first faulty line
+abbrev pub text_of : Hierarchy → List (List ℕ) → List ℕ
+text_of h ls = trace_text h (trace_of h (items_before_fault h ls))
+
+-- how a schedule ends, whose first line has this number: at its first faulty line, or with its last line
+abbrev pub ended_by : Option ScheduleFault → Streamed
+ended_by None = streamed.Ended
+ended_by (Some (schedule_fault.Line number code)) = streamed.Faulty number code
+ended_by (Some schedule_fault.Memory) = streamed.Memory
+
+abbrev pub ending_from : ℕ → Hierarchy → List (List ℕ) → Streamed
+ending_from number h ls = ended_by (first_fault number h ls)
+
+abbrev pub ending_of : Hierarchy → List (List ℕ) → Streamed
+ending_of h ls = ending_from 1 h ls
+
+-- the schedule is done: it has ended, or a line is faulty
+abbrev pub IsDone : Streamed → Type 0
+IsDone streamed.Ended = Unit {0}
+IsDone (streamed.Faulty number code) = Unit {0}
+IsDone streamed.ReadFault = ⊥
+IsDone streamed.WriteFault = ⊥
+IsDone streamed.Memory = ⊥
+
+-- the world after a line that stands, and the lines that it leaves
+abbrev pub world_after : Hierarchy → World → Result (Option Item) Fault → World
+world_after h w (Ok None) = w
+world_after h w (Ok (Some x)) = (turn h w x).world
+world_after h w (Err fault) = w
+
+abbrev pub lines_after : Hierarchy → World → Result (Option Item) Fault → List Line
+lines_after h w (Ok None) = []
+lines_after h w (Ok (Some x)) = lines_of w (turn h w x)
+lines_after h w (Err fault) = []
+
+-- the line of this number has that fault
+abbrev pub IsFault : ℕ → Result (Option Item) Fault → Streamed → Type 0
+IsFault number (Ok x) how = ⊥
+IsFault number (Err fault) how = how ≡ streamed.Faulty number (fault_number fault)
