@@ -12,7 +12,8 @@ After the table, a take is tried with other values in its fields, at the ends of
 lengths, against the layout in layout.py, each tree file of trees.py is checked, each store of stores.py listed, a store
 that SMI_TRIAL saved is read by others, and each growth of some runs, and of the layers' objects in SMI_TRIAL, is refused
 in turn (growths.py). Words that are no text and stores that may only be read are tried (paths.py), and each layer at its
-limits (limits.py). Watcher lists answer random calls as plain lists do (random_calls.py). With a TEXT only the cases are
+limits (limits.py). Watcher lists answer random calls as plain lists do (random_calls.py), and
+schedules leave what is said of them (schedules.py). With a TEXT only the cases are
 run whose name has it; the growths of a run or a layer go together, under its name. The last line is 'N passed, M failed'.
 """
 
@@ -26,6 +27,7 @@ import layout
 import limits
 import paths
 import random_calls
+import schedules
 import stores
 import trees
 
@@ -175,6 +177,7 @@ def main():
         others += limits.answer_case(program, at_limits, table[0]["in"], table[0]["out"], only)
         others += limits.rows_case(program, at_limits, only)
         others += random_calls.cases(trial, only)
+        others += schedules.cases(program, room(folder, "of schedules"), only)
         for name, held in others:
             done.append(held)
             if not held:

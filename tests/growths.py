@@ -20,6 +20,8 @@ RUNS = [
     (["check", os.path.join(EXAMPLES, "worked.tree")], os.devnull),
     (["check", os.path.join(EXAMPLES, "detector.tree")], os.devnull),
     (["answer"], os.path.join(EXAMPLES, "one-domain.datagrams")),
+    (["sim", os.path.join(EXAMPLES, "worked.tree"), os.path.join(EXAMPLES, "worked.schedule")], os.devnull),
+    (["sim", os.path.join(EXAMPLES, "worked.tree"), "--seed", "1", "--steps", "100"], os.devnull),
 ]
 
 # The layers whose objects smi_trial makes and changes.

@@ -1,16 +1,18 @@
 //! `smi`: the program of the control hierarchy.
 //!
-//! What its commands do is proved in `smi_tools`: [`answer`], [`check`] and [`rows`]. `program` reads
-//! the command line and opens files, and `main` has the runtime. A node is run by `smi_crew`.
+//! What its commands do is proved in `smi_tools`: [`answer`], [`check`] and [`rows`], and of a simulation in `smi_sim`.
+//! `program` reads the command line and opens files, and `main` has the runtime. A node is run by `smi_crew`.
 #![tactic(auto)]
 
 mod file;
 mod line;
 mod node;
 mod program;
+mod sim;
 mod store;
 #[cfg(test)]
 mod tests;
+mod tree;
 mod words;
 
 use crate::status::no_memory;

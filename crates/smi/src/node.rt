@@ -1,47 +1,20 @@
 //! A node: its tree file is read, its station found, its store opened, and then it is run.
 
 use crate::line::NodeLine;
-use crate::program::tree_bytes;
 use crate::store::{FileStable, Stores, close};
+use crate::tree::read_tree;
 use crate::words::{Words, bytes_of};
 use smi_crew::{Console, Plan, run};
 use smi_stable::StoreFault;
-use smi_tools::status::{Status, no_memory, read_fault, store_fault, wrong_line};
-use smi_tree::{Tree, TreeFault};
+use smi_tools::status::{Status, no_memory, store_fault, wrong_line};
+use smi_tree::Tree;
 use std::alloc::Global;
-use std::io::{ErrorKind, Read, Write};
+use std::io::{Read, Write};
 use std::net::Net;
 use std::rt::Files;
 use std::sync::{Arc, Wait};
 use std::thread::Threads;
 use std::time::Clock;
-
-/// The tree of a file, or what is told of it.
-fn read_tree<H: Files + AllocGlobal, F: Write>(
-    host: &H,
-    path: &[u8],
-    faults: &mut F,
-) -> Result<Tree, Status> {
-    let bytes = match tree_bytes(host, path) {
-        Ok(bytes) => bytes,
-        Err(e) if e.kind() == ErrorKind::OutOfMemory => return Err(no_memory(faults)),
-        Err(_) => return Err(read_fault(faults)),
-    };
-    match Tree::read(host.alloc(), bytes.as_slice()) {
-        Ok(tree) => Ok(tree),
-        Err(fault) => Err(tree_fault(fault, faults)),
-    }
-}
-
-fn tree_fault<F: Write>(fault: TreeFault, faults: &mut F) -> Status {
-    match fault {
-        TreeFault::Line(line, fault) => {
-            let _ = writeln!(faults, "tree line {line} fault {fault}");
-            Status::Refused
-        }
-        TreeFault::Memory => no_memory(faults),
-    }
-}
 
 /// A tree that both threads of a node read.
 fn shared<F: Write>(

@@ -1,9 +1,10 @@
 //! The commands, over any files, input and outputs.
 
-use crate::file;
 use crate::line::{Line, line_of};
 use crate::node::run_node;
+use crate::sim::simulate;
 use crate::store::Stores;
+use crate::tree::tree_bytes;
 use crate::words::{Words, bytes_of};
 use smi_crew::Console;
 use smi_tools::answer::{Answered, answer};
@@ -11,15 +12,12 @@ use smi_tools::check::check;
 use smi_tools::rows::Listed;
 use smi_tools::status::{Status, no_memory, read_fault, store_fault, write_fault, wrong_line};
 use std::alloc::Global;
-use std::io::{self, BufWriter, ErrorKind, Read, Write};
+use std::io::{BufWriter, ErrorKind, Read, Write};
 use std::net::Net;
 use std::rt::Files;
 use std::sync::Wait;
 use std::thread::Threads;
 use std::time::Clock;
-
-/// How much of a tree file is read, in bytes: one more than the most that it may have.
-const MOST_TREE_BYTES: u64 = 256 * 1024 + 1;
 
 /// Does what the words of the command line ask for, and answers the exit status. What is amiss is
 /// told in one line on `faults`; what the thread of a node tells that reads lines, on `aside`, which is the same.
@@ -38,6 +36,7 @@ pub fn program<
         }
         Line::Check(path) => check_file(host, bytes_of(words, path), writer, faults),
         Line::Rows(path) => list_rows(host, bytes_of(words, path), writer, faults).code(),
+        Line::Sim(line) => simulate(host, words, line, writer, faults),
         Line::Node(line) => {
             let console = Console {
                 input: reader,
@@ -80,15 +79,6 @@ fn check_file<H: Files + AllocGlobal, W: Write + Drop, F: Write>(
         Ok(mut writer) => check(alloc, bytes.as_slice(), &mut writer, faults),
         Err(_) => no_memory(faults).code(),
     }
-}
-
-/// The bytes of a tree file, or as many as show that it is too long.
-pub fn tree_bytes<H: Files + AllocGlobal>(host: &H, path: &[u8]) -> io::Result<Vec<u8>> {
-    let mut bytes = Vec::new(host.alloc());
-    file::open(host, path)?
-        .take(MOST_TREE_BYTES)
-        .read_to_end(&mut bytes)?;
-    Ok(bytes)
 }
 
 fn list_rows<H: Stores + AllocGlobal, W: Write + Drop, F: Write>(

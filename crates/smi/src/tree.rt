@@ -1,0 +1,47 @@
+//! The tree file of a command line.
+
+use crate::file;
+use smi_tools::status::{Status, no_memory, read_fault};
+use smi_tree::{Tree, TreeFault};
+use std::alloc::Global;
+use std::io::{self, ErrorKind, Read, Write};
+use std::rt::Files;
+
+/// How much of a tree file is read, in bytes: one more than the most that it may have.
+const MOST_TREE_BYTES: u64 = 256 * 1024 + 1;
+
+/// The bytes of a tree file, or as many as show that it is too long.
+pub fn tree_bytes<H: Files + AllocGlobal>(host: &H, path: &[u8]) -> io::Result<Vec<u8>> {
+    let mut bytes = Vec::new(host.alloc());
+    file::open(host, path)?
+        .take(MOST_TREE_BYTES)
+        .read_to_end(&mut bytes)?;
+    Ok(bytes)
+}
+
+/// The tree of a file, or what is told of it.
+pub fn read_tree<H: Files + AllocGlobal, F: Write>(
+    host: &H,
+    path: &[u8],
+    faults: &mut F,
+) -> Result<Tree, Status> {
+    let bytes = match tree_bytes(host, path) {
+        Ok(bytes) => bytes,
+        Err(e) if e.kind() == ErrorKind::OutOfMemory => return Err(no_memory(faults)),
+        Err(_) => return Err(read_fault(faults)),
+    };
+    match Tree::read(host.alloc(), bytes.as_slice()) {
+        Ok(tree) => Ok(tree),
+        Err(fault) => Err(tree_fault(fault, faults)),
+    }
+}
+
+fn tree_fault<F: Write>(fault: TreeFault, faults: &mut F) -> Status {
+    match fault {
+        TreeFault::Line(line, fault) => {
+            let _ = writeln!(faults, "tree line {line} fault {fault}");
+            Status::Refused
+        }
+        TreeFault::Memory => no_memory(faults),
+    }
+}
