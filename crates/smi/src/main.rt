@@ -10,8 +10,6 @@ mod node;
 mod program;
 mod sim;
 mod store;
-#[cfg(test)]
-mod tests;
 mod tree;
 mod words;
 
