@@ -2,7 +2,7 @@
 
 Answers are measured beside a bare pipe and beside the same program in plain Rust, or in C where there is no rustc
 (tests/peer): in turn, medians of seven rounds after one that does not count; and in instructions a datagram where
-valgrind is installed. Of stores each figure is the best of five rounds, of trees the best of twenty, of the program and
+valgrind is installed. Drawn schedules have the median of as many rounds, with nothing beside them. Of stores each figure is the best of five rounds, of trees the best of twenty, of the program and
 of the plain measure alike.
 
 usage: bench.py SMI SMI_BENCH SMI_TRIAL
@@ -21,6 +21,8 @@ import time
 
 HERE = os.path.dirname(os.path.abspath(__file__))
 ROUNDS = 5
+# How many items are drawn: as many as the program takes.
+ITEMS = 1_000_000
 # The programs that answer are run in turn so often, after one run that does not count.
 TURNS = 7
 # A tree is read in a millisecond, which other work on the machine disturbs more.
@@ -226,10 +228,19 @@ def layers(trial):
         print("\n".join(lines))
 
 
+def schedules(program):
+    """How many items of a drawn schedule are made and written in a second."""
+    trees_of = [os.path.join(HERE, "..", "examples", name) for name in ("worked.tree", "detector.tree")]
+    commands = ["%s sim %s --seed 1 --steps %d > /dev/null" % (program, tree, ITEMS) for tree in trees_of]
+    for tree, taken in zip(trees_of, medians(commands)):
+        print("sim: %d drawn items over %s, %.0f a second" % (ITEMS, os.path.basename(tree), ITEMS / taken[0]))
+
+
 def main():
     program, bench, trial = map(os.path.abspath, sys.argv[1:])
     with tempfile.TemporaryDirectory() as folder:
         answers(program, folder)
+        schedules(program)
         trees(bench, folder)
         layers(trial)
     saves(bench)
