@@ -38,6 +38,13 @@ def word_cases(program, folder):
         file.write(trees.WORKED)
     counts = b"tree 17 stations 2 operators 2 domains 2 devices 1\n"
     yield "a tree file by no text", run(program, "check", path) == (counts, b"", 0)
+    # Two paths that read the same, and are not.
+    play = os.path.join(folder.encode(), b"tree " + ODD[::-1])
+    with open(play, "wb") as file:
+        file.write(b"order BOB take TPC\n")
+    trace = b"booted A 1\npassed DCS 1.0 OFF\nbooted B 1\npassed TPC 1.0 OFF\npassed HV 1.0 OFF\nsent 1 TAKE B B TPC\n"
+    yield "a tree file and a schedule by no text", run(program, "sim", path, play) == (trace, b"", 0)
+    yield "a schedule that is not there, by no text", run(program, "sim", path, play + ODD) == (b"", b"read fault\n", 3)
     # A name that has the sign for what is no text is another file's.
     other = os.path.join(folder, "tree \ufffd\ufffd")
     yield "a tree file by another name", run(program, "check", other) == (b"", b"read fault\n", 3)
