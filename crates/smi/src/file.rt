@@ -50,7 +50,7 @@ pub fn resolved<H: Files + AllocGlobal>(host: &H, path: &[u8]) -> io::Result<Vec
     }
 }
 
-/// The path with more behind it.
+/// The path with more after it.
 pub fn beside(alloc: Global, path: &[u8], more: &[u8]) -> Result<Vec<u8>, AllocError> {
     let mut longer = Vec::from_slice(alloc, path)?;
     longer.extend_from_slice(more)?;

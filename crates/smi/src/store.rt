@@ -137,7 +137,7 @@ fn disks(alloc: Global, copy: &Copy) -> io::Result<Files<Memory>> {
     })
 }
 
-/// A disk that has grown before, so that a refused growth shows here and as nothing else later.
+/// A disk that has grown before, so that a refused allocation shows here and as nothing else later.
 fn disk(alloc: Global, bytes: &[u8]) -> io::Result<Memory> {
     let mut disk = Memory::new(alloc);
     disk.set_len(bytes.len().saturating_add(ROOM))?;
@@ -162,7 +162,7 @@ fn list_in<W: Write>(alloc: Global, files: Files<Memory>, writer: &mut W) -> Lis
     }
 }
 
-/// A disk in memory that failed was refused a growth: what looks like a faulty store is none then.
+/// A disk in memory that failed was refused an allocation: what looks like a faulty store is none then.
 fn found_out(listed: Listed, files: &Files<Memory>) -> Listed {
     if listed == Listed::StoreFault && !files.may_be_used() {
         Listed::Memory

@@ -17,7 +17,7 @@ pub struct Words {
     pub bytes: Vec<Vec<u8>>,
 }
 
-/// The words of the command line. The error is want of memory.
+/// The words of the command line. It fails only where memory ran out.
 pub fn words_of(rt: &HostRuntime) -> Result<Words, AllocError> {
     let mut words = Words {
         texts: Vec::new(rt.alloc()),
@@ -47,7 +47,7 @@ fn add(rt: &HostRuntime, words: &mut Words, bytes: &[u8]) -> Result<(), AllocErr
     Ok(())
 }
 
-/// The bytes of the first word that reads so, behind the program's own name and the command.
+/// The bytes of the first word that reads so, after the program's own name and the command.
 pub fn bytes_of<'a>(words: &'a Words, text: &'a str) -> &'a [u8] {
     let pairs = words.texts.iter().zip(words.bytes.iter()).skip(2);
     for (word, bytes) in pairs {
@@ -58,7 +58,7 @@ pub fn bytes_of<'a>(words: &'a Words, text: &'a str) -> &'a [u8] {
     text.as_bytes()
 }
 
-/// The bytes of the first word that reads so behind the first that reads as the text before it.
+/// The bytes of the first word that reads so after the first that reads as the text before it.
 pub fn bytes_behind<'a>(words: &'a Words, before: &str, text: &'a str) -> &'a [u8] {
     let mut is_behind = false;
     for (word, bytes) in words.texts.iter().zip(words.bytes.iter()).skip(2) {

@@ -11,21 +11,25 @@ use Rattle.smi_command.specs.Hearing.{newest_settled, settled_count, settlement_
 use Rattle.smi_command.specs.KnownGrant.{ShowsEnd}
 use Rattle.smi_command.specs.Pending.{base_of}
 
-ended_by_phase : (x : Phase) (last n : ℕ) → n ≤ (if is_settled x then last else last - 1) → 0 < n → (n < last) ⊎ ((n ≡ last) × (x ≡ Settled))
-ended_by_phase Settled last n within some = elim (below n last within) [ inl less ↦ inl less | inr same ↦ inr (same, refl) ]
+ended_by_phase : (x : Phase) (last n : ℕ) → n ≤ (if is_settled x then last else last - 1) → 0 < n
+    → (n < last) ⊎ ((n ≡ last) × (x ≡ Settled))
+ended_by_phase Settled last n within some =
+    elim (below n last within) [ inl less ↦ inl less | inr same ↦ inr (same, refl) ]
   where
     below : (a b : ℕ) → a ≤ b → (a < b) ⊎ (a ≡ b)
     below a b h = grind arith
 ended_by_phase Busy last n within some = inl (omega arith)
 
-settled_by_phase : (x : Phase) (last n : ℕ) → (n < last) ⊎ ((n ≡ last) × (x ≡ Settled)) → n ≤ (if is_settled x then last else last - 1)
+settled_by_phase : (x : Phase) (last n : ℕ) → (n < last) ⊎ ((n ≡ last) × (x ≡ Settled))
+    → n ≤ (if is_settled x then last else last - 1)
 settled_by_phase Settled last n (inl less) = omega arith
 settled_by_phase Settled last n (inr same) = omega arith
 settled_by_phase Busy last n (inl less) = omega arith
 settled_by_phase Busy last n (inr same) = let b = same.1 in absurd cc
 
 -- a pending command settles where the record shows its end
-pub settles_where : (n i : ℕ) (p : List Command) (r : Standing) → i < length p → (i < settled_count n p r) ↔ ShowsEnd r (base_of n p + 1 + i)
+pub settles_where : (n i : ℕ) (p : List Command) (r : Standing) → i < length p
+    → (i < settled_count n p r) ↔ ShowsEnd r (base_of n p + 1 + i)
 settles_where n i p r within = (
   λ counted. ended_by_phase r.phase r.last (base_of n p + 1 + i) (omega arith) (omega arith),
   λ ended.
@@ -33,8 +37,11 @@ settles_where n i p r within = (
       omega arith,
 )
 
-pub settles_with : (n i : ℕ) (p : List Command) (r : Standing) → i < settled_count n p r → slice_get (settlements n p r) i ≡ Some (settlement_in r (base_of n p + 1 + i))
+pub settles_with : (n i : ℕ) (p : List Command) (r : Standing) → i < settled_count n p r
+    → slice_get (settlements n p r) i ≡ Some (settlement_in r (base_of n p + 1 + i))
 settles_with n i p r within =
     let b = base_of n p + 1 in
     let k = settled_count n p r in
-    slice_get_read (settlements n p r) k i (settlement_in r (b + i)) (sym (length-map-range_with_len (settlement_in r) b k)) within (sym (get_or-map-range_with_len (settlement_in r) b k i (b + i) (settlement_in r (b + i)) within refl))
+    slice_get_read (settlements n p r) k i (settlement_in r (b + i))
+    (sym (length-map-range_with_len (settlement_in r) b k)) within
+    (sym (get_or-map-range_with_len (settlement_in r) b k i (b + i) (settlement_in r (b + i)) within refl))

@@ -28,16 +28,19 @@ IsFurther l m = known l ≤ last_epoch → known l ≤ known m
 pub known_told : (l : Link) (h : Holder) (r : Standing) → known l ≤ last_epoch → known l ≤ known (told_link l h r)
 unfolding IsFurther
 known_told (Out k) h r within = omega arith
-known_told (Taking s) h r within = by_row_taking IsFurther h r s (λ e mine w. omega arith) (λ free e w. omega arith) (λ free less w. omega arith) (λ held other less w. omega arith) (λ w. omega arith) within
+known_told (Taking s) h r within = by_row_taking IsFurther h r s (λ e mine w. omega arith) (λ free e w. omega arith)
+    (λ free less w. omega arith) (λ held other less w. omega arith) (λ w. omega arith) within
 known_told (Held e n p) h r within = by_row_held IsFurther h r e n p (λ at w. omega arith) (λ w. omega arith) within
 known_told (Dropping e) h r within = by_row_dropping IsFurther h r e (λ less w. omega arith) (λ w. omega arith) within
 
 StaysWithin : Link → Link → Type 0
 StaysWithin l m = known l ≤ last_epoch → known m ≤ last_epoch
 
-pub told_within : (l : Link) (h : Holder) (r : Standing) → IsRecord r → known l ≤ last_epoch → known (told_link l h r) ≤ last_epoch
+pub told_within : (l : Link) (h : Holder) (r : Standing) → IsRecord r → known l ≤ last_epoch
+    → known (told_link l h r) ≤ last_epoch
 unfolding StaysWithin
 told_within (Out k) h r i within = within
-told_within (Taking s) h r i within = by_row_taking StaysWithin h r s (λ e mine w. omega (arith, i.epoch)) (λ free e w. omega arith) (λ free less w. i.epoch) (λ held other less w. i.epoch) (λ w. w) within
+told_within (Taking s) h r i within = by_row_taking StaysWithin h r s (λ e mine w. omega (arith, i.epoch))
+    (λ free e w. omega arith) (λ free less w. i.epoch) (λ held other less w. i.epoch) (λ w. w) within
 told_within (Held e n p) h r i within = by_row_held StaysWithin h r e n p (λ at w. w) (λ w. w) within
 told_within (Dropping e) h r i within = by_row_dropping StaysWithin h r e (λ less w. i.epoch) (λ w. w) within

@@ -6,7 +6,8 @@ use Rattle.smi_grant.specs.declared.holder.Holder.TheVariants.{Free, Operator}
 use Rattle.smi_grant.specs.declared.record.Phase.TheVariants.{Settled}
 use Rattle.smi_grant.specs.Record.{standing}
 use Rattle.smi_command.specs.declared.link.Link.TheVariants.{Out, Held}
-use Rattle.smi_command.specs.OneLink.{Event, OrderTake, OrderCommand, OrderDrop, SendDue, Deliver, Settle, Ask, job, reached}
+use Rattle.smi_command.specs.OneLink.{Event, OrderTake, OrderCommand, OrderDrop, SendDue, Deliver, Settle, Ask, job}
+use Rattle.smi_command.specs.OneLink.{reached}
 
 abbrev bob : Holder
 bob = Operator 2

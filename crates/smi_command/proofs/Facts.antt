@@ -14,7 +14,7 @@ use Rattle.smi_command.specs.KnownGrant.{InStep, IsSpent, Waits}
 use Rattle.smi_command.specs.Link.{known}
 use Rattle.smi_command.specs.OneLink.{Datagram, Asks, Tells, Among}
 
--- how far a link has come: dropping a grant is behind having it. It never falls
+-- how far a link has come: dropping a grant is after having it. It never falls
 abbrev pub place : Link → ℕ
 place (Out k) = k + k
 place (Taking s) = s + s

@@ -1,5 +1,6 @@
 -- A link goes from one form to the next, and keeps the facts on it and on what was sent.
-use Rattle.std.proofs.Common.{ℕ, ◌≡◌, ◌≤◌, ◌<◌, ◌+◌, ◌-◌, true, false, List, [], length, drop, ◌⊎◌, inl, inr, refl, sym, ap, ◌∙◌, arith, length-drop}
+use Rattle.std.proofs.Common.{ℕ, ◌≡◌, ◌≤◌, ◌<◌, ◌+◌, ◌-◌, true, false, List, [], length, drop, ◌⊎◌, inl, inr, refl}
+use Rattle.std.proofs.Common.{sym, ap, ◌∙◌, arith, length-drop}
 use Rattle.std.specs.Prelude.{if◌then◌else◌}
 use Rattle.smi_grant.specs.declared.command.Command.{Command}
 use Rattle.smi_grant.specs.declared.holder.Holder.{Holder}
@@ -28,8 +29,13 @@ pub record Goes (r : Standing) (h : Holder) (l l' : Link) : Type 0 where
   pub stays_open : (s : ℕ) → l ≡ Taking s → s ≡ r.epoch → is_free r.holder ≡ true → s < last_epoch → l' ≡ Taking s
   pub spends : (e n : ℕ) (c : Command) → Waits l e n c → IsSpent r e n ⊎ Waits l' e n c
 
-pub sent_goes : (r : Standing) (h : Holder) (l l' : Link) (m : Datagram) → Goes r h l l' → SentOk r h l m → SentOk r h l' m
-sent_goes r h l l' (Tells q) v o = record { earlier = o.earlier; over = λ mine less. let a = o.over mine less in omega (arith, v.further) }
+pub sent_goes : (r : Standing) (h : Holder) (l l' : Link) (m : Datagram) → Goes r h l l' → SentOk r h l m
+    → SentOk r h l' m
+sent_goes r h l l' (Tells q) v o = record {
+  earlier = o.earlier;
+  over = λ mine less. let a = o.over mine less in
+      omega (arith, v.further);
+}
 sent_goes r h l l' (Asks g (Take s)) v o = λ mine. let k = o mine in record {
   not_ahead = k.not_ahead;
   is_open = λ e free below. v.stays_open s (k.is_open e free below) e free below;
@@ -41,11 +47,22 @@ sent_goes r h l l' (Asks g (Run e n c)) v o = λ mine. let k = o mine in record 
   spent = elim k.spent [ inl spent ↦ inl spent | inr waits ↦ v.spends e n c waits ];
 }
 
-pub fits_goes : (r : Standing) (h : Holder) (l l' : Link) (sent : List Datagram) → Goes r h l l' → Fits r h l sent → Fits r h l' sent
-fits_goes r h l l' sent v f = record { lawful = f.lawful; link = v.ok; all_sent = λ m a. sent_goes r h l l' m v (f.all_sent m a) }
+pub fits_goes : (r : Standing) (h : Holder) (l l' : Link) (sent : List Datagram) → Goes r h l l' → Fits r h l sent
+    → Fits r h l' sent
+fits_goes r h l l' sent v f = record {
+  lawful = f.lawful;
+  link = v.ok;
+  all_sent = λ m a. sent_goes r h l l' m v (f.all_sent m a);
+}
 
 pub stays : (r : Standing) (h : Holder) (l : Link) → LinkOk r h l → Goes r h l l
-stays r h l o = record { ok = o; further = omega arith; onward = omega arith; stays_open = λ s is e f b. is; spends = λ e n c w. inr w }
+stays r h l o = record {
+  ok = o;
+  further = omega arith;
+  onward = omega arith;
+  stays_open = λ s is e f b. is;
+  spends = λ e n c w. inr w;
+}
 
 -- The told table.
 
@@ -54,13 +71,25 @@ module _ (r : Standing) (h : Holder) (party : is_free h ≡ false) (lawful : IsR
   not_mine : is_free q.holder ≡ true → q.holder ≡ h → ⊥
   not_mine free mine = let t : true ≡ false = sym free ∙ ap is_free mine ∙ party in cc
 
-  pub learns : (s : ℕ) → TellOk r h (Taking s) q → LinkOk r h (Taking s) → q.epoch ≡ s + 1 → q.holder ≡ h → Goes r h (Taking s) (Held (s + 1) 0 [])
+  pub learns : (s : ℕ) → TellOk r h (Taking s) q → LinkOk r h (Taking s) → q.epoch ≡ s + 1 → q.holder ≡ h
+      → Goes r h (Taking s) (Held (s + 1) 0 [])
   learns s t o e mine =
       let now : q.epoch ≡ r.epoch = of_now (t.over mine) t.earlier.not_ahead in
       let holder : r.holder ≡ h = sym (t.earlier.same_one now) ∙ mine in
       let last : r.last ≡ 0 = (o.1 holder).1 in
       record {
-        ok = (sym now ∙ e, holder, record { few = omega arith; counted = omega arith; not_before = omega arith; not_beyond = omega arith; all_settled = λ a. none_settled r lawful last }, omega arith);
+        ok = (
+          sym now ∙ e,
+          holder,
+          record {
+            few = omega arith;
+            counted = omega arith;
+            not_before = omega arith;
+            not_beyond = omega arith;
+            all_settled = λ a. none_settled r lawful last;
+          },
+          omega arith,
+        );
         further = omega arith;
         onward = omega arith;
         stays_open = λ u is at f b. let same : s ≡ u = cc in absurd (omega arith);
@@ -70,7 +99,8 @@ module _ (r : Standing) (h : Holder) (party : is_free h ≡ false) (lawful : IsR
       of_now : (q.epoch < r.epoch → q.epoch ≤ s) → q.epoch ≤ r.epoch → q.epoch ≡ r.epoch
       of_now over ahead = grind arith
 
-  pub gives_up : (s : ℕ) → TellOk r h (Taking s) q → LinkOk r h (Taking s) → q.epoch ≡ last_epoch → is_free q.holder ≡ true → Goes r h (Taking s) (Out last_epoch)
+  pub gives_up : (s : ℕ) → TellOk r h (Taking s) q → LinkOk r h (Taking s) → q.epoch ≡ last_epoch
+      → is_free q.holder ≡ true → Goes r h (Taking s) (Out last_epoch)
   gives_up s t o e free =
       let now : q.epoch ≡ r.epoch = omega (arith, t.earlier.not_ahead, lawful.epoch) in
       record {
@@ -81,16 +111,22 @@ module _ (r : Standing) (h : Holder) (party : is_free h ≡ false) (lawful : IsR
         spends = λ f n c w. let is = w.is in absurd cc;
       }
 
-  pub renews : (s : ℕ) → TellOk r h (Taking s) q → LinkOk r h (Taking s) → s < q.epoch → is_free q.holder ≡ true → Goes r h (Taking s) (Taking q.epoch)
+  pub renews : (s : ℕ) → TellOk r h (Taking s) q → LinkOk r h (Taking s) → s < q.epoch → is_free q.holder ≡ true
+      → Goes r h (Taking s) (Taking q.epoch)
   renews s t o less free = record {
-    ok = (t.earlier.not_ahead, λ mine. let a = o.1 mine in absurd (not_mine free (t.earlier.same_one (omega (arith, t.earlier.not_ahead)) ∙ mine)));
+    ok = (
+      t.earlier.not_ahead,
+      λ mine. let a = o.1 mine in
+          absurd (not_mine free (t.earlier.same_one (omega (arith, t.earlier.not_ahead)) ∙ mine)),
+    );
     further = omega arith;
     onward = omega arith;
     stays_open = λ u is at f b. let same : s ≡ u = cc in absurd (omega (arith, t.earlier.not_ahead));
     spends = λ f n c w. let is = w.is in absurd cc;
   }
 
-  pub loses : (s : ℕ) → TellOk r h (Taking s) q → LinkOk r h (Taking s) → s ≤ q.epoch → is_free q.holder ≡ false → (q.holder ≡ h → ⊥) → Goes r h (Taking s) (Out q.epoch)
+  pub loses : (s : ℕ) → TellOk r h (Taking s) q → LinkOk r h (Taking s) → s ≤ q.epoch → is_free q.holder ≡ false
+      → (q.holder ≡ h → ⊥) → Goes r h (Taking s) (Out q.epoch)
   loses s t o less held other = record {
     ok = (t.earlier.not_ahead, λ mine. other (t.earlier.same_one (same mine) ∙ mine));
     further = less;
@@ -109,7 +145,8 @@ module _ (r : Standing) (h : Holder) (party : is_free h ≡ false) (lawful : IsR
       free_now f now = let b : true ≡ false = sym f ∙ ap is_free (sym (t.earlier.same_one now)) ∙ held in cc
 
   -- some pending commands have settled
-  pub settles : (e n : ℕ) (p : List Command) → TellOk r h (Held e n p) q → LinkOk r h (Held e n p) → q.epoch ≡ e → Goes r h (Held e n p) (Held e n (drop (settled_count n p q) p))
+  pub settles : (e n : ℕ) (p : List Command) → TellOk r h (Held e n p) q → LinkOk r h (Held e n p) → q.epoch ≡ e
+      → Goes r h (Held e n p) (Held e n (drop (settled_count n p q) p))
   settles e n p t o at =
       let k = settled_count n p q in
       let now : q.epoch ≡ r.epoch = at ∙ sym o.0 in
@@ -127,7 +164,8 @@ module _ (r : Standing) (h : Holder) (party : is_free h ≡ false) (lawful : IsR
             not_beyond = o.2.not_beyond;
             all_settled = λ a. elim (none k) [
               | inl z ↦ o.2.all_settled (omega (arith, o.2.counted))
-              | inr some ↦ t.earlier.is_done now (omega (arith, o.2.counted)) (newest_done q (omega (arith, o.2.counted)) (omega (arith, o.2.counted)))
+              | inr some ↦ t.earlier.is_done now (omega (arith, o.2.counted))
+                  (newest_done q (omega (arith, o.2.counted)) (omega (arith, o.2.counted)))
             ];
           },
           o.3,
@@ -136,7 +174,8 @@ module _ (r : Standing) (h : Holder) (party : is_free h ≡ false) (lawful : IsR
         onward = omega arith;
         stays_open = λ u is. absurd cc;
         spends = λ f m c w. elim (waits_less e n k p f m c o.2.counted (omega arith) w) [
-          | inl low ↦ inl (inr (let is = w.is in let same : e ≡ f = cc in sym same ∙ sym o.0, omega (arith, o.2.not_before)))
+          | inl low ↦ inl
+              (inr (let is = w.is in let same : e ≡ f = cc in sym same ∙ sym o.0, omega (arith, o.2.not_before)))
           | inr still ↦ inr still
         ];
       }
@@ -152,7 +191,8 @@ module _ (r : Standing) (h : Holder) (party : is_free h ≡ false) (lawful : IsR
           by_phase Settled same' = refl
           by_phase Busy same' = absurd (omega arith)
 
-  pub is_out : (e : ℕ) → TellOk r h (Dropping e) q → LinkOk r h (Dropping e) → e < q.epoch → Goes r h (Dropping e) (Out q.epoch)
+  pub is_out : (e : ℕ) → TellOk r h (Dropping e) q → LinkOk r h (Dropping e) → e < q.epoch
+      → Goes r h (Dropping e) (Out q.epoch)
   is_out e t o less = record {
     ok = (t.earlier.not_ahead, λ mine. let a = (o.1 mine).0 in absurd (omega (arith, t.earlier.not_ahead)));
     further = omega arith;

@@ -1,5 +1,6 @@
 -- A holder's orders keep the facts on its link.
-use Rattle.std.proofs.Common.{ℕ, ◌≡◌, ◌<◌, ◌+◌, Bool, true, false, List, [], ◌∷◌, ◌++◌, length, inr, refl, arith, length-append}
+use Rattle.std.proofs.Common.{ℕ, ◌≡◌, ◌<◌, ◌+◌, Bool, true, false, List, [], ◌∷◌, ◌++◌, length, inr, refl, arith}
+use Rattle.std.proofs.Common.{length-append}
 use Rattle.std.specs.Prelude.{nat_le, if◌then◌else◌, Ok}
 use Rattle.std.proofs.lemmas.Bool.{leb-false}
 use Rattle.smi_grant.specs.declared.command.Command.{Command}
@@ -39,7 +40,9 @@ pub record Issues (l : Link) (c : Command) (m : Link) : Type 0 where
   pub room : length pending < most_pending
   pub left : number < last_number
 
-issued_where : (full spent : Bool) (l m : Link) → (if full then refused CommandPending else (if spent then refused NumbersSpent else Ok l)) ≡ Ok m → (full ≡ false) × (spent ≡ false) × (m ≡ l)
+issued_where : (full spent : Bool) (l m : Link)
+    → (if full then refused CommandPending else (if spent then refused NumbersSpent else Ok l)) ≡ Ok m
+    → (full ≡ false) × (spent ≡ false) × (m ≡ l)
 issued_where true spent l m is = absurd cc
 issued_where false true l m is = absurd cc
 issued_where false false l m is = (refl, refl, cc)
@@ -49,7 +52,15 @@ command_issues (Out k) c m is = absurd cc
 command_issues (Taking s) c m is = absurd cc
 command_issues (Held e n p) c m is =
     let a = issued_where (nat_le most_pending (length p)) (nat_le last_number n) (Held e (n + 1) (p ++ c ∷ [])) m is in
-    record { epoch = e; number = n; pending = p; was = refl; becomes = a.2; room = leb-false _ _ a.0; left = leb-false _ _ a.1 }
+    record {
+      epoch = e;
+      number = n;
+      pending = p;
+      was = refl;
+      becomes = a.2;
+      room = leb-false _ _ a.0;
+      left = leb-false _ _ a.1;
+    }
 command_issues (Dropping e) c m is = absurd cc
 
 module _ (r : Standing) (h : Holder) where
@@ -71,7 +82,8 @@ module _ (r : Standing) (h : Holder) where
     spends = λ f m c w. absurd (none_waits e n f m c w);
   }
 
-  pub command_goes : (e n : ℕ) (p : List Command) (c : Command) → length p < most_pending → n < last_number → LinkOk r h (Held e n p) → Goes r h (Held e n p) (Held e (n + 1) (p ++ c ∷ []))
+  pub command_goes : (e n : ℕ) (p : List Command) (c : Command) → length p < most_pending → n < last_number
+      → LinkOk r h (Held e n p) → Goes r h (Held e n p) (Held e (n + 1) (p ++ c ∷ []))
   command_goes e n p c room left o =
       let more : length (p ++ c ∷ []) ≡ length p + 1 = length-append p (c ∷ []) in
       record {

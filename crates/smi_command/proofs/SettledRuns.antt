@@ -5,7 +5,8 @@ use Rattle.std.proofs.lemmas.Bool.Decides.{nat_tests}
 use Rattle.std.proofs.lemmas.Option.{slice_get_past, slice_get_read}
 use Rattle.std.proofs.lemmas.List.FromFn.{get_or-map-range_with_len}
 use Rattle.smi_command.specs.declared.settlements.Settlement.{Settlement}
-use Rattle.smi_command.specs.Settlements.{settled_at, settled_run, IsRun, first_number, last_code, same_first, same_count, same_code}
+use Rattle.smi_command.specs.Settlements.{settled_at, settled_run, IsRun, first_number, last_code, same_first}
+use Rattle.smi_command.specs.Settlements.{same_count, same_code}
 
 module _ (first count x : ℕ) (xs : List Settlement) (seen : settled_run first count x ≡ xs) where
   pub count_seen : count ≡ length xs
@@ -16,7 +17,10 @@ module _ (first count x : ℕ) (xs : List Settlement) (seen : settled_run first 
 
   pub one_within : (i : ℕ) → i < count → Some (settled_at first count x i) ≡ slice_get xs i
   one_within i within =
-      sym (ap (λ ys. slice_get ys i) (sym seen) ∙ slice_get_read (settled_run first count x) count i (settled_at first count x i) (sym (same_count first count x)) within (sym (get_or-map-range_with_len (settled_at first count x) 0 count i i (settled_at first count x i) within (omega arith))))
+      sym (ap (λ ys. slice_get ys i) (sym seen) ∙ slice_get_read (settled_run first count x) count i
+      (settled_at first count x i) (sym (same_count first count x)) within
+      (sym (get_or-map-range_with_len (settled_at first count x) 0 count i i (settled_at first count x i) within
+      (omega arith))))
 
 -- what two settle is the same where their fields are
 pub same_runs : (f₁ f₂ c₁ c₂ x₁ x₂ : ℕ) (xs₁ xs₂ : List Settlement) (p q b : Bool)

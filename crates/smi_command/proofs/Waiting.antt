@@ -1,5 +1,6 @@
 -- Which commands a link waits for.
-use Rattle.std.proofs.Common.{ℕ, zero, suc, ◌≡◌, ◌≤◌, ◌<◌, ◌+◌, ◌-◌, List, [], ◌∷◌, ◌++◌, length, drop, Some, None, ◌⊎◌, inl, inr, refl, sym, ap, ◌∙◌, arith, length-append, length-drop}
+use Rattle.std.proofs.Common.{ℕ, zero, suc, ◌≡◌, ◌≤◌, ◌<◌, ◌+◌, ◌-◌, List, [], ◌∷◌, ◌++◌, length, drop, Some, None}
+use Rattle.std.proofs.Common.{◌⊎◌, inl, inr, refl, sym, ap, ◌∙◌, arith, length-append, length-drop}
 use Rattle.std.specs.Prelude.{slice_get, option_map, Option, ◌==◌}
 use Rattle.std.proofs.lemmas.Option.{cond_some, slice_get_within}
 use Rattle.smi_grant.specs.declared.command.Command.{Command}
@@ -10,13 +11,15 @@ use Rattle.smi_command.specs.declared.link.Due.TheVariants.{Take, Drop, Run}
 use Rattle.smi_command.specs.Link.{due_of}
 use Rattle.smi_command.specs.Pending.{base_of}
 
-pub at_append : (xs : List Command) (i : ℕ) (c d : Command) → slice_get xs i ≡ Some c → slice_get (xs ++ d ∷ []) i ≡ Some c
+pub at_append : (xs : List Command) (i : ℕ) (c d : Command) → slice_get xs i ≡ Some c
+    → slice_get (xs ++ d ∷ []) i ≡ Some c
 at_append [] i c d e = absurd cc
 at_append (x ∷ xs) zero c d e = e
 at_append (x ∷ xs) (suc i) c d e = at_append xs i c d e
 
 -- what stands in a list with one more is the one more, or stood there
-pub from_append : (xs : List Command) (i : ℕ) (c d : Command) → slice_get (xs ++ d ∷ []) i ≡ Some c → (slice_get xs i ≡ Some c) ⊎ ((i ≡ length xs) × (d ≡ c))
+pub from_append : (xs : List Command) (i : ℕ) (c d : Command) → slice_get (xs ++ d ∷ []) i ≡ Some c
+    → (slice_get xs i ≡ Some c) ⊎ ((i ≡ length xs) × (d ≡ c))
 from_append [] zero c d e = inr (refl, cc)
 from_append [] (suc i) c d e = absurd cc
 from_append (x ∷ xs) zero c d e = inl e
@@ -30,23 +33,27 @@ at_drop (suc k) (x ∷ xs) i =
     at_drop k xs i ∙ ap (slice_get (x ∷ xs)) (sym next)
 
 -- what is due at a place of pending commands
-run_due : (o : Option Command) (f g e n : ℕ) (c : Command) → option_map (λ k. Run f g k) o ≡ Some (Run e n c) → (o ≡ Some c) × (f ≡ e) × (n ≡ g)
+run_due : (o : Option Command) (f g e n : ℕ) (c : Command) → option_map (λ k. Run f g k) o ≡ Some (Run e n c)
+    → (o ≡ Some c) × (f ≡ e) × (n ≡ g)
 run_due None f g e n c d = absurd cc
 run_due (Some k) f g e n c d = (let same : k ≡ c = cc in ap Some same, cc, cc)
 
 -- the link waits for each command that it is due
 pub due_waits : (l : Link) (i e n : ℕ) (c : Command) → due_of l i ≡ Some (Run e n c) → Waits l e n c
 due_waits (Out k) i e n c d = absurd cc
-due_waits (Taking s) i e n c d = let other : Take s ≡ Run e n c = (cond_some (i == 0) (Take s) (Run e n c) d).1 in absurd cc
+due_waits (Taking s) i e n c d = let other : Take s ≡ Run e n c = (cond_some (i == 0) (Take s) (Run e n c) d).1 in
+    absurd cc
 due_waits (Held f m p) i e n c d =
     let parts = run_due (slice_get p i) f (base_of m p + 1 + i) e n c d in
     record { newest = m; pending = p; at = i; is = ap (λ z. Held z m p) parts.1; command = parts.0; counts = parts.2 }
-due_waits (Dropping f) i e n c d = let other : Drop f ≡ Run e n c = (cond_some (i == 0) (Drop f) (Run e n c) d).1 in absurd cc
+due_waits (Dropping f) i e n c d = let other : Drop f ≡ Run e n c = (cond_some (i == 0) (Drop f) (Run e n c) d).1 in
+    absurd cc
 
 -- a take or a drop is due of a link that takes or drops
 pub due_take : (l : Link) (i s : ℕ) → due_of l i ≡ Some (Take s) → l ≡ Taking s
 due_take (Out k) i s d = absurd cc
-due_take (Taking u) i s d = let same : Take u ≡ Take s = (cond_some (i == 0) (Take u) (Take s) d).1 in let is : u ≡ s = cc in ap Taking is
+due_take (Taking u) i s d = let same : Take u ≡ Take s = (cond_some (i == 0) (Take u) (Take s) d).1 in
+    let is : u ≡ s = cc in ap Taking is
 due_take (Held f m p) i s d = absurd (not_run (slice_get p i) d)
   where
     not_run : (o : Option Command) → option_map (λ k. Run f (base_of m p + 1 + i) k) o ≡ Some (Take s) → ⊥
@@ -62,10 +69,12 @@ due_drop (Held f m p) i e d = absurd (not_run (slice_get p i) d)
     not_run : (o : Option Command) → option_map (λ k. Run f (base_of m p + 1 + i) k) o ≡ Some (Drop e) → ⊥
     not_run None e' = cc
     not_run (Some k) e' = cc
-due_drop (Dropping f) i e d = let same : Drop f ≡ Drop e = (cond_some (i == 0) (Drop f) (Drop e) d).1 in let is : f ≡ e = cc in ap Dropping is
+due_drop (Dropping f) i e d = let same : Drop f ≡ Drop e = (cond_some (i == 0) (Drop f) (Drop e) d).1 in
+    let is : f ≡ e = cc in ap Dropping is
 
 -- the number of a command that waits
-pub waiting_number : (e m : ℕ) (p : List Command) (f n : ℕ) (c : Command) → length p ≤ m → Waits (Held e m p) f n c → (base_of m p < n) × (n ≤ m)
+pub waiting_number : (e m : ℕ) (p : List Command) (f n : ℕ) (c : Command) → length p ≤ m → Waits (Held e m p) f n c
+    → (base_of m p < n) × (n ≤ m)
 waiting_number e m p f n c counted w =
     let newest : m ≡ w.newest = cc in
     let pending : p ≡ w.pending = cc in
@@ -74,7 +83,8 @@ waiting_number e m p f n c counted w =
     (omega (arith, w.counts), omega (arith, w.counts))
 
 -- one more command is pending
-pub waits_more : (e m : ℕ) (p : List Command) (d : Command) (f n : ℕ) (c : Command) → Waits (Held e m p) f n c → Waits (Held e (m + 1) (p ++ d ∷ [])) f n c
+pub waits_more : (e m : ℕ) (p : List Command) (d : Command) (f n : ℕ) (c : Command) → Waits (Held e m p) f n c
+    → Waits (Held e (m + 1) (p ++ d ∷ [])) f n c
 waits_more e m p d f n c w =
     let epoch : e ≡ f = cc in
     let newest : m ≡ w.newest = cc in
@@ -91,7 +101,8 @@ waits_more e m p d f n c w =
     }
 
 -- what waits then waited before, or is that one
-pub waited_or_new : (e m : ℕ) (p : List Command) (d : Command) (f n : ℕ) (c : Command) → length p ≤ m → Waits (Held e (m + 1) (p ++ d ∷ [])) f n c → Waits (Held e m p) f n c ⊎ ((e ≡ f) × (n ≡ m + 1) × (d ≡ c))
+pub waited_or_new : (e m : ℕ) (p : List Command) (d : Command) (f n : ℕ) (c : Command) → length p ≤ m
+    → Waits (Held e (m + 1) (p ++ d ∷ [])) f n c → Waits (Held e m p) f n c ⊎ ((e ≡ f) × (n ≡ m + 1) × (d ≡ c))
 waited_or_new e m p d f n c counted w =
     let epoch : e ≡ f = cc in
     let newest : m + 1 ≡ w.newest = cc in
@@ -99,12 +110,21 @@ waited_or_new e m p d f n c counted w =
     let more : length (p ++ d ∷ []) ≡ length p + 1 = length-append p (d ∷ []) in
     let same : length (p ++ d ∷ []) ≡ length w.pending = ap length pending in
     elim (from_append p w.at c d (ap (λ xs. slice_get xs w.at) pending ∙ w.command)) [
-      | inl old ↦ inl (record { newest = m; pending = p; at = w.at; is = ap (λ z. Held z m p) epoch; command = old; counts = omega (arith, w.counts) })
+      | inl old ↦ inl
+          (record {
+            newest = m;
+            pending = p;
+            at = w.at;
+            is = ap (λ z. Held z m p) epoch;
+            command = old;
+            counts = omega (arith, w.counts);
+          })
       | inr new ↦ inr (epoch, omega (arith, w.counts, new.0), new.1)
     ]
 
 -- the oldest are no longer pending: what waited is one of these, or waits still
-pub waits_less : (e m k : ℕ) (p : List Command) (f n : ℕ) (c : Command) → length p ≤ m → k ≤ length p → Waits (Held e m p) f n c → (n ≤ base_of m p + k) ⊎ Waits (Held e m (drop k p)) f n c
+pub waits_less : (e m k : ℕ) (p : List Command) (f n : ℕ) (c : Command) → length p ≤ m → k ≤ length p
+    → Waits (Held e m p) f n c → (n ≤ base_of m p + k) ⊎ Waits (Held e m (drop k p)) f n c
 waits_less e m k p f n c counted few w =
     let epoch : e ≡ f = cc in
     let newest : m ≡ w.newest = cc in
@@ -118,7 +138,8 @@ waits_less e m k p f n c counted few w =
         pending = drop k p;
         at = w.at - k;
         is = ap (λ z. Held z m (drop k p)) epoch;
-        command = at_drop k p (w.at - k) ∙ ap (slice_get p) (back w.at k high) ∙ ap (λ xs. slice_get xs w.at) pending ∙ w.command;
+        command = at_drop k p (w.at - k) ∙ ap (slice_get p) (back w.at k high) ∙ ap (λ xs. slice_get xs w.at) pending
+            ∙ w.command;
         counts = omega (arith, w.counts);
       })
     ]
@@ -130,7 +151,8 @@ waits_less e m k p f n c counted few w =
     back i j h = omega arith
 
 -- what still waits has waited
-pub waited : (e m k : ℕ) (p : List Command) (f n : ℕ) (c : Command) → length p ≤ m → k ≤ length p → Waits (Held e m (drop k p)) f n c → Waits (Held e m p) f n c
+pub waited : (e m k : ℕ) (p : List Command) (f n : ℕ) (c : Command) → length p ≤ m → k ≤ length p
+    → Waits (Held e m (drop k p)) f n c → Waits (Held e m p) f n c
 waited e m k p f n c counted few w =
     let epoch : e ≡ f = cc in
     let newest : m ≡ w.newest = cc in

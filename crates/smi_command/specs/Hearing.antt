@@ -1,5 +1,6 @@
 -- What a holder's link becomes where it is told a record, and what its holder learns by it.
-use Rattle.std.specs.Prelude.{ℕ, ◌+◌, ◌-◌, ◌==◌, ◌&&◌, nat_lt, nat_le, min, if◌then◌else◌, not, List, [], ◌∷◌, length, drop, map}
+use Rattle.std.specs.Prelude.{ℕ, ◌+◌, ◌-◌, ◌==◌, ◌&&◌, nat_lt, nat_le, min, if◌then◌else◌, not, List, [], ◌∷◌, length}
+use Rattle.std.specs.Prelude.{drop, map}
 use Rattle.std.specs.List.{range_with_len}
 use Rattle.smi_grant.specs.declared.command.Command.{Command}
 use Rattle.smi_grant.specs.declared.holder.Holder.{Holder}
@@ -28,7 +29,8 @@ told_taking s me r =
     if r.epoch == s + 1 && same_holder r.holder me then (Held (s + 1) 0 [], change_settled 0)
     else (if is_free r.holder && r.epoch == last_epoch then (Out last_epoch, change_settled 9)
     else (if is_free r.holder && nat_lt s r.epoch then (Taking r.epoch, Renewed)
-    else (if not (is_free r.holder) && (not (same_holder r.holder me) && nat_le s r.epoch) then (Out r.epoch, change_settled 5)
+    else (if not (is_free r.holder) && (not (same_holder r.holder me) && nat_le s r.epoch)
+    then (Out r.epoch, change_settled 5)
     else (Taking s, Unchanged))))
 
 -- the newest number that has settled, as far as the record shows

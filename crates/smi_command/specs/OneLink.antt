@@ -1,6 +1,7 @@
 -- One holder's link and the keeper of the domain, with a network that loses, repeats and reorders,
 -- and with strangers who may ask for anything.
-use Rattle.std.specs.Prelude.{ℕ, ◌≡◌, ◌⊎◌, ◌+◌, ◌==◌, ◌&&◌, nat_le, not, Bool, true, if◌then◌else◌, List, [], ◌∷◌, slice_get, Option, Some, None, Result, Ok, Err}
+use Rattle.std.specs.Prelude.{ℕ, ◌≡◌, ◌⊎◌, ◌+◌, ◌==◌, ◌&&◌, nat_le, not, Bool, true, if◌then◌else◌, List, [], ◌∷◌}
+use Rattle.std.specs.Prelude.{slice_get, Option, Some, None, Result, Ok, Err}
 use Rattle.smi_grant.specs.declared.command.Command.{Command}
 use Rattle.smi_grant.specs.declared.holder.Holder.{Holder}
 use Rattle.smi_grant.specs.declared.keeper.Verdict.{Verdict}
@@ -163,9 +164,11 @@ RunsInOrder (j ∷ ran) = (j.number ≡ runs_under j.epoch ran + 1) × RunsInOrd
 -- the commands that were issued under a number of the grant of an epoch
 abbrev pub issued_under : ℕ → ℕ → List Job → List Command
 issued_under e n [] = []
-issued_under e n (j ∷ issued) = if j.epoch == e && j.number == n then j.command ∷ issued_under e n issued else issued_under e n issued
+issued_under e n (j ∷ issued) = if j.epoch == e && j.number == n then j.command ∷ issued_under e n issued
+    else issued_under e n issued
 
 -- each run of this holder is of the one command that was issued under its number
 abbrev pub RanAsIssued : Holder → List Job → List Job → Type 0
 RanAsIssued me issued [] = Unit {0}
-RanAsIssued me issued (j ∷ ran) = (j.holder ≡ me → issued_under j.epoch j.number issued ≡ j.command ∷ []) × RanAsIssued me issued ran
+RanAsIssued me issued (j ∷ ran) = (j.holder ≡ me → issued_under j.epoch j.number issued ≡ j.command ∷ [])
+    × RanAsIssued me issued ran

@@ -26,7 +26,8 @@ pub stored_count : (places : List Command) (count : ℕ) → IsStored places cou
 stored_count places count s = length-take-le count places (omega (arith, s.all, s.within))
 
 -- the commands and the places that they leave are all the places
-pub stored_places : (places : List Command) (count : ℕ) → IsStored places count → take count places ++ unused (most_pending - length (take count places)) ≡ places
+pub stored_places : (places : List Command) (count : ℕ) → IsStored places count
+    → take count places ++ unused (most_pending - length (take count places)) ≡ places
 stored_places places count s =
     ap (λ n. take count places ++ unused (most_pending - n)) (stored_count places count s)
     ∙ ap (λ xs. take count places ++ xs) (sym s.rest)

@@ -40,14 +40,16 @@ same_count first count x = length-map-range_with_len (settled_at first count x) 
 pub same_first : (first count x : ℕ) → IsRun first count → first_number (settled_run first count x) ≡ first
 unfolding first_number
 same_first first count x r =
-    ap (λ (s : Settlement). s.number) (get_or-map-range_with_len (settled_at first count x) 0 count 0 0 (settlement 0 0) (omega (arith, r.some)) (omega arith))
+    ap (λ (s : Settlement). s.number) (get_or-map-range_with_len (settled_at first count x) 0 count 0 0
+    (settlement 0 0) (omega (arith, r.some)) (omega arith))
     ∙ omega arith
 
 pub same_code : (first count x : ℕ) → IsRun first count → last_code (settled_run first count x) ≡ x
 unfolding last_code
 same_code first count x r =
     ap (λ n. (get_or (settled_run first count x) (n - 1) (settlement 0 0)).code) (same_count first count x)
-    ∙ ap (λ (s : Settlement). s.code) (get_or-map-range_with_len (settled_at first count x) 0 count (count - 1) (count - 1) (settlement 0 0) (omega (arith, r.some)) (omega arith))
+    ∙ ap (λ (s : Settlement). s.code) (get_or-map-range_with_len (settled_at first count x) 0 count (count - 1)
+    (count - 1) (settlement 0 0) (omega (arith, r.some)) (omega arith))
     ∙ newest count (omega (arith, r.some))
   where
     newest : (count : ℕ) → 1 ≤ count → (if count - 1 + 1 == count then x else unseen) ≡ x

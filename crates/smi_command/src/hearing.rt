@@ -8,7 +8,7 @@ use smi_grant::{Holder, LAST_EPOCH, Phase, Record};
 /// What a link has learned from a record.
 #[derive(Clone, Copy, Debug, PartialEq, Eq)]
 pub enum LinkHeard {
-    /// Nothing: the link is as it was.
+    /// Nothing: the link is unchanged.
     Unchanged,
     /// The domain is free again at a later epoch, so the take goes on with that one.
     Renewed,

@@ -1,7 +1,8 @@
 //! What holds of every link, and of a link and the keeper's record, whatever becomes of the
 //! datagrams between them.
 
-ghost use Rattle.std.specs.Prelude.{ℕ, List, Ok, Some, IsErr, false, drop, length, slice_get, ◌≡◌, ◌<◌, ◌≤◌, ◌+◌, ◌⊎◌, ◌↔◌};
+ghost use Rattle.std.specs.Prelude.{ℕ, List, Ok, Some, IsErr, false, drop, length, slice_get, ◌≡◌, ◌<◌, ◌≤◌, ◌+◌};
+ghost use Rattle.std.specs.Prelude.{◌⊎◌, ◌↔◌};
 ghost use Rattle.smi_grant.specs.declared.command.Command.{Command};
 ghost use Rattle.smi_grant.specs.declared.holder.Holder.{Holder};
 ghost use Rattle.smi_grant.specs.Holder.{is_free};

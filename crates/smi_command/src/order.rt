@@ -3,17 +3,22 @@ ghost use Rattle.smi_command.specs.Order.{refusal_code, take_begun, command_issu
 
 use crate::{Link, Pending};
 use smi_grant::{Command, LAST_NUMBER};
+use thiserror::Error;
 
 /// Why a link cannot do what its holder orders.
-#[derive(Clone, Copy, Debug, PartialEq, Eq)]
+#[derive(Clone, Copy, Debug, PartialEq, Eq, Error)]
 pub enum Refusal {
     /// The domain is not held.
+    #[error("21: the domain is not held")]
     NotHeld,
     /// Too many commands are pending: any for a drop, eight for a further command.
+    #[error("22: a command is still pending")]
     CommandPending,
     /// A take is for a domain that is neither held nor asked for.
+    #[error("23: the domain is held or asked for")]
     NotOut,
     /// The last number of the grant is used.
+    #[error("24: the last number of the grant is used")]
     NumbersSpent,
 }
 

@@ -27,7 +27,8 @@ pub struct Settlements {
 impl Model for Settlements {
     ghost use Rattle.std.specs.Prelude.{List, length};
     ghost use Rattle.smi_command.specs.declared.settlements.Settlement.{Settlement};
-    ghost use Rattle.smi_command.specs.Settlements.{IsRun, settled_run, first_number, last_code, same_first, same_count, same_code};
+    ghost use Rattle.smi_command.specs.Settlements.{IsRun, settled_run, first_number, last_code, same_first};
+    ghost use Rattle.smi_command.specs.Settlements.{same_count, same_code};
 
     ghost Value = { List Settlement };
 

@@ -1,5 +1,6 @@
 -- What a line asks of a node.
-use Rattle.std.specs.Prelude.{ℕ, nat_lt, ◌==◌, ok_or, List, [], ◌∷◌, length, Bool, true, false, codes, Option, Some, None, Result, Ok, Err, if◌then◌else◌}
+use Rattle.std.specs.Prelude.{ℕ, nat_lt, ◌==◌, ok_or, List, [], ◌∷◌, length, Bool, true, false, codes, Option, Some}
+use Rattle.std.specs.Prelude.{None, Result, Ok, Err, if◌then◌else◌}
 use Rattle.std.specs.List.{list_any}
 use Rattle.std.specs.Str.{bytes_eq}
 use Rattle.smi_tree.specs.Fault.{◌>>=◌}
@@ -26,7 +27,8 @@ is_of operators operator = list_any (λ o. o == operator) operators
 -- what an item of a schedule asks of a node with these operators: no other operator is known there, and nothing else
 -- than an order or a report is asked so
 abbrev pub asked : List ℕ → Item → Result Request Fault
-asked operators (item.Do (deed.Order operator what)) = if is_of operators operator then Ok (request.Order operator what) else Err UnknownName
+asked operators (item.Do (deed.Order operator what)) =
+    if is_of operators operator then Ok (request.Order operator what) else Err UnknownName
 asked operators (item.Do (deed.Report device state)) = Ok (request.Report device state)
 asked operators (item.Do (deed.Deliver number)) = Err UnknownWord
 asked operators (item.Do (deed.Recent before)) = Err UnknownWord
@@ -47,7 +49,7 @@ request_as_item h operators line = do
   what ← item_in h line
   asked_so operators what
 
--- behind `show` stands an object
+-- after `show` stands an object
 unfoldable pub shown : Hierarchy → List (List ℕ) → Result Request Fault
 shown h more = do
   name ← declaration.one_name more
@@ -79,4 +81,5 @@ request_by h operators line (word ∷ more) =
 
 -- a line of over 200 bytes is refused first; one without words, or that begins with #, is skipped
 unfoldable pub request_in : Hierarchy → List ℕ → List ℕ → Result (Option Request) Fault
-request_in h operators line = if nat_lt 200 (length line) then Err LineTooLong else request_by h operators line (words line)
+request_in h operators line = if nat_lt 200 (length line) then Err LineTooLong
+    else request_by h operators line (words line)

@@ -36,7 +36,7 @@ pub(crate) struct Post<J: BoardId> {
     pub(crate) bell: Bell,
 }
 
-/// The pause behind so many looks.
+/// The pause after so many looks.
 fn pause(looks: u32) -> Duration {
     Duration::from_micros(if looks < FIRST_LOOKS {
         FIRST_PAUSE

@@ -1,5 +1,6 @@
 -- What a watch finds of the lists.
-use Rattle.std.proofs.Common.{ℕ, ◌≡◌, ◌<◌, ◌≤◌, ◌-◌, Bool, true, false, List, [], ◌∷◌, length, Option, Some, None, refl, ap, ◌∙◌, arith}
+use Rattle.std.proofs.Common.{ℕ, ◌≡◌, ◌<◌, ◌≤◌, ◌-◌, Bool, true, false, List, [], ◌∷◌, length, Option, Some, None}
+use Rattle.std.proofs.Common.{refl, ap, ◌∙◌, arith}
 use Rattle.std.specs.Prelude.{◌==◌, not, if◌then◌else◌, option_map, slice_get, unwrap_or}
 use Rattle.std.proofs.lemmas.Bool.{eq-eqb}
 use Rattle.std.proofs.lemmas.Bool.Decides.{nat_tests}
@@ -23,11 +24,13 @@ others_twice from [] = refl
 others_twice from (w ∷ ws) = by (is_of from w) refl (others_twice from ws)
   where
     by : (b : Bool) → is_of from w ≡ b → others_of from (others_of from ws) ≡ others_of from ws
-        → others_of from (if not b then w ∷ others_of from ws else others_of from ws) ≡ (if not b then w ∷ others_of from ws else others_of from ws)
+        → others_of from (if not b then w ∷ others_of from ws else others_of from ws)
+        ≡ (if not b then w ∷ others_of from ws else others_of from ws)
     by true is rest = rest
     by false is rest = rw is (ap (λ zs. w ∷ zs) rest)
 
-listed_left : (from : ℕ) (lists : List (List Watcher)) (x : ℕ) → listed (left_by from lists) x ≡ others_of from (listed lists x)
+listed_left : (from : ℕ) (lists : List (List Watcher)) (x : ℕ)
+    → listed (left_by from lists) x ≡ others_of from (listed lists x)
 listed_left from lists x = rw (slice_get-map (others_of from) lists (x - 1)) (by (slice_get lists (x - 1)))
   where
     by : (o : Option (List Watcher)) → unwrap_or (option_map (others_of from) o) [] ≡ others_of from (unwrap_or o [])
@@ -35,20 +38,25 @@ listed_left from lists x = rw (slice_get-map (others_of from) lists (x - 1)) (by
     by (Some ws) = refl
 
 -- the list is as full for a station before and after it has left
-pub full_left : (from : ℕ) (lists : List (List Watcher)) (x : ℕ) → is_full (left_by from lists) x from ≡ is_full lists x from
-full_left from lists x = ap (λ ws. length ws == most_watchers) (ap (others_of from) (listed_left from lists x) ∙ others_twice from (listed lists x))
+pub full_left : (from : ℕ) (lists : List (List Watcher)) (x : ℕ)
+    → is_full (left_by from lists) x from ≡ is_full lists x from
+full_left from lists x = ap (λ ws. length ws == most_watchers)
+    (ap (others_of from) (listed_left from lists x) ∙ others_twice from (listed lists x))
 
-pub is_full_at : (lists : List (List Watcher)) (x from : ℕ) → length (others_of from (listed lists x)) ≡ most_watchers → is_full lists x from ≡ true
+pub is_full_at : (lists : List (List Watcher)) (x from : ℕ)
+    → length (others_of from (listed lists x)) ≡ most_watchers → is_full lists x from ≡ true
 is_full_at lists x from full = eq-eqb (length (others_of from (listed lists x))) most_watchers full
 
-pub has_room_at : (lists : List (List Watcher)) (x from : ℕ) → length (others_of from (listed lists x)) < most_watchers → is_full lists x from ≡ false
+pub has_room_at : (lists : List (List Watcher)) (x from : ℕ)
+    → length (others_of from (listed lists x)) < most_watchers → is_full lists x from ≡ false
 has_room_at lists x from room = below (length (others_of from (listed lists x))) room
   where
     below : (n : ℕ) → n < most_watchers → (n == most_watchers) ≡ false
     below n r = grind (arith, nat_tests)
 
 -- an operator of a station is one of the tree
-pub operator_within : (h : Hierarchy) → IsTree h → (o number : ℕ) → is_number (operator_station_of h o) number ≡ true → IsBetween 1 (operator_count h) o
+pub operator_within : (h : Hierarchy) → IsTree h → (o number : ℕ) → is_number (operator_station_of h o) number ≡ true
+    → IsBetween 1 (operator_count h) o
 operator_within h tree o number is =
     let there = number_within h.homes o number (number_is (operator_station_of h o) number is) in
     record { least = there.least; most = omega (arith, there.most, tree.lawful.operators.rows) }

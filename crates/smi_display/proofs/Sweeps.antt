@@ -1,5 +1,6 @@
 -- A sweep goes through lists one by one.
-use Rattle.std.proofs.Common.{ℕ, zero, suc, ◌≡◌, ◌<◌, ◌+◌, ◌-◌, Bool, true, false, List, [], ◌∷◌, ◌++◌, length, drop, take, get_or, map, Option, Some, None, refl, sym, ap, ◌∙◌, subst, arith}
+use Rattle.std.proofs.Common.{ℕ, zero, suc, ◌≡◌, ◌<◌, ◌+◌, ◌-◌, Bool, true, false, List, [], ◌∷◌, ◌++◌, length, drop}
+use Rattle.std.proofs.Common.{take, get_or, map, Option, Some, None, refl, sym, ap, ◌∙◌, subst, arith}
 use Rattle.std.specs.Prelude.{◌==◌, ◌&&◌, filter, if◌then◌else◌, not}
 use Rattle.std.proofs.lemmas.Bool.Decides.{nat_tests}
 use Rattle.std.specs.List.{cons_option, filter_map, flat_map, range_with_len}
@@ -31,7 +32,8 @@ range_next low n i within = ap (range_with_len low) (one_less n i within)
 
 -- numbers one by one
 pub range_offered : (s : Sweeping) (f : ℕ → List Owed) (n i : ℕ) → i < n
-    → offered s (flat_map f (range_with_len (i + 1) (n - i))) ≡ offered (offered s (f (i + 1))) (flat_map f (range_with_len (i + 1 + 1) (n - (i + 1))))
+    → offered s (flat_map f (range_with_len (i + 1) (n - i)))
+    ≡ offered (offered s (f (i + 1))) (flat_map f (range_with_len (i + 1 + 1) (n - (i + 1))))
 range_offered s f n i within =
     ap (λ xs. offered s (flat_map f xs)) (range_next (i + 1) n i within)
     ∙ sym (offered_twice s (f (i + 1)) (flat_map f (range_with_len (i + 1 + 1) (n - (i + 1)))))
@@ -45,24 +47,30 @@ list_offered s f xs i d within =
 
 -- what a link is due, one by one
 pub due_offered : (s : Sweeping) (f : Due → Owed) (due : ℕ → Option Due) (n i : ℕ) → i < n
-    → offered s (map f (filter_map due (range_with_len i (n - i)))) ≡ offered (offered s (map f (if_any (due i)))) (map f (filter_map due (range_with_len (i + 1) (n - (i + 1)))))
+    → offered s (map f (filter_map due (range_with_len i (n - i))))
+    ≡ offered (offered s (map f (if_any (due i)))) (map f (filter_map due (range_with_len (i + 1) (n - (i + 1)))))
 due_offered s f due n i within =
     ap (λ xs. offered s (map f (filter_map due xs))) (range_next i n i within)
     ∙ by (due i) (filter_map due (range_with_len (i + 1) (n - (i + 1))))
   where
-    by : (o : Option Due) (rest : List Due) → offered s (map f (cons_option o rest)) ≡ offered (offered s (map f (if_any o))) (map f rest)
+    by : (o : Option Due) (rest : List Due) → offered s (map f (cons_option o rest))
+        ≡ offered (offered s (map f (if_any o))) (map f rest)
     by None rest = refl
     by (Some x) rest = refl
 
 -- an operator in the list of a station's is one of the tree
-pub operator_at : (h : Hierarchy) → IsTree h → (number : ℕ) (xs : List ℕ) (i d : ℕ) → xs ≡ operators_of h number → i < length xs → IsBetween 1 (operator_count h) (get_or xs i d)
+pub operator_at : (h : Hierarchy) → IsTree h → (number : ℕ) (xs : List ℕ) (i d : ℕ) → xs ≡ operators_of h number
+    → i < length xs → IsBetween 1 (operator_count h) (get_or xs i d)
 operator_at h tree number xs i d is within =
-    let ours = operator_ours h number (get_or (operators_of h number) i d) (in_at (operators_of h number) i d (subst (λ ys. i < length ys) is within)) in
+    let ours = operator_ours h number (get_or (operators_of h number) i d)
+    (in_at (operators_of h number) i d (subst (λ ys. i < length ys) is within)) in
     let there = number_within h.homes (get_or (operators_of h number) i d) number ours in
-    subst (λ ys. IsBetween 1 (operator_count h) (get_or ys i d)) (sym is) (record { least = there.least; most = omega (arith, there.most, tree.lawful.operators.rows) })
+    subst (λ ys. IsBetween 1 (operator_count h) (get_or ys i d)) (sym is)
+    (record { least = there.least; most = omega (arith, there.most, tree.lawful.operators.rows) })
 
 -- a domain that is kept is one of the tree
-pub keeper_within : (h : Hierarchy) → IsTree h → (number d : ℕ) → is_keeper h number d ≡ true → IsBetween 1 (domain_count h) d
+pub keeper_within : (h : Hierarchy) → IsTree h → (number d : ℕ) → is_keeper h number d ≡ true
+    → IsBetween 1 (domain_count h) d
 keeper_within h tree number d is = (kept_there h tree number d is).0
 
 -- What a sweep sends, and where the next begins.
@@ -74,15 +82,20 @@ due_from p xs = filter (λ (x : Owed). not (is_before x.place p)) xs
 abbrev sends : Out → List Owed → Out
 sends out xs = record out { datagrams = sent_after out.datagrams (map (λ (x : Owed). x.message) xs) }
 
-pub record Swept (h : Hierarchy) (last : Place) (before : Out) (sent : List Owed) (room : ℕ) (after : Sweeping) : Type 0 where
+pub record Swept (h : Hierarchy) (last : Place) (before : Out) (sent : List Owed) (room : ℕ) (after : Sweeping)
+    : Type 0 where
   pub out : after.out ≡ sends before sent
   pub place : place_after h after.sweep ≡ place_behind h last room sent
 
-no_room : (h : Hierarchy) (p last : Place) (out : Out) (xs : List Owed) → offered (sweeping (record { from = p; last = last; room = 0 }) out) xs ≡ sweeping (record { from = p; last = last; room = 0 }) out
+no_room : (h : Hierarchy) (p last : Place) (out : Out) (xs : List Owed)
+    → offered (sweeping (record { from = p; last = last; room = 0 }) out) xs
+    ≡ sweeping (record { from = p; last = last; room = 0 }) out
 no_room h p last out [] = refl
 no_room h p last out (x ∷ xs) = no_room h p last out xs
 
-pub sweeps : (h : Hierarchy) (p last : Place) (room : ℕ) (out : Out) (xs : List Owed) → Swept h last out (take room (due_from p xs)) room (offered (sweeping (record { from = p; last = last; room = room }) out) xs)
+pub sweeps : (h : Hierarchy) (p last : Place) (room : ℕ) (out : Out) (xs : List Owed)
+    → Swept h last out (take room (due_from p xs)) room
+    (offered (sweeping (record { from = p; last = last; room = room }) out) xs)
 sweeps h p last zero out xs = record {
   out = ap (λ (s : Sweeping). s.out) (no_room h p last out xs);
   place = ap (λ (s : Sweeping). place_after h s.sweep) (no_room h p last out xs);
@@ -96,10 +109,18 @@ sweeps h p last (suc k) out (x ∷ xs) = by (is_before x.place p) refl (λ l r o
     one_less : (k : ℕ) → suc k - 1 ≡ k
     one_less k = omega arith
 
-    by : (b : Bool) → is_before x.place p ≡ b → ((l : Place) (r : ℕ) (o : Out) → Swept h l o (take r (due_from p xs)) r (offered (sweeping (record { from = p; last = l; room = r }) o) xs))
+    by : (b : Bool) → is_before x.place p ≡ b → ((l : Place) (r : ℕ) (o : Out)
+        → Swept h l o (take r (due_from p xs)) r (offered (sweeping (record { from = p; last = l; room = r }) o) xs))
         → Swept h last out (take (suc k) (if not b then x ∷ due_from p xs else due_from p xs)) (suc k)
-        (offered (if not (suc k == 0) && not b then sweeping (record { from = p; last = x.place; room = suc k - 1 }) (record out { datagrams = sent_after out.datagrams (x.message ∷ []) }) else sweeping (record { from = p; last = last; room = suc k }) out) xs)
+        (offered (if not (suc k == 0) && not b then sweeping (record { from = p; last = x.place; room = suc k - 1 })
+        (record out { datagrams = sent_after out.datagrams (x.message ∷ []) })
+        else sweeping (record { from = p; last = last; room = suc k }) out) xs)
     by true is rest = rw (positive k) (rest last (suc k) out)
     by false is rest =
         let r = rest x.place k (record out { datagrams = sent_after out.datagrams (x.message ∷ []) }) in
-        rw (positive k, one_less k) (record { out = r.out; place = r.place ∙ ap (λ n. place_behind h x.place n (take k (due_from p xs))) (sym (one_less k)) })
+        rw (positive k, one_less k)
+        (record {
+          out = r.out;
+          place = r.place ∙ ap (λ n. place_behind h x.place n (take k (due_from p xs)))
+              (sym (one_less k));
+        })

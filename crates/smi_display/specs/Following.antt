@@ -9,4 +9,5 @@ use Rattle.smi_display.specs.Members.{Listed, followed_by, listed_of}
 -- the unit of a domain follows its members, which were these
 abbrev pub followed_at : Displayed → Grants → Listed → ℕ → ℕ → Option Condition
 followed_at s g before d =
-    followed_by s.tree before (listed_of (members_of s.tree g (display_of s).conditions (display_of s).shown d)) (display_of s).conditions d
+    followed_by s.tree before (listed_of (members_of s.tree g (display_of s).conditions (display_of s).shown d))
+    (display_of s).conditions d

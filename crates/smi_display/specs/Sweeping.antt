@@ -68,4 +68,5 @@ child_owed h number p x l = map (λ due. owed (place.Child x) (requests h number
 
 -- what an operator's link to a domain is due
 abbrev pub domain_owed : Hierarchy → ℕ → ℕ → ℕ → Link → List Owed
-domain_owed h number o d l = map (λ due. owed (place.Link o d (number_of_due due)) (requests h number (Operator o) d due)) (all_due l)
+domain_owed h number o d l =
+    map (λ due. owed (place.Link o d (number_of_due due)) (requests h number (Operator o) d due)) (all_due l)

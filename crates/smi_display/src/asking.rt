@@ -57,8 +57,12 @@ impl<'a> Displayed<'a> {
     fn ask(&mut self, out: &mut Out, operator: u16, domain: u16)
         requires operator { IsBetween 1 (operator_count self.old.tree) operator }
         requires domain { IsBetween 1 (domain_count self.old.tree) domain }
-        ensures display { display_of self.new ≡ (order_noticed self.old.tree self.old.number self.old.published.boot (display_of self.old) operator (Ask domain)).display }
-        ensures sent { out.new ≡ with_notice out.old (order_noticed self.old.tree self.old.number self.old.published.boot (display_of self.old) operator (Ask domain)) }
+        ensures display { display_of self.new
+            ≡ (order_noticed self.old.tree self.old.number self.old.published.boot (display_of self.old) operator
+            (Ask domain)).display }
+        ensures sent { out.new ≡ with_notice out.old
+            (order_noticed self.old.tree self.old.number self.old.published.boot (display_of self.old) operator
+            (Ask domain)) }
         ensures rest { KeepsTheRest self.old self.new }
     {
         self.asks[usize::from(operator) - 1] = Some(domain);
@@ -69,8 +73,12 @@ impl<'a> Displayed<'a> {
     fn watch(&mut self, out: &mut Out, operator: u16, object: u16)
         requires object { IsBetween 1 (object_count self.old.tree) object }
         requires room { length out.old.answers < most_answers }
-        ensures display { display_of self.new ≡ (order_noticed self.old.tree self.old.number self.old.published.boot (display_of self.old) operator (Watch object)).display }
-        ensures sent { out.new ≡ with_notice out.old (order_noticed self.old.tree self.old.number self.old.published.boot (display_of self.old) operator (Watch object)) }
+        ensures display { display_of self.new
+            ≡ (order_noticed self.old.tree self.old.number self.old.published.boot (display_of self.old) operator
+            (Watch object)).display }
+        ensures sent { out.new ≡ with_notice out.old
+            (order_noticed self.old.tree self.old.number self.old.published.boot (display_of self.old) operator
+            (Watch object)) }
         ensures rest { KeepsTheRest self.old self.new }
     {
         self.named[usize::from(object) - 1] = true;
@@ -82,8 +90,12 @@ impl<'a> Displayed<'a> {
     fn unwatch(&mut self, out: &mut Out, operator: u16, object: u16)
         requires object { IsBetween 1 (object_count self.old.tree) object }
         requires room { length out.old.answers < most_answers }
-        ensures display { display_of self.new ≡ (order_noticed self.old.tree self.old.number self.old.published.boot (display_of self.old) operator (Unwatch object)).display }
-        ensures sent { out.new ≡ with_notice out.old (order_noticed self.old.tree self.old.number self.old.published.boot (display_of self.old) operator (Unwatch object)) }
+        ensures display { display_of self.new
+            ≡ (order_noticed self.old.tree self.old.number self.old.published.boot (display_of self.old) operator
+            (Unwatch object)).display }
+        ensures sent { out.new ≡ with_notice out.old
+            (order_noticed self.old.tree self.old.number self.old.published.boot (display_of self.old) operator
+            (Unwatch object)) }
         ensures rest { KeepsTheRest self.old self.new }
     {
         let told = answered(operator, Order::Unwatch(object), 0);
@@ -101,8 +113,12 @@ impl<'a> Displayed<'a> {
     pub fn order_comes(&mut self, out: &mut Out, operator: u16, order: &Order)
         requires here { is_order_here self.old.tree self.old.number operator order.now ≡ true }
         requires room { length out.old.answers < most_answers }
-        ensures display { display_of self.new ≡ (order_noticed self.old.tree self.old.number self.old.published.boot (display_of self.old) operator order.now).display }
-        ensures sent { out.new ≡ with_notice out.old (order_noticed self.old.tree self.old.number self.old.published.boot (display_of self.old) operator order.now) }
+        ensures display { display_of self.new
+            ≡ (order_noticed self.old.tree self.old.number self.old.published.boot (display_of self.old) operator
+            order.now).display }
+        ensures sent { out.new ≡ with_notice out.old
+            (order_noticed self.old.tree self.old.number self.old.published.boot (display_of self.old) operator
+            order.now) }
         ensures rest { KeepsTheRest self.old self.new }
     {
         let _tree = self.tree();
@@ -124,8 +140,10 @@ impl<'a> Displayed<'a> {
     /// A record is told: whoever has asked about the domain is answered, and asks no more.
     pub fn record_comes(&mut self, out: &mut Out, domain: u16, news: &Record)
         requires room { length out.old.answers + 8 ≤ most_answers }
-        ensures display { display_of self.new ≡ (record_comes self.old.tree self.old.number (display_of self.old) domain news.now).display }
-        ensures sent { out.new ≡ with_notice out.old (record_comes self.old.tree self.old.number (display_of self.old) domain news.now) }
+        ensures display { display_of self.new
+            ≡ (record_comes self.old.tree self.old.number (display_of self.old) domain news.now).display }
+        ensures sent { out.new ≡ with_notice out.old
+            (record_comes self.old.tree self.old.number (display_of self.old) domain news.now) }
         ensures rest { KeepsTheRest self.old self.new }
     {
         self.answer_askers(out, domain, news);
@@ -135,7 +153,12 @@ impl<'a> Displayed<'a> {
     /// Whoever has asked about the domain is answered.
     fn answer_askers(&self, out: &mut Out, domain: u16, news: &Record)
         requires room { length out.old.answers + 8 ≤ most_answers }
-        ensures { out.new ≡ record out.old { answers = answered_after out.old.answers (map (λ o. answer_asked o domain news.now) (filter (has_asked (display_of self.now) domain) (operators_of self.now.tree self.now.number))) } }
+        ensures { out.new
+            ≡ record out.old {
+              answers = answered_after out.old.answers
+                  (map (λ o. answer_asked o domain news.now)
+                  (filter (has_asked (display_of self.now) domain) (operators_of self.now.tree self.now.number)));
+            } }
     {
         let operators = self.tree.operators(self.number);
         for operator in operators {

@@ -48,9 +48,16 @@ impl<'a> Displayed<'a> {
         requires room { HasRoom (display_of self.old).conditions domain }
         requires few { length changes.old < most_changes }
         requires shown { AllByRecursion (IsShown self.old.tree) changes.old }
-        ensures display { display_of self.new ≡ record (display_of self.old) { conditions = followed_at self.old (grants_of kept.now) before.now domain } }
-        ensures changes { changes.new ≡ changes.old ++ if_any (change_at self.old.published.boot (display_of self.old).conditions (display_of self.new).conditions domain) }
-        ensures sent { out.new ≡ record out.old { datagrams = sent_after out.old.datagrams (flat_map (shown_to_all self.old.tree self.old.number self.old.watchers) changes.new) } }
+        ensures display { display_of self.new ≡ record
+            (display_of self.old) { conditions = followed_at self.old (grants_of kept.now) before.now domain } }
+        ensures changes { changes.new ≡ changes.old
+            ++ if_any (change_at self.old.published.boot (display_of self.old).conditions
+            (display_of self.new).conditions domain) }
+        ensures sent { out.new
+            ≡ record out.old {
+              datagrams = sent_after out.old.datagrams
+                  (flat_map (shown_to_all self.old.tree self.old.number self.old.watchers) changes.new);
+            } }
         ensures spent { result ≡ is_spent changes.new }
         ensures rest { KeepsTheRest self.old self.new }
     {

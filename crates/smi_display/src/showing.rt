@@ -76,7 +76,8 @@ impl<'a> Displayed<'a> {
         requires least { 1 ≤ domain }
         requires most { domain ≤ domain_count self.now.tree }
         requires room { length members.old.objects ≡ 0 }
-        ensures members { members.new ≡ added members.old (device_members self.now.tree (display_of self.now).conditions domain) }
+        ensures members { members.new ≡ added members.old
+            (device_members self.now.tree (display_of self.now).conditions domain) }
         ensures few { length members.new.objects ≤ 16 }
     {
         let domains = self.tree.domain_count();
@@ -92,7 +93,8 @@ impl<'a> Displayed<'a> {
         requires least { 1 ≤ domain }
         requires most { domain ≤ domain_count self.now.tree }
         requires room { length members.old.objects ≤ 16 }
-        ensures { members.new ≡ added members.old (child_members self.now.tree (grants_of kept.now) (display_of self.now).shown domain) }
+        ensures { members.new
+            ≡ added members.old (child_members self.now.tree (grants_of kept.now) (display_of self.now).shown domain) }
     {
         let children = self.tree.children(domain);
         for child in children {
@@ -108,7 +110,9 @@ impl<'a> Displayed<'a> {
     pub fn members(&self, kept: &Kept<'_>, domain: u16) -> Members
         requires least { 1 ≤ domain }
         requires most { domain ≤ domain_count self.now.tree }
-        ensures { result ≡ listed_of (members_of self.now.tree (grants_of kept.now) (display_of self.now).conditions (display_of self.now).shown domain) }
+        ensures { result
+            ≡ listed_of (members_of self.now.tree (grants_of kept.now) (display_of self.now).conditions
+            (display_of self.now).shown domain) }
     {
         let mut members = Members::new();
         self.add_devices(&mut members, domain);
@@ -121,8 +125,10 @@ impl<'a> Displayed<'a> {
         requires least { 1 ≤ domain }
         requires most { domain ≤ domain_count self.old.tree }
         requires room { MayChange (display_of self.old) }
-        ensures display { display_of self.new ≡ record (display_of self.old) { conditions = acted self.old.tree (display_of self.old).conditions domain action } }
-        ensures changes { result ≡ changes_at self.old.published.boot (display_of self.old).conditions (display_of self.new).conditions (device_objects self.old.tree domain) }
+        ensures display { display_of self.new ≡ record
+            (display_of self.old) { conditions = acted self.old.tree (display_of self.old).conditions domain action } }
+        ensures changes { result ≡ changes_at self.old.published.boot (display_of self.old).conditions
+            (display_of self.new).conditions (device_objects self.old.tree domain) }
         ensures few { length result < most_changes }
         ensures shown { AllByRecursion (IsShown self.old.tree) result }
         ensures rest { KeepsTheRest self.old self.new }
@@ -135,8 +141,13 @@ impl<'a> Displayed<'a> {
         requires device { IsBetween 1 (device_count self.old.tree) device }
         requires state { IsBetween 1 (state_count self.old.tree) state }
         requires room { MayChange (display_of self.old) }
-        ensures display { display_of self.new ≡ record (display_of self.old) { conditions = reported (display_of self.old).conditions (domain_count self.old.tree + device) state } }
-        ensures change { result ≡ change_at self.old.published.boot (display_of self.old).conditions (display_of self.new).conditions (domain_count self.old.tree + device) }
+        ensures display { display_of self.new ≡ record
+            (display_of self.old) {
+              conditions = reported (display_of self.old).conditions
+                  (domain_count self.old.tree + device) state;
+            } }
+        ensures change { result ≡ change_at self.old.published.boot (display_of self.old).conditions
+            (display_of self.new).conditions (domain_count self.old.tree + device) }
         ensures shown { IfSome result (IsShown self.old.tree) }
         ensures rest { KeepsTheRest self.old self.new }
     {
@@ -147,8 +158,13 @@ impl<'a> Displayed<'a> {
     /// A unit follows its members, where they are not what they were; what it shows anew.
     pub fn follow(&mut self, domain: u16, before: &Members, after: &Members) -> Option<Shown>
         requires room { HasRoom (display_of self.old).conditions domain }
-        ensures display { display_of self.new ≡ record (display_of self.old) { conditions = followed_by self.old.tree before.now after.now (display_of self.old).conditions domain } }
-        ensures change { result ≡ change_at self.old.published.boot (display_of self.old).conditions (display_of self.new).conditions domain }
+        ensures display { display_of self.new ≡ record
+            (display_of self.old) {
+              conditions = followed_by self.old.tree before.now after.now
+                  (display_of self.old).conditions domain;
+            } }
+        ensures change { result ≡ change_at self.old.published.boot (display_of self.old).conditions
+            (display_of self.new).conditions domain }
         ensures shown { IfSome result (IsShown self.old.tree) }
         ensures rest { KeepsTheRest self.old self.new }
     {
@@ -161,7 +177,11 @@ impl<'a> Displayed<'a> {
     /// Whoever watches an object is told what it shows.
     fn show_to_all(&self, out: &mut Out, shown: Shown)
         requires { IsShown self.now.tree shown }
-        ensures { out.new ≡ record out.old { datagrams = sent_after out.old.datagrams (shown_to_all self.now.tree self.now.number self.now.watchers shown) } }
+        ensures { out.new
+            ≡ record out.old {
+              datagrams = sent_after out.old.datagrams
+                  (shown_to_all self.now.tree self.now.number self.now.watchers shown);
+            } }
     {
         for watcher in self.watchers.walk(shown.object) {
             out.send(show(self.tree, self.number, watcher.station, watcher.echo, shown));
@@ -171,7 +191,11 @@ impl<'a> Displayed<'a> {
     /// Whoever watches the objects that show something anew is told so.
     pub fn send_changes(&self, out: &mut Out, changes: &[Shown])
         requires { AllByRecursion (IsShown self.now.tree) changes.now }
-        ensures { out.new ≡ record out.old { datagrams = sent_after out.old.datagrams (flat_map (shown_to_all self.now.tree self.now.number self.now.watchers) changes.now) } }
+        ensures { out.new
+            ≡ record out.old {
+              datagrams = sent_after out.old.datagrams
+                  (flat_map (shown_to_all self.now.tree self.now.number self.now.watchers) changes.now);
+            } }
     {
         for shown in changes {
             self.show_to_all(out, *shown);

@@ -35,7 +35,8 @@ impl<'a> Displayed<'a> {
     ghost use Rattle.smi_protocol.specs.Messages.{if_any, requests};
     ghost use Rattle.smi_protocol.specs.Opening.{object_count};
     ghost use Rattle.smi_protocol.specs.Sound.{IsLink, IsSound};
-    ghost use Rattle.smi_protocol.specs.Ticking.{domains_of, owed, owed_question, owed_to_child, owed_to_domain, owed_watch};
+    ghost use Rattle.smi_protocol.specs.Ticking.{domains_of, owed, owed_question, owed_to_child, owed_to_domain};
+    ghost use Rattle.smi_protocol.specs.Ticking.{owed_watch};
     ghost use Rattle.smi_protocol.specs.declared.Place.TheVariants as place;
     ghost use Rattle.smi_tree.specs.Lawful.{IsBetween};
     ghost use Rattle.smi_tree.specs.Lookups.{domain_count, operator_count, operators_of, parent_of};
@@ -54,7 +55,9 @@ impl<'a> Displayed<'a> {
         requires parent { IsBetween 1 (domain_count self.now.tree) parent }
         requires child { IsBetween 1 (domain_count self.now.tree) child }
         requires due { IfSome what (λ due. is_due due ≡ true) }
-        ensures { sweeping sweep.new out.new ≡ offered (sweeping sweep.old out.old) (map (λ due. owed (place.Child child) (requests self.now.tree self.now.number (Domain parent) child due)) (if_any what)) }
+        ensures { sweeping sweep.new out.new ≡ offered (sweeping sweep.old out.old)
+            (map (λ due. owed (place.Child child) (requests self.now.tree self.now.number (Domain parent) child due))
+            (if_any what)) }
     {
         match what {
             Some(what) => {
@@ -70,7 +73,8 @@ impl<'a> Displayed<'a> {
         requires parent { IsBetween 1 (domain_count self.now.tree) parent }
         requires child { IsBetween 1 (domain_count self.now.tree) child }
         requires link { IsLink self.now.tree most_pending link.now }
-        ensures { sweeping sweep.new out.new ≡ offered (sweeping sweep.old out.old) (child_owed self.now.tree self.now.number parent child link.now) }
+        ensures { sweeping sweep.new out.new ≡ offered (sweeping sweep.old out.old)
+            (child_owed self.now.tree self.now.number parent child link.now) }
     {
         for i in 0..MOST_PENDING {
             self.offer_due_of_child(sweep, out, parent, child, due(link, i));
@@ -89,7 +93,9 @@ impl<'a> Displayed<'a> {
         requires operator { IsBetween 1 (operator_count self.now.tree) operator }
         requires domain { IsBetween 1 (domain_count self.now.tree) domain }
         requires due { IfSome what (λ due. is_due due ≡ true) }
-        ensures { sweeping sweep.new out.new ≡ offered (sweeping sweep.old out.old) (map (λ due. owed (place.Link operator domain (ticking.number_of_due due)) (requests self.now.tree self.now.number (Operator operator) domain due)) (if_any what)) }
+        ensures { sweeping sweep.new out.new ≡ offered (sweeping sweep.old out.old)
+            (map (λ due. owed (place.Link operator domain (ticking.number_of_due due))
+            (requests self.now.tree self.now.number (Operator operator) domain due)) (if_any what)) }
     {
         match what {
             Some(what) => {
@@ -122,7 +128,8 @@ impl<'a> Displayed<'a> {
         requires operator { IsBetween 1 (operator_count self.now.tree) operator }
         requires domain { IsBetween 1 (domain_count self.now.tree) domain }
         requires link { IsLink self.now.tree most_pending link.now }
-        ensures { sweeping sweep.new out.new ≡ offered (sweeping sweep.old out.old) (domain_owed self.now.tree self.now.number operator domain link.now) }
+        ensures { sweeping sweep.new out.new ≡ offered (sweeping sweep.old out.old)
+            (domain_owed self.now.tree self.now.number operator domain link.now) }
     {
         for i in 0..MOST_PENDING {
             self.offer_due_of_operator(sweep, out, operator, domain, due(link, i));
@@ -134,7 +141,8 @@ impl<'a> Displayed<'a> {
         requires tree { kept.now.tree ≡ self.now.tree }
         requires sound { IsSound self.now.tree (grants_of kept.now) }
         requires child { IsBetween 1 (domain_count self.now.tree) child }
-        ensures { sweeping sweep.new out.new ≡ offered (sweeping sweep.old out.old) (owed_to_child self.now.tree self.now.number (grants_of kept.now) child (parent_of self.now.tree child)) }
+        ensures { sweeping sweep.new out.new ≡ offered (sweeping sweep.old out.old)
+            (owed_to_child self.now.tree self.now.number (grants_of kept.now) child (parent_of self.now.tree child)) }
     {
         match self.tree.parent(child) {
             Some(parent) => {
@@ -151,7 +159,9 @@ impl<'a> Displayed<'a> {
     fn offer_children(&self, sweep: &mut Sweep, out: &mut Out, kept: &Kept<'_>)
         requires tree { kept.now.tree ≡ self.now.tree }
         requires sound { IsSound self.now.tree (grants_of kept.now) }
-        ensures { sweeping sweep.new out.new ≡ offered (sweeping sweep.old out.old) (flat_map (λ x. owed_to_child self.now.tree self.now.number (grants_of kept.now) x (parent_of self.now.tree x)) (domains_of self.now.tree)) }
+        ensures { sweeping sweep.new out.new ≡ offered (sweeping sweep.old out.old)
+            (flat_map (λ x. owed_to_child self.now.tree self.now.number (grants_of kept.now) x
+            (parent_of self.now.tree x)) (domains_of self.now.tree)) }
     {
         for place in 0..self.tree.domain_count() {
             self.offer_child(sweep, out, kept, place + 1);
@@ -163,7 +173,9 @@ impl<'a> Displayed<'a> {
         requires tree { kept.now.tree ≡ self.now.tree }
         requires sound { IsSound self.now.tree (grants_of kept.now) }
         requires operator { IsBetween 1 (operator_count self.now.tree) operator }
-        ensures { sweeping sweep.new out.new ≡ offered (sweeping sweep.old out.old) (flat_map (owed_to_domain self.now.tree self.now.number (grants_of kept.now) operator) (domains_of self.now.tree)) }
+        ensures { sweeping sweep.new out.new ≡ offered (sweeping sweep.old out.old)
+            (flat_map (owed_to_domain self.now.tree self.now.number (grants_of kept.now) operator)
+            (domains_of self.now.tree)) }
     {
         for place in 0..self.tree.domain_count() {
             let link = kept.link(Holder::Operator(operator), place + 1);
@@ -175,7 +187,9 @@ impl<'a> Displayed<'a> {
     fn offer_orders(&self, sweep: &mut Sweep, out: &mut Out, kept: &Kept<'_>)
         requires tree { kept.now.tree ≡ self.now.tree }
         requires sound { IsSound self.now.tree (grants_of kept.now) }
-        ensures { sweeping sweep.new out.new ≡ offered (sweeping sweep.old out.old) (flat_map (λ o. flat_map (owed_to_domain self.now.tree self.now.number (grants_of kept.now) o) (domains_of self.now.tree)) (operators_of self.now.tree self.now.number)) }
+        ensures { sweeping sweep.new out.new ≡ offered (sweeping sweep.old out.old)
+            (flat_map (λ o. flat_map (owed_to_domain self.now.tree self.now.number (grants_of kept.now) o)
+            (domains_of self.now.tree)) (operators_of self.now.tree self.now.number)) }
     {
         let operators = self.tree.operators(self.number);
         for operator in operators {
@@ -185,7 +199,8 @@ impl<'a> Displayed<'a> {
 
     /// The open question of an operator, if there is one.
     fn offer_question(&self, sweep: &mut Sweep, out: &mut Out, operator: u16)
-        ensures { sweeping sweep.new out.new ≡ offered (sweeping sweep.old out.old) (owed_question self.now.tree self.now.number operator ((display_of self.now).asks operator)) }
+        ensures { sweeping sweep.new out.new ≡ offered (sweeping sweep.old out.old)
+            (owed_question self.now.tree self.now.number operator ((display_of self.now).asks operator)) }
     {
         match entry_of(&self.asks, operator, None) {
             Some(domain) => {
@@ -198,7 +213,9 @@ impl<'a> Displayed<'a> {
 
     /// The open questions of the station's operators.
     fn offer_questions(&self, sweep: &mut Sweep, out: &mut Out)
-        ensures { sweeping sweep.new out.new ≡ offered (sweeping sweep.old out.old) (flat_map (λ o. owed_question self.now.tree self.now.number o ((display_of self.now).asks o)) (operators_of self.now.tree self.now.number)) }
+        ensures { sweeping sweep.new out.new ≡ offered (sweeping sweep.old out.old)
+            (flat_map (λ o. owed_question self.now.tree self.now.number o ((display_of self.now).asks o))
+            (operators_of self.now.tree self.now.number)) }
     {
         let operators = self.tree.operators(self.number);
         for operator in operators {
@@ -209,7 +226,8 @@ impl<'a> Displayed<'a> {
     /// The watch of an object, if the station watches it.
     fn offer_watch(&self, sweep: &mut Sweep, out: &mut Out, object: u16)
         requires object { IsBetween 1 (object_count self.now.tree) object }
-        ensures { sweeping sweep.new out.new ≡ offered (sweeping sweep.old out.old) (owed_watch self.now.tree self.now.number self.now.published.boot (display_of self.now) object) }
+        ensures { sweeping sweep.new out.new ≡ offered (sweeping sweep.old out.old)
+            (owed_watch self.now.tree self.now.number self.now.published.boot (display_of self.now) object) }
     {
         if self.is_watched(object) {
             let datagram = watch(self.tree, self.number, self.publisher.boot(), object);
@@ -219,7 +237,9 @@ impl<'a> Displayed<'a> {
 
     /// The objects that the station watches.
     fn offer_watches(&self, sweep: &mut Sweep, out: &mut Out)
-        ensures { sweeping sweep.new out.new ≡ offered (sweeping sweep.old out.old) (flat_map (owed_watch self.now.tree self.now.number self.now.published.boot (display_of self.now)) (range_with_len 1 (object_count self.now.tree))) }
+        ensures { sweeping sweep.new out.new ≡ offered (sweeping sweep.old out.old)
+            (flat_map (owed_watch self.now.tree self.now.number self.now.published.boot (display_of self.now))
+            (range_with_len 1 (object_count self.now.tree))) }
     {
         for place in 0..self.tree.object_count() {
             self.offer_watch(sweep, out, place + 1);
@@ -242,8 +262,10 @@ impl<'a> Displayed<'a> {
         requires tree { kept.now.tree ≡ self.old.tree }
         requires boot { kept.now.boot ≡ self.old.published.boot }
         requires sound { IsSound self.old.tree (grants_of kept.now) }
-        ensures display { display_of self.new ≡ (tick_noticed self.old.tree self.old.number (grants_of kept.now) (display_of self.old)).display }
-        ensures sent { out.new ≡ with_notice out.old (tick_noticed self.old.tree self.old.number (grants_of kept.now) (display_of self.old)) }
+        ensures display { display_of self.new
+            ≡ (tick_noticed self.old.tree self.old.number (grants_of kept.now) (display_of self.old)).display }
+        ensures sent { out.new ≡ with_notice out.old
+            (tick_noticed self.old.tree self.old.number (grants_of kept.now) (display_of self.old)) }
         ensures rest { KeepsTheRest self.old self.new }
     {
         let mut sweep = Sweep::from(self.place);
@@ -256,7 +278,8 @@ impl<'a> Displayed<'a> {
         requires tree { kept.now.tree ≡ self.now.tree }
         requires boot { kept.now.boot ≡ self.now.published.boot }
         requires sound { IsSound self.now.tree (grants_of kept.now) }
-        ensures { sweeping sweep.new out.new ≡ offered (sweeping sweep.old out.old) (all_owed self.now.tree self.now.number (grants_of kept.now) (display_of self.now)) }
+        ensures { sweeping sweep.new out.new ≡ offered (sweeping sweep.old out.old)
+            (all_owed self.now.tree self.now.number (grants_of kept.now) (display_of self.now)) }
     {
         self.offer_children(sweep, out, kept);
         self.offer_orders(sweep, out, kept);

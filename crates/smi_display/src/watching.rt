@@ -25,8 +25,10 @@ fn listen(
     requires object_most { object ≤ length watchers.old.lists }
     requires from_least { 1 ≤ from }
     requires from_most { from ≤ 128 }
-    ensures lists { OnOk result (watchers.new.lists ≡ watching.lists_after (before_by is_newer watchers.old.lists from) object from echo) }
-    ensures room { IfOk result (λ room. room ≡ not (watching.is_full (before_by is_newer watchers.old.lists from) object from)) }
+    ensures lists { OnOk result (watchers.new.lists
+        ≡ watching.lists_after (before_by is_newer watchers.old.lists from) object from echo) }
+    ensures room { IfOk result (λ room. room ≡ not
+        (watching.is_full (before_by is_newer watchers.old.lists from) object from)) }
     ensures err { OnErr result (watchers.new ≡ watchers.old) }
     ensures objects { length watchers.new.lists ≡ length watchers.old.lists }
 {
@@ -79,7 +81,12 @@ impl<'a> Displayed<'a> {
         requires to_least { 1 ≤ to }
         requires to_most { to ≤ station_count self.now.tree }
         requires echo { is_boot echo ≡ true }
-        ensures { out.new ≡ record out.old { datagrams = sent_after out.old.datagrams (map (shows self.now.tree self.now.number to echo) (if_any (shown_at self.now.published.boot (display_of self.now).conditions object))) } }
+        ensures { out.new
+            ≡ record out.old {
+              datagrams = sent_after out.old.datagrams
+                  (map (shows self.now.tree self.now.number to echo)
+                  (if_any (shown_at self.now.published.boot (display_of self.now).conditions object)));
+            } }
     {
         match self.publisher.current(object) {
             Some(shown) => out.send(show(self.tree, self.number, to, echo, shown)),
@@ -101,8 +108,12 @@ impl<'a> Displayed<'a> {
         requires from_most { from ≤ station_count self.old.tree }
         requires object { is_kept_by self.old.tree self.old.number object ≡ true }
         requires echo { is_boot echo ≡ true }
-        ensures display { OnOk result (display_of self.new ≡ (watch_comes self.old.tree self.old.number self.old.published.boot (display_of self.old) from object echo).display) }
-        ensures sent { OnOk result (out.new ≡ with_notice out.old (watch_comes self.old.tree self.old.number self.old.published.boot (display_of self.old) from object echo)) }
+        ensures display { OnOk result (display_of self.new
+            ≡ (watch_comes self.old.tree self.old.number self.old.published.boot (display_of self.old) from object
+            echo).display) }
+        ensures sent { OnOk result (out.new ≡ with_notice out.old
+            (watch_comes self.old.tree self.old.number self.old.published.boot (display_of self.old) from object
+            echo)) }
         ensures rest { KeepsTheRest self.old self.new }
         ensures err { OnErr result (self.new ≡ self.old) }
         ensures unsent { OnErr result (out.new ≡ out.old) }
@@ -136,8 +147,11 @@ impl<'a> Displayed<'a> {
         requires from_most { from ≤ station_count self.old.tree }
         requires object_least { 1 ≤ told.object }
         requires object_most { told.object ≤ object_count self.old.tree }
-        ensures display { display_of self.new ≡ (state_comes self.old.tree self.old.number self.old.published.boot (display_of self.old) from echo told).display }
-        ensures sent { out.new ≡ with_notice out.old (state_comes self.old.tree self.old.number self.old.published.boot (display_of self.old) from echo told) }
+        ensures display { display_of self.new
+            ≡ (state_comes self.old.tree self.old.number self.old.published.boot (display_of self.old) from echo
+            told).display }
+        ensures sent { out.new ≡ with_notice out.old
+            (state_comes self.old.tree self.old.number self.old.published.boot (display_of self.old) from echo told) }
         ensures rest { KeepsTheRest self.old self.new }
     {
         let boot = self.publisher.boot();

@@ -35,17 +35,21 @@ module _ (h : Hierarchy) (number : ℕ) (g : Grants) (from d : ℕ) (who : Holde
   at_once true = refl
   at_once false = refl
 
-  pub run_left : (change : Change) (r : Standing) → Plans h number g (run_comes h number g from d who e n c) change → r ≡ (changed h g change).records d → admits (g.records d) who e n ≡ true
+  pub run_left : (change : Change) (r : Standing) → Plans h number g (run_comes h number g from d who e n c) change
+      → r ≡ (changed h g change).records d → admits (g.records d) who e n ≡ true
       → entry.Ran d e n c ∷ child_entries h g d c ++ at_rest d e n r ≡ (run_comes h number g from d who e n c).entries
   run_left change r plans is runs =
       let here : (run_comes h number g from d who e n c).grants.records d ≡ started (g.records d) busy own =
-      ap (λ b. (if b then ran h number g from d e n c busy own else answered h number g from d).grants.records d) runs ∙ put_here g.records d (started (g.records d) busy own) in
-      ap (λ (z : Standing). entry.Ran d e n c ∷ child_entries h g d c ++ at_rest d e n z) (is ∙ ap (λ (a : Grants). a.records d) (sym plans.grants) ∙ here)
+      ap (λ b. (if b then ran h number g from d e n c busy own else answered h number g from d).grants.records d)
+      runs ∙ put_here g.records d (started (g.records d) busy own) in
+      ap (λ (z : Standing). entry.Ran d e n c ∷ child_entries h g d c ++ at_rest d e n z)
+      (is ∙ ap (λ (a : Grants). a.records d) (sym plans.grants) ∙ here)
       ∙ ap (λ (es : List Entry). entry.Ran d e n c ∷ child_entries h g d c ++ es) (at_once busy)
       ∙ sym (ap (λ b. (if b then ran h number g from d e n c busy own else answered h number g from d).entries) runs)
 
   pub none_left : admits (g.records d) who e n ≡ false → [] ≡ (run_comes h number g from d who e n c).entries
-  none_left stays = sym (ap (λ b. (if b then ran h number g from d e n c busy own else answered h number g from d).entries) stays)
+  none_left stays =
+      sym (ap (λ b. (if b then ran h number g from d e n c busy own else answered h number g from d).entries) stays)
 
 module _ (h : Hierarchy) (number : ℕ) (g : Grants) (p d : ℕ) (r : Standing) where
   abbrev on : Grants
@@ -53,18 +57,28 @@ module _ (h : Hierarchy) (number : ℕ) (g : Grants) (p d : ℕ) (r : Standing) 
 
   rested : (b : Bool) → ends h on p ≡ b → came_to_rest p (g.records p) ((ended b on p).records p) ≡ ended_entries b on p
   rested true is =
-      let working : is_settled (g.records p).phase ≡ false = not_true (is_settled (g.records p).phase) (and_parts (not (is_settled (g.records p).phase)) _ is).0 in
+      let working : is_settled (g.records p).phase
+      ≡ false = not_true (is_settled (g.records p).phase) (and_parts (not (is_settled (g.records p).phase)) _ is).0 in
       ap (came_to_rest p (g.records p)) (put_here g.records p (ended_record on p))
-      ∙ ap (λ b. if not b && true then entry.Settled p (g.records p).epoch (g.records p).last (on.gathered p) ∷ [] else []) working
+      ∙ ap (λ b. if not b && true then entry.Settled p (g.records p).epoch (g.records p).last (on.gathered p) ∷ []
+      else []) working
   rested false is = by (is_settled (g.records p).phase)
     where
-      by : (b : Bool) → (if not b && b then entry.Settled p (g.records p).epoch (g.records p).last (g.records p).outcome ∷ [] else []) ≡ []
+      by : (b : Bool)
+          → (if not b && b then entry.Settled p (g.records p).epoch (g.records p).last (g.records p).outcome ∷ []
+          else []) ≡ []
       by true = refl
       by false = refl
 
-  pub parent_left : (change : Change) (z : Standing) → Plans h number g (parent_told h number g p d r) change → z ≡ (changed h g change).records p
-      → learned (Domain p) d (g.links (Domain p) d) (told_link (g.links (Domain p) d) (Domain p) r) ++ came_to_rest p (g.records p) z ≡ (parent_told h number g p d r).entries
+  pub parent_left : (change : Change) (z : Standing) → Plans h number g (parent_told h number g p d r) change
+      → z ≡ (changed h g change).records p
+      → learned (Domain p) d (g.links (Domain p) d) (told_link (g.links (Domain p) d) (Domain p) r)
+      ++ came_to_rest p (g.records p) z ≡ (parent_told h number g p d r).entries
   parent_left change z plans is =
-      ap (λ (s : Standing). learned (Domain p) d (g.links (Domain p) d) (told_link (g.links (Domain p) d) (Domain p) r) ++ came_to_rest p (g.records p) s) (is ∙ ap (λ (a : Grants). a.records p) (sym plans.grants))
-      ∙ ap (λ (es : List Entry). learned (Domain p) d (g.links (Domain p) d) (told_link (g.links (Domain p) d) (Domain p) r) ++ es) (rested (ends h on p) refl)
-      ∙ ap (λ (l : Link). learned (Domain p) d (g.links (Domain p) d) l ++ ended_entries (ends h on p) on p) (sym (put_link_here g.links (Domain p) d (told_link (g.links (Domain p) d) (Domain p) r)))
+      ap (λ (s : Standing). learned (Domain p) d (g.links (Domain p) d)
+      (told_link (g.links (Domain p) d) (Domain p) r) ++ came_to_rest p (g.records p) s)
+      (is ∙ ap (λ (a : Grants). a.records p) (sym plans.grants))
+      ∙ ap (λ (es : List Entry). learned (Domain p) d (g.links (Domain p) d)
+      (told_link (g.links (Domain p) d) (Domain p) r) ++ es) (rested (ends h on p) refl)
+      ∙ ap (λ (l : Link). learned (Domain p) d (g.links (Domain p) d) l ++ ended_entries (ends h on p) on p)
+      (sym (put_link_here g.links (Domain p) d (told_link (g.links (Domain p) d) (Domain p) r)))

@@ -25,7 +25,8 @@ at_rest d e n r = if is_settled r.phase then entry.Settled d e n r.outcome ∷ [
 
 -- a domain was at work and is no longer
 abbrev pub came_to_rest : ℕ → Standing → Standing → List Entry
-came_to_rest d old new = if not (is_settled old.phase) && is_settled new.phase then entry.Settled d new.epoch new.last new.outcome ∷ [] else []
+came_to_rest d old new = if not (is_settled old.phase) && is_settled new.phase
+    then entry.Settled d new.epoch new.last new.outcome ∷ [] else []
 
 -- a command that comes is for a domain that the tree has, is a holder's, and has a number
 pub record IsForDomain (h : Hierarchy) (d : ℕ) (who : Holder) (n : ℕ) : Type 0 where

@@ -13,7 +13,9 @@ use smi_protocol::Entry;
 /// A take: the domain is granted, where it is.
 pub fn of_take(kept: &Kept<'_>, domain: u16, holder: Holder, seen: u64) -> Entries
     requires party { is_free holder ≡ false }
-    ensures { (from : ℕ) → result ≡ (keeping.take_comes kept.now.tree kept.now.number (grants_of kept.now) from domain holder seen).entries }
+    ensures { (from : ℕ)
+        → result ≡ (keeping.take_comes kept.now.tree kept.now.number (grants_of kept.now) from domain holder
+        seen).entries }
 {
     let granted = match smi_grant::take(&kept.record(domain), holder, seen) {
         Verdict::New(standing) => Some(Entry::Granted {
@@ -29,7 +31,9 @@ pub fn of_take(kept: &Kept<'_>, domain: u16, holder: Holder, seen: u64) -> Entri
 /// A drop: the domain becomes free, where it does.
 pub fn of_drop(kept: &Kept<'_>, domain: u16, holder: Holder, epoch: u64) -> Entries
     requires party { is_free holder ≡ false }
-    ensures { (from : ℕ) → result ≡ (keeping.drop_comes kept.now.tree kept.now.number (grants_of kept.now) from domain holder epoch).entries }
+    ensures { (from : ℕ)
+        → result ≡ (keeping.drop_comes kept.now.tree kept.now.number (grants_of kept.now) from domain holder
+        epoch).entries }
 {
     let freed = match smi_grant::drop_grant(&kept.record(domain), holder, epoch) {
         Verdict::New(standing) => Some(Entry::Freed {

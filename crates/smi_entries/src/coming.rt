@@ -15,7 +15,8 @@ use smi_message::Body;
 /// What a datagram leaves in a trace by its save, whoever sent it.
 pub fn of_datagram(kept: &Kept<'_>, body: &Body) -> Entries
     requires { IsAsked kept.now.tree body.now }
-    ensures { (from : ℕ) → result ≡ (datagram_comes kept.now.tree kept.now.number (grants_of kept.now) from body.now).entries }
+    ensures { (from : ℕ)
+        → result ≡ (datagram_comes kept.now.tree kept.now.number (grants_of kept.now) from body.now).entries }
 {
     match *body {
         Body::Ask(_) => Entries::new(),

@@ -40,7 +40,8 @@ fn of_link(
     command: Option<Command>,
     link: Result<Link, u16>,
 ) -> Entries
-    ensures { result ≡ (ordering.obeyed kept.now.tree kept.now.number (grants_of kept.now) operator domain command link).entries }
+    ensures { result
+        ≡ (ordering.obeyed kept.now.tree kept.now.number (grants_of kept.now) operator domain command link).entries }
 {
     match link {
         Ok(link) => Entries::one(entry_of(operator, domain, command, &link)),
@@ -50,7 +51,8 @@ fn of_link(
 
 /// What a command that is ordered leaves.
 fn of_command(kept: &Kept<'_>, operator: u16, domain: u16, command: Command) -> Entries
-    ensures { result ≡ (ordering.commands kept.now.tree kept.now.number (grants_of kept.now) operator domain command).entries }
+    ensures { result
+        ≡ (ordering.commands kept.now.tree kept.now.number (grants_of kept.now) operator domain command).entries }
 {
     let link = kept.link(Holder::Operator(operator), domain);
     of_link(kept, operator, domain, Some(command), issue(&link, command))
@@ -58,7 +60,8 @@ fn of_command(kept: &Kept<'_>, operator: u16, domain: u16, command: Command) -> 
 
 /// What an order leaves in a trace by its save.
 pub fn of_order(kept: &Kept<'_>, operator: u16, order: &Order) -> Entries
-    ensures { result ≡ (ordering.order_comes kept.now.tree kept.now.number (grants_of kept.now) operator order.now).entries }
+    ensures { result
+        ≡ (ordering.order_comes kept.now.tree kept.now.number (grants_of kept.now) operator order.now).entries }
 {
     let holder = Holder::Operator(operator);
     match *order {

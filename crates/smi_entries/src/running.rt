@@ -37,7 +37,8 @@ pub(crate) fn is_settled(phase: Phase) -> bool
 
 /// A child is let go, or comes into a mode.
 fn child_changed(domain: u16, child: u16, change: &ChildChange) -> Option<Entry>
-    ensures { if_any result ≡ keeping.let_go_of domain child (meant change.now) ++ keeping.mode_changed child (meant change.now) }
+    ensures { if_any result ≡ keeping.let_go_of domain child (meant change.now)
+        ++ keeping.mode_changed child (meant change.now) }
 {
     match *change {
         ChildChange::Relinked(Link::Dropping(epoch)) => Some(Entry::LetGo {
@@ -108,7 +109,9 @@ pub fn of_run(
     requires most { domain ≤ domain_count kept.now.tree }
     requires party { is_free holder ≡ false }
     requires number { number ≤ last_number }
-    ensures { (from : ℕ) → result ≡ (keeping.run_comes kept.now.tree kept.now.number (grants_of kept.now) from domain holder epoch number command).entries }
+    ensures { (from : ℕ)
+        → result ≡ (keeping.run_comes kept.now.tree kept.now.number (grants_of kept.now) from domain holder epoch
+        number command).entries }
 {
     if !admit(&kept.record(domain), holder, epoch, number) {
         return Entries::new();

@@ -33,7 +33,8 @@ fn learned(holder: Holder, domain: u16, old: &Link, new: &Link) -> Option<Entry>
 
 /// An operator's link is told a record.
 fn of_operator(kept: &Kept<'_>, operator: u16, domain: u16, news: &Record) -> Entries
-    ensures { result ≡ (hearing.operator_told kept.now.tree kept.now.number (grants_of kept.now) operator domain news.now).entries }
+    ensures { result
+        ≡ (hearing.operator_told kept.now.tree kept.now.number (grants_of kept.now) operator domain news.now).entries }
 {
     let holder = Holder::Operator(operator);
     let old = kept.link(holder, domain);
@@ -61,7 +62,8 @@ fn ended(domain: u16, old: Record, new: Record) -> Option<Entry>
 fn of_parent(kept: &Kept<'_>, parent: u16, child: u16, news: &Record) -> Entries
     requires parent { IsBetween 1 (domain_count kept.now.tree) parent }
     requires child { is_parent kept.now.tree child parent ≡ true }
-    ensures { result ≡ (hearing.parent_told kept.now.tree kept.now.number (grants_of kept.now) parent child news.now).entries }
+    ensures { result
+        ≡ (hearing.parent_told kept.now.tree kept.now.number (grants_of kept.now) parent child news.now).entries }
 {
     let holder = Holder::Domain(parent);
     let old = kept.link(holder, child);

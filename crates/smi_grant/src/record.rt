@@ -59,11 +59,24 @@ impl Model for Record {
 
     ghost Value = { Standing };
 
-    ghost view = { λ r. record { epoch = r.epoch; holder = r.holder; last = r.last; phase = r.phase; outcome = r.outcome } };
+    ghost view = { λ r. record {
+      epoch = r.epoch;
+      holder = r.holder;
+      last = r.last;
+      phase = r.phase;
+      outcome = r.outcome;
+    } };
 
-    ghost invariant = { λ r. IsRecord (record { epoch = r.epoch; holder = r.holder; last = r.last; phase = r.phase; outcome = r.outcome }) };
+    ghost invariant = { λ r. IsRecord
+        (record { epoch = r.epoch; holder = r.holder; last = r.last; phase = r.phase; outcome = r.outcome }) };
 
-    ghost inverse = { λ s. record { epoch = s.epoch; holder = s.holder; last = s.last; phase = s.phase; outcome = s.outcome } };
+    ghost inverse = { λ s. record {
+      epoch = s.epoch;
+      holder = s.holder;
+      last = s.last;
+      phase = s.phase;
+      outcome = s.outcome;
+    } };
 }
 
 impl Record {

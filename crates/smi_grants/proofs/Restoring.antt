@@ -1,5 +1,6 @@
 -- What rows say, put into the tables one by one.
-use Rattle.std.proofs.Common.{◌≡◌, ℕ, ◌+◌, ◌-◌, ◌<◌, ◌≤◌, Bool, true, false, List, [], length, get_or, take, refl, sym, ap, ◌∙◌, arith}
+use Rattle.std.proofs.Common.{◌≡◌, ℕ, ◌+◌, ◌-◌, ◌<◌, ◌≤◌, Bool, true, false, List, [], length, get_or, take, refl}
+use Rattle.std.proofs.Common.{sym, ap, ◌∙◌, arith}
 use Rattle.std.specs.Prelude.{◌==◌, ◌&&◌, ◌||◌, if◌then◌else◌, map, nat_le, replicate}
 use Rattle.std.specs.List.{range_with_len}
 use Rattle.std.proofs.lemmas.Bool.{eqb-true}
@@ -43,7 +44,8 @@ pick false true false new old made is = refl
 pick false false true new old made is = refl
 pick false false false new old made is = refl
 
-plain : (same here : Bool) (new old made : Mode) → (same ≡ true → new ≡ made) → (if same then new else (if here then made else old)) ≡ (if here || same then made else old)
+plain : (same here : Bool) (new old made : Mode) → (same ≡ true → new ≡ made)
+    → (if same then new else (if here then made else old)) ≡ (if here || same then made else old)
 plain true true new old made e = e refl
 plain true false new old made e = e refl
 plain false true new old made e = refl
@@ -59,27 +61,40 @@ abbrev mode_to : List StoredLink → ℕ → Mode
 mode_to links x = (stored_at links x).mode
 
 -- one child more
-pub child_restored : (g : Grants) (d : ℕ) (links : List StoredLink) (xs : List ℕ) (i x : ℕ) → i < length xs → x ≡ get_or xs i x
-    → with_child (with_children g d links (take i xs)) d x (stored_at links x).link (stored_at links x).mode ≡ with_children g d links (take (i + 1) xs)
+pub child_restored : (g : Grants) (d : ℕ) (links : List StoredLink) (xs : List ℕ) (i x : ℕ) → i < length xs
+    → x ≡ get_or xs i x
+    → with_child (with_children g d links (take i xs)) d x (stored_at links x).link (stored_at links x).mode
+    ≡ with_children g d links (take (i + 1) xs)
 child_restored g d links xs i x within is =
-    ap (λ (t : Holder → ℕ → Link). record g { links = t; modes = put (with_children g d links (take i xs)).modes x (mode_to links x) }) (fun_ext (λ who. fun_ext (λ y. at who y)))
-    ∙ ap (λ (t : ℕ → Mode). record g { links = (with_children g d links (take (i + 1) xs)).links; modes = t }) (fun_ext (λ y. in_mode y))
+    ap (λ (t : Holder → ℕ → Link). record g {
+      links = t;
+      modes = put (with_children g d links (take i xs)).modes x (mode_to links x);
+    })
+    (fun_ext (λ who. fun_ext (λ y. at who y)))
+    ∙ ap (λ (t : ℕ → Mode). record g { links = (with_children g d links (take (i + 1) xs)).links; modes = t })
+    (fun_ext (λ y. in_mode y))
   where
     more : (y : ℕ) → is_among (take (i + 1) xs) y ≡ (is_among (take i xs) y || (y == x))
-    more y = list_any_more (λ z. z == y) xs i x within ∙ ap (λ z. is_among (take i xs) y || (z == y)) (sym is) ∙ ap (λ b. is_among (take i xs) y || b) (flip x y)
+    more y = list_any_more (λ z. z == y) xs i x within ∙ ap (λ z. is_among (take i xs) y || (z == y)) (sym is)
+        ∙ ap (λ b. is_among (take i xs) y || b) (flip x y)
 
-    at : (who : Holder) (y : ℕ) → put_link (with_children g d links (take i xs)).links (Domain d) x (link_to links x) who y ≡ (with_children g d links (take (i + 1) xs)).links who y
-    at who y = rw (more y) (pick (y == x) (is_among (take i xs) y) (same_holder who (Domain d)) (link_to links x) (g.links who y) (link_to links y) (λ e. ap (link_to links) (sym (eqb-true y x e))))
+    at : (who : Holder) (y : ℕ) → put_link (with_children g d links (take i xs)).links (Domain d) x (link_to links x)
+        who y ≡ (with_children g d links (take (i + 1) xs)).links who y
+    at who y = rw (more y) (pick (y == x) (is_among (take i xs) y) (same_holder who (Domain d)) (link_to links x)
+        (g.links who y) (link_to links y) (λ e. ap (link_to links) (sym (eqb-true y x e))))
 
-    in_mode : (y : ℕ) → put (with_children g d links (take i xs)).modes x (mode_to links x) y ≡ (with_children g d links (take (i + 1) xs)).modes y
-    in_mode y = rw (more y) (plain (y == x) (is_among (take i xs) y) (mode_to links x) (g.modes y) (mode_to links y) (λ e. ap (mode_to links) (sym (eqb-true y x e))))
+    in_mode : (y : ℕ) → put (with_children g d links (take i xs)).modes x (mode_to links x) y
+        ≡ (with_children g d links (take (i + 1) xs)).modes y
+    in_mode y = rw (more y) (plain (y == x) (is_among (take i xs) y) (mode_to links x) (g.modes y) (mode_to links y)
+        (λ e. ap (mode_to links) (sym (eqb-true y x e))))
 
 pub none_restored : (g : Grants) (d : ℕ) (links : List StoredLink) → g ≡ with_children g d links []
 none_restored g d links = refl
 
 -- all of them, and then the record and the code
 pub domain_restored : (h : Hierarchy) (g : Grants) (d : ℕ) (row : KeptDomain)
-    → with_gathered (with_record (with_children g d row.links (children_of h d)) d row.standing) d row.gathered ≡ with_domain h g d row
+    → with_gathered (with_record (with_children g d row.links (children_of h d)) d row.standing) d row.gathered
+    ≡ with_domain h g d row
 domain_restored h g d row =
     ap (λ (t : ℕ → Bool). record g {
       records = put g.records d row.standing;
@@ -102,10 +117,12 @@ pub link_restored : (g : Grants) (o : ℕ) (links : List StoredLink) (n m : ℕ)
 link_restored g o links n m is =
     ap (λ (t : Holder → ℕ → Link). record g { links = t }) (fun_ext (λ who. fun_ext (λ y. at who y)))
   where
-    at : (who : Holder) (y : ℕ) → put_link (with_links_to n g o links).links (Operator o) m (link_to links m) who y ≡ (with_links_to (n + 1) g o links).links who y
+    at : (who : Holder) (y : ℕ) → put_link (with_links_to n g o links).links (Operator o) m (link_to links m) who y
+        ≡ (with_links_to (n + 1) g o links).links who y
     at who y =
         rw (next_between n y, is)
-        (pick (y == n + 1) (is_between 1 n y) (same_holder who (Operator o)) (link_to links (n + 1)) (g.links who y) (link_to links y) (λ e. ap (link_to links) (sym (eqb-true y (n + 1) e))))
+        (pick (y == n + 1) (is_between 1 n y) (same_holder who (Operator o)) (link_to links (n + 1)) (g.links who y)
+        (link_to links y) (λ e. ap (link_to links) (sym (eqb-true y (n + 1) e))))
 
 pub no_link_restored : (g : Grants) (o : ℕ) (links : List StoredLink) → g ≡ with_links_to 0 g o links
 no_link_restored g o links =
@@ -125,7 +142,8 @@ entry_replicate x n m = by (m == 0) (nat_le (length (replicate n x)) (m - 1)) re
         let long : length (replicate n x) ≡ n = length-replicate n x in
         get_or-replicate n (m - 1) x x (grind (arith, nat_tests, is, long))
 
-    by : (zeroth late : Bool) → nat_le (length (replicate n x)) (m - 1) ≡ late → (if zeroth then x else get_or (replicate n x) (m - 1) x) ≡ x
+    by : (zeroth late : Bool) → nat_le (length (replicate n x)) (m - 1) ≡ late
+        → (if zeroth then x else get_or (replicate n x) (m - 1) x) ≡ x
     by true late is = refl
     by false late is = read late is
 
@@ -151,7 +169,8 @@ module _ (h : Hierarchy) (number : ℕ) where
 
   table_at : (n o : ℕ) → 1 ≤ o → o ≤ n → entry_or (tables n) o [] ≡ first_links h number o
   table_at n o least most =
-      entry_at (tables n) o [] least ∙ get_or-map-range_with_len (first_links h number) 1 n (o - 1) o [] (omega (arith, least, most)) (omega (arith, least))
+      entry_at (tables n) o [] least ∙ get_or-map-range_with_len (first_links h number) 1 n (o - 1) o []
+      (omega (arith, least, most)) (omega (arith, least))
 
   all_empty : (n o : ℕ) → Empty (entry_or (tables n) o [])
   all_empty n o = by (is_between 1 n o) refl
@@ -176,18 +195,26 @@ module _ (h : Hierarchy) (number : ℕ) where
           λ d. ap (λ xs. entry_or xs d (Out 0)) (table_at n o least most) ∙ one_empty o d
       by false is = λ d. ap (λ xs. entry_or xs d (Out 0)) (outside is) ∙ none d
 
-  pub served_first : (n o : ℕ) → 1 ≤ o → o ≤ n → is_number (operator_station_of h o) number ≡ true → length (entry_or (tables n) o []) ≡ domain_count h
+  pub served_first : (n o : ℕ) → 1 ≤ o → o ≤ n → is_number (operator_station_of h o) number ≡ true
+      → length (entry_or (tables n) o []) ≡ domain_count h
   served_first n o least most here =
-      ap length (table_at n o least most) ∙ ap (λ (b : Bool). length (if b then replicate (domain_count h) (Out 0) else replicate 0 (Out 0))) here ∙ length-replicate (domain_count h) (Out 0)
+      ap length (table_at n o least most)
+      ∙ ap (λ (b : Bool). length (if b then replicate (domain_count h) (Out 0) else replicate 0 (Out 0))) here
+      ∙ length-replicate (domain_count h) (Out 0)
 
   -- tables in which nothing stands
-  pub first_is : (a b c d n : ℕ) (k : Kept) → k.boot ≡ 0 → k.records ≡ replicate a fresh → k.gathered ≡ replicate b 0 → k.modes ≡ replicate c Included → k.child_links ≡ replicate d (Out 0)
+  pub first_is : (a b c d n : ℕ) (k : Kept) → k.boot ≡ 0 → k.records ≡ replicate a fresh → k.gathered ≡ replicate b 0
+      → k.modes ≡ replicate c Included → k.child_links ≡ replicate d (Out 0)
       → k.operator_links ≡ tables n → grants_of k ≡ no_grants
   first_is a b c d n k boot records gathered modes children operators =
-      ap (λ (f : ℕ → Standing). record (grants_of k) { records = f }) (fun_ext (λ x. ap (λ xs. entry_or xs x fresh) records ∙ entry_replicate fresh a x))
-      ∙ ap (λ (f : ℕ → ℕ). record (grants_of k) { records = λ x. fresh; gathered = f }) (fun_ext (λ x. ap (λ xs. entry_or xs x 0) gathered ∙ entry_replicate 0 b x))
-      ∙ ap (λ (f : ℕ → Mode). record (grants_of k) { records = λ x. fresh; gathered = λ x. 0; modes = f }) (fun_ext (λ x. ap (λ xs. entry_or xs x Included) modes ∙ entry_replicate Included c x))
-      ∙ ap (λ (f : Holder → ℕ → Link). record no_grants { boot = k.boot; links = f }) (fun_ext (λ who. fun_ext (λ x. at who x)))
+      ap (λ (f : ℕ → Standing). record (grants_of k) { records = f })
+      (fun_ext (λ x. ap (λ xs. entry_or xs x fresh) records ∙ entry_replicate fresh a x))
+      ∙ ap (λ (f : ℕ → ℕ). record (grants_of k) { records = λ x. fresh; gathered = f })
+      (fun_ext (λ x. ap (λ xs. entry_or xs x 0) gathered ∙ entry_replicate 0 b x))
+      ∙ ap (λ (f : ℕ → Mode). record (grants_of k) { records = λ x. fresh; gathered = λ x. 0; modes = f })
+      (fun_ext (λ x. ap (λ xs. entry_or xs x Included) modes ∙ entry_replicate Included c x))
+      ∙ ap (λ (f : Holder → ℕ → Link). record no_grants { boot = k.boot; links = f })
+      (fun_ext (λ who. fun_ext (λ x. at who x)))
       ∙ ap (λ z. record no_grants { boot = z }) boot
     where
       child : (b : Bool) (x : ℕ) → (if b then entry_or k.child_links x (Out 0) else Out 0) ≡ Out 0
@@ -196,5 +223,6 @@ module _ (h : Hierarchy) (number : ℕ) where
 
       at : (who : Holder) (x : ℕ) → link_in k who x ≡ Out 0
       at Free x = refl
-      at (Operator o) x = ap (λ (t : List (List Link)). entry_or (entry_or t o []) x (Out 0)) operators ∙ all_empty n o x
+      at (Operator o) x = ap (λ (t : List (List Link)). entry_or (entry_or t o []) x (Out 0)) operators
+          ∙ all_empty n o x
       at (Domain p) x = child (is_parent k.tree x p) x

@@ -19,8 +19,10 @@ abbrev pub changed : Hierarchy → Grants → Change → Grants
 changed h g change.Nothing = g
 changed h g (change.Handed d r) = with_record g d r
 changed h g (change.Linked o d l) = with_link g (Operator o) d l
-changed h g (change.Ran d c r code) = record (commanded h g d c) { records = put g.records d r; gathered = put g.gathered d code }
-changed h g (change.Heard p d l r code) = record (with_link g (Domain p) d l) { records = put g.records p r; gathered = put g.gathered p code }
+changed h g (change.Ran d c r code) = record
+    (commanded h g d c) { records = put g.records d r; gathered = put g.gathered d code }
+changed h g (change.Heard p d l r code) = record
+    (with_link g (Domain p) d l) { records = put g.records p r; gathered = put g.gathered p code }
 
 -- whose row it changes
 abbrev pub touched : Change → Option Touched
@@ -43,7 +45,8 @@ with_saved (Some s) rows = with_row s.key s.bytes rows
 abbrev pub IsChange : Hierarchy → ℕ → Change → Type 0
 IsChange h number change.Nothing = Unit {0}
 IsChange h number (change.Handed d r) = IsBetween 1 (domain_count h) d
-IsChange h number (change.Linked o d l) = (is_number (operator_station_of h o) number ≡ true) × IsBetween 1 (domain_count h) d
+IsChange h number (change.Linked o d l) = (is_number (operator_station_of h o) number ≡ true)
+    × IsBetween 1 (domain_count h) d
 IsChange h number (change.Ran d c r code) = IsBetween 1 (domain_count h) d
 IsChange h number (change.Heard p d l r code) = IsBetween 1 (domain_count h) p × (is_parent h d p ≡ true)
 

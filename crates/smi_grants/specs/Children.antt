@@ -28,11 +28,13 @@ is_among xs x = list_any (λ y. y == x) xs
 -- a command has reached these children
 abbrev pub commanded_among : Hierarchy → Grants → ℕ → Command → List ℕ → Grants
 commanded_among h g d c xs = record g {
-  links = λ who x. if is_among xs x && same_holder who (Domain d) then children.link_after (children.change_of h g d c x) (g.links (Domain d) x) else g.links who x;
+  links = λ who x. if is_among xs x && same_holder who (Domain d)
+      then children.link_after (children.change_of h g d c x) (g.links (Domain d) x) else g.links who x;
   modes = λ x. if is_among xs x then children.mode_after (children.change_of h g d c x) (g.modes x) else g.modes x;
 }
 
 -- a command has reached one child
 abbrev pub commanded_child : Hierarchy → Grants → ℕ → Command → ℕ → Grants
 commanded_child h g d c x =
-    with_child g d x (children.link_after (children.change_of h g d c x) (g.links (Domain d) x)) (children.mode_after (children.change_of h g d c x) (g.modes x))
+    with_child g d x (children.link_after (children.change_of h g d c x) (g.links (Domain d) x))
+    (children.mode_after (children.change_of h g d c x) (g.modes x))

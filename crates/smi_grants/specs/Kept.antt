@@ -51,4 +51,5 @@ pub record IsKept (k : Kept) : Type 0 where
   pub modes : length k.modes ≡ domain_count k.tree
   pub child_links : length k.child_links ≡ domain_count k.tree
   pub operators : length k.operator_links ≡ operator_count k.tree
-  pub served : (o : ℕ) → is_number (operator_station_of k.tree o) k.number ≡ true → length (entry_or k.operator_links o []) ≡ domain_count k.tree
+  pub served : (o : ℕ) → is_number (operator_station_of k.tree o) k.number ≡ true
+      → length (entry_or k.operator_links o []) ≡ domain_count k.tree

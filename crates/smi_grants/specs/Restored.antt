@@ -19,14 +19,16 @@ abbrev pub with_domain : Hierarchy → Grants → ℕ → KeptDomain → Grants
 with_domain h g d row = record g {
   records = put g.records d row.standing;
   gathered = put g.gathered d row.gathered;
-  links = λ who x. if is_parent h x d && same_holder who (Domain d) then (stored_at row.links x).link else g.links who x;
+  links = λ who x. if is_parent h x d && same_holder who (Domain d) then (stored_at row.links x).link
+      else g.links who x;
   modes = λ x. if is_parent h x d then (stored_at row.links x).mode else g.modes x;
 }
 
 -- of an operator the links to the domains of the tree that its row says
 abbrev pub with_operator : Hierarchy → Grants → ℕ → List StoredLink → Grants
 with_operator h g o links = record g {
-  links = λ who x. if is_between 1 (domain_count h) x && same_holder who (Operator o) then (stored_at links x).link else g.links who x;
+  links = λ who x. if is_between 1 (domain_count h) x && same_holder who (Operator o) then (stored_at links x).link
+      else g.links who x;
 }
 
 -- Child by child, and domain by domain.
@@ -39,9 +41,11 @@ with_children g d links xs = record g {
 
 abbrev pub with_links_to : ℕ → Grants → ℕ → List StoredLink → Grants
 with_links_to most g o links = record g {
-  links = λ who x. if is_between 1 most x && same_holder who (Operator o) then (stored_at links x).link else g.links who x;
+  links = λ who x. if is_between 1 most x && same_holder who (Operator o) then (stored_at links x).link
+      else g.links who x;
 }
 
 -- At the beginning nobody was heard of: the station's own operators have a link to each domain, others none.
 abbrev pub first_links : Hierarchy → ℕ → ℕ → List Link
-first_links h number o = if is_number (operator_station_of h o) number then replicate (domain_count h) (Out 0) else replicate 0 (Out 0)
+first_links h number o = if is_number (operator_station_of h o) number then replicate (domain_count h) (Out 0)
+    else replicate 0 (Out 0)

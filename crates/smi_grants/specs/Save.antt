@@ -28,7 +28,8 @@ IfCounted (Err Stopped) P = P
 IfCounted (Err Memory) P = Unit {0}
 
 -- what a step leaves in its store, which it was given honest and open, where this row is saved
-pub record Leaves (honest before_open after_open : Type 0) (before after : Rows) (r : Result Heard StepFault) (row : Option Saved) : Type 0 where
+pub record Leaves (honest before_open after_open : Type 0) (before after : Rows) (r : Result Heard StepFault)
+    (row : Option Saved) : Type 0 where
   pub saved : honest → before_open → OnOk r (after_open × IsSame after (with_saved row before))
   pub kept : honest → IfKept r (before_open → after_open × IsSame after before)
   pub unsure : honest → after_open → IfStopped r (IsSame after before ⊎ IsSame after (with_saved row before))

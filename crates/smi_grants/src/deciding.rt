@@ -30,7 +30,8 @@ impl<'a> Kept<'a> {
         requires least { 1 ≤ domain }
         requires most { domain ≤ domain_count self.now.tree }
         requires party { is_free holder ≡ false }
-        ensures { (from : ℕ) → Plans self.now.tree self.now.number (grants_of self.now) (take_comes self.now.tree self.now.number (grants_of self.now) from domain holder seen) result }
+        ensures { (from : ℕ) → Plans self.now.tree self.now.number (grants_of self.now)
+            (take_comes self.now.tree self.now.number (grants_of self.now) from domain holder seen) result }
     {
         handed_by(domain, take(&self.record(domain), holder, seen))
     }
@@ -40,7 +41,8 @@ impl<'a> Kept<'a> {
         requires least { 1 ≤ domain }
         requires most { domain ≤ domain_count self.now.tree }
         requires party { is_free holder ≡ false }
-        ensures { (from : ℕ) → Plans self.now.tree self.now.number (grants_of self.now) (drop_comes self.now.tree self.now.number (grants_of self.now) from domain holder epoch) result }
+        ensures { (from : ℕ) → Plans self.now.tree self.now.number (grants_of self.now)
+            (drop_comes self.now.tree self.now.number (grants_of self.now) from domain holder epoch) result }
     {
         handed_by(domain, drop_grant(&self.record(domain), holder, epoch))
     }

@@ -111,7 +111,8 @@ impl<'a> Kept<'a> {
 
     /// The parent of a domain, where it is kept here and the record changes its link.
     fn listening_parent(&self, domain: u16, news: &Record) -> Option<Holder>
-        ensures { result ≡ find (λ who. hearing.hears ((grants_of self.now).links who domain) who news.now) (hearing.parent_here self.now.tree self.now.number (parent_of self.now.tree domain)) }
+        ensures { result ≡ find (λ who. hearing.hears ((grants_of self.now).links who domain) who news.now)
+            (hearing.parent_here self.now.tree self.now.number (parent_of self.now.tree domain)) }
     {
         let parent = self.tree().parent(domain)?;
         let holder = Holder::Domain(parent);
@@ -127,7 +128,8 @@ impl<'a> Kept<'a> {
     /// An operator's link is told a record.
     pub fn operator_told(&self, operator: u16, domain: u16, news: &Record) -> Change
         requires { MayOrder self.now.tree self.now.number operator domain }
-        ensures { Plans self.now.tree self.now.number (grants_of self.now) (operator_told self.now.tree self.now.number (grants_of self.now) operator domain news.now) result }
+        ensures { Plans self.now.tree self.now.number (grants_of self.now)
+            (operator_told self.now.tree self.now.number (grants_of self.now) operator domain news.now) result }
     {
         let holder = Holder::Operator(operator);
         let (link, _) = told(&self.link(holder, domain), holder, news);
@@ -139,7 +141,8 @@ impl<'a> Kept<'a> {
         requires least { 1 ≤ parent }
         requires most { parent ≤ domain_count self.now.tree }
         requires child { is_parent self.now.tree child parent ≡ true }
-        ensures { Plans self.now.tree self.now.number (grants_of self.now) (parent_told self.now.tree self.now.number (grants_of self.now) parent child news.now) result }
+        ensures { Plans self.now.tree self.now.number (grants_of self.now)
+            (parent_told self.now.tree self.now.number (grants_of self.now) parent child news.now) result }
     {
         let holder = Holder::Domain(parent);
         let (link, heard) = told(&self.link(holder, child), holder, news);
@@ -156,7 +159,8 @@ impl<'a> Kept<'a> {
     fn ends(&self, domain: u16, child: u16, link: &Link) -> bool
         requires least { 1 ≤ domain }
         requires most { domain ≤ domain_count self.now.tree }
-        ensures { result ≡ hearing.ends self.now.tree (with_link (grants_of self.now) (Domain domain) child link.now) domain }
+        ensures { result ≡ hearing.ends self.now.tree (with_link (grants_of self.now) (Domain domain) child link.now)
+            domain }
     {
         !is_settled(self.record(domain).phase) && !self.waits_with(domain, child, link)
     }
@@ -165,7 +169,8 @@ impl<'a> Kept<'a> {
     fn waits_with(&self, domain: u16, child: u16, link: &Link) -> bool
         requires least { 1 ≤ domain }
         requires most { domain ≤ domain_count self.now.tree }
-        ensures { result ≡ waits_for_children self.now.tree (with_link (grants_of self.now) (Domain domain) child link.now) domain }
+        ensures { result ≡ waits_for_children self.now.tree
+            (with_link (grants_of self.now) (Domain domain) child link.now) domain }
     {
         let holder = Holder::Domain(domain);
         let children = self.tree().children(domain);

@@ -89,7 +89,8 @@ impl<'a> Kept<'a> {
     fn restore_children(&mut self, domain: u16, links: &[StoredLink])
         requires least { 1 ≤ domain }
         requires most { domain ≤ domain_count self.old.tree }
-        ensures grants { grants_of self.new ≡ with_children (grants_of self.old) domain links.now (children_of self.old.tree domain) }
+        ensures grants { grants_of self.new ≡ with_children (grants_of self.old) domain links.now
+            (children_of self.old.tree domain) }
         ensures tree { self.new.tree ≡ self.old.tree }
         ensures number { self.new.number ≡ self.old.number }
     {
@@ -119,7 +120,8 @@ fn stored_at(links: &[StoredLink], domain: u16) -> StoredLink
 
 /// The links of all operators, by number.
 fn links_of_operators(alloc: Global, tree: &Tree, number: u16) -> Result<Vec<Links>, AllocError>
-    ensures { IfOk result (λ tables. tables.items ≡ map (first_links tree.now number) (range_with_len 1 (operator_count tree.now))) }
+    ensures { IfOk result (λ tables. tables.items
+        ≡ map (first_links tree.now number) (range_with_len 1 (operator_count tree.now))) }
 {
     let mut tables = Vec::new(alloc);
     for place in 0..tree.operator_count() {

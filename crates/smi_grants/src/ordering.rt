@@ -15,7 +15,8 @@ use smi_protocol::Order;
 
 /// The change where the link allows the order.
 fn obeyed(operator: u16, domain: u16, link: Result<Link, u16>) -> Change
-    ensures { (h : Hierarchy) (number : ℕ) (g : Grants) (c : Option Command) → MayOrder h number operator domain → Plans h number g (ordering.obeyed h number g operator domain c link) result }
+    ensures { (h : Hierarchy) (number : ℕ) (g : Grants) (c : Option Command) → MayOrder h number operator domain
+        → Plans h number g (ordering.obeyed h number g operator domain c link) result }
 {
     match link {
         Ok(link) => Change::Linked(operator, domain, link),
@@ -33,7 +34,8 @@ impl<'a> Kept<'a> {
     /// An order comes that is not refused for what it names.
     pub fn order_comes(&self, operator: u16, order: &Order) -> Change
         requires { is_order_here self.now.tree self.now.number operator order.now ≡ true }
-        ensures { Plans self.now.tree self.now.number (grants_of self.now) (order_comes self.now.tree self.now.number (grants_of self.now) operator order.now) result }
+        ensures { Plans self.now.tree self.now.number (grants_of self.now)
+            (order_comes self.now.tree self.now.number (grants_of self.now) operator order.now) result }
     {
         let holder = Holder::Operator(operator);
         match *order {
@@ -68,7 +70,8 @@ impl<'a> Kept<'a> {
     /// An operator orders a command.
     fn command_comes(&self, operator: u16, domain: u16, command: Command) -> Change
         requires { MayOrder self.now.tree self.now.number operator domain }
-        ensures { Plans self.now.tree self.now.number (grants_of self.now) (ordering.commands self.now.tree self.now.number (grants_of self.now) operator domain command) result }
+        ensures { Plans self.now.tree self.now.number (grants_of self.now)
+            (ordering.commands self.now.tree self.now.number (grants_of self.now) operator domain command) result }
     {
         let link = self.link(Holder::Operator(operator), domain);
         obeyed(operator, domain, issue(&link, command))

@@ -201,7 +201,8 @@ impl<'a> Kept<'a> {
 
     /// Why a station does not take an order, if it does not: 21 to 26.
     pub fn refusal_of_order(&self, operator: u16, order: &Order) -> Option<u16>
-        ensures { result ≡ spec.refusal_of self.now.tree self.now.number (grants_of self.now) (Orders operator order.now) }
+        ensures { result ≡ spec.refusal_of self.now.tree self.now.number (grants_of self.now)
+            (Orders operator order.now) }
     {
         if is_order_here(self.tree(), self.number, operator, order) {
             self.refusal_by_link(operator, order)

@@ -32,7 +32,8 @@ impl<'k, 'a> After<'k, 'a> {
     /// The row that the change has saved, if any.
     pub fn row(&self, alloc: Global) -> Result<Option<SavedRow>, AllocError>
         requires { IsChange self.now.kept.tree self.now.kept.number self.now.change }
-        ensures { IfOk result (λ row. row ≡ saved_by self.now.kept.tree self.now.kept.number (grants_of self.now.kept) self.now.change) }
+        ensures { IfOk result (λ row. row ≡ saved_by self.now.kept.tree self.now.kept.number
+            (grants_of self.now.kept) self.now.change) }
     {
         match *self.change {
             Change::Nothing => Ok(None),
@@ -53,7 +54,8 @@ impl<'k, 'a> After<'k, 'a> {
     fn domain_row(&self, alloc: Global, domain: u16) -> Result<SavedRow, AllocError>
         requires least { 1 ≤ domain }
         requires most { domain ≤ domain_count self.now.kept.tree }
-        ensures { IfOk result (λ row. row ≡ rows.saved_row self.now.kept.tree self.now.kept.number (after_of self.now) (OfDomain domain)) }
+        ensures { IfOk result (λ row. row ≡ rows.saved_row self.now.kept.tree self.now.kept.number
+            (after_of self.now) (OfDomain domain)) }
     {
         let links = self.child_links(alloc, domain)?;
         let row = DomainRow {
@@ -70,7 +72,8 @@ impl<'k, 'a> After<'k, 'a> {
 
     /// The row of an operator.
     fn operator_row(&self, alloc: Global, operator: u16) -> Result<SavedRow, AllocError>
-        ensures { IfOk result (λ row. row ≡ rows.saved_row self.now.kept.tree self.now.kept.number (after_of self.now) (OfOperator operator)) }
+        ensures { IfOk result (λ row. row ≡ rows.saved_row self.now.kept.tree self.now.kept.number
+            (after_of self.now) (OfOperator operator)) }
     {
         let links = self.operator_links(alloc, operator)?;
         let row = OperatorRow { links };
@@ -95,7 +98,8 @@ impl<'k, 'a> After<'k, 'a> {
     fn child_links(&self, alloc: Global, domain: u16) -> Result<Vec<StoredLink>, AllocError>
         requires least { 1 ≤ domain }
         requires most { domain ≤ domain_count self.now.kept.tree }
-        ensures links { IfOk result (λ links. links.items ≡ rows.child_links self.now.kept.tree (after_of self.now) domain) }
+        ensures links { IfOk result (λ links. links.items
+            ≡ rows.child_links self.now.kept.tree (after_of self.now) domain) }
         ensures few { IfOk result (λ links. length links.items < 2 ^ 16) }
     {
         let holder = Holder::Domain(domain);
@@ -112,7 +116,8 @@ impl<'k, 'a> After<'k, 'a> {
 
     /// An operator's links, as they are stored.
     fn operator_links(&self, alloc: Global, operator: u16) -> Result<Vec<StoredLink>, AllocError>
-        ensures links { IfOk result (λ links. links.items ≡ rows.operator_links self.now.kept.tree (after_of self.now) operator) }
+        ensures links { IfOk result (λ links. links.items
+            ≡ rows.operator_links self.now.kept.tree (after_of self.now) operator) }
         ensures few { IfOk result (λ links. length links.items < 2 ^ 16) }
     {
         let holder = Holder::Operator(operator);

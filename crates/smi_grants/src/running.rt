@@ -88,7 +88,8 @@ impl<'a> Kept<'a> {
     fn waits_after(&self, domain: u16, command: Command) -> bool
         requires least { 1 ≤ domain }
         requires most { domain ≤ domain_count self.now.tree }
-        ensures { result ≡ waits_for_children self.now.tree (commanded self.now.tree (grants_of self.now) domain command) domain }
+        ensures { result ≡ waits_for_children self.now.tree
+            (commanded self.now.tree (grants_of self.now) domain command) domain }
     {
         let children = self.tree().children(domain);
         for child in children {
@@ -113,7 +114,9 @@ impl<'a> Kept<'a> {
         requires most { domain ≤ domain_count self.now.tree }
         requires party { is_free holder ≡ false }
         requires number { number ≤ last_number }
-        ensures { (from : ℕ) → Plans self.now.tree self.now.number (grants_of self.now) (run_comes self.now.tree self.now.number (grants_of self.now) from domain holder epoch number command) result }
+        ensures { (from : ℕ) → Plans self.now.tree self.now.number (grants_of self.now)
+            (run_comes self.now.tree self.now.number (grants_of self.now) from domain holder epoch number command)
+            result }
     {
         let standing = self.record(domain);
         if !admit(&standing, holder, epoch, number) {

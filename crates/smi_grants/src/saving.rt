@@ -16,10 +16,15 @@ use smi_rows::{SavedRow, Stable, StoreFault};
 /// A row is saved, if there is one.
 pub fn save<S: Stable>(store: &mut S, row: &Option<SavedRow>) -> Result<Heard, StepFault>
     ensures heard { IfOk result (λ heard. heard ≡ heard_of row.now) }
-    ensures saved { S.is_honest store.new → S.is_open store.old → OnOk result (S.is_open store.new × IsSame (S.rows store.new) (with_saved row.now (S.rows store.old))) }
-    ensures kept { S.is_honest store.new → IfKept result (S.is_open store.old → S.is_open store.new × IsSame (S.rows store.new) (S.rows store.old)) }
-    ensures unsure { S.is_honest store.new → S.is_open store.new → IfStopped result (IsSame (S.rows store.new) (S.rows store.old) ⊎ IsSame (S.rows store.new) (with_saved row.now (S.rows store.old))) }
-    ensures crash { S.is_honest store.new → S.is_open store.old → (r : Rows) → S.may_find store.new r → IsSame r (S.rows store.old) ⊎ IsSame r (with_saved row.now (S.rows store.old)) }
+    ensures saved { S.is_honest store.new → S.is_open store.old
+        → OnOk result (S.is_open store.new × IsSame (S.rows store.new) (with_saved row.now (S.rows store.old))) }
+    ensures kept { S.is_honest store.new → IfKept result
+        (S.is_open store.old → S.is_open store.new × IsSame (S.rows store.new) (S.rows store.old)) }
+    ensures unsure { S.is_honest store.new → S.is_open store.new
+        → IfStopped result (IsSame (S.rows store.new) (S.rows store.old)
+        ⊎ IsSame (S.rows store.new) (with_saved row.now (S.rows store.old))) }
+    ensures crash { S.is_honest store.new → S.is_open store.old → (r : Rows) → S.may_find store.new r
+        → IsSame r (S.rows store.old) ⊎ IsSame r (with_saved row.now (S.rows store.old)) }
     ensures honest { S.is_honest store.new → S.is_honest store.old }
     ensures saves { S.saves store.new ≤ S.saves store.old + 1 }
     ensures failures { S.failures store.old ≤ S.failures store.new }
@@ -46,10 +51,17 @@ pub fn carry_out<S: Stable>(
     ensures grants { OnOk result (grants_of kept.new ≡ changed kept.old.tree (grants_of kept.old) change.now) }
     ensures tree { OnOk result ((kept.new.tree ≡ kept.old.tree) × (kept.new.number ≡ kept.old.number)) }
     ensures unchanged { OnErr result (kept.new ≡ kept.old) }
-    ensures heard { IfOk result (λ heard. heard ≡ heard_of (saved_by kept.old.tree kept.old.number (grants_of kept.old) change.now)) }
-    ensures saved { S.is_honest store.new → S.is_open store.old → OnOk result (S.is_open store.new × IsSame (S.rows store.new) (with_saved (saved_by kept.old.tree kept.old.number (grants_of kept.old) change.now) (S.rows store.old))) }
-    ensures kept { S.is_honest store.new → IfKept result (S.is_open store.old → S.is_open store.new × IsSame (S.rows store.new) (S.rows store.old)) }
-    ensures unsure { S.is_honest store.new → S.is_open store.new → IfStopped result (IsSame (S.rows store.new) (S.rows store.old) ⊎ IsSame (S.rows store.new) (with_saved (saved_by kept.old.tree kept.old.number (grants_of kept.old) change.now) (S.rows store.old))) }
+    ensures heard { IfOk result (λ heard. heard
+        ≡ heard_of (saved_by kept.old.tree kept.old.number (grants_of kept.old) change.now)) }
+    ensures saved { S.is_honest store.new → S.is_open store.old
+        → OnOk result (S.is_open store.new × IsSame (S.rows store.new)
+        (with_saved (saved_by kept.old.tree kept.old.number (grants_of kept.old) change.now) (S.rows store.old))) }
+    ensures kept { S.is_honest store.new → IfKept result
+        (S.is_open store.old → S.is_open store.new × IsSame (S.rows store.new) (S.rows store.old)) }
+    ensures unsure { S.is_honest store.new → S.is_open store.new
+        → IfStopped result (IsSame (S.rows store.new) (S.rows store.old)
+        ⊎ IsSame (S.rows store.new)
+        (with_saved (saved_by kept.old.tree kept.old.number (grants_of kept.old) change.now) (S.rows store.old))) }
     ensures honest { S.is_honest store.new → S.is_honest store.old }
     ensures saves { S.saves store.new ≤ S.saves store.old + 1 }
     ensures failures { S.failures store.old ≤ S.failures store.new }

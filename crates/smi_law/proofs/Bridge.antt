@@ -1,6 +1,8 @@
 -- What a schedule makes of the world is a run, item by item.
-use Rattle.std.proofs.Common.{ℕ, zero, suc, ◌≡◌, ◌+◌, ◌-◌, Bool, true, false, List, [], ◌∷◌, inl, inr, refl, sym, ap, ◌∙◌, subst, append_assoc, append-nil, arith}
-use Rattle.std.specs.Prelude.{◌==◌, ◌≢◌, ◌++◌, not, Option, Some, None, option_map, is_some, length, slice_get, map, if◌then◌else◌}
+use Rattle.std.proofs.Common.{ℕ, zero, suc, ◌≡◌, ◌+◌, ◌-◌, Bool, true, false, List, [], ◌∷◌, inl, inr, refl, sym, ap}
+use Rattle.std.proofs.Common.{◌∙◌, subst, append_assoc, append-nil, arith}
+use Rattle.std.specs.Prelude.{◌==◌, ◌≢◌, ◌++◌, not, Option, Some, None, option_map, is_some, length, slice_get, map}
+use Rattle.std.specs.Prelude.{if◌then◌else◌}
 use Rattle.std.proofs.lemmas.Bool.{and_parts, eqb-true}
 use Rattle.std.proofs.lemmas.Bool.Decides.{nat_tests}
 use Rattle.smi_message.specs.Message.{Message, is_between, last_boot}
@@ -24,8 +26,12 @@ use Rattle.smi_item.specs.declared.item.Item.{Item}
 use Rattle.smi_item.specs.declared.item.Item.TheVariants as item
 use Rattle.smi_item.specs.declared.item.Line.{Line}
 use Rattle.smi_item.specs.declared.item.Line.TheVariants as line
-use Rattle.smi_law.specs.Schedule.{World, Turn, nothing, changed, stepped, Arrival, arrival, delivery, sent_before, arrival_at, arrival_of, done_by, restarted, is_at, stopped_behind, not_stored, failed, failing, turn, sent_lines, lines_of, trace_from, trace_of, opening_of, first_world, entries_of}
-use Rattle.smi_law.specs.World.{Among, MayCome, with_station, noted, sends, steps, stops, tells, halts, starts, Reaches, opens, goes_on}
+use Rattle.smi_law.specs.Schedule.{World, Turn, nothing, changed, stepped, Arrival, arrival, delivery, sent_before}
+use Rattle.smi_law.specs.Schedule.{arrival_at, arrival_of, done_by, restarted, is_at, stopped_behind, not_stored}
+use Rattle.smi_law.specs.Schedule.{failed, failing, turn, sent_lines, lines_of, trace_from, trace_of, opening_of}
+use Rattle.smi_law.specs.Schedule.{first_world, entries_of}
+use Rattle.smi_law.specs.World.{Among, MayCome, with_station, noted, sends, steps, stops, tells, halts, starts}
+use Rattle.smi_law.specs.World.{Reaches, opens, goes_on}
 use Rattle.smi_law.proofs.GrantKinds.{put_here}
 use Rattle.smi_law.proofs.Quiet.{noted_both}
 use Rattle.smi_law.proofs.Speaking.{speaks}
@@ -54,17 +60,20 @@ put_same table n = same_table (put table n (table n)) table (λ m. by m (m == n)
     by m false i = refl
 
 -- the same stations, and nothing more is sent
-quietly : (h : Hierarchy) (past : List Entry) (w : World) (stations : ℕ → Station) → w.stations ≡ stations → Reaches h past w → Reaches h past (record { stations = stations; sent = w.sent ++ [] })
+quietly : (h : Hierarchy) (past : List Entry) (w : World) (stations : ℕ → Station) → w.stations ≡ stations
+    → Reaches h past w → Reaches h past (record { stations = stations; sent = w.sent ++ [] })
 quietly h past w stations same run =
     subst (λ z. Reaches h past (record { stations = z; sent = w.sent ++ [] })) same
     (subst (λ z. Reaches h past (record { stations = w.stations; sent = z })) (sym (append-nil w.sent)) run)
 
 -- Datagrams are sent one after the other.
-sends_all : (h : Hierarchy) (past : List Entry) (ms : List Message) (w : World) (number : ℕ) → Reaches h past w → ((m : Message) → Among m ms → MaySend h number (w.stations number) m) → Reaches h past (with_all w ms)
+sends_all : (h : Hierarchy) (past : List Entry) (ms : List Message) (w : World) (number : ℕ) → Reaches h past w
+    → ((m : Message) → Among m ms → MaySend h number (w.stations number) m) → Reaches h past (with_all w ms)
 sends_all h past [] w number run may = quietly h past w w.stations refl run
 sends_all h past (m ∷ ms) w number run may =
     subst (λ z. Reaches h past (record { stations = w.stations; sent = z })) (append_assoc w.sent (m ∷ []) ms)
-    (sends_all h past ms (with_all w (m ∷ [])) number (goes_on run (sends number m (may m (inl refl)))) (λ k a. may k (inr a)))
+    (sends_all h past ms (with_all w (m ∷ [])) number (goes_on run (sends number m (may m (inl refl))))
+    (λ k a. may k (inr a)))
 
 -- What comes.
 
@@ -81,7 +90,8 @@ abbrev pub Arrives : World → Option Arrival → Type 0
 Arrives w None = Unit {0}
 Arrives w (Some x) = MayCome w x.what
 
-delivered : (h : Hierarchy) (w : World) (o : Option Message) → ((m : Message) → o ≡ Some m → Among m w.sent) → Arrives w (delivery h o)
+delivered : (h : Hierarchy) (w : World) (o : Option Message) → ((m : Message) → o ≡ Some m → Among m w.sent)
+    → Arrives w (delivery h o)
 delivered h w None sent = tt
 delivered h w (Some m) sent = by (is_between 1 (station_count h) m.to)
   where
@@ -97,7 +107,9 @@ at_one : (h : Hierarchy) (w : World) (what : Happening) → Arrives w (arrival_a
 at_one h w (Orders o what) = given w (Orders o what) tt (operator_station_of h o)
 at_one h w (Reports device s) = by (device == 0)
   where
-    by : (b : Bool) → Arrives w (if b then None else option_map (arrival (Reports device s)) (keeper_of h (domain_count h + device)))
+    by : (b : Bool)
+        → Arrives w (if b then None else option_map (arrival (Reports device s))
+        (keeper_of h (domain_count h + device)))
     by true = tt
     by false = given w (Reports device s) tt (keeper_of h (domain_count h + device))
 at_one h w (Comes m) = tt
@@ -111,7 +123,8 @@ arrives h w (deed.Deliver k) = by (k == 0)
     by false = delivered h w (slice_get w.sent (k - 1)) (λ m is. among_at w.sent (k - 1) m is)
 arrives h w (deed.Recent j) = delivered h w (sent_before j w.sent) (by (is_some (slice_get w.sent j)))
   where
-    by : (b : Bool) (m : Message) → (if b then slice_get w.sent (length w.sent - 1 - j) else None) ≡ Some m → Among m w.sent
+    by : (b : Bool) (m : Message) → (if b then slice_get w.sent (length w.sent - 1 - j) else None) ≡ Some m
+        → Among m w.sent
     by true m is = among_at w.sent (length w.sent - 1 - j) m is
     by false m is = absurd cc
 arrives h w (deed.Order o what) = at_one h w (ordered_or_reported o what)
@@ -129,23 +142,29 @@ module _ (h : Hierarchy) (tree : IsTree h) (past : List Entry) (w : World) (run 
   abbrev pub Turned : Turn → Type 0
   Turned t = Reaches h (noted t.entries past) t.world
 
-  steps_on : (number : ℕ) (what : Happening) → (w.stations number).is_stopped ≡ false → MayCome w what → Turned (stepped w number (after h number (w.stations number) what))
+  steps_on : (number : ℕ) (what : Happening) → (w.stations number).is_stopped ≡ false → MayCome w what
+      → Turned (stepped w number (after h number (w.stations number) what))
   steps_on number what runs may =
       let out = after h number (w.stations number) what in
-      sends_all h (noted (out.kept ++ out.after) past) out.out.datagrams (with_station w number out.station) number (goes_on run (steps number what runs may))
-      (λ m a. subst (λ s. MaySend h number s m) (sym (put_here w.stations number out.station)) (speaks h tree past w run number what may m a))
+      sends_all h (noted (out.kept ++ out.after) past) out.out.datagrams (with_station w number out.station) number
+      (goes_on run (steps number what runs may))
+      (λ m a. subst (λ s. MaySend h number s m) (sym (put_here w.stations number out.station))
+      (speaks h tree past w run number what may m a))
 
   does : (o : Option Arrival) → Arrives w o → Turned (done_by h w o)
   does None may = run
   does (Some x) may = by (w.stations x.station).is_stopped refl
     where
-      by : (b : Bool) → (w.stations x.station).is_stopped ≡ b → Turned (if b then nothing w else stepped w x.station (after h x.station (w.stations x.station) x.what))
+      by : (b : Bool) → (w.stations x.station).is_stopped ≡ b
+          → Turned (if b then nothing w else stepped w x.station (after h x.station (w.stations x.station) x.what))
       by true is = run
       by false is = steps_on x.station x.what is may
 
-  halted : (number : ℕ) (s : Station) → s ≡ record (w.stations number) { is_stopped = true } → Reaches h past (record { stations = put w.stations number s; sent = w.sent ++ [] })
+  halted : (number : ℕ) (s : Station) → s ≡ record (w.stations number) { is_stopped = true }
+      → Reaches h past (record { stations = put w.stations number s; sent = w.sent ++ [] })
   halted number s is =
-      quietly h past (with_station w number (record (w.stations number) { is_stopped = true })) (put w.stations number s) (ap (put w.stations number) (sym is)) (goes_on run (halts number))
+      quietly h past (with_station w number (record (w.stations number) { is_stopped = true }))
+      (put w.stations number s) (ap (put w.stations number) (sym is)) (goes_on run (halts number))
 
   not_last : (n : ℕ) → (n == last_boot) ≡ false → n ≢ last_boot
   not_last n f i = let j : (n == last_boot) ≡ true = same_number n last_boot i in let k : true ≡ false = sym j ∙ f in cc
@@ -157,10 +176,14 @@ module _ (h : Hierarchy) (tree : IsTree h) (past : List Entry) (w : World) (run 
   restarts number = by ((w.stations number).grants.boot == last_boot) refl
     where
       by : (b : Bool) → ((w.stations number).grants.boot == last_boot) ≡ b
-          → Turned (if b then changed w number (record (w.stations number) { is_stopped = true }) [] [] else changed w number (opened h number (w.stations number).grants) ([] ++ opening_entries h number (opened h number (w.stations number).grants)) [])
+          → Turned (if b then changed w number (record (w.stations number) { is_stopped = true }) [] []
+          else changed w number (opened h number (w.stations number).grants)
+          ([] ++ opening_entries h number (opened h number (w.stations number).grants)) [])
       by true is = halted number (record (w.stations number) { is_stopped = true }) refl
       by false is =
-          quietly h (noted (opening_entries h number (opened h number (w.stations number).grants)) past) (with_station w number (opened h number (w.stations number).grants)) (put w.stations number (opened h number (w.stations number).grants)) refl
+          quietly h (noted (opening_entries h number (opened h number (w.stations number).grants)) past)
+          (with_station w number (opened h number (w.stations number).grants))
+          (put w.stations number (opened h number (w.stations number).grants)) refl
           (goes_on run (starts number (not_last (w.stations number).grants.boot is)))
 
   module _ (number : ℕ) (what : Happening) (runs : (w.stations number).is_stopped ≡ false) (may : MayCome w what) where
@@ -176,24 +199,37 @@ module _ (h : Hierarchy) (tree : IsTree h) (past : List Entry) (w : World) (run 
     stops_on : Turned (changed w number saved kept [])
     stops_on = quietly h (noted kept past) (with_station w number saved) (put w.stations number saved) refl stopped_run
 
-    started_run : (saved.grants.boot == last_boot) ≡ false → Reaches h (noted (kept ++ opening_entries h number (opened h number saved.grants)) past) (with_station w number (opened h number saved.grants))
+    started_run : (saved.grants.boot == last_boot) ≡ false
+        → Reaches h (noted (kept ++ opening_entries h number (opened h number saved.grants)) past)
+        (with_station w number (opened h number saved.grants))
     started_run is =
-        subst (λ z. Reaches h z (with_station w number (opened h number saved.grants))) (sym (noted_both kept (opening_entries h number (opened h number saved.grants)) past))
-        (subst (λ z. Reaches h (noted (opening_entries h number (opened h number saved.grants)) (noted kept past)) (record { stations = z; sent = w.sent })) (put_again w.stations number saved (opened h number saved.grants))
-        (subst (λ (s : Station). Reaches h (noted (opening_entries h number (opened h number s.grants)) (noted kept past)) (with_station (with_station w number saved) number (opened h number s.grants))) (put_here w.stations number saved)
-        (goes_on stopped_run (starts number (subst (λ (s : Station). s.grants.boot ≢ last_boot) (sym (put_here w.stations number saved)) (not_last saved.grants.boot is))))))
+        subst (λ z. Reaches h z (with_station w number (opened h number saved.grants)))
+        (sym (noted_both kept (opening_entries h number (opened h number saved.grants)) past))
+        (subst (λ z. Reaches h (noted (opening_entries h number (opened h number saved.grants)) (noted kept past))
+        (record { stations = z; sent = w.sent })) (put_again w.stations number saved (opened h number saved.grants))
+        (subst (λ (s : Station). Reaches h (noted (opening_entries h number (opened h number s.grants))
+        (noted kept past)) (with_station (with_station w number saved) number (opened h number s.grants)))
+        (put_here w.stations number saved)
+        (goes_on stopped_run
+        (starts number (subst (λ (s : Station). s.grants.boot ≢ last_boot) (sym (put_here w.stations number saved))
+        (not_last saved.grants.boot is))))))
 
     restarts_behind : Turned (restarted h w number kept saved)
     restarts_behind = by (saved.grants.boot == last_boot) refl
       where
         by : (b : Bool) → (saved.grants.boot == last_boot) ≡ b
-            → Turned (if b then changed w number (record saved { is_stopped = true }) kept [] else changed w number (opened h number saved.grants) (kept ++ opening_entries h number (opened h number saved.grants)) [])
+            → Turned (if b then changed w number (record saved { is_stopped = true }) kept []
+            else changed w number (opened h number saved.grants)
+            (kept ++ opening_entries h number (opened h number saved.grants)) [])
         by true is = stops_on
         by false is =
-            quietly h (noted (kept ++ opening_entries h number (opened h number saved.grants)) past) (with_station w number (opened h number saved.grants)) (put w.stations number (opened h number saved.grants)) refl (started_run is)
+            quietly h (noted (kept ++ opening_entries h number (opened h number saved.grants)) past)
+            (with_station w number (opened h number saved.grants))
+            (put w.stations number (opened h number saved.grants)) refl (started_run is)
 
     not_saved : Turned (changed w number (w.stations number) (not_stored what) [])
-    not_saved = quietly h (noted (not_stored what) past) w (put w.stations number (w.stations number)) (sym (put_same w.stations number)) (told what)
+    not_saved = quietly h (noted (not_stored what) past) w (put w.stations number (w.stations number))
+        (sym (put_same w.stations number)) (told what)
       where
         told : (it : Happening) → Reaches h (noted (not_stored it) past) w
         told (Orders o order) = goes_on run (tells o (answer o order 31).told)
@@ -215,7 +251,8 @@ module _ (h : Hierarchy) (tree : IsTree h) (past : List Entry) (w : World) (run 
   stops_behind number (Some x) may = by (is_at w number (Some x)) refl
     where
       by : (b : Bool) → is_at w number (Some x) ≡ b
-          → Turned (if b then restarted h w number (after h number (w.stations number) x.what).kept (saved_only h number (w.stations number) x.what) else restarted h w number [] (w.stations number))
+          → Turned (if b then restarted h w number (after h number (w.stations number) x.what).kept
+          (saved_only h number (w.stations number) x.what) else restarted h w number [] (w.stations number))
       by true is = restarts_behind number x.what (at_runs number x is) may
       by false is = restarts number
 
@@ -223,12 +260,14 @@ module _ (h : Hierarchy) (tree : IsTree h) (past : List Entry) (w : World) (run 
   fails_at number None how may = run
   fails_at number (Some x) how may = by (is_at w number (Some x)) refl
     where
-      saves : (b : Bool) → (w.stations number).is_stopped ≡ false → Turned (if b then failed h w number x.what how else done_by h w (Some x))
+      saves : (b : Bool) → (w.stations number).is_stopped ≡ false
+          → Turned (if b then failed h w number x.what how else done_by h w (Some x))
       saves true runs = fails number x.what runs may how
       saves false runs = does (Some x) may
 
       by : (b : Bool) → is_at w number (Some x) ≡ b
-          → Turned (if b then (if is_some (after h number (w.stations number) x.what).saved then failed h w number x.what how else done_by h w (Some x)) else nothing w)
+          → Turned (if b then (if is_some (after h number (w.stations number) x.what).saved
+          then failed h w number x.what how else done_by h w (Some x)) else nothing w)
       by true is = saves (is_some (after h number (w.stations number) x.what).saved) (at_runs number x is)
       by false is = run
 
@@ -266,11 +305,13 @@ pub record Ends (h : Hierarchy) (past : List Entry) : Type 0 where
   pub world : World
   pub run : Reaches h past world
 
-from_world : (h : Hierarchy) → IsTree h → (items : List Item) (past : List Entry) (w : World) → Reaches h past w → Ends h (noted (entries_of (trace_from h w items)) past)
+from_world : (h : Hierarchy) → IsTree h → (items : List Item) (past : List Entry) (w : World) → Reaches h past w
+    → Ends h (noted (entries_of (trace_from h w items)) past)
 from_world h tree [] past w run = record { world = w; run = run }
 from_world h tree (x ∷ items) past w run =
     subst (Ends h) (sym (
-    ap (λ z. noted z past) (entries_both (lines_of w (turn h w x)) (trace_from h (turn h w x).world items) ∙ ap (λ z. z ++ entries_of (trace_from h (turn h w x).world items)) (entries_lines w (turn h w x)))
+    ap (λ z. noted z past) (entries_both (lines_of w (turn h w x)) (trace_from h (turn h w x).world items)
+    ∙ ap (λ z. z ++ entries_of (trace_from h (turn h w x).world items)) (entries_lines w (turn h w x)))
     ∙ noted_both (turn h w x).entries (entries_of (trace_from h (turn h w x).world items)) past
     ))
     (from_world h tree items (noted (turn h w x).entries past) (turn h w x).world (turned h tree past w run x))
@@ -278,7 +319,8 @@ from_world h tree (x ∷ items) past w run =
 pub schedule_runs : (h : Hierarchy) → IsTree h → (items : List Item) → Ends h (noted (entries_of (trace_of h items)) [])
 schedule_runs h tree items =
     subst (Ends h) (sym (
-    ap (λ z. noted z []) (entries_both (map line.Entry (opening_of h)) (trace_from h (first_world h) items) ∙ ap (λ z. z ++ entries_of (trace_from h (first_world h) items)) (entries_mapped (opening_of h)))
+    ap (λ z. noted z []) (entries_both (map line.Entry (opening_of h)) (trace_from h (first_world h) items)
+    ∙ ap (λ z. z ++ entries_of (trace_from h (first_world h) items)) (entries_mapped (opening_of h)))
     ∙ noted_both (opening_of h) (entries_of (trace_from h (first_world h) items)) []
     ))
     (from_world h tree items (noted (opening_of h) []) (first_world h) opens)

@@ -1,4 +1,4 @@
--- What a step leaves behind its save, and what a start leaves, is about states and answers alone.
+-- What a step leaves after its save, and what a start leaves, is about states and answers alone.
 use Rattle.std.proofs.Common.{ℕ, List, [], ◌∷◌}
 use Rattle.std.specs.Prelude.{◌++◌, Option, Some, None, map}
 use Rattle.std.specs.List.{flat_map}
@@ -14,7 +14,8 @@ use Rattle.smi_protocol.specs.Step.{refusal_answers, notice, conditions_after, a
 use Rattle.smi_protocol.specs.declared.Answer.{Answer}
 use Rattle.smi_protocol.specs.declared.Entry.{Entry}
 use Rattle.smi_protocol.specs.declared.Entry.TheVariants as entry
-use Rattle.smi_protocol.specs.declared.Entry.TheVariants.{Booted, Granted, Freed, Ordered, Ran, Learned, LetGo, InMode, Settled, Showed, Passed, Told}
+use Rattle.smi_protocol.specs.declared.Entry.TheVariants.{Booted, Granted, Freed, Ordered, Ran, Learned, LetGo}
+use Rattle.smi_protocol.specs.declared.Entry.TheVariants.{InMode, Settled, Showed, Passed, Told}
 use Rattle.smi_law.proofs.OrderSteps.{NoOrders}
 use Rattle.smi_law.proofs.Quiet.{AllQuiet}
 use Rattle.smi_law.proofs.RunSteps.{NoRuns}
@@ -57,26 +58,32 @@ showed_display : (number : ℕ) (shown : Option Shown) → AllDisplay (showed_en
 showed_display number None = tt
 showed_display number (Some s) = (tt, tt)
 
-all_display : (number : ℕ) (shown : Option Shown) (passed : List Shown) (answers : List Answer) → AllDisplay (showed_entries number shown ++ map entry.Passed passed ++ told_entries answers)
+all_display : (number : ℕ) (shown : Option Shown) (passed : List Shown) (answers : List Answer)
+    → AllDisplay (showed_entries number shown ++ map entry.Passed passed ++ told_entries answers)
 all_display number shown passed answers =
     display_both (showed_entries number shown ++ map entry.Passed passed) (told_entries answers)
-    (display_both (showed_entries number shown) (map entry.Passed passed) (showed_display number shown) (passed_display passed))
+    (display_both (showed_entries number shown) (map entry.Passed passed) (showed_display number shown)
+    (passed_display passed))
     (told_display answers)
 
-pub after_display : (h : Hierarchy) (number : ℕ) (s : Station) (what : Happening) (o : Option ℕ) → AllDisplay (answered_or h number s what o).after
+pub after_display : (h : Hierarchy) (number : ℕ) (s : Station) (what : Happening) (o : Option ℕ)
+    → AllDisplay (answered_or h number s what o).after
 after_display h number s what (Some code) = told_display (refusal_answers what code)
 after_display h number s what None =
     let g = grant_step h number s.grants what in
     let n = notice h number s.grants s.display what in
     let conditions = conditions_after h s g.grants n.display what in
-    all_display number n.showed (passed_in h s.grants.boot s.display.conditions conditions (domain_of_happening h what)) (g.answers ++ n.answers)
+    all_display number n.showed (passed_in h s.grants.boot s.display.conditions conditions
+    (domain_of_happening h what)) (g.answers ++ n.answers)
 
 pub opening_display : (h : Hierarchy) (number : ℕ) (s : Station) → AllDisplay (opening_entries h number s)
 opening_display h number s = (tt, passed_display (all_shown h s))
 
-pub openings_display : (h : Hierarchy) (numbers : List ℕ) → AllDisplay (flat_map (λ number. opening_entries h number (first_opened h number)) numbers)
+pub openings_display : (h : Hierarchy) (numbers : List ℕ)
+    → AllDisplay (flat_map (λ number. opening_entries h number (first_opened h number)) numbers)
 openings_display h [] = tt
-openings_display h (number ∷ numbers) = display_both (opening_entries h number (first_opened h number)) _ (opening_display h number (first_opened h number)) (openings_display h numbers)
+openings_display h (number ∷ numbers) = display_both (opening_entries h number (first_opened h number)) _
+    (opening_display h number (first_opened h number)) (openings_display h numbers)
 
 -- They say nothing of grants, runs, orders and modes.
 

@@ -21,7 +21,8 @@ use Rattle.smi_law.specs.Known.{holder_home}
 use Rattle.smi_law.specs.Safe.{SafeGrants}
 use Rattle.smi_law.specs.Schedule.{World, first_world, opening_of}
 use Rattle.smi_law.specs.Trace.{Stands, epoch_at, holder_at, has_learned}
-use Rattle.smi_law.specs.World.{MayCome, with_station, with_sent, noted, Step, sends, steps, stops, tells, halts, starts, Reaches, opens, goes_on}
+use Rattle.smi_law.specs.World.{MayCome, with_station, with_sent, noted, Step, sends, steps, stops, tells, halts}
+use Rattle.smi_law.specs.World.{starts, Reaches, opens, goes_on}
 use Rattle.smi_law.proofs.Changes.{same_grant, same_link}
 use Rattle.smi_law.proofs.Displayed.{quiet_display, after_display, opening_display, openings_display}
 use Rattle.smi_law.proofs.GrantKinds.{GrantKind, silently, kind_safely}
@@ -32,9 +33,14 @@ use Rattle.smi_law.proofs.Viewed.{Viewed, step_viewed, viewed, sent_or}
 
 -- What comes to a station.
 
-kept_kind : (h : Hierarchy) (w : World) (number : ℕ) (what : Happening) → MayCome w what → Viewed h w → (o : Option ℕ) → refusal_of h number (w.stations number).grants what ≡ o
-    → GrantKind h number w.sent (w.stations number).grants (answered_or h number (w.stations number) what o).station.grants (answered_or h number (w.stations number) what o).kept
-kept_kind h w number what may v (Some code) is = silently [] tt (λ d. same_grant ((w.stations number).grants.records d)) (λ me d. same_link ((w.stations number).grants.links me d))
+kept_kind : (h : Hierarchy) (w : World) (number : ℕ) (what : Happening) → MayCome w what → Viewed h w
+    → (o : Option ℕ) → refusal_of h number (w.stations number).grants what ≡ o
+    → GrantKind h number w.sent (w.stations number).grants
+    (answered_or h number (w.stations number) what o).station.grants
+    (answered_or h number (w.stations number) what o).kept
+kept_kind h w number what may v (Some code) is =
+    silently [] tt (λ d. same_grant ((w.stations number).grants.records d))
+    (λ me d. same_link ((w.stations number).grants.links me d))
 kept_kind h w number what may v None is = step_kind h w number what may v is
 
 -- The opening.
@@ -63,14 +69,17 @@ first_traces h = record {
 
 -- A datagram is sent.
 
-module _ (h : Hierarchy) (past : List Entry) (w : World) (number : ℕ) (m : Message) (may : MaySay h number (w.stations number) m.to m.body) (t : Traces h past w) where
-  drop_left : (me : Holder) (d e : ℕ) (b : Body) → b ≡ body.Drop d me e → MaySay h number (w.stations number) m.to b → Stands (entry.LetGo me d e) past
+module _ (h : Hierarchy) (past : List Entry) (w : World) (number : ℕ) (m : Message)
+    (may : MaySay h number (w.stations number) m.to m.body) (t : Traces h past w) where
+  drop_left : (me : Holder) (d e : ℕ) (b : Body) → b ≡ body.Drop d me e → MaySay h number (w.stations number) m.to b
+      → Stands (entry.LetGo me d e) past
   drop_left me d e b is may' = gone (subst (λ z. MaySay h number (w.stations number) m.to z) is may')
     where
       gone : MaySay h number (w.stations number) m.to (body.Drop d me e) → Stands (entry.LetGo me d e) past
       gone may'' =
           let at : holder_home h me ≡ number = ap (λ o. unwrap_or o 0) may''.1.0 in
-          t.let_go me d e (ap (λ z. (w.stations z).grants.links me d) at ∙ due_drop ((w.stations number).grants.links me d) may''.1.1.0 e may''.1.1.1)
+          t.let_go me d e (ap (λ z. (w.stations z).grants.links me d) at
+          ∙ due_drop ((w.stations number).grants.links me d) may''.1.1.0 e may''.1.1.1)
 
   sent_traces : Traces h past (with_sent w m)
   sent_traces = record {
@@ -87,28 +96,39 @@ module _ (h : Hierarchy) (past : List Entry) (w : World) (number : ℕ) (m : Mes
 
 -- Every step, and every run.
 
-step_safely : (h : Hierarchy) (past : List Entry) (w : World) (new : List Entry) (next : World) → Step h w new next → Viewed h w → Viewed h next → Safely h past w → Safely h (noted new past) next
-step_safely h past w new next (sends number m may) v n s = record { traces = sent_traces h past w number m may.2 s.traces; safe = s.safe }
+step_safely : (h : Hierarchy) (past : List Entry) (w : World) (new : List Entry) (next : World) → Step h w new next
+    → Viewed h w → Viewed h next → Safely h past w → Safely h (noted new past) next
+step_safely h past w new next (sends number m may) v n s =
+    record { traces = sent_traces h past w number m may.2 s.traces; safe = s.safe }
 step_safely h past w new next (steps number what runs may) v n s =
     let o = refusal_of h number (w.stations number).grants what in
     let out = after_happening h number (w.stations number) what in
     subst (λ z. Safely h z (with_station w number out.station)) (sym (noted_both out.kept out.after past))
-    (safely_quiet h (with_station w number out.station) n out.after (noted out.kept past) (quiet_display out.after (after_display h number (w.stations number) what o))
+    (safely_quiet h (with_station w number out.station) n out.after (noted out.kept past)
+    (quiet_display out.after (after_display h number (w.stations number) what o))
     (kind_safely h past w number out.station out.kept (kept_kind h w number what may v o refl) v n s))
 step_safely h past w new next (stops number what runs may) v n s =
     let o = refusal_of h number (w.stations number).grants what in
-    kind_safely h past w number (saved_only h number (w.stations number) what) (after_happening h number (w.stations number) what).kept (kept_kind h w number what may v o refl) v n s
+    kind_safely h past w number (saved_only h number (w.stations number) what)
+    (after_happening h number (w.stations number) what).kept (kept_kind h w number what may v o refl) v n s
 step_safely h past w new next (tells o what) v n s = safely_quiet h w v new past (tt, tt) s
 step_safely h past w new next (halts number) v n s =
-    kind_safely h past w number (record (w.stations number) { is_stopped = true }) [] (silently [] tt (λ d. same_grant ((w.stations number).grants.records d)) (λ me d. same_link ((w.stations number).grants.links me d))) v n s
+    kind_safely h past w number (record (w.stations number) { is_stopped = true }) []
+    (silently [] tt (λ d. same_grant ((w.stations number).grants.records d))
+    (λ me d. same_link ((w.stations number).grants.links me d))) v n s
 step_safely h past w new next (starts number boots) v n s =
     let started = opened h number (w.stations number).grants in
-    kind_safely h past w number started (opening_entries h number started) (silently (opening_entries h number started) (quiet_display (opening_entries h number started) (opening_display h number started)) (λ d. same_grant ((w.stations number).grants.records d)) (λ me d. same_link ((w.stations number).grants.links me d))) v n s
+    kind_safely h past w number started (opening_entries h number started)
+    (silently (opening_entries h number started)
+    (quiet_display (opening_entries h number started) (opening_display h number started))
+    (λ d. same_grant ((w.stations number).grants.records d))
+    (λ me d. same_link ((w.stations number).grants.links me d))) v n s
 
 pub safely : (h : Hierarchy) (past : List Entry) (w : World) → Reaches h past w → Safely h past w
 safely h past w opens =
     let v = viewed h past w opens in
-    safely_quiet h (first_world h) v (opening_of h) [] (quiet_display (opening_of h) (openings_display h (range_with_len 1 (station_count h))))
+    safely_quiet h (first_world h) v (opening_of h) []
+    (quiet_display (opening_of h) (openings_display h (range_with_len 1 (station_count h))))
     (record { traces = first_traces h; safe = one_commander h [] (first_world h) v (first_traces h) })
 safely h past w (goes_on {past = before} {new = new} {w = old} {next = next} run step) =
     let v = viewed h before old run in

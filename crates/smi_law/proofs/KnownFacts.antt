@@ -21,14 +21,18 @@ use Rattle.smi_law.proofs.Viewed.{Viewed, view_fits}
 pub known_lawful : (h : Hierarchy) (w : World) (d : ℕ) → Viewed h w → IsRecord (record_in h w d)
 known_lawful h w d v = (view_fits h w d (Operator 1) refl (v.each d (Operator 1))).lawful
 
-pub known_grant : (h : Hierarchy) (w : World) (d : ℕ) (me : Holder) → is_free me ≡ false → Viewed h w → KnownGrant (record_in h w d) me (link_in h w me d)
-known_grant h w d me party v = grant_known (record_in h w d) me (link_in h w me d) (view_fits h w d me party (v.each d me)).link
+pub known_grant : (h : Hierarchy) (w : World) (d : ℕ) (me : Holder) → is_free me ≡ false → Viewed h w
+    → KnownGrant (record_in h w d) me (link_in h w me d)
+known_grant h w d me party v = grant_known (record_in h w d) me (link_in h w me d)
+    (view_fits h w d me party (v.each d me)).link
 
-pub known_in_step : (h : Hierarchy) (w : World) (d : ℕ) (me : Holder) (e n : ℕ) (p : List Command) → is_free me ≡ false → Viewed h w → link_in h w me d ≡ Held e n p → InStep (record_in h w d) n p
+pub known_in_step : (h : Hierarchy) (w : World) (d : ℕ) (me : Holder) (e n : ℕ) (p : List Command)
+    → is_free me ≡ false → Viewed h w → link_in h w me d ≡ Held e n p → InStep (record_in h w d) n p
 known_in_step h w d me e n p party v is =
     grant_in_step (record_in h w d) me (link_in h w me d) e n p (view_fits h w d me party (v.each d me)).link is
 
-pub known_sent : (h : Hierarchy) (w : World) (d : ℕ) (me : Holder) (m : Message) (e n : ℕ) (c : Command) → is_free me ≡ false → Viewed h w → IsSent m w.sent → m.body ≡ Run d me e n c
+pub known_sent : (h : Hierarchy) (w : World) (d : ℕ) (me : Holder) (m : Message) (e n : ℕ) (c : Command)
+    → is_free me ≡ false → Viewed h w → IsSent m w.sent → m.body ≡ Run d me e n c
     → IsSpent (record_in h w d) e n ⊎ Waits (link_in h w me d) e n c
 known_sent h w d me m e n c party v a b =
     let f = view_fits h w d me party (v.each d me) in

@@ -1,5 +1,6 @@
 -- How a world changes when one link becomes held or dropping, and what its entry asks of the trace.
-use Rattle.std.proofs.Common.{ℕ, ◌≡◌, ◌≤◌, ◌+◌, Bool, true, false, List, [], ◌∷◌, ◌⊎◌, inl, inr, refl, sym, ap, ◌∙◌, subst, arith}
+use Rattle.std.proofs.Common.{ℕ, ◌≡◌, ◌≤◌, ◌+◌, Bool, true, false, List, [], ◌∷◌, ◌⊎◌, inl, inr, refl, sym, ap, ◌∙◌}
+use Rattle.std.proofs.Common.{subst, arith}
 use Rattle.std.specs.Prelude.{◌==◌, ◌&&◌, if◌then◌else◌}
 use Rattle.std.proofs.lemmas.Bool.{and_parts, eqb-true}
 use Rattle.std.proofs.lemmas.Bool.Decides.{nat_tests}
@@ -13,7 +14,8 @@ use Rattle.smi_command.specs.declared.Link.TheVariants.{Taking, Held, Dropping}
 use Rattle.smi_command.specs.Link.{known}
 use Rattle.smi_command.proofs.Holders.{either, told_apart, same_is, same_self}
 use Rattle.smi_protocol.specs.declared.Entry.{Entry}
-use Rattle.smi_protocol.specs.declared.Entry.TheVariants.{Booted, Granted, Freed, Ordered, Ran, Learned, LetGo, InMode, Settled, Showed, Passed, Told}
+use Rattle.smi_protocol.specs.declared.Entry.TheVariants.{Booted, Granted, Freed, Ordered, Ran, Learned, LetGo}
+use Rattle.smi_protocol.specs.declared.Entry.TheVariants.{InMode, Settled, Showed, Passed, Told}
 use Rattle.smi_law.specs.Known.{record_in, link_in}
 use Rattle.smi_law.specs.Safe.{GrantFits}
 use Rattle.smi_law.specs.Schedule.{World}
@@ -73,7 +75,8 @@ epoch_let_go : (d x e : ℕ) (who : Holder) (past : List Entry) → epoch_at d (
 unfolding epoch_at
 epoch_let_go d x e who past = refl
 
-holder_learned : (d x e : ℕ) (who : Holder) (past : List Entry) → holder_at d (Learned who x e ∷ past) ≡ holder_at d past
+holder_learned : (d x e : ℕ) (who : Holder) (past : List Entry)
+    → holder_at d (Learned who x e ∷ past) ≡ holder_at d past
 unfolding holder_at
 holder_learned d x e who past = refl
 
@@ -81,15 +84,20 @@ holder_let_go : (d x e : ℕ) (who : Holder) (past : List Entry) → holder_at d
 unfolding holder_at
 holder_let_go d x e who past = refl
 
-learned_learned : (me : Holder) (d e : ℕ) (who : Holder) (x f : ℕ) (past : List Entry) → has_learned me d e (Learned who x f ∷ past) ≡ (if is_grant_of me d e who x f then true else has_learned me d e past)
+learned_learned : (me : Holder) (d e : ℕ) (who : Holder) (x f : ℕ) (past : List Entry)
+    → has_learned me d e (Learned who x f ∷ past)
+    ≡ (if is_grant_of me d e who x f then true else has_learned me d e past)
 unfolding has_learned
 learned_learned me d e who x f past = refl
 
-learned_let_go : (me : Holder) (d e : ℕ) (who : Holder) (x f : ℕ) (past : List Entry) → has_learned me d e (LetGo who x f ∷ past) ≡ (if is_grant_of me d e who x f then false else has_learned me d e past)
+learned_let_go : (me : Holder) (d e : ℕ) (who : Holder) (x f : ℕ) (past : List Entry)
+    → has_learned me d e (LetGo who x f ∷ past)
+    ≡ (if is_grant_of me d e who x f then false else has_learned me d e past)
 unfolding has_learned
 learned_let_go me d e who x f past = refl
 
-epoch_granted : (d x e : ℕ) (who : Holder) (past : List Entry) → epoch_at d (Granted x e who ∷ past) ≡ (if x == d then e else epoch_at d past)
+epoch_granted : (d x e : ℕ) (who : Holder) (past : List Entry)
+    → epoch_at d (Granted x e who ∷ past) ≡ (if x == d then e else epoch_at d past)
 unfolding epoch_at
 epoch_granted d x e who past = refl
 
@@ -97,11 +105,13 @@ epoch_freed : (d x e : ℕ) (past : List Entry) → epoch_at d (Freed x e ∷ pa
 unfolding epoch_at
 epoch_freed d x e past = refl
 
-holder_granted : (d x e : ℕ) (who : Holder) (past : List Entry) → holder_at d (Granted x e who ∷ past) ≡ (if x == d then who else holder_at d past)
+holder_granted : (d x e : ℕ) (who : Holder) (past : List Entry)
+    → holder_at d (Granted x e who ∷ past) ≡ (if x == d then who else holder_at d past)
 unfolding holder_at
 holder_granted d x e who past = refl
 
-holder_freed : (d x e : ℕ) (past : List Entry) → holder_at d (Freed x e ∷ past) ≡ (if x == d then Free else holder_at d past)
+holder_freed : (d x e : ℕ) (past : List Entry)
+    → holder_at d (Freed x e ∷ past) ≡ (if x == d then Free else holder_at d past)
 unfolding holder_at
 holder_freed d x e past = refl
 
@@ -109,22 +119,27 @@ holder_none : (d : ℕ) → holder_at d [] ≡ Free
 unfolding holder_at
 holder_none d = refl
 
--- behind an entry that leaves the epoch, the grant stands as before
-still_stands : (d : ℕ) (who : Holder) (x : Entry) (past : List Entry) → epoch_at d (x ∷ past) ≡ epoch_at d past → Stands (Granted d (epoch_at d past) who) past → Stands (Granted d (epoch_at d (x ∷ past)) who) (x ∷ past)
+-- after an entry that leaves the epoch, the grant stands as before
+still_stands : (d : ℕ) (who : Holder) (x : Entry) (past : List Entry) → epoch_at d (x ∷ past) ≡ epoch_at d past
+    → Stands (Granted d (epoch_at d past) who) past → Stands (Granted d (epoch_at d (x ∷ past)) who) (x ∷ past)
 still_stands d who x past same a = subst (λ n. Stands (Granted d n who) (x ∷ past)) (sym same) (inr a)
 
 -- the holder of the present grant was granted it
-pub granted_stands : (d : ℕ) (who : Holder) → is_free who ≡ false → (past : List Entry) → holder_at d past ≡ who → Stands (Granted d (epoch_at d past) who) past
+pub granted_stands : (d : ℕ) (who : Holder) → is_free who ≡ false → (past : List Entry) → holder_at d past ≡ who
+    → Stands (Granted d (epoch_at d past) who) past
 granted_stands d who p [] i = let t : is_free Free ≡ false = ap is_free (sym (holder_none d) ∙ i) ∙ p in absurd cc
 granted_stands d who p (Granted x e g ∷ past) i = elim (either (x == d)) [
   | inl t ↦
-      let a : epoch_at d (Granted x e g ∷ past) ≡ e = epoch_granted d x e g past ∙ ap (λ b. if b then e else epoch_at d past) t in
+      let a : epoch_at d (Granted x e g ∷ past) ≡ e = epoch_granted d x e g past
+      ∙ ap (λ b. if b then e else epoch_at d past) t in
       let b : g ≡ who = sym (holder_granted d x e g past ∙ ap (λ z. if z then g else holder_at d past) t) ∙ i in
       subst (λ n. Stands (Granted d n who) (Granted x e g ∷ past)) (sym a)
       (inl (ap (λ z. Granted z e who) (sym (eqb-true x d t)) ∙ ap (Granted x e) (sym b)))
   | inr f ↦
-      still_stands d who (Granted x e g) past (epoch_granted d x e g past ∙ ap (λ b. if b then e else epoch_at d past) f)
-      (granted_stands d who p past (sym (holder_granted d x e g past ∙ ap (λ z. if z then g else holder_at d past) f) ∙ i))
+      still_stands d who (Granted x e g) past (epoch_granted d x e g past
+      ∙ ap (λ b. if b then e else epoch_at d past) f)
+      (granted_stands d who p past (sym (holder_granted d x e g past ∙ ap (λ z. if z then g else holder_at d past) f)
+      ∙ i))
 ]
 granted_stands d who p (Freed x e ∷ past) i = elim (either (x == d)) [
   | inl t ↦
@@ -132,27 +147,51 @@ granted_stands d who p (Freed x e ∷ past) i = elim (either (x == d)) [
       let k : is_free Free ≡ false = ap is_free b ∙ p in absurd cc
   | inr f ↦
       still_stands d who (Freed x e) past (epoch_freed d x e past ∙ ap (λ b. if b then e else epoch_at d past) f)
-      (granted_stands d who p past (sym (holder_freed d x e past ∙ ap (λ z. if z then Free else holder_at d past) f) ∙ i))
+      (granted_stands d who p past (sym (holder_freed d x e past ∙ ap (λ z. if z then Free else holder_at d past) f)
+      ∙ i))
 ]
-granted_stands d who p (Learned g x e ∷ past) i = still_stands d who (Learned g x e) past (epoch_learned d x e g past) (granted_stands d who p past (sym (holder_learned d x e g past) ∙ i))
-granted_stands d who p (LetGo g x e ∷ past) i = still_stands d who (LetGo g x e) past (epoch_let_go d x e g past) (granted_stands d who p past (sym (holder_let_go d x e g past) ∙ i))
-granted_stands d who p (Booted s b ∷ past) i = still_stands d who (Booted s b) past (epoch_quiet d (Booted s b) past tt) (granted_stands d who p past (sym (holder_quiet d (Booted s b) past tt) ∙ i))
-granted_stands d who p (Ordered o x e n c ∷ past) i = still_stands d who (Ordered o x e n c) past (epoch_quiet d (Ordered o x e n c) past tt) (granted_stands d who p past (sym (holder_quiet d (Ordered o x e n c) past tt) ∙ i))
-granted_stands d who p (Ran x e n c ∷ past) i = still_stands d who (Ran x e n c) past (epoch_quiet d (Ran x e n c) past tt) (granted_stands d who p past (sym (holder_quiet d (Ran x e n c) past tt) ∙ i))
-granted_stands d who p (InMode x m ∷ past) i = still_stands d who (InMode x m) past (epoch_quiet d (InMode x m) past tt) (granted_stands d who p past (sym (holder_quiet d (InMode x m) past tt) ∙ i))
-granted_stands d who p (Settled x e n q ∷ past) i = still_stands d who (Settled x e n q) past (epoch_quiet d (Settled x e n q) past tt) (granted_stands d who p past (sym (holder_quiet d (Settled x e n q) past tt) ∙ i))
-granted_stands d who p (Showed s q ∷ past) i = still_stands d who (Showed s q) past (epoch_quiet d (Showed s q) past tt) (granted_stands d who p past (sym (holder_quiet d (Showed s q) past tt) ∙ i))
-granted_stands d who p (Passed q ∷ past) i = still_stands d who (Passed q) past (epoch_quiet d (Passed q) past tt) (granted_stands d who p past (sym (holder_quiet d (Passed q) past tt) ∙ i))
-granted_stands d who p (Told o q ∷ past) i = still_stands d who (Told o q) past (epoch_quiet d (Told o q) past tt) (granted_stands d who p past (sym (holder_quiet d (Told o q) past tt) ∙ i))
+granted_stands d who p (Learned g x e ∷ past) i =
+    still_stands d who (Learned g x e) past (epoch_learned d x e g past)
+    (granted_stands d who p past (sym (holder_learned d x e g past) ∙ i))
+granted_stands d who p (LetGo g x e ∷ past) i =
+    still_stands d who (LetGo g x e) past (epoch_let_go d x e g past)
+    (granted_stands d who p past (sym (holder_let_go d x e g past) ∙ i))
+granted_stands d who p (Booted s b ∷ past) i =
+    still_stands d who (Booted s b) past (epoch_quiet d (Booted s b) past tt)
+    (granted_stands d who p past (sym (holder_quiet d (Booted s b) past tt) ∙ i))
+granted_stands d who p (Ordered o x e n c ∷ past) i =
+    still_stands d who (Ordered o x e n c) past (epoch_quiet d (Ordered o x e n c) past tt)
+    (granted_stands d who p past (sym (holder_quiet d (Ordered o x e n c) past tt) ∙ i))
+granted_stands d who p (Ran x e n c ∷ past) i =
+    still_stands d who (Ran x e n c) past (epoch_quiet d (Ran x e n c) past tt)
+    (granted_stands d who p past (sym (holder_quiet d (Ran x e n c) past tt) ∙ i))
+granted_stands d who p (InMode x m ∷ past) i =
+    still_stands d who (InMode x m) past (epoch_quiet d (InMode x m) past tt)
+    (granted_stands d who p past (sym (holder_quiet d (InMode x m) past tt) ∙ i))
+granted_stands d who p (Settled x e n q ∷ past) i =
+    still_stands d who (Settled x e n q) past (epoch_quiet d (Settled x e n q) past tt)
+    (granted_stands d who p past (sym (holder_quiet d (Settled x e n q) past tt) ∙ i))
+granted_stands d who p (Showed s q ∷ past) i =
+    still_stands d who (Showed s q) past (epoch_quiet d (Showed s q) past tt)
+    (granted_stands d who p past (sym (holder_quiet d (Showed s q) past tt) ∙ i))
+granted_stands d who p (Passed q ∷ past) i =
+    still_stands d who (Passed q) past (epoch_quiet d (Passed q) past tt)
+    (granted_stands d who p past (sym (holder_quiet d (Passed q) past tt) ∙ i))
+granted_stands d who p (Told o q ∷ past) i =
+    still_stands d who (Told o q) past (epoch_quiet d (Told o q) past tt)
+    (granted_stands d who p past (sym (holder_quiet d (Told o q) past tt) ∙ i))
 
 -- A take has come to its grant.
 
-module _ (h : Hierarchy) (past : List Entry) (w next : World) (who : Holder) (x s : ℕ) (c : LinkChange h w next who x (Taking s) (Held (s + 1) 0 [])) (t : Traces h past w) where
+module _ (h : Hierarchy) (past : List Entry) (w next : World) (who : Holder) (x s : ℕ)
+    (c : LinkChange h w next who x (Taking s) (Held (s + 1) 0 [])) (t : Traces h past w) where
   learns_known : (me : Holder) (d : ℕ) → known (link_in h w me d) ≤ known (link_in h next me d)
   learns_known me d = elim (it_or me who d x) [
     | inl i ↦
-        let a : known (link_in h w me d) ≡ s = ap (λ z. known (link_in h w z d)) i.holder ∙ ap (λ z. known (link_in h w who z)) i.domain ∙ ap known c.was in
-        let b : known (link_in h next me d) ≡ s + 1 = ap (λ z. known (link_in h next z d)) i.holder ∙ ap (λ z. known (link_in h next who z)) i.domain ∙ ap known c.is in
+        let a : known (link_in h w me d) ≡ s = ap (λ z. known (link_in h w z d)) i.holder
+        ∙ ap (λ z. known (link_in h w who z)) i.domain ∙ ap known c.was in
+        let b : known (link_in h next me d) ≡ s + 1 = ap (λ z. known (link_in h next z d)) i.holder
+        ∙ ap (λ z. known (link_in h next who z)) i.domain ∙ ap known c.is in
         omega (arith, a, b)
     | inr o ↦ (c.others me d o).known
   ]
@@ -170,26 +209,30 @@ module _ (h : Hierarchy) (past : List Entry) (w next : World) (who : Holder) (x 
       chosen true = refl
       chosen false = refl
 
-  learns_others : (me : Holder) (d e : ℕ) → (me ≡ who → d ≡ x → ⊥) → has_learned me d e (Learned who x (s + 1) ∷ past) ≡ holds_at (link_in h next me d) e
+  learns_others : (me : Holder) (d e : ℕ) → (me ≡ who → d ≡ x → ⊥)
+      → has_learned me d e (Learned who x (s + 1) ∷ past) ≡ holds_at (link_in h next me d) e
   learns_others me d e o =
       learned_learned me d e who x (s + 1) past
       ∙ ap (λ b. if b then true else has_learned me d e past) (about_others me who d x e (s + 1) o)
       ∙ t.learned me d e
       ∙ sym ((c.others me d o).held e)
 
-  learns_once : (me : Holder) (d e : ℕ) → Stands (Learned me d e) (Learned who x (s + 1) ∷ past) → e ≤ known (link_in h next me d)
+  learns_once : (me : Holder) (d e : ℕ) → Stands (Learned me d e) (Learned who x (s + 1) ∷ past)
+      → e ≤ known (link_in h next me d)
   learns_once me d e (inl same) =
       let i : e ≡ s + 1 = cc in
       let j : me ≡ who = cc in
       let l : d ≡ x = cc in
-      let k : known (link_in h next me d) ≡ s + 1 = ap (λ z. known (link_in h next z d)) j ∙ ap (λ z. known (link_in h next who z)) l ∙ ap known c.is in
+      let k : known (link_in h next me d) ≡ s + 1 = ap (λ z. known (link_in h next z d)) j
+      ∙ ap (λ z. known (link_in h next who z)) l ∙ ap known c.is in
       omega (arith, i, k)
   learns_once me d e (inr a) = let b = t.once me d e a in let k = learns_known me d in omega (arith, b, k)
 
   learns_let_go : (me : Holder) (d e : ℕ) → link_in h next me d ≡ Dropping e → link_in h w me d ≡ Dropping e
   learns_let_go me d e i = elim (it_or me who d x) [
     | inl j ↦
-        let a : Held (s + 1) 0 [] ≡ Dropping e = sym c.is ∙ ap (λ z. link_in h next z x) (sym j.holder) ∙ ap (λ z. link_in h next me z) (sym j.domain) ∙ i in absurd cc
+        let a : Held (s + 1) 0 [] ≡ Dropping e = sym c.is ∙ ap (λ z. link_in h next z x) (sym j.holder)
+        ∙ ap (λ z. link_in h next me z) (sym j.domain) ∙ i in absurd cc
     | inr o ↦ (c.others me d o).dropping e i
   ]
 
@@ -198,8 +241,10 @@ module _ (h : Hierarchy) (past : List Entry) (w next : World) (who : Holder) (x 
     epoch = λ d. epoch_learned d x (s + 1) who past ∙ t.epoch d ∙ sym (c.records d).epoch;
     holder = λ d. holder_learned d x (s + 1) who past ∙ t.holder d ∙ sym (c.records d).holder;
     learned = λ me d e. elim (it_or me who d x) [
-      | inl i ↦ subst (λ z. has_learned z d e (Learned who x (s + 1) ∷ past) ≡ holds_at (link_in h next z d) e) (sym i.holder)
-          (subst (λ z. has_learned who z e (Learned who x (s + 1) ∷ past) ≡ holds_at (link_in h next who z) e) (sym i.domain) (learns_it e))
+      | inl i ↦ subst (λ z. has_learned z d e (Learned who x (s + 1) ∷ past) ≡ holds_at (link_in h next z d) e)
+          (sym i.holder)
+          (subst (λ z. has_learned who z e (Learned who x (s + 1) ∷ past) ≡ holds_at (link_in h next who z) e)
+          (sym i.domain) (learns_it e))
       | inr o ↦ learns_others me d e o
     ];
     once = learns_once;
@@ -212,26 +257,39 @@ module _ (h : Hierarchy) (past : List Entry) (w next : World) (who : Holder) (x 
       let k = (known_grant h next x who party v).is_held (s + 1) 0 [] c.is in
       let e : epoch_at x past ≡ s + 1 = t.epoch x ∙ sym (c.records x).epoch ∙ k.0 in (
         sym e,
-        subst (λ z. Stands (Granted x z who) past) e (granted_stands x who party past (t.holder x ∙ sym (c.records x).holder ∙ k.1)),
+        subst (λ z. Stands (Granted x z who) past) e
+            (granted_stands x who party past (t.holder x ∙ sym (c.records x).holder ∙ k.1)),
         λ a.
             let b = t.once who x (s + 1) a in
             let l : known (link_in h w who x) ≡ s = ap known c.was in
             omega (arith, b, l),
       )
 
-pub learned_safely : (h : Hierarchy) (past : List Entry) (w next : World) (who : Holder) (x s : ℕ) → is_free who ≡ false → LinkChange h w next who x (Taking s) (Held (s + 1) 0 []) → Viewed h next → Safely h past w → Safely h (Learned who x (s + 1) ∷ past) next
+pub learned_safely : (h : Hierarchy) (past : List Entry) (w next : World) (who : Holder) (x s : ℕ)
+    → is_free who ≡ false → LinkChange h w next who x (Taking s) (Held (s + 1) 0 []) → Viewed h next → Safely h past w
+    → Safely h (Learned who x (s + 1) ∷ past) next
 learned_safely h past w next who x s party c v safely =
     let t = learned_traces h past w next who x s c safely.traces in
-    record { traces = t; safe = (learned_fits h past w next who x s c safely.traces party v, one_commander h (Learned who x (s + 1) ∷ past) next v t, safely.safe) }
+    record {
+      traces = t;
+      safe = (
+        learned_fits h past w next who x s c safely.traces party v,
+        one_commander h (Learned who x (s + 1) ∷ past) next v t,
+        safely.safe,
+      );
+    }
 
 -- A grant is given up.
 
-module _ (h : Hierarchy) (past : List Entry) (w next : World) (who : Holder) (x f n : ℕ) (p : List Command) (c : LinkChange h w next who x (Held f n p) (Dropping f)) (t : Traces h past w) where
+module _ (h : Hierarchy) (past : List Entry) (w next : World) (who : Holder) (x f n : ℕ) (p : List Command)
+    (c : LinkChange h w next who x (Held f n p) (Dropping f)) (t : Traces h past w) where
   leaves_known : (me : Holder) (d : ℕ) → known (link_in h w me d) ≤ known (link_in h next me d)
   leaves_known me d = elim (it_or me who d x) [
     | inl i ↦
-        let a : known (link_in h w me d) ≡ f = ap (λ z. known (link_in h w z d)) i.holder ∙ ap (λ z. known (link_in h w who z)) i.domain ∙ ap known c.was in
-        let b : known (link_in h next me d) ≡ f = ap (λ z. known (link_in h next z d)) i.holder ∙ ap (λ z. known (link_in h next who z)) i.domain ∙ ap known c.is in
+        let a : known (link_in h w me d) ≡ f = ap (λ z. known (link_in h w z d)) i.holder
+        ∙ ap (λ z. known (link_in h w who z)) i.domain ∙ ap known c.was in
+        let b : known (link_in h next me d) ≡ f = ap (λ z. known (link_in h next z d)) i.holder
+        ∙ ap (λ z. known (link_in h next who z)) i.domain ∙ ap known c.is in
         omega (arith, a, b)
     | inr o ↦ (c.others me d o).known
   ]
@@ -248,7 +306,8 @@ module _ (h : Hierarchy) (past : List Entry) (w next : World) (who : Holder) (x 
       chosen true = refl
       chosen false = refl
 
-  leaves_others : (me : Holder) (d e : ℕ) → (me ≡ who → d ≡ x → ⊥) → has_learned me d e (LetGo who x f ∷ past) ≡ holds_at (link_in h next me d) e
+  leaves_others : (me : Holder) (d e : ℕ) → (me ≡ who → d ≡ x → ⊥)
+      → has_learned me d e (LetGo who x f ∷ past) ≡ holds_at (link_in h next me d) e
   leaves_others me d e o =
       learned_let_go me d e who x f past
       ∙ ap (λ b. if b then false else has_learned me d e past) (about_others me who d x e f o)
@@ -259,10 +318,12 @@ module _ (h : Hierarchy) (past : List Entry) (w next : World) (who : Holder) (x 
   left_before me d e (inl same) = absurd cc
   left_before me d e (inr a) = a
 
-  leaves_let_go : (me : Holder) (d e : ℕ) → link_in h next me d ≡ Dropping e → Stands (LetGo me d e) (LetGo who x f ∷ past)
+  leaves_let_go : (me : Holder) (d e : ℕ) → link_in h next me d ≡ Dropping e
+      → Stands (LetGo me d e) (LetGo who x f ∷ past)
   leaves_let_go me d e i = elim (it_or me who d x) [
     | inl j ↦
-        let a : Dropping f ≡ Dropping e = sym c.is ∙ ap (λ z. link_in h next z x) (sym j.holder) ∙ ap (λ z. link_in h next me z) (sym j.domain) ∙ i in
+        let a : Dropping f ≡ Dropping e = sym c.is ∙ ap (λ z. link_in h next z x) (sym j.holder)
+        ∙ ap (λ z. link_in h next me z) (sym j.domain) ∙ i in
         let k : f ≡ e = cc in
         inl (ap (λ z. LetGo z d e) j.holder ∙ ap (λ z. LetGo who z e) j.domain ∙ ap (LetGo who x) (sym k))
     | inr o ↦ inr (t.let_go me d e ((c.others me d o).dropping e i))
@@ -274,7 +335,8 @@ module _ (h : Hierarchy) (past : List Entry) (w next : World) (who : Holder) (x 
     holder = λ d. holder_let_go d x f who past ∙ t.holder d ∙ sym (c.records d).holder;
     learned = λ me d e. elim (it_or me who d x) [
       | inl i ↦ subst (λ z. has_learned z d e (LetGo who x f ∷ past) ≡ holds_at (link_in h next z d) e) (sym i.holder)
-          (subst (λ z. has_learned who z e (LetGo who x f ∷ past) ≡ holds_at (link_in h next who z) e) (sym i.domain) (leaves_it e))
+          (subst (λ z. has_learned who z e (LetGo who x f ∷ past) ≡ holds_at (link_in h next who z) e) (sym i.domain)
+          (leaves_it e))
       | inr o ↦ leaves_others me d e o
     ];
     once = λ me d e a. let b = t.once me d e (left_before me d e a) in let k = leaves_known me d in omega (arith, b, k);
@@ -285,10 +347,22 @@ module _ (h : Hierarchy) (past : List Entry) (w next : World) (who : Holder) (x 
   pub left_fits : is_free who ≡ false → Viewed h w → GrantFits h (LetGo who x f) past
   left_fits party v =
       let k = (known_grant h w x who party v).is_held f n p c.was in
-      let e : f ≡ epoch_at x past = sym k.0 ∙ sym (t.epoch x) in
-      (e, t.learned who x (epoch_at x past) ∙ ap (λ l. holds_at l (epoch_at x past)) c.was ∙ ap (λ z. z == epoch_at x past) e ∙ number_self (epoch_at x past))
+      let e : f ≡ epoch_at x past = sym k.0 ∙ sym (t.epoch x) in (
+        e,
+        t.learned who x (epoch_at x past) ∙ ap (λ l. holds_at l (epoch_at x past)) c.was
+            ∙ ap (λ z. z == epoch_at x past) e ∙ number_self (epoch_at x past),
+      )
 
-pub left_safely : (h : Hierarchy) (past : List Entry) (w next : World) (who : Holder) (x f n : ℕ) (p : List Command) → is_free who ≡ false → LinkChange h w next who x (Held f n p) (Dropping f) → Viewed h w → Viewed h next → Safely h past w → Safely h (LetGo who x f ∷ past) next
+pub left_safely : (h : Hierarchy) (past : List Entry) (w next : World) (who : Holder) (x f n : ℕ) (p : List Command)
+    → is_free who ≡ false → LinkChange h w next who x (Held f n p) (Dropping f) → Viewed h w → Viewed h next
+    → Safely h past w → Safely h (LetGo who x f ∷ past) next
 left_safely h past w next who x f n p party c before v safely =
     let t = left_traces h past w next who x f n p c safely.traces in
-    record { traces = t; safe = (left_fits h past w next who x f n p c safely.traces party before, one_commander h (LetGo who x f ∷ past) next v t, safely.safe) }
+    record {
+      traces = t;
+      safe = (
+        left_fits h past w next who x f n p c safely.traces party before,
+        one_commander h (LetGo who x f ∷ past) next v t,
+        safely.safe,
+      );
+    }

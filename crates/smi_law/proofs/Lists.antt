@@ -1,7 +1,10 @@
 -- What stands in lists, and in traces to which they were noted.
 use Rattle.std.proofs.Common.{List, [], ◌∷◌, ◌⊎◌, inl, inr}
 pub use Rattle.smi_protocol.specs.Sound.{In}
-pub use Rattle.smi_protocol.proofs.Lists.{in_first, in_second, in_both, in_mapped, from_mapped, in_chosen, from_chosen, in_range, from_range, in_numbers, numbers_above, in_any, Apart, same, apart_range, apart_numbers, apart_added, apart_moved, apart_chosen, from_flat, from_taken, from_kept, place_of, from_numbers}
+pub use Rattle.smi_protocol.proofs.Lists.{in_first, in_second, in_both, in_mapped, from_mapped, in_chosen}
+pub use Rattle.smi_protocol.proofs.Lists.{from_chosen, in_range, from_range, in_numbers, numbers_above, in_any, Apart}
+pub use Rattle.smi_protocol.proofs.Lists.{same, apart_range, apart_numbers, apart_added, apart_moved, apart_chosen}
+pub use Rattle.smi_protocol.proofs.Lists.{from_flat, from_taken, from_kept, place_of, from_numbers}
 use Rattle.smi_protocol.specs.declared.Entry.{Entry}
 use Rattle.smi_law.specs.Trace.{Stands}
 use Rattle.smi_law.specs.World.{noted}

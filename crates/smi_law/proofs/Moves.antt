@@ -18,7 +18,8 @@ use Rattle.smi_law.specs.World.{Among}
 -- a record rests, is asked by a datagram that was sent, or its command ends
 pub data RecordMove (sent : List Message) (d : ℕ) (r : Standing) : Standing → Type 0 where
   rests : RecordMove sent d r r
-  asked : (m : Message) (who : Holder) (due : Due) → Among m sent → m.body ≡ request d who due → (busy : Bool) (x : ℕ) → RecordMove sent d r (asked_record r who due busy x)
+  asked : (m : Message) (who : Holder) (due : Due) → Among m sent → m.body ≡ request d who due
+      → (busy : Bool) (x : ℕ) → RecordMove sent d r (asked_record r who due busy x)
   ends : (x : ℕ) → RecordMove sent d r (settled_record r x)
 
 -- a link rests, obeys an order, or is told a record by a datagram that was sent

@@ -3,7 +3,8 @@ use Rattle.std.proofs.Common.{ℕ, ◌≡◌, List, [], ◌∷◌, inl, inr, ref
 use Rattle.std.specs.Prelude.{◌++◌}
 use Rattle.smi_grant.specs.declared.Holder.{Holder}
 use Rattle.smi_protocol.specs.declared.Entry.{Entry}
-use Rattle.smi_protocol.specs.declared.Entry.TheVariants.{Booted, Granted, Freed, Ordered, Ran, Learned, LetGo, InMode, Settled, Showed, Passed, Told}
+use Rattle.smi_protocol.specs.declared.Entry.TheVariants.{Booted, Granted, Freed, Ordered, Ran, Learned, LetGo}
+use Rattle.smi_protocol.specs.declared.Entry.TheVariants.{InMode, Settled, Showed, Passed, Told}
 use Rattle.smi_tree.specs.Hierarchy.{Hierarchy}
 use Rattle.smi_law.specs.Safe.{GrantFits}
 use Rattle.smi_law.specs.Trace.{Stands, epoch_at, holder_at, has_learned}
@@ -62,7 +63,8 @@ holder_quiet d (Showed s v) past q = refl
 holder_quiet d (Passed v) past q = refl
 holder_quiet d (Told o t) past q = refl
 
-pub learned_quiet : (me : Holder) (d e : ℕ) (x : Entry) (past : List Entry) → IsQuiet x → has_learned me d e (x ∷ past) ≡ has_learned me d e past
+pub learned_quiet : (me : Holder) (d e : ℕ) (x : Entry) (past : List Entry) → IsQuiet x
+    → has_learned me d e (x ∷ past) ≡ has_learned me d e past
 unfolding has_learned
 learned_quiet me d e (Granted a f who) past q = absurd q
 learned_quiet me d e (Freed a f) past q = absurd q

@@ -23,4 +23,5 @@ run_safe h tree past w run = record {
 }
 
 pub schedule_safe : (h : Hierarchy) → IsTree h → (items : List Item) → Safe h (past_of (trace_of h items))
-schedule_safe h tree items = let end = schedule_runs h tree items in run_safe h tree (past_of (trace_of h items)) end.world end.run
+schedule_safe h tree items = let end = schedule_runs h tree items in
+    run_safe h tree (past_of (trace_of h items)) end.world end.run

@@ -1,5 +1,6 @@
 -- What is known, in every run, of the states that stations pass through, tell and are shown.
-use Rattle.std.proofs.Common.{ℕ, ◌≡◌, ◌≤◌, Bool, true, false, List, [], ◌∷◌, ◌⊎◌, inl, inr, refl, sym, ap, ◌∙◌, subst, arith}
+use Rattle.std.proofs.Common.{ℕ, ◌≡◌, ◌≤◌, Bool, true, false, List, [], ◌∷◌, ◌⊎◌, inl, inr, refl, sym, ap, ◌∙◌, subst}
+use Rattle.std.proofs.Common.{arith}
 use Rattle.std.specs.Prelude.{◌==◌, Some, map, if◌then◌else◌}
 use Rattle.std.proofs.lemmas.Bool.{eqb-true}
 use Rattle.std.proofs.lemmas.Bool.Decides.{nat_tests}
@@ -16,7 +17,8 @@ use Rattle.smi_view.specs.Accepting.{is_newer_than_last}
 use Rattle.smi_watchers.specs.Watching.{watcher, listed}
 use Rattle.smi_protocol.specs.declared.Entry.{Entry}
 use Rattle.smi_protocol.specs.declared.Entry.TheVariants as entry
-use Rattle.smi_protocol.specs.declared.Entry.TheVariants.{Booted, Granted, Freed, Ordered, Ran, Learned, LetGo, InMode, Settled, Showed, Passed, Told}
+use Rattle.smi_protocol.specs.declared.Entry.TheVariants.{Booted, Granted, Freed, Ordered, Ran, Learned, LetGo}
+use Rattle.smi_protocol.specs.declared.Entry.TheVariants.{InMode, Settled, Showed, Passed, Told}
 use Rattle.smi_law.specs.Safe.{IsNewer, IsNotOlder, NotOlderThanShown, NewerThanShown, StateFits, ShownWell}
 use Rattle.smi_law.specs.Schedule.{World}
 use Rattle.smi_law.specs.Trace.{Stands, before_start}
@@ -40,14 +42,23 @@ abbrev pub IsNewest : Version → ℕ → List Entry → Type 0
 IsNewest v x past = (u : Version) (q : ℕ) → Stands (Passed (state_of x u q)) past → IsNotOlder v u
 
 pub record Shows (h : Hierarchy) (past : List Entry) (w : World) : Type 0 where
-  pub kept : (number x : ℕ) (c : Condition) → (w.stations number).display.conditions x ≡ Some c → is_kept_by h number x ≡ true
-  pub passed : (number x : ℕ) (c : Condition) → (w.stations number).display.conditions x ≡ Some c → Stands (Passed (shown (w.stations number).grants.boot x c)) past
-  pub newest : (number x : ℕ) (c : Condition) → (w.stations number).display.conditions x ≡ Some c → IsNewest (shown (w.stations number).grants.boot x c).version x past
-  pub bound : (x : ℕ) (u : Version) (q : ℕ) → Stands (Passed (state_of x u q)) past → (number : ℕ) → is_kept_by h number x ≡ true → u.boot ≤ (w.stations number).grants.boot
-  pub watch : (m : Message) (x echo : ℕ) → IsSent m w.sent → m.body ≡ body.Watch x echo → echo ≤ (w.stations m.from).grants.boot
-  pub watchers : (number x station echo : ℕ) → In (watcher station echo) (listed (w.stations number).display.watchers x) → echo ≤ (w.stations station).grants.boot
-  pub states : (m : Message) (x echo : ℕ) (v : Version) (q : ℕ) → IsSent m w.sent → m.body ≡ body.State x echo v q → ToldWell past m.to x echo v q (w.stations m.to).grants.boot
-  pub last : (number x : ℕ) (v : Version) → is_newer_than_last ((w.stations number).display.shown x) v ≡ true → NewerThanShown number x v past
+  pub kept : (number x : ℕ) (c : Condition) → (w.stations number).display.conditions x ≡ Some c
+      → is_kept_by h number x ≡ true
+  pub passed : (number x : ℕ) (c : Condition) → (w.stations number).display.conditions x ≡ Some c
+      → Stands (Passed (shown (w.stations number).grants.boot x c)) past
+  pub newest : (number x : ℕ) (c : Condition) → (w.stations number).display.conditions x ≡ Some c
+      → IsNewest (shown (w.stations number).grants.boot x c).version x past
+  pub bound : (x : ℕ) (u : Version) (q : ℕ) → Stands (Passed (state_of x u q)) past → (number : ℕ)
+      → is_kept_by h number x ≡ true → u.boot ≤ (w.stations number).grants.boot
+  pub watch : (m : Message) (x echo : ℕ) → IsSent m w.sent → m.body ≡ body.Watch x echo
+      → echo ≤ (w.stations m.from).grants.boot
+  pub watchers : (number x station echo : ℕ)
+      → In (watcher station echo) (listed (w.stations number).display.watchers x)
+      → echo ≤ (w.stations station).grants.boot
+  pub states : (m : Message) (x echo : ℕ) (v : Version) (q : ℕ) → IsSent m w.sent → m.body ≡ body.State x echo v q
+      → ToldWell past m.to x echo v q (w.stations m.to).grants.boot
+  pub last : (number x : ℕ) (v : Version) → is_newer_than_last ((w.stations number).display.shown x) v ≡ true
+      → NewerThanShown number x v past
   pub well : ShownWell past
 
 -- Entries that say nothing of states.
@@ -67,7 +78,8 @@ before_silent t (InMode x m) past silent = refl
 before_silent t (Settled x e n code) past silent = refl
 before_silent t (Told o q) past silent = refl
 
-newer_silent : (t x : ℕ) (v : Version) (y : Entry) (past : List Entry) → IsSilent y → NewerThanShown t x v past → NewerThanShown t x v (y ∷ past)
+newer_silent : (t x : ℕ) (v : Version) (y : Entry) (past : List Entry) → IsSilent y → NewerThanShown t x v past
+    → NewerThanShown t x v (y ∷ past)
 newer_silent t x v (Booted s b) past silent a = absurd silent
 newer_silent t x v (Showed s u) past silent a = absurd silent
 newer_silent t x v (Passed u) past silent a = absurd silent
@@ -99,11 +111,13 @@ stood_silent : (z y : Entry) (past : List Entry) → (IsSilent z → ⊥) → Is
 stood_silent z y past loud silent (inl same) = absurd (loud (subst IsSilent (sym same) silent))
 stood_silent z y past loud silent (inr a) = a
 
-shows_one : (h : Hierarchy) (past : List Entry) (w : World) (y : Entry) → IsSilent y → Shows h past w → Shows h (y ∷ past) w
+shows_one : (h : Hierarchy) (past : List Entry) (w : World) (y : Entry) → IsSilent y → Shows h past w
+    → Shows h (y ∷ past) w
 shows_one h past w y silent s = record {
   kept = s.kept;
   passed = λ number x c is. inr (s.passed number x c is);
-  newest = λ number x c is u q a. s.newest number x c is u q (stood_silent (Passed (state_of x u q)) y past (λ z. z) silent a);
+  newest = λ number x c is u q a. s.newest number x c is u q
+      (stood_silent (Passed (state_of x u q)) y past (λ z. z) silent a);
   bound = λ x u q a. s.bound x u q (stood_silent (Passed (state_of x u q)) y past (λ z. z) silent a);
   watch = s.watch;
   watchers = s.watchers;
@@ -116,13 +130,15 @@ shows_one h past w y silent s = record {
   well = (fits_silent y past silent, s.well);
 }
 
-pub shows_silent : (h : Hierarchy) (w : World) (new past : List Entry) → AllSilent new → Shows h past w → Shows h (noted new past) w
+pub shows_silent : (h : Hierarchy) (w : World) (new past : List Entry) → AllSilent new → Shows h past w
+    → Shows h (noted new past) w
 shows_silent h w [] past silent s = s
 shows_silent h w (y ∷ new) past silent s = shows_silent h w new (y ∷ past) silent.1 (shows_one h past w y silent.0 s)
 
 -- What a station was shown.
 
-before_booted : (t s b : ℕ) (past : List Entry) → before_start t (Booted s b ∷ past) ≡ (if s == t then past else before_start t past)
+before_booted : (t s b : ℕ) (past : List Entry)
+    → before_start t (Booted s b ∷ past) ≡ (if s == t then past else before_start t past)
 unfolding before_start
 before_booted t s b past = refl
 
@@ -132,7 +148,8 @@ before_start_here t b past = before_booted t t b past ∙ ap (λ z. if z then pa
     self : (n : ℕ) → (n == n) ≡ true
     self n = grind (arith, nat_tests)
 
-pub before_start_there : (t s b : ℕ) (past : List Entry) → (s ≡ t → ⊥) → before_start t (Booted s b ∷ past) ≡ before_start t past
+pub before_start_there : (t s b : ℕ) (past : List Entry) → (s ≡ t → ⊥)
+    → before_start t (Booted s b ∷ past) ≡ before_start t past
 before_start_there t s b past o = before_booted t s b past ∙ elim (either (s == t)) [
   | inl i ↦ absurd (o (eqb-true s t i))
   | inr f ↦ ap (λ z. if z then past else before_start t past) f
@@ -152,7 +169,8 @@ unfolding before_start
 stands_before z t [] a = a
 stands_before z t (Booted s b ∷ past) a = by (s == t) a (λ k. stands_before z t past k)
   where
-    by : (c : Bool) → Stands z (if c then past else before_start t past) → (Stands z (before_start t past) → Stands z past) → Stands z (Booted s b ∷ past)
+    by : (c : Bool) → Stands z (if c then past else before_start t past)
+        → (Stands z (before_start t past) → Stands z past) → Stands z (Booted s b ∷ past)
     by true k rest = inr k
     by false k rest = inr (rest k)
 stands_before z t (Granted x e who ∷ past) a = inr (stands_before z t past a)
@@ -168,16 +186,21 @@ stands_before z t (Passed v ∷ past) a = inr (stands_before z t past a)
 stands_before z t (Told o q ∷ past) a = inr (stands_before z t past a)
 
 -- newer than what was shown since the start, and not older than what was shown before it
-pub not_older_at_all : (t x : ℕ) (v : Version) (past : List Entry) → NewerThanShown t x v past → NotOlderThanShown t x v (before_start t past) → NotOlderThanShown t x v past
+pub not_older_at_all : (t x : ℕ) (v : Version) (past : List Entry) → NewerThanShown t x v past
+    → NotOlderThanShown t x v (before_start t past) → NotOlderThanShown t x v past
 unfolding before_start
 not_older_at_all t x v [] newer older u q a = absurd a
-not_older_at_all t x v (Booted s b ∷ past) newer older u q a = by (s == t) refl older newer (λ n o. not_older_at_all t x v past n o u q) a
+not_older_at_all t x v (Booted s b ∷ past) newer older u q a =
+    by (s == t) refl older newer (λ n o. not_older_at_all t x v past n o u q) a
   where
     self : (n : ℕ) → n ≡ t → (n == t) ≡ true
     self n i = grind (arith, nat_tests)
 
-    by : (c : Bool) → (s == t) ≡ c → NotOlderThanShown t x v (if c then past else before_start t past) → (s ≡ t) ⊎ NewerThanShown t x v past
-        → (NewerThanShown t x v past → NotOlderThanShown t x v (before_start t past) → Stands (Showed t (state_of x u q)) past → IsNotOlder v u) → Stands (Showed t (state_of x u q)) (Booted s b ∷ past) → IsNotOlder v u
+    by : (c : Bool) → (s == t) ≡ c → NotOlderThanShown t x v (if c then past else before_start t past)
+        → (s ≡ t) ⊎ NewerThanShown t x v past
+        → (NewerThanShown t x v past → NotOlderThanShown t x v (before_start t past)
+        → Stands (Showed t (state_of x u q)) past → IsNotOlder v u)
+        → Stands (Showed t (state_of x u q)) (Booted s b ∷ past) → IsNotOlder v u
     by c is older' newer' rest (inl same) = absurd cc
     by true is older' newer' rest (inr k) = older' u q k
     by false is older' (inl same) rest (inr k) = let i : true ≡ false = sym (self s same) ∙ is in absurd cc
@@ -192,7 +215,8 @@ not_older_at_all t x v (Granted d e who ∷ past) newer older u q (inr a) = not_
 not_older_at_all t x v (Freed d e ∷ past) newer older u q (inl same) = absurd cc
 not_older_at_all t x v (Freed d e ∷ past) newer older u q (inr a) = not_older_at_all t x v past newer older u q a
 not_older_at_all t x v (Ordered o d e n c ∷ past) newer older u q (inl same) = absurd cc
-not_older_at_all t x v (Ordered o d e n c ∷ past) newer older u q (inr a) = not_older_at_all t x v past newer older u q a
+not_older_at_all t x v (Ordered o d e n c ∷ past) newer older u q (inr a) =
+    not_older_at_all t x v past newer older u q a
 not_older_at_all t x v (Ran d e n c ∷ past) newer older u q (inl same) = absurd cc
 not_older_at_all t x v (Ran d e n c ∷ past) newer older u q (inr a) = not_older_at_all t x v past newer older u q a
 not_older_at_all t x v (Learned who d e ∷ past) newer older u q (inl same) = absurd cc
@@ -202,14 +226,16 @@ not_older_at_all t x v (LetGo who d e ∷ past) newer older u q (inr a) = not_ol
 not_older_at_all t x v (InMode d m ∷ past) newer older u q (inl same) = absurd cc
 not_older_at_all t x v (InMode d m ∷ past) newer older u q (inr a) = not_older_at_all t x v past newer older u q a
 not_older_at_all t x v (Settled d e n code ∷ past) newer older u q (inl same) = absurd cc
-not_older_at_all t x v (Settled d e n code ∷ past) newer older u q (inr a) = not_older_at_all t x v past newer older u q a
+not_older_at_all t x v (Settled d e n code ∷ past) newer older u q (inr a) =
+    not_older_at_all t x v past newer older u q a
 not_older_at_all t x v (Passed sh ∷ past) newer older u q (inl same) = absurd cc
 not_older_at_all t x v (Passed sh ∷ past) newer older u q (inr a) = not_older_at_all t x v past newer older u q a
 not_older_at_all t x v (Told o k ∷ past) newer older u q (inl same) = absurd cc
 not_older_at_all t x v (Told o k ∷ past) newer older u q (inr a) = not_older_at_all t x v past newer older u q a
 
 -- whatever a station was shown was passed through
-pub showed_passed : (t : ℕ) (sh : Shown) (past : List Entry) → ShownWell past → Stands (Showed t sh) past → Stands (Passed sh) past
+pub showed_passed : (t : ℕ) (sh : Shown) (past : List Entry) → ShownWell past → Stands (Showed t sh) past
+    → Stands (Passed sh) past
 showed_passed t sh [] well a = absurd a
 showed_passed t sh (y ∷ past) well (inl same) =
     let fits : StateFits (Showed t sh) past = subst (λ z. StateFits z past) (sym same) well.0 in
@@ -221,24 +247,32 @@ showed_passed t sh (y ∷ past) well (inr a) = inr (showed_passed t sh past well
 abbrev pub object_of : Shown → ℕ
 object_of v = v.object
 
-pub well_passed : (vs : List Shown) (past : List Entry) → Apart object_of vs → ((v : Shown) → In v vs → (u : Version) (q : ℕ) → Stands (Passed (state_of v.object u q)) past → IsNewer v.version u) → ShownWell past → ShownWell (noted (map entry.Passed vs) past)
+pub well_passed : (vs : List Shown) (past : List Entry) → Apart object_of vs
+    → ((v : Shown) → In v vs → (u : Version) (q : ℕ) → Stands (Passed (state_of v.object u q)) past
+    → IsNewer v.version u) → ShownWell past → ShownWell (noted (map entry.Passed vs) past)
 well_passed [] past apart newer well = well
-well_passed (v ∷ vs) past apart newer well = well_passed vs (Passed v ∷ past) apart.1 later (λ u q a. newer v (inl refl) u q a, well)
+well_passed (v ∷ vs) past apart newer well =
+    well_passed vs (Passed v ∷ past) apart.1 later (λ u q a. newer v (inl refl) u q a, well)
   where
-    later : (k : Shown) → In k vs → (u : Version) (q : ℕ) → Stands (Passed (state_of k.object u q)) (Passed v ∷ past) → IsNewer k.version u
+    later : (k : Shown) → In k vs → (u : Version) (q : ℕ) → Stands (Passed (state_of k.object u q)) (Passed v ∷ past)
+        → IsNewer k.version u
     later k a u q (inl same) = let i : state_of k.object u q ≡ v = cc in absurd (apart.0 k a (ap object_of i))
     later k a u q (inr b) = newer k (inr a) u q b
 
-pub before_passed_all : (t : ℕ) (vs : List Shown) (past : List Entry) → before_start t (noted (map entry.Passed vs) past) ≡ before_start t past
+pub before_passed_all : (t : ℕ) (vs : List Shown) (past : List Entry)
+    → before_start t (noted (map entry.Passed vs) past) ≡ before_start t past
 before_passed_all t [] past = refl
 before_passed_all t (v ∷ vs) past = before_passed_all t vs (Passed v ∷ past) ∙ before_passed t v past
 
-pub newer_passed_all : (t x : ℕ) (v : Version) (vs : List Shown) (past : List Entry) → NewerThanShown t x v past → NewerThanShown t x v (noted (map entry.Passed vs) past)
+pub newer_passed_all : (t x : ℕ) (v : Version) (vs : List Shown) (past : List Entry) → NewerThanShown t x v past
+    → NewerThanShown t x v (noted (map entry.Passed vs) past)
 newer_passed_all t x v [] past a = a
 newer_passed_all t x v (k ∷ vs) past a = newer_passed_all t x v vs (Passed k ∷ past) a
 
 -- what was passed is one of these, or was passed before
-pub from_passed_all : (x : ℕ) (u : Version) (q : ℕ) (vs : List Shown) (past : List Entry) → Stands (Passed (state_of x u q)) (noted (map entry.Passed vs) past) → In (state_of x u q) vs ⊎ Stands (Passed (state_of x u q)) past
+pub from_passed_all : (x : ℕ) (u : Version) (q : ℕ) (vs : List Shown) (past : List Entry)
+    → Stands (Passed (state_of x u q)) (noted (map entry.Passed vs) past)
+    → In (state_of x u q) vs ⊎ Stands (Passed (state_of x u q)) past
 from_passed_all x u q vs past a = elim (from_noted (Passed (state_of x u q)) (map entry.Passed vs) past a) [
   | inl b ↦
       let c = from_mapped entry.Passed (Passed (state_of x u q)) vs b in

@@ -28,7 +28,8 @@ use Rattle.smi_protocol.specs.Keeping.{decided, commanded, child_entries, settle
 use Rattle.smi_protocol.specs.Ordering.{order_entries, obeyed, order_comes}
 use Rattle.smi_protocol.specs.Step.{answered_or}
 use Rattle.smi_protocol.specs.declared.Entry.{Entry}
-use Rattle.smi_protocol.specs.declared.Entry.TheVariants.{Booted, Granted, Freed, Ordered, Ran, Learned, LetGo, InMode, Settled, Showed, Passed, Told}
+use Rattle.smi_protocol.specs.declared.Entry.TheVariants.{Booted, Granted, Freed, Ordered, Ran, Learned, LetGo}
+use Rattle.smi_protocol.specs.declared.Entry.TheVariants.{InMode, Settled, Showed, Passed, Told}
 use Rattle.smi_protocol.specs.declared.Order.{Order}
 use Rattle.smi_protocol.specs.declared.Order.TheVariants as order
 use Rattle.smi_law.proofs.WorkRuns.{AllMild, child_mild}
@@ -81,7 +82,8 @@ pub record Silently (g k : Grants) (new : List Entry) : Type 0 where
 still : (g : Grants) → Silently g g []
 still g = record { boot = refl; entries = tt }
 
-decided_silent : (h : Hierarchy) (number : ℕ) (g : Grants) (from x : ℕ) (note : Entry) → IsSilent note → (v : Verdict) → Silently g (decided h number g from x note v).grants (decided h number g from x note v).entries
+decided_silent : (h : Hierarchy) (number : ℕ) (g : Grants) (from x : ℕ) (note : Entry) → IsSilent note
+    → (v : Verdict) → Silently g (decided h number g from x note v).grants (decided h number g from x note v).entries
 decided_silent h number g from x note calm (New r) = record { boot = refl; entries = (calm, tt) }
 decided_silent h number g from x note calm Same = still g
 
@@ -89,9 +91,18 @@ settled_silent : (d e n : ℕ) (busy : Bool) (own : ℕ) → AllSilent (settled_
 settled_silent d e n true own = tt
 settled_silent d e n false own = (tt, tt)
 
-run_silent : (h : Hierarchy) (number : ℕ) (g : Grants) (from x : ℕ) (who : Holder) (e n : ℕ) (c : Command) → Silently g (run_comes h number g from x who e n c).grants (run_comes h number g from x who e n c).entries
+run_silent : (h : Hierarchy) (number : ℕ) (g : Grants) (from x : ℕ) (who : Holder) (e n : ℕ) (c : Command)
+    → Silently g (run_comes h number g from x who e n c).grants (run_comes h number g from x who e n c).entries
 run_silent h number g from x who e n c = elim (either (admits (g.records x) who e n)) [
-  | inl t ↦ rw t (record { boot = refl; entries = (tt, silent_both (child_entries h g x c) _ (mild_silent (child_entries h g x c) (child_mild h g x c)) (settled_silent x e n (waits_for_children h (commanded h g x c) x) (own_code h g x c))) })
+  | inl t ↦ rw t
+      (record {
+        boot = refl;
+        entries = (
+          tt,
+          silent_both (child_entries h g x c) _ (mild_silent (child_entries h g x c) (child_mild h g x c))
+              (settled_silent x e n (waits_for_children h (commanded h g x c) x) (own_code h g x c)),
+        );
+      })
   | inr f ↦ rw f (still g)
 ]
 
@@ -108,14 +119,25 @@ ended_silent : (b : Bool) (on : Grants) (p : ℕ) → Silently on (ended b on p)
 ended_silent true on p = record { boot = refl; entries = (tt, tt) }
 ended_silent false on p = record { boot = refl; entries = tt }
 
-tell_silent : (h : Hierarchy) (number : ℕ) (g : Grants) (d : ℕ) (r : Standing) (o : Option Holder) → Silently g (told_to h number g d r o).grants (told_to h number g d r o).entries
+tell_silent : (h : Hierarchy) (number : ℕ) (g : Grants) (d : ℕ) (r : Standing) (o : Option Holder)
+    → Silently g (told_to h number g d r o).grants (told_to h number g d r o).entries
 tell_silent h number g d r None = still g
 tell_silent h number g d r (Some Free) = still g
-tell_silent h number g d r (Some (Operator o)) = record { boot = refl; entries = learned_silent (Operator o) d (g.links (Operator o) d) (told_link (g.links (Operator o) d) (Operator o) r) }
+tell_silent h number g d r (Some (Operator o)) =
+    record {
+      boot = refl;
+      entries = learned_silent (Operator o) d (g.links (Operator o) d)
+          (told_link (g.links (Operator o) d) (Operator o) r);
+    }
 tell_silent h number g d r (Some (Domain p)) =
     let on = parent_heard g p d r in
     let e = ended_silent (ends h on p) on p in
-    record { boot = e.boot; entries = silent_both (learned (Domain p) d (g.links (Domain p) d) (on.links (Domain p) d)) (ended_entries (ends h on p) on p) (learned_silent (Domain p) d (g.links (Domain p) d) (on.links (Domain p) d)) e.entries }
+    record {
+      boot = e.boot;
+      entries = silent_both
+          (learned (Domain p) d (g.links (Domain p) d) (on.links (Domain p) d)) (ended_entries (ends h on p) on p)
+          (learned_silent (Domain p) d (g.links (Domain p) d) (on.links (Domain p) d)) e.entries;
+    }
 
 entries_silent : (o d : ℕ) (c : Option Command) (l : Link) → AllSilent (order_entries o d c l)
 entries_silent o d (Some c) (Out k) = tt
@@ -127,39 +149,51 @@ entries_silent o d None (Taking s) = tt
 entries_silent o d None (Held e n p) = tt
 entries_silent o d None (Dropping e) = (tt, tt)
 
-obeyed_silent : (h : Hierarchy) (number : ℕ) (g : Grants) (o x : ℕ) (c : Option Command) (res : Result Link ℕ) → Silently g (obeyed h number g o x c res).grants (obeyed h number g o x c res).entries
+obeyed_silent : (h : Hierarchy) (number : ℕ) (g : Grants) (o x : ℕ) (c : Option Command) (res : Result Link ℕ)
+    → Silently g (obeyed h number g o x c res).grants (obeyed h number g o x c res).entries
 obeyed_silent h number g o x c (Ok l) = record { boot = refl; entries = entries_silent o x c l }
 obeyed_silent h number g o x c (Err code) = still g
 
-order_silent : (h : Hierarchy) (number : ℕ) (g : Grants) (o : ℕ) (what : Order) → Silently g (order_comes h number g o what).grants (order_comes h number g o what).entries
+order_silent : (h : Hierarchy) (number : ℕ) (g : Grants) (o : ℕ) (what : Order)
+    → Silently g (order_comes h number g o what).grants (order_comes h number g o what).entries
 order_silent h number g o (order.Take x) = obeyed_silent h number g o x None (take_begun (g.links (Operator o) x))
 order_silent h number g o (order.Drop x) = obeyed_silent h number g o x None (drop_begun (g.links (Operator o) x))
-order_silent h number g o (order.Do x a) = obeyed_silent h number g o x (Some (Do a)) (command_issued (g.links (Operator o) x) (Do a))
-order_silent h number g o (order.Include x t) = obeyed_silent h number g o x (Some (Include t)) (command_issued (g.links (Operator o) x) (Include t))
-order_silent h number g o (order.Exclude x t) = obeyed_silent h number g o x (Some (Exclude t)) (command_issued (g.links (Operator o) x) (Exclude t))
-order_silent h number g o (order.Manual x t) = obeyed_silent h number g o x (Some (Manual t)) (command_issued (g.links (Operator o) x) (Manual t))
-order_silent h number g o (order.Ignore x t) = obeyed_silent h number g o x (Some (Ignore t)) (command_issued (g.links (Operator o) x) (Ignore t))
+order_silent h number g o (order.Do x a) =
+    obeyed_silent h number g o x (Some (Do a)) (command_issued (g.links (Operator o) x) (Do a))
+order_silent h number g o (order.Include x t) =
+    obeyed_silent h number g o x (Some (Include t)) (command_issued (g.links (Operator o) x) (Include t))
+order_silent h number g o (order.Exclude x t) =
+    obeyed_silent h number g o x (Some (Exclude t)) (command_issued (g.links (Operator o) x) (Exclude t))
+order_silent h number g o (order.Manual x t) =
+    obeyed_silent h number g o x (Some (Manual t)) (command_issued (g.links (Operator o) x) (Manual t))
+order_silent h number g o (order.Ignore x t) =
+    obeyed_silent h number g o x (Some (Ignore t)) (command_issued (g.links (Operator o) x) (Ignore t))
 order_silent h number g o (order.Ask x) = still g
 order_silent h number g o (order.Watch x) = still g
 order_silent h number g o (order.Unwatch x) = still g
 order_silent h number g o (order.Report device s) = still g
 
-body_silent : (h : Hierarchy) (number : ℕ) (g : Grants) (from : ℕ) (b : Body) → Silently g (datagram_comes h number g from b).grants (datagram_comes h number g from b).entries
+body_silent : (h : Hierarchy) (number : ℕ) (g : Grants) (from : ℕ) (b : Body)
+    → Silently g (datagram_comes h number g from b).grants (datagram_comes h number g from b).entries
 body_silent h number g from (body.Ask x) = still g
-body_silent h number g from (body.Take x who s) = decided_silent h number g from x (Granted x ((g.records x).epoch + 1) who) tt (take_after (g.records x) who s)
-body_silent h number g from (body.Drop x who e) = decided_silent h number g from x (Freed x ((g.records x).epoch + 1)) tt (drop_after (g.records x) who e)
+body_silent h number g from (body.Take x who s) =
+    decided_silent h number g from x (Granted x ((g.records x).epoch + 1) who) tt (take_after (g.records x) who s)
+body_silent h number g from (body.Drop x who e) =
+    decided_silent h number g from x (Freed x ((g.records x).epoch + 1)) tt (drop_after (g.records x) who e)
 body_silent h number g from (body.Run x who e n c) = run_silent h number g from x who e n c
 body_silent h number g from (body.Tell x r) = tell_silent h number g x r (listener h number g x r)
 body_silent h number g from (body.Watch x echo) = still g
 body_silent h number g from (body.State x echo v s) = still g
 body_silent h number g from (body.Unwatch x echo) = still g
 
-pub step_silent : (h : Hierarchy) (number : ℕ) (g : Grants) (what : Happening) → Silently g (grant_step h number g what).grants (grant_step h number g what).entries
+pub step_silent : (h : Hierarchy) (number : ℕ) (g : Grants) (what : Happening)
+    → Silently g (grant_step h number g what).grants (grant_step h number g what).entries
 step_silent h number g (Comes m) = body_silent h number g m.from m.body
 step_silent h number g (Orders o what) = order_silent h number g o what
 step_silent h number g (Reports device s) = still g
 step_silent h number g Ticks = still g
 
-pub kept_silent : (h : Hierarchy) (number : ℕ) (s : Station) (what : Happening) (o : Option ℕ) → Silently s.grants (answered_or h number s what o).station.grants (answered_or h number s what o).kept
+pub kept_silent : (h : Hierarchy) (number : ℕ) (s : Station) (what : Happening) (o : Option ℕ)
+    → Silently s.grants (answered_or h number s what o).station.grants (answered_or h number s what o).kept
 kept_silent h number s what (Some code) = still s.grants
 kept_silent h number s what None = step_silent h number s.grants what

@@ -39,12 +39,15 @@ module _ (h : Hierarchy) (tree : IsTree h) (number boot : ℕ) (old : Display) (
   none_may : AllMay []
   none_may m a = absurd a
 
-  -- a watch leaves the states as they were
+  -- a watch leaves the states unchanged
   abbrev Calm : Body → Type 0
   Calm b = (x echo : ℕ) → b ≡ body.Watch x echo → s.display.conditions ≡ old.conditions
 
-  body_says : (from : ℕ) (b : Body) → is_body_of h from number b ≡ true → Calm b → Heir s boot (body_noticed h number boot old from b).display → AllMay (body_noticed h number boot old from b).sends
-  body_says from (body.Watch x echo) ok calm heir = watch_says h number boot old s tree tidy from x echo ok heir (calm x echo refl)
+  body_says : (from : ℕ) (b : Body) → is_body_of h from number b ≡ true → Calm b
+      → Heir s boot (body_noticed h number boot old from b).display
+      → AllMay (body_noticed h number boot old from b).sends
+  body_says from (body.Watch x echo) ok calm heir =
+      watch_says h number boot old s tree tidy from x echo ok heir (calm x echo refl)
   body_says from (body.State x echo v q) ok calm heir = state_says h number boot old s from echo (told_state x v q) heir
   body_says from (body.Tell d r) ok calm heir = none_may
   body_says from (body.Unwatch x echo) ok calm heir = none_may
@@ -60,32 +63,48 @@ module _ (h : Hierarchy) (tree : IsTree h) (number : ℕ) (s : Station) (tidy : 
   heir_of : (what : Happening) → Heir (Out what) s.grants.boot (notice h number s.grants s.display what).display
   heir_of what = record { boot_ = (kept_silent h number s what None).boot; named = refl; watchers = refl }
 
-  notice_says : (what : Happening) → refusal_of h number s.grants what ≡ None → (m : Message) → In m (notice h number s.grants s.display what).sends → MaySend h number (Out what) m
+  notice_says : (what : Happening) → refusal_of h number s.grants what ≡ None → (m : Message)
+      → In m (notice h number s.grants s.display what).sends → MaySend h number (Out what) m
   notice_says (Comes m) none =
       body_says h tree number s.grants.boot s.display tidy (Out (Comes m)) m.from m.body (understood h number m none)
-      (λ x echo is. ap (λ b. conditions_by h s (grant_step h number s.grants (Comes m)).grants (notice h number s.grants s.display (Comes m)).display (moved_by_body h s.grants s.display.conditions b) (domain_of_body h b)) is)
+      (λ x echo is. ap (λ b. conditions_by h s (grant_step h number s.grants (Comes m)).grants
+      (notice h number s.grants s.display (Comes m)).display (moved_by_body h s.grants s.display.conditions b)
+      (domain_of_body h b)) is)
       (heir_of (Comes m))
-  notice_says (Orders o what) none = order_says h number s.grants.boot s.display (Out (Orders o what)) o what (heir_of (Orders o what))
+  notice_says (Orders o what) none = order_says h number s.grants.boot s.display (Out (Orders o what)) o what
+      (heir_of (Orders o what))
   notice_says (Reports device state) none = λ m a. absurd a
-  notice_says Ticks none = tick_says h number s.grants.boot s.display (Out Ticks) s.grants refl (record { boot_ = refl; named = refl; watchers = refl })
+  notice_says Ticks none = tick_says h number s.grants.boot s.display (Out Ticks) s.grants refl
+      (record { boot_ = refl; named = refl; watchers = refl })
 
-  step_says : (what : Happening) (o : Option ℕ) → refusal_of h number s.grants what ≡ o → (m : Message) → In m (answered_or h number s what o).out.datagrams → MaySend h number (answered_or h number s what o).station m
+  step_says : (what : Happening) (o : Option ℕ) → refusal_of h number s.grants what ≡ o → (m : Message)
+      → In m (answered_or h number s what o).out.datagrams → MaySend h number (answered_or h number s what o).station m
   step_says what (Some code) is m a = absurd a
   step_says what None is m a =
       let g = grant_step h number s.grants what in
       let n = notice h number s.grants s.display what in
-      let shown_ = flat_map (shown_to_all h number n.display.watchers) (passed_in h s.grants.boot s.display.conditions (Out what).display.conditions (domain_of_happening h what)) in
+      let shown_ = flat_map (shown_to_all h number n.display.watchers)
+      (passed_in h s.grants.boot s.display.conditions (Out what).display.conditions (domain_of_happening h what)) in
       elim (in_both m (g.sends ++ n.sends) shown_ (from_taken m most_sent (g.sends ++ n.sends ++ shown_) a)) [
         | inl first ↦ elim (in_both m g.sends n.sends first) [
           | inl b ↦ grants_say h number s.grants what is m b (Out what) refl
           | inr b ↦ notice_says what is m b
         ]
-        | inr b ↦ shown_says h number s.grants.boot s.display (Out what) n.display (heir_of what) s.display.conditions (domain_of_happening h what) m b
+        | inr b ↦ shown_says h number s.grants.boot s.display (Out what) n.display (heir_of what)
+            s.display.conditions (domain_of_happening h what) m b
       ]
 
 -- whatever comes to a station whose lists are tidy
-pub one_speaks : (h : Hierarchy) → IsTree h → (number : ℕ) (s : Station) → IsTidy h s.display → (what : Happening) (m : Message) → Among m (after h number s what).out.datagrams → MaySend h number (after h number s what).station m
-one_speaks h tree number s tidy what m a = step_says h tree number s tidy what (refusal_of h number s.grants what) refl m (among_in m (after h number s what).out.datagrams a)
+pub one_speaks : (h : Hierarchy) → IsTree h → (number : ℕ) (s : Station) → IsTidy h s.display
+    → (what : Happening) (m : Message) → Among m (after h number s what).out.datagrams
+    → MaySend h number (after h number s what).station m
+one_speaks h tree number s tidy what m a =
+    step_says h tree number s tidy what (refusal_of h number s.grants what) refl m
+    (among_in m (after h number s what).out.datagrams a)
 
-pub speaks : (h : Hierarchy) → IsTree h → (past : List Entry) (w : World) → Reaches h past w → (number : ℕ) (what : Happening) → MayCome w what → (m : Message) → Among m (after h number (w.stations number) what).out.datagrams → MaySend h number (after h number (w.stations number) what).station m
-speaks h tree past w run number what may m a = one_speaks h tree number (w.stations number) (all_tidy h past w run number) what m a
+pub speaks : (h : Hierarchy) → IsTree h → (past : List Entry) (w : World) → Reaches h past w
+    → (number : ℕ) (what : Happening) → MayCome w what → (m : Message)
+    → Among m (after h number (w.stations number) what).out.datagrams
+    → MaySend h number (after h number (w.stations number) what).station m
+speaks h tree past w run number what may m a =
+    one_speaks h tree number (w.stations number) (all_tidy h past w run number) what m a

@@ -7,7 +7,8 @@ use Rattle.smi_command.proofs.Holders.{either}
 use Rattle.smi_protocol.specs.Display.{Station}
 use Rattle.smi_protocol.specs.Grants.{put}
 
-pub at_stations : (stations : ℕ → Station) (number : ℕ) (s : Station) (P : ℕ → Station → Type 0) → P number s → ((m : ℕ) → (m ≡ number → ⊥) → P m (stations m)) → (m : ℕ) → P m (put stations number s m)
+pub at_stations : (stations : ℕ → Station) (number : ℕ) (s : Station) (P : ℕ → Station → Type 0) → P number s
+    → ((m : ℕ) → (m ≡ number → ⊥) → P m (stations m)) → (m : ℕ) → P m (put stations number s m)
 at_stations stations number s P here there m = elim (either (m == number)) [
   | inl t ↦ rw t (subst (λ z. P z s) (sym (eqb-true m number t)) here)
   | inr f ↦ rw f (there m (other m f))

@@ -1,5 +1,6 @@
 -- In every run the lists of who watches are as many as there are objects, and no echo in them is above the greatest.
-use Rattle.std.proofs.Common.{ℕ, zero, suc, ◌≡◌, ◌≤◌, Bool, true, false, List, [], ◌∷◌, inl, inr, refl, sym, ap, ◌∙◌, subst, arith}
+use Rattle.std.proofs.Common.{ℕ, zero, suc, ◌≡◌, ◌≤◌, Bool, true, false, List, [], ◌∷◌, inl, inr, refl, sym, ap, ◌∙◌}
+use Rattle.std.proofs.Common.{subst, arith}
 use Rattle.std.specs.Prelude.{◌==◌, nat_lt, not, Option, Some, None, length, replicate, slice_set, if◌then◌else◌}
 use Rattle.std.proofs.lemmas.Bool.Decides.{nat_tests}
 use Rattle.smi_grant.specs.declared.Shown.{Shown}
@@ -19,12 +20,14 @@ use Rattle.smi_protocol.specs.Opening.{object_count, opened, first_display, save
 use Rattle.smi_protocol.specs.Refusals.{refusal_of}
 use Rattle.smi_protocol.specs.Tidy.{IsTidy}
 use Rattle.smi_protocol.specs.Step.{body_noticed, notice, answered_or, after as after_happening}
-use Rattle.smi_protocol.specs.Watching.{is_watched, is_child_unit, lists_before, is_full, lists_after, watch_comes, unwatch_comes, told_state, showed_if, state_comes, order_noticed}
+use Rattle.smi_protocol.specs.Watching.{is_watched, is_child_unit, lists_before, is_full, lists_after, watch_comes}
+use Rattle.smi_protocol.specs.Watching.{unwatch_comes, told_state, showed_if, state_comes, order_noticed}
 use Rattle.smi_protocol.specs.declared.Entry.{Entry}
 use Rattle.smi_protocol.specs.declared.Order.{Order}
 use Rattle.smi_protocol.specs.declared.Order.TheVariants as order
 use Rattle.smi_law.specs.Schedule.{World}
-use Rattle.smi_law.specs.World.{with_station, Step, sends, steps, stops, tells, halts, starts, Reaches, opens, goes_on}
+use Rattle.smi_law.specs.World.{with_station, Step, sends, steps, stops, tells, halts, starts, Reaches, opens}
+use Rattle.smi_law.specs.World.{goes_on}
 use Rattle.smi_law.proofs.GrantKinds.{put_here}
 use Rattle.smi_law.proofs.Lists.{In}
 use Rattle.smi_law.proofs.Moves.{at_put}
@@ -52,7 +55,8 @@ length_first (suc n) = ap suc (length_first n)
 kept_tidy : (h : Hierarchy) (s t : Display) → t.watchers ≡ s.watchers → t.echoes ≡ s.echoes → IsTidy h s → IsTidy h t
 kept_tidy h s t lists echoes tidy = record {
   lists = ap length lists ∙ tidy.lists;
-  greatest = λ x station echo a. subst (λ (z : ℕ → ℕ). echo ≤ z station) (sym echoes) (tidy.greatest x station echo (subst (λ z. In (watcher station echo) (listed z x)) lists a));
+  greatest = λ x station echo a. subst (λ (z : ℕ → ℕ). echo ≤ z station) (sym echoes)
+      (tidy.greatest x station echo (subst (λ z. In (watcher station echo) (listed z x)) lists a));
 }
 
 pub length_before : (s : Display) (from echo : ℕ) → length (lists_before s from echo) ≡ length s.watchers
@@ -83,9 +87,12 @@ module _ (h : Hierarchy) (number boot : ℕ) (s : Display) (tidy : IsTidy h s) w
       not_less m n f = grind (arith, nat_tests)
 
       no_less : nat_lt echo (s.echoes from) ≡ false → (station : ℕ) → s.echoes station ≤ put s.echoes from echo station
-      no_less f station = at_put (λ z. s.echoes station ≤ z) s.echoes from echo station (λ i. subst (λ z. s.echoes z ≤ echo) (sym i) (not_less echo (s.echoes from) f)) (omega arith)
+      no_less f station = at_put (λ z. s.echoes station ≤ z) s.echoes from echo station
+          (λ i. subst (λ z. s.echoes z ≤ echo) (sym i) (not_less echo (s.echoes from) f)) (omega arith)
 
-      greatest : nat_lt echo (s.echoes from) ≡ false → (y station e : ℕ) → In (watcher station e) (listed (lists_after (lists_before s from echo) x from echo) y) → e ≤ put s.echoes from echo station
+      greatest : nat_lt echo (s.echoes from) ≡ false → (y station e : ℕ)
+          → In (watcher station e) (listed (lists_after (lists_before s from echo) x from echo) y)
+          → e ≤ put s.echoes from echo station
       greatest f y station e a = elim (from_watched s from x echo y (watcher station e) a) [
         | inl old ↦ let b = tidy.greatest old.0 station e old.1 in let c = no_less f station in omega (arith, b, c)
         | inr new ↦ this station e new
@@ -101,7 +108,8 @@ module _ (h : Hierarchy) (number boot : ℕ) (s : Display) (tidy : IsTidy h s) w
   unwatch_tidy : (from x echo : ℕ) → IsTidy h (unwatch_comes s from x echo).display
   unwatch_tidy from x echo = record {
     lists = length_set s.watchers _ _ ∙ tidy.lists;
-    greatest = λ y station e a. let b = from_unwatched s.watchers from x echo y (watcher station e) a in tidy.greatest b.0 station e b.1;
+    greatest = λ y station e a. let b = from_unwatched s.watchers from x echo y (watcher station e) a in
+        tidy.greatest b.0 station e b.1;
   }
 
   showed_tidy : (state : Shown) (a : Acceptance) → IsTidy h (showed_if s state a).display
@@ -121,7 +129,8 @@ module _ (h : Hierarchy) (number boot : ℕ) (s : Display) (tidy : IsTidy h s) w
   order_tidy : (o : ℕ) (what : Order) → IsTidy h (order_noticed h number boot s o what).display
   order_tidy o (order.Ask d) = kept_tidy h s (order_noticed h number boot s o (order.Ask d)).display refl refl tidy
   order_tidy o (order.Watch x) = kept_tidy h s (order_noticed h number boot s o (order.Watch x)).display refl refl tidy
-  order_tidy o (order.Unwatch x) = elim (either (is_child_unit h number x)) [ inl t ↦ rw t tidy | inr f ↦ rw f (kept_tidy h s (record s { named = put s.named x false }) refl refl tidy) ]
+  order_tidy o (order.Unwatch x) = elim (either (is_child_unit h number x))
+      [ inl t ↦ rw t tidy | inr f ↦ rw f (kept_tidy h s (record s { named = put s.named x false }) refl refl tidy) ]
   order_tidy o (order.Take d) = tidy
   order_tidy o (order.Drop d) = tidy
   order_tidy o (order.Do d a) = tidy
@@ -132,7 +141,8 @@ module _ (h : Hierarchy) (number boot : ℕ) (s : Display) (tidy : IsTidy h s) w
   order_tidy o (order.Report device state) = tidy
 
   body_tidy : (from : ℕ) (b : Body) → IsTidy h (body_noticed h number boot s from b).display
-  body_tidy from (body.Tell d r) = kept_tidy h s (body_noticed h number boot s from (body.Tell d r)).display refl refl tidy
+  body_tidy from (body.Tell d r) = kept_tidy h s (body_noticed h number boot s from (body.Tell d r)).display refl
+      refl tidy
   body_tidy from (body.Watch x echo) = watch_tidy from x echo
   body_tidy from (body.State x echo v q) = state_tidy from echo (told_state x v q)
   body_tidy from (body.Unwatch x echo) = unwatch_tidy from x echo
@@ -141,16 +151,19 @@ module _ (h : Hierarchy) (number boot : ℕ) (s : Display) (tidy : IsTidy h s) w
   body_tidy from (body.Drop d who e) = tidy
   body_tidy from (body.Run d who e n c) = tidy
 
-notice_tidy : (h : Hierarchy) (number : ℕ) (g : Grants) (s : Display) (what : Happening) → IsTidy h s → IsTidy h (notice h number g s what).display
+notice_tidy : (h : Hierarchy) (number : ℕ) (g : Grants) (s : Display) (what : Happening) → IsTidy h s
+    → IsTidy h (notice h number g s what).display
 notice_tidy h number g s (Comes m) tidy = body_tidy h number g.boot s tidy m.from m.body
 notice_tidy h number g s (Orders o what) tidy = order_tidy h number g.boot s tidy o what
 notice_tidy h number g s (Reports device state) tidy = tidy
 notice_tidy h number g s Ticks tidy = kept_tidy h s (notice h number g s Ticks).display refl refl tidy
 
-pub after_tidy : (h : Hierarchy) (number : ℕ) (s : Station) (what : Happening) (o : Option ℕ) → IsTidy h s.display → IsTidy h (answered_or h number s what o).station.display
+pub after_tidy : (h : Hierarchy) (number : ℕ) (s : Station) (what : Happening) (o : Option ℕ) → IsTidy h s.display
+    → IsTidy h (answered_or h number s what o).station.display
 after_tidy h number s what (Some code) tidy = tidy
 after_tidy h number s what None tidy =
-    kept_tidy h (notice h number s.grants s.display what).display (answered_or h number s what None).station.display refl refl (notice_tidy h number s.grants s.display what tidy)
+    kept_tidy h (notice h number s.grants s.display what).display (answered_or h number s what None).station.display
+    refl refl (notice_tidy h number s.grants s.display what tidy)
 
 pub first_tidy : (h : Hierarchy) (number : ℕ) → IsTidy h (first_display h number)
 first_tidy h number = record {
@@ -158,18 +171,28 @@ first_tidy h number = record {
   greatest = λ x station echo a. absurd (none_listed (object_count h) x (watcher station echo) a);
 }
 
-put_tidy : (h : Hierarchy) (w : World) (number : ℕ) (s : Station) → IsTidy h s.display → ((n : ℕ) → IsTidy h (w.stations n).display) → (n : ℕ) → IsTidy h ((with_station w number s).stations n).display
-put_tidy h w number s here each n = at_put (λ (z : Station). IsTidy h z.display) w.stations number s n (λ i. here) (each n)
+put_tidy : (h : Hierarchy) (w : World) (number : ℕ) (s : Station) → IsTidy h s.display
+    → ((n : ℕ) → IsTidy h (w.stations n).display) → (n : ℕ) → IsTidy h ((with_station w number s).stations n).display
+put_tidy h w number s here each n = at_put (λ (z : Station). IsTidy h z.display) w.stations number s n (λ i. here)
+    (each n)
 
-step_tidy : (h : Hierarchy) (w : World) (new : List Entry) (next : World) → Step h w new next → ((n : ℕ) → IsTidy h (w.stations n).display) → (n : ℕ) → IsTidy h (next.stations n).display
+step_tidy : (h : Hierarchy) (w : World) (new : List Entry) (next : World) → Step h w new next
+    → ((n : ℕ) → IsTidy h (w.stations n).display) → (n : ℕ) → IsTidy h (next.stations n).display
 step_tidy h w new next (sends number m may) each n = each n
 step_tidy h w new next (steps number what runs may) each n =
-    put_tidy h w number (after_happening h number (w.stations number) what).station (after_tidy h number (w.stations number) what (refusal_of h number (w.stations number).grants what) (each number)) each n
-step_tidy h w new next (stops number what runs may) each n = put_tidy h w number (saved_only h number (w.stations number) what) (each number) each n
+    put_tidy h w number (after_happening h number (w.stations number) what).station
+    (after_tidy h number (w.stations number) what (refusal_of h number (w.stations number).grants what)
+    (each number)) each n
+step_tidy h w new next (stops number what runs may) each n =
+    put_tidy h w number (saved_only h number (w.stations number) what) (each number) each n
 step_tidy h w new next (tells o what) each n = each n
-step_tidy h w new next (halts number) each n = put_tidy h w number (record (w.stations number) { is_stopped = true }) (each number) each n
-step_tidy h w new next (starts number boots) each n = put_tidy h w number (opened h number (w.stations number).grants) (first_tidy h number) each n
+step_tidy h w new next (halts number) each n =
+    put_tidy h w number (record (w.stations number) { is_stopped = true }) (each number) each n
+step_tidy h w new next (starts number boots) each n =
+    put_tidy h w number (opened h number (w.stations number).grants) (first_tidy h number) each n
 
-pub all_tidy : (h : Hierarchy) (past : List Entry) (w : World) → Reaches h past w → (n : ℕ) → IsTidy h (w.stations n).display
+pub all_tidy : (h : Hierarchy) (past : List Entry) (w : World) → Reaches h past w → (n : ℕ)
+    → IsTidy h (w.stations n).display
 all_tidy h past w opens n = first_tidy h n
-all_tidy h past w (goes_on {past = before} {new = new} {w = old} {next = next} run step) n = step_tidy h old new next step (all_tidy h before old run) n
+all_tidy h past w (goes_on {past = before} {new = new} {w = old} {next = next} run step) n =
+    step_tidy h old new next step (all_tidy h before old run) n

@@ -20,7 +20,8 @@ use Rattle.smi_law.specs.Schedule.{World}
 use Rattle.smi_law.specs.Trace.{Stands, epoch_at, holder_at, has_learned, Holds}
 use Rattle.smi_law.specs.World.{Among as IsSent, noted}
 use Rattle.smi_law.proofs.KnownFacts.{known_grant}
-use Rattle.smi_law.proofs.Quiet.{IsQuiet, AllQuiet, epoch_quiet, holder_quiet, learned_quiet, fits_quiet, stood_before}
+use Rattle.smi_law.proofs.Quiet.{IsQuiet, AllQuiet, epoch_quiet, holder_quiet, learned_quiet, fits_quiet}
+use Rattle.smi_law.proofs.Quiet.{stood_before}
 use Rattle.smi_law.proofs.Viewed.{Viewed}
 
 -- the link holds the grant of this epoch
@@ -36,9 +37,11 @@ pub record Traces (h : Hierarchy) (past : List Entry) (w : World) : Type 0 where
   pub learned : (me : Holder) (d e : ℕ) → has_learned me d e past ≡ holds_at (link_in h w me d) e
   pub once : (me : Holder) (d e : ℕ) → Stands (Learned me d e) past → e ≤ known (link_in h w me d)
   pub let_go : (me : Holder) (d e : ℕ) → link_in h w me d ≡ Dropping e → Stands (LetGo me d e) past
-  pub dropped : (m : Message) (me : Holder) (d e : ℕ) → IsSent m w.sent → m.body ≡ body.Drop d me e → Stands (LetGo me d e) past
+  pub dropped : (m : Message) (me : Holder) (d e : ℕ) → IsSent m w.sent → m.body ≡ body.Drop d me e
+      → Stands (LetGo me d e) past
 
-pub traces_quiet : (h : Hierarchy) (past : List Entry) (w : World) (x : Entry) → IsQuiet x → Traces h past w → Traces h (x ∷ past) w
+pub traces_quiet : (h : Hierarchy) (past : List Entry) (w : World) (x : Entry) → IsQuiet x → Traces h past w
+    → Traces h (x ∷ past) w
 traces_quiet h past w x q t = record {
   epoch = λ d. epoch_quiet d x past q ∙ t.epoch d;
   holder = λ d. holder_quiet d x past q ∙ t.holder d;
@@ -62,7 +65,8 @@ held_link (Held f n p) e i = record { number = n; pending = p; is = ap (λ z. He
 held_link (Dropping f) e i = absurd cc
 
 -- whoever holds a domain by the trace is the holder by its record
-pub held_by : (h : Hierarchy) (past : List Entry) (w : World) (me : Holder) (d : ℕ) → is_free me ≡ false → Viewed h w → Traces h past w → Holds me d past → (record_in h w d).holder ≡ me
+pub held_by : (h : Hierarchy) (past : List Entry) (w : World) (me : Holder) (d : ℕ) → is_free me ≡ false → Viewed h w
+    → Traces h past w → Holds me d past → (record_in h w d).holder ≡ me
 held_by h past w me d party v t holds =
     let l = held_link (link_in h w me d) (epoch_at d past) (sym (t.learned me d (epoch_at d past)) ∙ holds) in
     ((known_grant h w d me party v).is_held (epoch_at d past) l.number l.pending l.is).1
@@ -72,9 +76,12 @@ module _ (h : Hierarchy) (past : List Entry) (w : World) (v : Viewed h w) (t : T
   same d g k a b x y = sym (held_by h past w g d a v t x) ∙ held_by h past w k d b v t y
 
   commander : (a b d : ℕ) → Commands h past a d → Commands h past b d → a ≡ b
-  commander a b d (directly x) (directly y) = let i : Operator a ≡ Operator b = same d (Operator a) (Operator b) refl refl x y in cc
-  commander a b d (directly x) (through q j y c) = let i : Operator a ≡ Domain q = same d (Operator a) (Domain q) refl refl x y in absurd cc
-  commander a b d (through p i x c) (directly y) = let i' : Domain p ≡ Operator b = same d (Domain p) (Operator b) refl refl x y in absurd cc
+  commander a b d (directly x) (directly y) =
+      let i : Operator a ≡ Operator b = same d (Operator a) (Operator b) refl refl x y in cc
+  commander a b d (directly x) (through q j y c) =
+      let i : Operator a ≡ Domain q = same d (Operator a) (Domain q) refl refl x y in absurd cc
+  commander a b d (through p i x c) (directly y) =
+      let i' : Domain p ≡ Operator b = same d (Domain p) (Operator b) refl refl x y in absurd cc
   commander a b d (through p i x c) (through q j y k) =
       let is : Domain p ≡ Domain q = same d (Domain p) (Domain q) refl refl x y in
       let e : p ≡ q = cc in
@@ -89,7 +96,8 @@ pub record Safely (h : Hierarchy) (past : List Entry) (w : World) : Type 0 where
   pub traces : Traces h past w
   pub safe : SafeGrants h past
 
-pub safely_quiet : (h : Hierarchy) (w : World) → Viewed h w → (new past : List Entry) → AllQuiet new → Safely h past w → Safely h (noted new past) w
+pub safely_quiet : (h : Hierarchy) (w : World) → Viewed h w → (new past : List Entry) → AllQuiet new
+    → Safely h past w → Safely h (noted new past) w
 safely_quiet h w v [] past q s = s
 safely_quiet h w v (x ∷ new) past q s =
     let t = traces_quiet h past w x q.0 s.traces in

@@ -12,7 +12,9 @@ use Rattle.smi_command.specs.declared.Due.{Due}
 use Rattle.smi_command.specs.declared.Due.TheVariants.{Take, Drop, Run}
 use Rattle.smi_command.specs.Hearing.{told_link}
 use Rattle.smi_command.specs.Link.{due_of}
-use Rattle.smi_command.specs.OneLink.{Datagram, Asks, Tells, Pair, asked_record, relinked, commanded, sent_due, delivered, has_number, is_stranger, Event, OrderTake, OrderCommand, OrderDrop, SendDue, Deliver, Settle, Stranger, Ask, after, Among}
+use Rattle.smi_command.specs.OneLink.{Datagram, Asks, Tells, Pair, asked_record, relinked, commanded, sent_due}
+use Rattle.smi_command.specs.OneLink.{delivered, has_number, is_stranger, Event, OrderTake, OrderCommand, OrderDrop}
+use Rattle.smi_command.specs.OneLink.{SendDue, Deliver, Settle, Stranger, Ask, after, Among}
 use Rattle.smi_command.proofs.Holders.{told_apart}
 use Rattle.smi_protocol.specs.Messages.{request}
 use Rattle.smi_law.specs.World.{Among as IsSent}
@@ -30,7 +32,8 @@ Covers d me sent (body.Watch x echo) = Unit {0}
 Covers d me sent (body.State x echo v s) = Unit {0}
 Covers d me sent (body.Unwatch x echo) = Unit {0}
 
-pub covers_more : (d : ℕ) (me : Holder) (old new : List Datagram) → ((k : Datagram) → Among k old → Among k new) → (b : Body) → Covers d me old b → Covers d me new b
+pub covers_more : (d : ℕ) (me : Holder) (old new : List Datagram) → ((k : Datagram) → Among k old → Among k new)
+    → (b : Body) → Covers d me old b → Covers d me new b
 covers_more d me old new more (body.Tell x r) c = λ i. more (Tells r) (c i)
 covers_more d me old new more (body.Take x who s) c = λ i j. more (Asks who (Take s)) (c i j)
 covers_more d me old new more (body.Drop x who e) c = λ i j. more (Asks who (Drop e)) (c i j)
@@ -40,7 +43,8 @@ covers_more d me old new more (body.Watch x echo) c = tt
 covers_more d me old new more (body.State x echo v s) c = tt
 covers_more d me old new more (body.Unwatch x echo) c = tt
 
-covers_request : (d : ℕ) (me : Holder) (sent : List Datagram) (due : Due) → Covers d me sent (request d me due) → Among (Asks me due) sent
+covers_request : (d : ℕ) (me : Holder) (sent : List Datagram) (due : Due) → Covers d me sent (request d me due)
+    → Among (Asks me due) sent
 covers_request d me sent (Take s) c = c refl refl
 covers_request d me sent (Drop e) c = c refl refl
 covers_request d me sent (Run e n k) c = c refl refl
@@ -89,7 +93,8 @@ pub record Recorded (me : Holder) (p : Pair) (r : Standing) : Type 0 where
   pub link : (stepped me p event).link ≡ p.link
   pub keeps : (k : Datagram) → Among k p.sent → Among k (stepped me p event).sent
 
-asked_by_me : (me : Holder) (p : Pair) (due : Due) (busy : Bool) (x : ℕ) → At (Asks me due) p.sent → Recorded me p (asked_record p.kept me due busy x)
+asked_by_me : (me : Holder) (p : Pair) (due : Due) (busy : Bool) (x : ℕ) → At (Asks me due) p.sent
+    → Recorded me p (asked_record p.kept me due busy x)
 asked_by_me me p due busy x at = record {
   event = Some (Deliver at.place busy x);
   kept = ap (λ z. (delivered me p z busy x).kept) at.is;
@@ -97,7 +102,8 @@ asked_by_me me p due busy x at = record {
   keeps = λ k a. subst (λ z. Among k (delivered me p z busy x).sent) (sym at.is) (inr a);
 }
 
-asked_by_another : (me : Holder) (p : Pair) (who : Holder) (due : Due) (busy : Bool) (x : ℕ) → is_stranger me who due ≡ true → Recorded me p (asked_record p.kept who due busy x)
+asked_by_another : (me : Holder) (p : Pair) (who : Holder) (due : Due) (busy : Bool) (x : ℕ)
+    → is_stranger me who due ≡ true → Recorded me p (asked_record p.kept who due busy x)
 asked_by_another me p who due busy x t = record {
   event = Some (Stranger who due busy x);
   kept = rw t refl;
@@ -105,16 +111,21 @@ asked_by_another me p who due busy x t = record {
   keeps = λ k a. rw t (inr a);
 }
 
-is_strange : (me who : Holder) (due : Due) → InRange who due → same_holder who me ≡ false → is_stranger me who due ≡ true
+is_strange : (me who : Holder) (due : Due) → InRange who due → same_holder who me ≡ false
+    → is_stranger me who due ≡ true
 is_strange me who due r f = rw r.held (rw f r.number)
 
 -- a move of the record is an event of the pair
-pub recorded : (d : ℕ) (me : Holder) (p : Pair) (sent : List Message) → ((m : Message) → IsSent m sent → Fair m.body) → ((m : Message) → IsSent m sent → Covers d me p.sent m.body) → (r : Standing) → RecordMove sent d p.kept r → Recorded me p r
+pub recorded : (d : ℕ) (me : Holder) (p : Pair) (sent : List Message) → ((m : Message) → IsSent m sent → Fair m.body)
+    → ((m : Message) → IsSent m sent → Covers d me p.sent m.body) → (r : Standing) → RecordMove sent d p.kept r
+    → Recorded me p r
 recorded d me p sent range covers r move.rests = record { event = None; kept = refl; link = refl; keeps = λ k a. a }
-recorded d me p sent range covers r (move.ends x) = record { event = Some (Settle x); kept = refl; link = refl; keeps = λ k a. a }
+recorded d me p sent range covers r (move.ends x) =
+    record { event = Some (Settle x); kept = refl; link = refl; keeps = λ k a. a }
 recorded d me p sent range covers r (move.asked m who due a b busy x) = elim (told_apart who me) [
   | inl s ↦
-      let c : Covers d me p.sent (request d me due) = subst (λ z. Covers d me p.sent (request d z due)) s.1 (subst (Covers d me p.sent) b (covers m a)) in
+      let c : Covers d me p.sent (request d me due) = subst (λ z. Covers d me p.sent (request d z due)) s.1
+      (subst (Covers d me p.sent) b (covers m a)) in
       subst (λ z. Recorded me p (asked_record p.kept z due busy x)) (sym s.1)
       (asked_by_me me p due busy x (among_at (Asks me due) p.sent (covers_request d me p.sent due c)))
   | inr o ↦
@@ -137,7 +148,9 @@ told_here me p r at = record {
 }
 
 -- a move of the link is an event of the pair
-pub relinks : (d : ℕ) (me : Holder) (p : Pair) (sent : List Message) → ((m : Message) → IsSent m sent → Covers d me p.sent m.body) → (l : Link) → LinkMove sent d me p.link l → Relinked me p l
+pub relinks : (d : ℕ) (me : Holder) (p : Pair) (sent : List Message)
+    → ((m : Message) → IsSent m sent → Covers d me p.sent m.body) → (l : Link) → LinkMove sent d me p.link l
+    → Relinked me p l
 relinks d me p sent covers l move.stays = record { event = None; kept = refl; link = refl; keeps = λ k a. a }
 relinks d me p sent covers l (move.takes new is) = record {
   event = Some OrderTake;

@@ -19,11 +19,14 @@ use Rattle.smi_rows.specs.declared.Mode.TheVariants as mode
 use Rattle.smi_rows.specs.Known.{is_number, is_parent}
 use Rattle.smi_rows.specs.Ranges.{is_held}
 use Rattle.smi_rows.specs.Stored.{is_unsettled}
-use Rattle.smi_protocol.specs.Children.{ChildChange, Stays, Relinked, ComesInto, relinked_or, is_commanded, same_mode, comes_into, handed_on, aimed_at, targeted, child_change, change_of, link_after, mode_after, links_after, modes_after}
+use Rattle.smi_protocol.specs.Children.{ChildChange, Stays, Relinked, ComesInto, relinked_or, is_commanded, same_mode}
+use Rattle.smi_protocol.specs.Children.{comes_into, handed_on, aimed_at, targeted, child_change, change_of}
+use Rattle.smi_protocol.specs.Children.{link_after, mode_after, links_after, modes_after}
 use Rattle.smi_protocol.specs.Grants.{Grants}
 use Rattle.smi_protocol.specs.Keeping.{let_go_of, mode_changed, entries_at, child_entries}
 use Rattle.smi_protocol.specs.declared.Entry.{Entry}
-use Rattle.smi_protocol.specs.declared.Entry.TheVariants.{Booted, Granted, Freed, Ordered, Ran, Learned, LetGo, InMode, Settled, Showed, Passed, Told}
+use Rattle.smi_protocol.specs.declared.Entry.TheVariants.{Booted, Granted, Freed, Ordered, Ran, Learned, LetGo}
+use Rattle.smi_protocol.specs.declared.Entry.TheVariants.{InMode, Settled, Showed, Passed, Told}
 use Rattle.smi_law.specs.Safe.{Forwards}
 use Rattle.smi_law.specs.Trace.{mode_at, orders_of, InWork}
 use Rattle.smi_law.specs.World.{noted}
@@ -36,11 +39,13 @@ pub data ChildKind (h : Hierarchy) (d : ℕ) (c : Command) (x : ℕ) (l : Link) 
   stays : (code : ℕ) → ChildKind h d c x l m (Stays code)
   takes : (s : ℕ) → ChildKind h d c x l m (Relinked (Taking s))
   drops : (e : ℕ) → ChildKind h d c x l m (Relinked (Dropping e))
-  hands : (e n : ℕ) (p : List Command) → l ≡ Held e n p → Forwards h d c x → is_commanded m ≡ true → ChildKind h d c x l m (Relinked (Held e (n + 1) (p ++ c ∷ [])))
+  hands : (e n : ℕ) (p : List Command) → l ≡ Held e n p → Forwards h d c x → is_commanded m ≡ true
+      → ChildKind h d c x l m (Relinked (Held e (n + 1) (p ++ c ∷ [])))
   comes : (new : Mode) → is_held l ≡ true → ChildKind h d c x l m (ComesInto new)
 
 module _ (h : Hierarchy) (d x : ℕ) (l : Link) (m : Mode) where
-  issued : (c : Command) → Forwards h d c x → is_commanded m ≡ true → (res : Result Link ℕ) → command_issued l c ≡ res → ChildKind h d c x l m (relinked_or 7 res)
+  issued : (c : Command) → Forwards h d c x → is_commanded m ≡ true → (res : Result Link ℕ)
+      → command_issued l c ≡ res → ChildKind h d c x l m (relinked_or 7 res)
   issued c on may (Ok new) is =
       let b = command_issues l c new is in
       subst (λ z. ChildKind h d c x l m (Relinked z)) (sym b.becomes) (hands b.epoch b.number b.pending b.was on may)
@@ -53,17 +58,20 @@ module _ (h : Hierarchy) (d x : ℕ) (l : Link) (m : Mode) where
   ]
 
   begun : (c : Command) (res : Result Link ℕ) → take_begun l ≡ res → ChildKind h d c x l m (relinked_or 0 res)
-  begun c (Ok new) is = let b = take_begins l new is in subst (λ z. ChildKind h d c x l m (Relinked z)) (sym b.2) (takes b.0)
+  begun c (Ok new) is = let b = take_begins l new is in
+      subst (λ z. ChildKind h d c x l m (Relinked z)) (sym b.2) (takes b.0)
   begun c (Err why) is = stays 0
 
   let_go : (c : Command) (res : Result Link ℕ) → drop_begun l ≡ res → ChildKind h d c x l m (relinked_or 4 res)
-  let_go c (Ok new) is = let b = drop_begins l new is in subst (λ z. ChildKind h d c x l m (Relinked z)) (sym b.3) (drops b.0)
+  let_go c (Ok new) is = let b = drop_begins l new is in
+      subst (λ z. ChildKind h d c x l m (Relinked z)) (sym b.3) (drops b.0)
   let_go c (Err why) is = stays 4
 
   moded : (c : Command) (new : Mode) → is_held l ≡ true → ChildKind h d c x l m (comes_into new m)
   moded c new held = elim (either (same_mode new m)) [ inl t ↦ rw t (stays 3) | inr f ↦ rw f (comes new held) ]
 
-  passed : (t : ℕ) (c : Command) → (is_below h t x ≡ true → Forwards h d c x) → ChildKind h d c x l m (aimed_at c l m) → ChildKind h d c x l m (targeted h t c x l m)
+  passed : (t : ℕ) (c : Command) → (is_below h t x ≡ true → Forwards h d c x)
+      → ChildKind h d c x l m (aimed_at c l m) → ChildKind h d c x l m (targeted h t c x l m)
   passed t c on aimed = elim (either (t == x)) [
     | inl i ↦ rw i aimed
     | inr o ↦ rw o (elim (either (is_below h t x)) [ inl b ↦ rw b (handed_kind 6 c (on b)) | inr f ↦ rw f (stays 0) ])
@@ -76,8 +84,10 @@ module _ (h : Hierarchy) (d x : ℕ) (l : Link) (m : Mode) where
     | inr f ↦ rw f (begun (Include t) (take_begun l) refl)
   ])
   child_kind (Exclude t) = passed t (Exclude t) (λ b. b) (let_go (Exclude t) (drop_begun l) refl)
-  child_kind (Manual t) = passed t (Manual t) (λ b. b) (elim (either (is_held l)) [ inl i ↦ rw i (moded (Manual t) mode.Manual i) | inr f ↦ rw f (stays 4) ])
-  child_kind (Ignore t) = passed t (Ignore t) (λ b. b) (elim (either (is_held l)) [ inl i ↦ rw i (moded (Ignore t) mode.Ignored i) | inr f ↦ rw f (stays 4) ])
+  child_kind (Manual t) = passed t (Manual t) (λ b. b)
+      (elim (either (is_held l)) [ inl i ↦ rw i (moded (Manual t) mode.Manual i) | inr f ↦ rw f (stays 4) ])
+  child_kind (Ignore t) = passed t (Ignore t) (λ b. b)
+      (elim (either (is_held l)) [ inl i ↦ rw i (moded (Ignore t) mode.Ignored i) | inr f ↦ rw f (stays 4) ])
 
 -- the mode that the trace says after the change
 abbrev pub mode_by : ChildChange → Mode → Mode
@@ -89,13 +99,18 @@ mode_by (ComesInto new) m = new
 pub record Kid (h : Hierarchy) (d : ℕ) (c : Command) (x : ℕ) (l : Link) (m : Mode) (change : ChildChange) : Type 0 where
   pub alone : (e n : ℕ) (k : Command) (more : List Command) → link_after change l ≡ Held e n (k ∷ more) → more ≡ []
   pub command : (e n : ℕ) (k : Command) (more : List Command) → link_after change l ≡ Held e n (k ∷ more) → k ≡ c
-  pub forwards : (e n : ℕ) (k : Command) (more : List Command) → link_after change l ≡ Held e n (k ∷ more) → Forwards h d c x
-  pub commanded : (e n : ℕ) (k : Command) (more : List Command) → link_after change l ≡ Held e n (k ∷ more) → is_commanded (mode_after change m) ≡ true
-  pub was_held : (e n : ℕ) (p : List Command) → link_after change l ≡ Held e n p → (i : ℕ) × (q : List Command) × (l ≡ Held e i q)
+  pub forwards : (e n : ℕ) (k : Command) (more : List Command) → link_after change l ≡ Held e n (k ∷ more)
+      → Forwards h d c x
+  pub commanded : (e n : ℕ) (k : Command) (more : List Command) → link_after change l ≡ Held e n (k ∷ more)
+      → is_commanded (mode_after change m) ≡ true
+  pub was_held : (e n : ℕ) (p : List Command) → link_after change l ≡ Held e n p
+      → (i : ℕ) × (q : List Command) × (l ≡ Held e i q)
   pub mode_ : (e n : ℕ) (p : List Command) → link_after change l ≡ Held e n p → mode_by change m ≡ mode_after change m
-  pub included : (is_held l ≡ false → m ≡ mode.Included) → is_held (link_after change l) ≡ false → mode_after change m ≡ mode.Included
+  pub included : (is_held l ≡ false → m ≡ mode.Included) → is_held (link_after change l) ≡ false
+      → mode_after change m ≡ mode.Included
 
-not_unsettled : (l : Link) (e n : ℕ) (k : Command) (more : List Command) → is_unsettled l ≡ false → l ≡ Held e n (k ∷ more) → ⊥
+not_unsettled : (l : Link) (e n : ℕ) (k : Command) (more : List Command) → is_unsettled l ≡ false
+    → l ≡ Held e n (k ∷ more) → ⊥
 not_unsettled l e n k more settled is = let i : true ≡ false = ap is_unsettled (sym is) ∙ settled in cc
 
 none_pending : (l : Link) (e n : ℕ) (p : List Command) → is_unsettled l ≡ false → l ≡ Held e n p → p ≡ []
@@ -106,7 +121,8 @@ not_held : (l : Link) (b : Bool) → is_held l ≡ true → is_held l ≡ false 
 not_held l b t f = let i : true ≡ false = sym t ∙ f in cc
 
 module _ (h : Hierarchy) (d : ℕ) (c : Command) (x : ℕ) (l : Link) (m : Mode) (settled : is_unsettled l ≡ false) where
-  handed_kid : (e n : ℕ) (p : List Command) → l ≡ Held e n p → p ≡ [] → Forwards h d c x → is_commanded m ≡ true → Kid h d c x l m (Relinked (Held e (n + 1) (p ++ c ∷ [])))
+  handed_kid : (e n : ℕ) (p : List Command) → l ≡ Held e n p → p ≡ [] → Forwards h d c x → is_commanded m ≡ true
+      → Kid h d c x l m (Relinked (Held e (n + 1) (p ++ c ∷ [])))
   handed_kid e n p is none on may = record {
     alone = λ f i k more j. let a = pending f i k more j in cc;
     command = λ f i k more j. let a = pending f i k more j in cc;
@@ -117,7 +133,8 @@ module _ (h : Hierarchy) (d : ℕ) (c : Command) (x : ℕ) (l : Link) (m : Mode)
     included = λ was j. absurd cc;
   }
     where
-      pending : (f i : ℕ) (k : Command) (more : List Command) → Held e (n + 1) (p ++ c ∷ []) ≡ Held f i (k ∷ more) → c ∷ [] ≡ k ∷ more
+      pending : (f i : ℕ) (k : Command) (more : List Command) → Held e (n + 1) (p ++ c ∷ []) ≡ Held f i (k ∷ more)
+          → c ∷ [] ≡ k ∷ more
       pending f i k more j = let a : p ++ c ∷ [] ≡ k ∷ more = cc in sym (ap (λ z. z ++ c ∷ []) none) ∙ a
 
   pub kid : (change : ChildChange) → ChildKind h d c x l m change → Kid h d c x l m change
@@ -164,10 +181,12 @@ module _ (h : Hierarchy) (d : ℕ) (c : Command) (x : ℕ) (l : Link) (m : Mode)
 pub parent_is : (h : Hierarchy) (x d : ℕ) → parent_of h x ≡ Some d → is_parent h x d ≡ true
 parent_is h x d is = ap (λ o. is_number o d) is ∙ number_self d
 
-pub link_child : (h : Hierarchy) (g : Grants) (d : ℕ) (c : Command) (x : ℕ) → parent_of h x ≡ Some d → links_after h g d c (Domain d) x ≡ link_after (change_of h g d c x) (g.links (Domain d) x)
+pub link_child : (h : Hierarchy) (g : Grants) (d : ℕ) (c : Command) (x : ℕ) → parent_of h x ≡ Some d
+    → links_after h g d c (Domain d) x ≡ link_after (change_of h g d c x) (g.links (Domain d) x)
 link_child h g d c x is = rw (parent_is h x d is) (rw (same_self (Domain d)) refl)
 
-pub mode_child : (h : Hierarchy) (g : Grants) (d : ℕ) (c : Command) (x : ℕ) → parent_of h x ≡ Some d → modes_after h g d c x ≡ mode_after (change_of h g d c x) (g.modes x)
+pub mode_child : (h : Hierarchy) (g : Grants) (d : ℕ) (c : Command) (x : ℕ) → parent_of h x ≡ Some d
+    → modes_after h g d c x ≡ mode_after (change_of h g d c x) (g.modes x)
 mode_child h g d c x is = rw (parent_is h x d is) refl
 
 -- What the trace says of the children.
@@ -210,7 +229,8 @@ mode_mild x (ComesInto m) = (tt, tt)
 
 at_mild : (h : Hierarchy) (g : Grants) (d : ℕ) (c : Command) (t : ℕ) → AllMild (entries_at h g d c t)
 at_mild h g d c t = elim (either (is_parent h t d)) [
-  | inl i ↦ rw i (mild_both (let_go_of d t (change_of h g d c t)) (mode_changed t (change_of h g d c t)) (let_go_mild d t (change_of h g d c t)) (mode_mild t (change_of h g d c t)))
+  | inl i ↦ rw i (mild_both (let_go_of d t (change_of h g d c t)) (mode_changed t (change_of h g d c t))
+      (let_go_mild d t (change_of h g d c t)) (mode_mild t (change_of h g d c t)))
   | inr f ↦ rw f tt
 ]
 
@@ -221,7 +241,8 @@ child_mild h g d (Exclude t) = at_mild h g d (Exclude t) t
 child_mild h g d (Manual t) = at_mild h g d (Manual t) t
 child_mild h g d (Ignore t) = at_mild h g d (Ignore t) t
 
-pub work_mild : (p e n : ℕ) (c : Command) (new past : List Entry) → AllMild new → InWork p e n c past → InWork p e n c (noted new past)
+pub work_mild : (p e n : ℕ) (c : Command) (new past : List Entry) → AllMild new → InWork p e n c past
+    → InWork p e n c (noted new past)
 unfolding InWork
 work_mild p e n c [] past mild i = i
 work_mild p e n c (LetGo who x f ∷ new) past mild i = work_mild p e n c new (LetGo who x f ∷ past) mild.1 i
@@ -237,7 +258,8 @@ work_mild p e n c (Showed s v ∷ new) past mild i = absurd mild.0
 work_mild p e n c (Passed v ∷ new) past mild i = absurd mild.0
 work_mild p e n c (Told o t ∷ new) past mild i = absurd mild.0
 
-pub orders_mild : (o d e n : ℕ) (new past : List Entry) → AllMild new → orders_of o d e n (noted new past) ≡ orders_of o d e n past
+pub orders_mild : (o d e n : ℕ) (new past : List Entry) → AllMild new
+    → orders_of o d e n (noted new past) ≡ orders_of o d e n past
 unfolding orders_of
 orders_mild o d e n [] past mild = refl
 orders_mild o d e n (LetGo who x f ∷ new) past mild = orders_mild o d e n new (LetGo who x f ∷ past) mild.1
@@ -255,18 +277,21 @@ orders_mild o d e n (Told b t ∷ new) past mild = absurd mild.0
 
 -- The modes of children after a command.
 
-mode_let_go : (p x e : ℕ) (who : Holder) (y f : ℕ) (past : List Entry) → mode_at (Domain p) x e (LetGo who y f ∷ past) ≡ mode_at (Domain p) x e past
+mode_let_go : (p x e : ℕ) (who : Holder) (y f : ℕ) (past : List Entry)
+    → mode_at (Domain p) x e (LetGo who y f ∷ past) ≡ mode_at (Domain p) x e past
 unfolding mode_at
 mode_let_go p x e who y f past = refl
 
--- behind the entries of one child's change
+-- after the entries of one child's change
 mode_behind : (p x e t : ℕ) (change : ChildChange) (past : List Entry)
-    → mode_at (Domain p) x e (noted (let_go_of p t change ++ mode_changed t change) past) ≡ (if t == x then mode_by change (mode_at (Domain p) x e past) else mode_at (Domain p) x e past)
+    → mode_at (Domain p) x e (noted (let_go_of p t change ++ mode_changed t change) past)
+    ≡ (if t == x then mode_by change (mode_at (Domain p) x e past) else mode_at (Domain p) x e past)
 mode_behind p x e t (Stays code) past = elim (either (t == x)) [ inl i ↦ rw i refl | inr f ↦ rw f refl ]
 mode_behind p x e t (Relinked (Out k)) past = elim (either (t == x)) [ inl i ↦ rw i refl | inr f ↦ rw f refl ]
 mode_behind p x e t (Relinked (Taking s)) past = elim (either (t == x)) [ inl i ↦ rw i refl | inr f ↦ rw f refl ]
 mode_behind p x e t (Relinked (Held f n q)) past = elim (either (t == x)) [ inl i ↦ rw i refl | inr o ↦ rw o refl ]
-mode_behind p x e t (Relinked (Dropping f)) past = mode_let_go p x e (Domain p) t f past ∙ elim (either (t == x)) [ inl i ↦ rw i refl | inr o ↦ rw o refl ]
+mode_behind p x e t (Relinked (Dropping f)) past =
+    mode_let_go p x e (Domain p) t f past ∙ elim (either (t == x)) [ inl i ↦ rw i refl | inr o ↦ rw o refl ]
 mode_behind p x e t (ComesInto m) past = mode_in p x e t m past
 
 -- a change by which no mode changes
@@ -285,33 +310,50 @@ relinked_not code (Ok new) = refl
 relinked_not code (Err why) = refl
 
 handed_not : (code : ℕ) (c : Command) (l : Link) (m : Mode) → is_moded (handed_on code c l m) ≡ false
-handed_not code c l m = elim (either (is_held l && is_commanded m)) [ inl t ↦ rw t (relinked_not 7 (command_issued l c)) | inr f ↦ rw f refl ]
+handed_not code c l m = elim (either (is_held l && is_commanded m))
+    [ inl t ↦ rw t (relinked_not 7 (command_issued l c)) | inr f ↦ rw f refl ]
 
 -- a command with a target changes the mode of the target alone
 module _ (h : Hierarchy) (g : Grants) (d x e : ℕ) (past : List Entry) (child : parent_of h x ≡ Some d) where
   at_target : (t : ℕ) (c : Command) → change_of h g d c x ≡ targeted h t c x (g.links (Domain d) x) (g.modes x)
-      → mode_at (Domain d) x e (noted (entries_at h g d c t) past) ≡ mode_by (change_of h g d c x) (mode_at (Domain d) x e past)
+      → mode_at (Domain d) x e (noted (entries_at h g d c t) past)
+      ≡ mode_by (change_of h g d c x) (mode_at (Domain d) x e past)
   at_target t c is = elim (either (t == x)) [
     | inl i ↦
         let same : t ≡ x = eqb-true t x i in
         rw (ap (λ z. is_parent h z d) same ∙ parent_is h x d child)
-        (mode_behind d x e t (change_of h g d c t) past ∙ ap (λ b. if b then mode_by (change_of h g d c t) (mode_at (Domain d) x e past) else mode_at (Domain d) x e past) i ∙ ap (λ z. mode_by (change_of h g d c z) (mode_at (Domain d) x e past)) same)
+        (mode_behind d x e t (change_of h g d c t) past
+        ∙ ap (λ b. if b then mode_by (change_of h g d c t) (mode_at (Domain d) x e past)
+        else mode_at (Domain d) x e past) i ∙ ap (λ z. mode_by (change_of h g d c z) (mode_at (Domain d) x e past))
+        same)
     | inr o ↦
-        another (is_parent h t d) o ∙ sym (mode_by_same (change_of h g d c x) (mode_at (Domain d) x e past) (ap is_moded is ∙ not_aimed o))
+        another (is_parent h t d) o
+        ∙ sym (mode_by_same (change_of h g d c x) (mode_at (Domain d) x e past) (ap is_moded is ∙ not_aimed o))
   ]
     where
-      another : (b : Bool) → (t == x) ≡ false → mode_at (Domain d) x e (noted (if b then let_go_of d t (change_of h g d c t) ++ mode_changed t (change_of h g d c t) else []) past) ≡ mode_at (Domain d) x e past
-      another true o = mode_behind d x e t (change_of h g d c t) past ∙ ap (λ b. if b then mode_by (change_of h g d c t) (mode_at (Domain d) x e past) else mode_at (Domain d) x e past) o
+      another : (b : Bool) → (t == x) ≡ false → mode_at (Domain d) x e
+          (noted (if b then let_go_of d t (change_of h g d c t) ++ mode_changed t (change_of h g d c t) else []) past)
+          ≡ mode_at (Domain d) x e past
+      another true o = mode_behind d x e t (change_of h g d c t) past
+          ∙ ap (λ b. if b then mode_by (change_of h g d c t) (mode_at (Domain d) x e past)
+          else mode_at (Domain d) x e past) o
       another false o = refl
 
       not_aimed : (t == x) ≡ false → is_moded (targeted h t c x (g.links (Domain d) x) (g.modes x)) ≡ false
-      not_aimed o = rw o (elim (either (is_below h t x)) [ inl b ↦ rw b (handed_not 6 c (g.links (Domain d) x) (g.modes x)) | inr f ↦ rw f refl ])
+      not_aimed o =
+          rw o (elim (either (is_below h t x)) [
+            | inl b ↦
+                rw b (handed_not 6 c (g.links (Domain d) x) (g.modes x))
+            | inr f ↦ rw f refl
+          ])
 
-  pub child_modes : (c : Command) → mode_at (Domain d) x e (noted (child_entries h g d c) past) ≡ mode_by (change_of h g d c x) (mode_at (Domain d) x e past)
-  child_modes (Do a) = sym (mode_by_same (change_of h g d (Do a) x) (mode_at (Domain d) x e past) (elim (either (accepts h d a)) [
-    | inl t ↦ rw t (handed_not 0 (Do a) (g.links (Domain d) x) (g.modes x))
-    | inr f ↦ rw f refl
-  ]))
+  pub child_modes : (c : Command) → mode_at (Domain d) x e (noted (child_entries h g d c) past)
+      ≡ mode_by (change_of h g d c x) (mode_at (Domain d) x e past)
+  child_modes (Do a) =
+      sym (mode_by_same (change_of h g d (Do a) x) (mode_at (Domain d) x e past) (elim (either (accepts h d a)) [
+        | inl t ↦ rw t (handed_not 0 (Do a) (g.links (Domain d) x) (g.modes x))
+        | inr f ↦ rw f refl
+      ]))
   child_modes (Include t) = at_target t (Include t) refl
   child_modes (Exclude t) = at_target t (Exclude t) refl
   child_modes (Manual t) = at_target t (Manual t) refl
@@ -340,7 +382,8 @@ module _ (h : Hierarchy) (g : Grants) (d p : ℕ) (r : Standing) (o : p ≡ d �
 
   entries_aside : (c : Command) (t : ℕ) → AllAside h p r (entries_at h g d c t)
   entries_aside c t = elim (either (is_parent h t d)) [
-    | inl i ↦ rw i (aside_both h p r (let_go_of d t (change_of h g d c t)) (mode_changed t (change_of h g d c t)) (let_go_aside t (change_of h g d c t)) (mode_aside t (change_of h g d c t) (parent_one t i)))
+    | inl i ↦ rw i (aside_both h p r (let_go_of d t (change_of h g d c t)) (mode_changed t (change_of h g d c t))
+        (let_go_aside t (change_of h g d c t)) (mode_aside t (change_of h g d c t) (parent_one t i)))
     | inr f ↦ rw f tt
   ]
 

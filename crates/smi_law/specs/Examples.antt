@@ -2,7 +2,8 @@
 use Rattle.std.specs.Prelude.{ℕ, ◌≡◌, ◌+◌, List, [], ◌∷◌, ◌++◌, length, map}
 use Rattle.smi_tree.specs.Hierarchy.{Hierarchy}
 use Rattle.smi_protocol.specs.declared.Entry.{Entry}
-use Rattle.smi_protocol.specs.Played.{Act, Deliver, OrderAt, ReportAt, Tick, Restart, StopAfter, Line as ExampleLine, Sending, sending_of}
+use Rattle.smi_protocol.specs.Played.{Act, Deliver, OrderAt, ReportAt, Tick, Restart, StopAfter, Line as ExampleLine}
+use Rattle.smi_protocol.specs.Played.{Sending, sending_of}
 use Rattle.smi_law.specs.Schedule.{trace_of, opening_lines}
 use Rattle.smi_item.specs.declared.item.Deed.TheVariants as deed
 use Rattle.smi_item.specs.declared.item.Moment.TheVariants as moment

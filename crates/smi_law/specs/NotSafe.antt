@@ -6,7 +6,8 @@ use Rattle.smi_grant.specs.declared.Holder.TheVariants.{Operator, Domain}
 use Rattle.smi_grant.specs.declared.Shown.{Shown}
 use Rattle.smi_rows.specs.declared.Mode.TheVariants.{Manual}
 use Rattle.smi_protocol.specs.declared.Entry.{Entry}
-use Rattle.smi_protocol.specs.declared.Entry.TheVariants.{Booted, Granted, Freed, Ordered, Ran, Learned, InMode, Showed, Passed}
+use Rattle.smi_protocol.specs.declared.Entry.TheVariants.{Booted, Granted, Freed, Ordered, Ran, Learned, InMode}
+use Rattle.smi_protocol.specs.declared.Entry.TheVariants.{Showed, Passed}
 use Rattle.smi_protocol.specs.examples.WorkedTree.{worked_tree}
 use Rattle.smi_law.specs.Safe.{Safe}
 use Rattle.smi_law.specs.World.{noted}
@@ -51,7 +52,8 @@ abbrev pub run_not_ordered : List Entry
 run_not_ordered = Granted 1 1 ann ∷ Learned ann 1 1 ∷ Ran 1 1 1 (Do 1) ∷ []
 
 abbrev pub ordered_twice : List Entry
-ordered_twice = Granted 1 1 ann ∷ Learned ann 1 1 ∷ Ordered 1 1 1 1 (Do 1) ∷ Ordered 1 1 1 1 (Do 2) ∷ Ran 1 1 1 (Do 1) ∷ []
+ordered_twice = Granted 1 1 ann ∷ Learned ann 1 1 ∷ Ordered 1 1 1 1 (Do 1) ∷ Ordered 1 1 1 1 (Do 2)
+    ∷ Ran 1 1 1 (Do 1) ∷ []
 
 abbrev pub through_a_manual_child : List Entry
 through_a_manual_child =

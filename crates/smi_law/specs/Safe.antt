@@ -18,7 +18,8 @@ use Rattle.smi_law.specs.Trace.{Stands, epoch_at, holder_at, Holds, mode_at, ord
 -- an operator commands what the operator holds, and what a domain holds that the operator commands
 pub data Commands (h : Hierarchy) (past : List Entry) (o : ℕ) : ℕ → Type 0 where
   directly : {d : ℕ} → Holds (Operator o) d past → Commands h past o d
-  through : {d : ℕ} (p : ℕ) → parent_of h d ≡ Some p → Holds (Domain p) d past → Commands h past o p → Commands h past o d
+  through : {d : ℕ} (p : ℕ) → parent_of h d ≡ Some p → Holds (Domain p) d past → Commands h past o p
+      → Commands h past o d
 
 -- at most one operator commands a domain
 abbrev pub OneCommander : Hierarchy → List Entry → Type 0
@@ -36,8 +37,10 @@ MayHold h d (Domain p) = parent_of h d ≡ Some p
 -- a holder learns of its grant once, while it is current, and lets go of what it holds
 abbrev pub GrantFits : Hierarchy → Entry → List Entry → Type 0
 GrantFits h (Granted d e who) past = (e ≡ epoch_at d past + 1) × (e % 2 ≡ 1) × MayHold h d who
-GrantFits h (Freed d e) past = (e ≡ epoch_at d past + 1) × (e % 2 ≡ 0) × Stands (LetGo (holder_at d past) d (epoch_at d past)) past
-GrantFits h (Learned who d e) past = (e ≡ epoch_at d past) × Stands (Granted d e who) past × (Stands (Learned who d e) past → ⊥)
+GrantFits h (Freed d e) past = (e ≡ epoch_at d past + 1) × (e % 2 ≡ 0)
+    × Stands (LetGo (holder_at d past) d (epoch_at d past)) past
+GrantFits h (Learned who d e) past = (e ≡ epoch_at d past) × Stands (Granted d e who) past
+    × (Stands (Learned who d e) past → ⊥)
 GrantFits h (LetGo who d e) past = (e ≡ epoch_at d past) × Holds who d past
 GrantFits h _ past = Unit {0}
 
@@ -62,9 +65,11 @@ IsGrantNow d e who past = (e ≡ epoch_at d past) × (holder_at d past ≡ who) 
 
 -- a command rests on current grants all the way up to the operator who ordered it, once and no other
 pub data Backed (h : Hierarchy) (past : List Entry) : ℕ → ℕ → ℕ → Command → Type 0 where
-  by_operator : {d e n : ℕ} {c : Command} (o : ℕ) → IsGrantNow d e (Operator o) past → orders_of o d e n past ≡ c ∷ [] → Backed h past d e n c
+  by_operator : {d e n : ℕ} {c : Command} (o : ℕ) → IsGrantNow d e (Operator o) past
+      → orders_of o d e n past ≡ c ∷ [] → Backed h past d e n c
   by_parent : {d e n : ℕ} {c : Command} (p f m : ℕ) → IsGrantNow d e (Domain p) past → parent_of h d ≡ Some p
-      → is_commanded (mode_at (Domain p) d e past) ≡ true → InWork p f m c past → Forwards h p c d → Backed h past p f m c → Backed h past d e n c
+      → is_commanded (mode_at (Domain p) d e past) ≡ true → InWork p f m c past → Forwards h p c d
+      → Backed h past p f m c → Backed h past d e n c
 
 -- each run is backed at the moment of its entry
 abbrev pub SoundRuns : Hierarchy → List Entry → Type 0
@@ -91,21 +96,25 @@ IsNotOlder a b = IsNewer a b ⊎ (a ≡ b)
 
 -- what was shown to a station of an object before is not newer
 abbrev pub NotOlderThanShown : ℕ → ℕ → Version → List Entry → Type 0
-NotOlderThanShown s x v past = (u : Version) (q : ℕ) → Stands (Showed s (record { object = x; version = u; state = q })) past → IsNotOlder v u
+NotOlderThanShown s x v past = (u : Version) (q : ℕ)
+    → Stands (Showed s (record { object = x; version = u; state = q })) past → IsNotOlder v u
 
 -- what was shown to it since its last start is older
 abbrev pub NewerThanShown : ℕ → ℕ → Version → List Entry → Type 0
 NewerThanShown s x v [] = Unit {0}
 NewerThanShown s x v (Booted station b ∷ past) = (station ≡ s) ⊎ NewerThanShown s x v past
-NewerThanShown s x v (Showed station shown ∷ past) = (station ≡ s → shown.object ≡ x → IsNewer v shown.version) × NewerThanShown s x v past
+NewerThanShown s x v (Showed station shown ∷ past) =
+    (station ≡ s → shown.object ≡ x → IsNewer v shown.version) × NewerThanShown s x v past
 NewerThanShown s x v (other ∷ past) = NewerThanShown s x v past
 
 -- versions of an object rise; what a station is shown was passed through, and never goes back, not even over a
 -- start; since a start it rises
 abbrev pub StateFits : Entry → List Entry → Type 0
-StateFits (Passed shown) past = (u : Version) (q : ℕ) → Stands (Passed (record { object = shown.object; version = u; state = q })) past → IsNewer shown.version u
+StateFits (Passed shown) past = (u : Version) (q : ℕ)
+    → Stands (Passed (record { object = shown.object; version = u; state = q })) past → IsNewer shown.version u
 StateFits (Showed s shown) past =
-    Stands (Passed shown) past × NotOlderThanShown s shown.object shown.version past × NewerThanShown s shown.object shown.version past
+    Stands (Passed shown) past × NotOlderThanShown s shown.object shown.version past
+    × NewerThanShown s shown.object shown.version past
 StateFits _ past = Unit {0}
 
 abbrev pub ShownWell : List Entry → Type 0

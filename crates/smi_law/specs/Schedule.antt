@@ -1,5 +1,6 @@
 -- What a schedule makes of the world, item by item, and the trace that it leaves.
-use Rattle.std.specs.Prelude.{ℕ, ◌+◌, ◌-◌, ◌==◌, ◌&&◌, not, Bool, true, false, if◌then◌else◌, List, [], ◌∷◌, ◌++◌, length, map, slice_get, Option, Some, None, option_map, is_some}
+use Rattle.std.specs.Prelude.{ℕ, ◌+◌, ◌-◌, ◌==◌, ◌&&◌, not, Bool, true, false, if◌then◌else◌, List, [], ◌∷◌, ◌++◌}
+use Rattle.std.specs.Prelude.{length, map, slice_get, Option, Some, None, option_map, is_some}
 use Rattle.std.specs.List.{flat_map, range_with_len}
 use Rattle.smi_message.specs.Message.{Message, is_between, last_boot}
 use Rattle.smi_tree.specs.Hierarchy.{Hierarchy}
@@ -105,12 +106,13 @@ abbrev pub is_at : World → ℕ → Option Arrival → Bool
 is_at w number None = false
 is_at w number (Some x) = x.station == number && not (w.stations number).is_stopped
 
--- a station stops behind its save, and starts again
+-- a station stops after its save, and starts again
 abbrev pub stopped_behind : Hierarchy → World → ℕ → Option Arrival → Turn
 stopped_behind h w number None = restarted h w number [] (w.stations number)
 stopped_behind h w number (Some x) =
     if is_at w number (Some x)
-    then restarted h w number (after h number (w.stations number) x.what).kept (saved_only h number (w.stations number) x.what)
+    then restarted h w number (after h number (w.stations number) x.what).kept
+    (saved_only h number (w.stations number) x.what)
     else restarted h w number [] (w.stations number)
 
 -- an order whose row was not saved is answered 31
@@ -120,7 +122,7 @@ not_stored (Comes m) = []
 not_stored (Reports device s) = []
 not_stored Ticks = []
 
--- a save fails: the row is as it was, or nobody knows, and the station stops
+-- a save fails: the row is unchanged, or nobody knows, and the station stops
 abbrev pub failed : Hierarchy → World → ℕ → Happening → Plan → Turn
 failed h w number what plan.Device = changed w number (w.stations number) (not_stored what) []
 failed h w number what plan.Before = changed w number (record (w.stations number) { is_stopped = true }) [] []
@@ -132,7 +134,8 @@ abbrev pub failing : Hierarchy → World → ℕ → Option Arrival → Plan →
 failing h w number None how = nothing w
 failing h w number (Some x) how =
     if is_at w number (Some x)
-    then (if is_some (after h number (w.stations number) x.what).saved then failed h w number x.what how else done_by h w (Some x))
+    then (if is_some (after h number (w.stations number) x.what).saved then failed h w number x.what how
+    else done_by h w (Some x))
     else nothing w
 
 abbrev pub turn : Hierarchy → World → Item → Turn
@@ -154,7 +157,8 @@ lines_of w t = map line.Entry t.entries ++ sent_lines (length w.sent + 1) t.send
 
 -- all stations start, by number
 abbrev pub opening_of : Hierarchy → List Entry
-opening_of h = flat_map (λ number. opening_entries h number (first_opened h number)) (range_with_len 1 (station_count h))
+opening_of h = flat_map (λ number. opening_entries h number (first_opened h number))
+    (range_with_len 1 (station_count h))
 
 abbrev pub opening_lines : Hierarchy → List Line
 opening_lines h = map line.Entry (opening_of h)

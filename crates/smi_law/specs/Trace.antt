@@ -1,4 +1,4 @@
--- What is read off a trace. A trace has its newest entry first; what it says holds at the moment behind that entry.
+-- What is read off a trace. A trace has its newest entry first; what it says holds at the moment after that entry.
 use Rattle.std.specs.Prelude.{ℕ, ◌≡◌, ◌+◌, ◌==◌, ◌&&◌, ◌⊎◌, Bool, true, false, if◌then◌else◌, List, [], ◌∷◌}
 use Rattle.smi_grant.specs.declared.Command.{Command}
 use Rattle.smi_grant.specs.declared.Holder.{Holder}
@@ -7,7 +7,8 @@ use Rattle.smi_grant.specs.Holder.{same_holder}
 use Rattle.smi_rows.specs.declared.Mode.{Mode}
 use Rattle.smi_rows.specs.declared.Mode.TheVariants.{Included}
 use Rattle.smi_protocol.specs.declared.Entry.{Entry}
-use Rattle.smi_protocol.specs.declared.Entry.TheVariants.{Booted, Granted, Freed, Ordered, Ran, Learned, LetGo, InMode, Settled}
+use Rattle.smi_protocol.specs.declared.Entry.TheVariants.{Booted, Granted, Freed, Ordered, Ran, Learned, LetGo}
+use Rattle.smi_protocol.specs.declared.Entry.TheVariants.{InMode, Settled}
 
 -- the entry stands in the trace
 abbrev pub Stands : Entry → List Entry → Type 0

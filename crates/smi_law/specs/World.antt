@@ -41,14 +41,16 @@ pub data Step (h : Hierarchy) (w : World) : List Entry → World → Type 0 wher
       (with_station w number (after h number (w.stations number) what).station)
   -- the stable change of that alone happens, and the station has stopped
   stops : (number : ℕ) (what : Happening) → (w.stations number).is_stopped ≡ false → MayCome w what
-      → Step h w (after h number (w.stations number) what).kept (with_station w number (saved_only h number (w.stations number) what))
+      → Step h w (after h number (w.stations number) what).kept
+      (with_station w number (saved_only h number (w.stations number) what))
   -- an operator is told something, and nothing else happens
   tells : (o : ℕ) (what : Told) → Step h w (entry.Told o what ∷ []) w
   -- a station stops, and nothing else happens
   halts : (number : ℕ) → Step h w [] (with_station w number (record (w.stations number) { is_stopped = true }))
   -- a station starts again, while boots are left
   starts : (number : ℕ) → (w.stations number).grants.boot ≢ last_boot
-      → Step h w (opening_entries h number (opened h number (w.stations number).grants)) (with_station w number (opened h number (w.stations number).grants))
+      → Step h w (opening_entries h number (opened h number (w.stations number).grants))
+      (with_station w number (opened h number (w.stations number).grants))
 
 -- a trace with these entries after it, one after the other
 abbrev pub noted : List Entry → List Entry → List Entry
@@ -58,7 +60,8 @@ noted (x ∷ new) past = noted new (x ∷ past)
 -- a run from the opening, with its trace, the newest entry first
 pub data Reaches (h : Hierarchy) : List Entry → World → Type 0 where
   opens : Reaches h (noted (opening_of h) []) (first_world h)
-  goes_on : {past new : List Entry} {w next : World} → Reaches h past w → Step h w new next → Reaches h (noted new past) next
+  goes_on : {past new : List Entry} {w next : World} → Reaches h past w → Step h w new next
+      → Reaches h (noted new past) next
 
 -- the entries of a trace, the newest first
 abbrev pub past_of : List Line → List Entry

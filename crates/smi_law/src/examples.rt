@@ -9,7 +9,7 @@ ghost use Rattle.smi_law.specs.Examples.{Makes, MakesItems, shown_of};
 ghost use Rattle.smi_law.specs.Failing as failing;
 ghost use Rattle.smi_law.specs.Schedule.{trace_of};
 
-/// The keeper stops behind the save of a grant, and answers the take when it comes again.
+/// The keeper stops after the save of a grant, and answers the take when it comes again.
 pub fn saved_but_not_told()
     ensures { Makes worked_tree grants.saved_but_not_told }
 {}
@@ -56,7 +56,7 @@ pub fn repeated_run()
     ensures { Makes worked_tree commands.repeated_run }
 {}
 
-/// The keeper stops behind the save of a run, and the run is over.
+/// The keeper stops after the save of a run, and the run is over.
 #[tactic(auto, unfolding(smi_tree::specs::Hierarchy::ancestors))]
 pub fn stopped_after_run()
     ensures { Makes worked_tree commands.stopped_after_run }

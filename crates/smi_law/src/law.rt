@@ -2,7 +2,7 @@
 //! started again, as laws: each function does nothing. A world is reached by any list of steps
 //! (specs/World.antt): any datagram that was ever sent may come at any time and any number of times,
 //! any operator may order anything, any device may be reported in any state, any station may stop
-//! before or behind a save, and start again.
+//! before or after a save, and start again.
 
 ghost use Rattle.std.specs.Prelude.{◌≡◌, ◌⊎◌, ℕ, List, [], ◌∷◌, Some, true, false};
 ghost use Rattle.smi_grant.specs.declared.Command.{Command};
@@ -28,7 +28,8 @@ ghost use Rattle.smi_protocol.specs.Opening.{first_display};
 ghost use Rattle.smi_protocol.specs.Tidy.{IsTidy};
 ghost use Rattle.smi_item.specs.declared.item.Item.{Item};
 ghost use Rattle.smi_law.specs.Known.{record_in, link_in};
-ghost use Rattle.smi_law.specs.Safe.{Forwards, NotOlderThanShown, RunsInOrder, Safe, SafeGrants, ShownWell, SoundRuns};
+ghost use Rattle.smi_law.specs.Safe.{Forwards, NotOlderThanShown, RunsInOrder, Safe, SafeGrants, ShownWell};
+ghost use Rattle.smi_law.specs.Safe.{SoundRuns};
 ghost use Rattle.smi_law.specs.Schedule.{World, turn, trace_of};
 ghost use Rattle.smi_law.specs.Trace.{InWork, before_start, mode_at};
 ghost use Rattle.smi_law.specs.World.{Reaches, Among, MayCome, noted, past_of};
@@ -37,12 +38,16 @@ ghost use Rattle.smi_law.specs.World.{Reaches, Among, MayCome, noted, past_of};
 /// held is that of the record's holder, at its epoch; the numbers of pending commands are in step with
 /// the record; and every `RUN` that was ever sent is spent or still pending on its link.
 pub fn links_know_their_records()
-    ensures lawful { (h : Hierarchy) (past : List Entry) (w : World) (d : ℕ) → Reaches h past w → IsRecord (record_in h w d) }
-    ensures known { (h : Hierarchy) (past : List Entry) (w : World) (d : ℕ) (me : Holder) → is_free me ≡ false → Reaches h past w →
+    ensures lawful { (h : Hierarchy) (past : List Entry) (w : World) (d : ℕ) → Reaches h past w
+        → IsRecord (record_in h w d) }
+    ensures known { (h : Hierarchy) (past : List Entry) (w : World) (d : ℕ) (me : Holder) → is_free me ≡ false
+        → Reaches h past w →
         KnownGrant (record_in h w d) me (link_in h w me d) }
-    ensures in_step { (h : Hierarchy) (past : List Entry) (w : World) (d : ℕ) (me : Holder) (e n : ℕ) (p : List Command) → Reaches h past w →
+    ensures in_step { (h : Hierarchy) (past : List Entry) (w : World) (d : ℕ) (me : Holder) (e n : ℕ)
+        (p : List Command) → Reaches h past w →
         link_in h w me d ≡ Held e n p → InStep (record_in h w d) n p }
-    ensures sent { (h : Hierarchy) (past : List Entry) (w : World) (d : ℕ) (me : Holder) (m : Message) (e n : ℕ) (c : Command) → Reaches h past w →
+    ensures sent { (h : Hierarchy) (past : List Entry) (w : World) (d : ℕ) (me : Holder) (m : Message) (e n : ℕ)
+        (c : Command) → Reaches h past w →
         Among m w.sent → m.body ≡ Run d me e n c → IsSpent (record_in h w d) e n ⊎ Waits (link_in h w me d) e n c }
 {}
 
@@ -59,10 +64,15 @@ pub fn grants_are_safe()
 /// which is at work in the domain, which is busy; and the domain hands it on to this child, whose mode allows
 /// it.
 pub fn commands_are_handed_on()
-    ensures at_work { (h : Hierarchy) (past : List Entry) (w : World) (d : ℕ) (me : Holder) → Reaches h past w → is_settled (record_in h w d).phase ≡ false → (record_in h w d).holder ≡ me →
-        (c : Command) × InWork d (record_in h w d).epoch (record_in h w d).last c past × Waits (link_in h w me d) (record_in h w d).epoch (record_in h w d).last c }
-    ensures handed_on { (h : Hierarchy) (past : List Entry) (w : World) (d p e n : ℕ) (c : Command) (more : List Command) → Reaches h past w → link_in h w (Domain p) d ≡ Held e n (c ∷ more) →
-        (parent_of h d ≡ Some p) × (more ≡ []) × (is_settled (record_in h w p).phase ≡ false) × InWork p (record_in h w p).epoch (record_in h w p).last c past × Forwards h p c d × (is_commanded (mode_at (Domain p) d e past) ≡ true) }
+    ensures at_work { (h : Hierarchy) (past : List Entry) (w : World) (d : ℕ) (me : Holder) → Reaches h past w
+        → is_settled (record_in h w d).phase ≡ false → (record_in h w d).holder ≡ me →
+        (c : Command) × InWork d (record_in h w d).epoch (record_in h w d).last c past
+        × Waits (link_in h w me d) (record_in h w d).epoch (record_in h w d).last c }
+    ensures handed_on { (h : Hierarchy) (past : List Entry) (w : World) (d p e n : ℕ) (c : Command)
+        (more : List Command) → Reaches h past w → link_in h w (Domain p) d ≡ Held e n (c ∷ more) →
+        (parent_of h d ≡ Some p) × (more ≡ []) × (is_settled (record_in h w p).phase ≡ false)
+        × InWork p (record_in h w p).epoch (record_in h w p).last c past × Forwards h p c d
+        × (is_commanded (mode_at (Domain p) d e past) ≡ true) }
 {}
 
 /// In every trace of a tree the runs of each domain rise by epoch and number, and those of one grant are 1, 2
@@ -81,8 +91,10 @@ pub fn runs_are_safe()
 /// echo is not older than what the station was shown of that object before this boot.
 pub fn states_are_safe()
     ensures shown { (h : Hierarchy) (past : List Entry) (w : World) → IsTree h → Reaches h past w → ShownWell past }
-    ensures echo { (h : Hierarchy) (past : List Entry) (w : World) (m : Message) (x : ℕ) (v : Version) (s : ℕ) → IsTree h → Reaches h past w →
-        Among m w.sent → m.body ≡ State x (w.stations m.to).grants.boot v s → NotOlderThanShown m.to x v (before_start m.to past) }
+    ensures echo { (h : Hierarchy) (past : List Entry) (w : World) (m : Message) (x : ℕ) (v : Version) (s : ℕ)
+        → IsTree h → Reaches h past w →
+        Among m w.sent → m.body ≡ State x (w.stations m.to).grants.boot v s
+        → NotOlderThanShown m.to x v (before_start m.to past) }
 {}
 
 /// Whatever comes to a station of a tree whose lists of watchers are tidy (`IsTidy` of `smi_protocol`), each datagram
@@ -90,19 +102,24 @@ pub fn states_are_safe()
 /// so whatever comes.
 pub fn what_is_sent_may_be_sent()
     ensures starts { (h : Hierarchy) (number : ℕ) → IsTidy h (first_display h number) }
-    ensures stays { (h : Hierarchy) (number : ℕ) (s : Station) (what : Happening) → IsTidy h s.display → IsTidy h (after h number s what).station.display }
-    ensures may_send { (h : Hierarchy) (number : ℕ) (s : Station) (what : Happening) (m : Message) → IsTree h → IsTidy h s.display →
+    ensures stays { (h : Hierarchy) (number : ℕ) (s : Station) (what : Happening) → IsTidy h s.display
+        → IsTidy h (after h number s what).station.display }
+    ensures may_send { (h : Hierarchy) (number : ℕ) (s : Station) (what : Happening) (m : Message) → IsTree h
+        → IsTidy h s.display →
         Among m (after h number s what).out.datagrams → MaySend h number (after h number s what).station m }
 {}
 
 /// In every world of a tree that can be reached: each datagram that a station sends in a step is one that it
 /// may send when the step is done; and whatever an item of a schedule makes of the world is reached too, with
-/// the entries that it leaves: a step with its datagrams, a restart, a stop before or behind the save, a save
+/// the entries that it leaves: a step with its datagrams, a restart, a stop before or after the save, a save
 /// that fails.
 pub fn turns_are_runs()
-    ensures may_send { (h : Hierarchy) (past : List Entry) (w : World) (number : ℕ) (what : Happening) (m : Message) → IsTree h → Reaches h past w → MayCome w what →
-        Among m (after h number (w.stations number) what).out.datagrams → MaySend h number (after h number (w.stations number) what).station m }
-    ensures reached { (h : Hierarchy) (past : List Entry) (w : World) (x : Item) → IsTree h → Reaches h past w → Reaches h (noted (turn h w x).entries past) (turn h w x).world }
+    ensures may_send { (h : Hierarchy) (past : List Entry) (w : World) (number : ℕ) (what : Happening) (m : Message)
+        → IsTree h → Reaches h past w → MayCome w what →
+        Among m (after h number (w.stations number) what).out.datagrams
+        → MaySend h number (after h number (w.stations number) what).station m }
+    ensures reached { (h : Hierarchy) (past : List Entry) (w : World) (x : Item) → IsTree h → Reaches h past w
+        → Reaches h (noted (turn h w x).entries past) (turn h w x).world }
 {}
 
 /// Every trace of a tree is safe at every moment, whatever may happen in its world: at most one operator

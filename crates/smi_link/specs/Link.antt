@@ -28,6 +28,7 @@ CountsSend (Ok u) old new = new ≡ old
 CountsSend (Err e) old new = new ≡ old + 1
 
 -- what was handed on grows by just what is taken
-abbrev pub Sends : {E : Type 0} → Option (List (ℕ × List ℕ)) → Option (List (ℕ × List ℕ)) → ℕ → List ℕ → Result (Unit {0}) E → Type 0
+abbrev pub Sends : {E : Type 0} → Option (List (ℕ × List ℕ)) → Option (List (ℕ × List ℕ)) → ℕ → List ℕ
+    → Result (Unit {0}) E → Type 0
 Sends old new station datagram (Ok u) = Grows old new (station, datagram)
 Sends old new station datagram (Err e) = new ≡ old

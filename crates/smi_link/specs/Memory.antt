@@ -1,5 +1,6 @@
 -- A link in memory: what it is to give, what it gave, and what was sent.
-use Rattle.std.specs.Prelude.{ℕ, ◌≡◌, ◌+◌, ◌-◌, ◌==◌, ◌++◌, ◌∷◌, [], List, take, map, length, slice_get, Option, Some, None, option_and_then, if◌then◌else◌, Bool, false, Result, MatchResult}
+use Rattle.std.specs.Prelude.{ℕ, ◌≡◌, ◌+◌, ◌-◌, ◌==◌, ◌++◌, ◌∷◌, [], List, take, map, length, slice_get, Option, Some}
+use Rattle.std.specs.Prelude.{None, option_and_then, if◌then◌else◌, Bool, false, Result, MatchResult}
 use Rattle.std.specs.Option.{option_map_or}
 use Rattle.smi_link.specs.declared.link.Reception.{Reception}
 use Rattle.smi_link.specs.declared.link.Reception.TheVariants as is
@@ -55,7 +56,8 @@ failing_after m sends = record m { fails_after = Some sends }
 -- a datagram is sent: one to the own station comes
 abbrev pub with_sent : Memory → ℕ → List ℕ → Memory
 with_sent m station datagram =
-    record (if station == m.station then with_datagram m datagram else m) { sent = m.sent ++ record { station = station; bytes = datagram } ∷ [] }
+    record (if station == m.station then with_datagram m datagram
+    else m) { sent = m.sent ++ record { station = station; bytes = datagram } ∷ [] }
 
 -- the link has failed once more
 abbrev pub failed : Memory → Memory
@@ -81,7 +83,8 @@ is_planned m = option_map_or (λ more. more == 0) m.fails_after false
 
 -- one send fewer until the planned one
 abbrev pub one_send_on : Memory → Memory
-one_send_on m = record m { fails_after = option_and_then (λ more. if more == 0 then None else Some (more - 1)) m.fails_after }
+one_send_on m =
+    record m { fails_after = option_and_then (λ more. if more == 0 then None else Some (more - 1)) m.fails_after }
 
 -- a send is kept, or the link has failed
 abbrev pub Takes : {E : Type 0} → Memory → Memory → ℕ → List ℕ → Result (Unit {0}) E → Type 0

@@ -34,7 +34,7 @@ impl Frame {
         Frame { bytes, count }
     }
 
-    /// Puts the bytes into the front of a buffer; how many they are.
+    /// Puts the bytes into the beginning of a buffer; how many they are.
     pub(crate) fn give(&self, buffer: &mut [u8; 45]) -> usize
         ensures bytes { take result buffer.new ≡ self.now }
         ensures count { result ≡ length self.now }

@@ -3,6 +3,8 @@
 ghost use Rattle.std.specs.Prelude.{ℕ, List, Option, ◌≡◌};
 ghost use Rattle.smi_link.specs.Link.{Receives, Sends, CountsReception, CountsSend};
 
+use thiserror::Error;
+
 /// How many bytes a datagram has (docs/FORMATS.md, "Datagrams").
 pub const DATAGRAM_BYTES: usize = 44;
 
@@ -22,7 +24,8 @@ pub enum Reception {
 }
 
 /// A datagram could not be sent.
-#[derive(Clone, Copy, Debug, PartialEq, Eq)]
+#[derive(Clone, Copy, Debug, PartialEq, Eq, Error)]
+#[error("the datagram could not be sent")]
 pub struct LinkFault;
 
 /// A way to other stations, which may lose, repeat and reorder datagrams but never cuts or joins them.
@@ -38,7 +41,7 @@ pub trait DatagramLink {
 
     ghost failures: { Self → ℕ };
 
-    /// The next datagram, in the front of the buffer.
+    /// The next datagram, in the beginning of the buffer.
     ///
     /// After `Nothing` and `Fault` the rest of the buffer says nothing, and no datagram was taken.
     fn receive(&mut self, buffer: &mut [u8; 45]) -> Reception

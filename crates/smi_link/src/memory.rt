@@ -8,7 +8,7 @@ use std::marker::Model;
 ///
 /// It gives what was put into it, in that order, and at the end `Nothing`. What is sent to its own
 /// station comes back to it. It loses nothing but what [`MemoryLink::put_fault`],
-/// [`MemoryLink::fail_send`] or a refused growth make it lose.
+/// [`MemoryLink::fail_send`] or a refused allocation make it lose.
 #[derive(Drop)]
 pub struct MemoryLink {
     station: u16,
@@ -55,7 +55,7 @@ impl MemoryLink {
         }
     }
 
-    /// A datagram comes, behind all that is to come already; of one over 44 bytes the first 45 are
+    /// A datagram comes, after all that is to come already; of one over 44 bytes the first 45 are
     /// received.
     pub fn put(&mut self, datagram: &[u8]) -> Result<(), AllocError>
         ensures ok { OnOk result (self.new ≡ with_datagram self.old datagram.now) }
@@ -159,7 +159,7 @@ impl MemoryLink {
         self.coming.get(self.place)
     }
 
-    /// What is sent is kept, and what is sent to the link's own station comes. Both growths are made
+    /// What is sent is kept, and what is sent to the link's own station comes. Both allocations are made
     /// first.
     fn hand_on(&mut self, station: u16, datagram: &[u8; 44]) -> Result<(), AllocError>
         ensures ok { OnOk result (self.new ≡ with_sent self.old station datagram.now) }

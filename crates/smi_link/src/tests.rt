@@ -10,7 +10,10 @@ use std::test::Fail;
 
 /// Sends the next datagram on to a station, where one has come whole; whether it did.
 fn pass_on<L: DatagramLink>(link: &mut L, station: u16) -> bool
-    ensures { IsTrue result → IfSome (L.received link.old) (λ came. IfSome (L.handed link.old) (λ went. (datagram : List ℕ) × (L.received link.new ≡ Some (came ++ datagram ∷ [])) × (L.handed link.new ≡ Some (went ++ (station, datagram) ∷ [])))) }
+    ensures { IsTrue result → IfSome (L.received link.old)
+        (λ came. IfSome (L.handed link.old) (λ went. (datagram : List ℕ)
+        × (L.received link.new ≡ Some (came ++ datagram ∷ []))
+        × (L.handed link.new ≡ Some (went ++ (station, datagram) ∷ [])))) }
 {
     let mut buffer = [0u8; 45];
     if link.receive(&mut buffer) != Reception::Received(44) {

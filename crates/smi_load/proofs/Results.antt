@@ -6,7 +6,8 @@ use Rattle.smi_load.specs.Migrating.{only_told}
 use Rattle.smi_load.specs.Restoring.{Comes, and_then}
 
 -- a fault stays what it is when more was to follow
-pub passed_on : {X Y : Type 0} (f : X → Result Y OpenFault) (fault : OpenFault) (r : Result X OpenFault) → Comes {X = X} (Err fault) r → Comes {X = Y} (Err fault) (and_then f r)
+pub passed_on : {X Y : Type 0} (f : X → Result Y OpenFault) (fault : OpenFault) (r : Result X OpenFault)
+    → Comes {X = X} (Err fault) r → Comes {X = Y} (Err fault) (and_then f r)
 passed_on f NoSuchStation r is = ap (and_then f) is
 passed_on f (Row k code) r is = ap (and_then f) is
 passed_on f BootsSpent r is = ap (and_then f) is
@@ -22,6 +23,7 @@ comes_so (Err (Store fault)) s is = is
 comes_so (Err Memory) s is = tt
 
 -- what follows whatever was told
-pub whatever_told : {X Y : Type 0} (y : Result Y OpenFault) (r : Result X OpenFault) → and_then (λ u. y) (only_told r) ≡ and_then (λ x. y) r
+pub whatever_told : {X Y : Type 0} (y : Result Y OpenFault) (r : Result X OpenFault)
+    → and_then (λ u. y) (only_told r) ≡ and_then (λ x. y) r
 whatever_told y (Ok x) = refl
 whatever_told y (Err fault) = refl

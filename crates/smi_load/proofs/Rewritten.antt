@@ -1,5 +1,6 @@
 -- What is written anew reads as before.
-use Rattle.std.proofs.Common.{ℕ, ◌≡◌, ◌≤◌, Bool, true, false, List, [], ◌∷◌, length, Some, None, Ok, refl, sym, ap, ◌∙◌, subst, arith}
+use Rattle.std.proofs.Common.{ℕ, ◌≡◌, ◌≤◌, Bool, true, false, List, [], ◌∷◌, length, Some, None, Ok, refl, sym, ap}
+use Rattle.std.proofs.Common.{◌∙◌, subst, arith}
 use Rattle.std.specs.Prelude.{◌==◌, ◌&&◌, nat_le, if◌then◌else◌}
 use Rattle.std.proofs.lemmas.Bool.{and_from, and_parts, leb-true}
 use Rattle.std.proofs.lemmas.Bool.Decides.{nat_tests}
@@ -20,7 +21,9 @@ use Rattle.smi_rows.specs.declared.Schema.{Schema}
 use Rattle.smi_rows.specs.declared.StoredLink.{StoredLink}
 use Rattle.smi_rows.specs.Key.{kind_of}
 use Rattle.smi_rows.specs.Layout.{HasFewLinks, row_bytes}
-use Rattle.smi_rows.specs.Ranges.{are_links_in, are_pending_in, count_not_out, each_command_in, each_link_in, is_between, is_command_in, is_grant_epoch, is_grant_in, is_held, is_link_in, is_mode_in, is_row_of, is_standing, is_work_in, rises_above}
+use Rattle.smi_rows.specs.Ranges.{are_links_in, are_pending_in, count_not_out, each_command_in, each_link_in}
+use Rattle.smi_rows.specs.Ranges.{is_between, is_command_in, is_grant_epoch, is_grant_in, is_held, is_link_in}
+use Rattle.smi_rows.specs.Ranges.{is_mode_in, is_row_of, is_standing, is_work_in, rises_above}
 use Rattle.smi_rows.specs.Reading.{row_of}
 use Rattle.smi_rows.specs.Schema.{has_modes, last_verb, most_pending_in, newest, schema_of}
 use Rattle.smi_rows.specs.Written.{IsRow, IsWrittenIn}
@@ -48,7 +51,8 @@ module _ (s t : Schema) (says : SaysMore s t) where
   commands_more (c ∷ p) all =
       let a = and_parts (is_command_in s c) (each_command_in s p) all in
       let b = and_parts (is_in_range c) (nat_le (verb_of c) (last_verb s)) a.0 in
-      and_from _ _ (and_from _ _ b.0 (at_most (verb_of c) (last_verb s) (last_verb t) b.1 says.verbs)) (commands_more p a.1)
+      and_from _ _ (and_from _ _ b.0 (at_most (verb_of c) (last_verb s) (last_verb t) b.1 says.verbs))
+      (commands_more p a.1)
 
   grant_more : (l : Link) → is_grant_in s l ≡ true → is_grant_in t l ≡ true
   grant_more (Out k) range = range
@@ -58,7 +62,10 @@ module _ (s t : Schema) (says : SaysMore s t) where
       let b = and_parts (nat_le n last_number) (are_pending_in s n p) a.1 in
       let c = and_parts (nat_le (length p) n) (nat_le (length p) (most_pending_in s) && each_command_in s p) b.1 in
       let d = and_parts (nat_le (length p) (most_pending_in s)) (each_command_in s p) c.1 in
-      and_from _ _ a.0 (and_from _ _ b.0 (and_from _ _ c.0 (and_from _ _ (at_most (length p) (most_pending_in s) (most_pending_in t) d.0 says.pending) (commands_more p d.1))))
+      and_from _ _ a.0
+      (and_from _ _ b.0
+      (and_from _ _ c.0 (and_from _ _ (at_most (length p) (most_pending_in s) (most_pending_in t) d.0 says.pending)
+      (commands_more p d.1))))
   grant_more (Dropping e) range = range
 
   mode_more : (l : Link) (m : Mode) → is_mode_in s l m ≡ true → is_mode_in t l m ≡ true
@@ -72,7 +79,8 @@ module _ (s t : Schema) (says : SaysMore s t) where
       let a = and_parts (is_link_in s x) (each_link_in s links) all in
       let b = and_parts (is_between 1 128 x.domain) (is_grant_in s x.link && is_mode_in s x.link x.mode) a.0 in
       let c = and_parts (is_grant_in s x.link) (is_mode_in s x.link x.mode) b.1 in
-      and_from _ _ (and_from _ _ b.0 (and_from _ _ (grant_more x.link c.0) (mode_more x.link x.mode c.1))) (links_more links a.1)
+      and_from _ _ (and_from _ _ b.0 (and_from _ _ (grant_more x.link c.0) (mode_more x.link x.mode c.1)))
+      (links_more links a.1)
 
   row_more : (a : RowKind) (r : Row) → is_row_of a s r ≡ true → is_row_of a t r ≡ true
   row_more kind.Boot (row.Boot boot) range = range
@@ -104,7 +112,8 @@ there_is kind.Operator = refl
 schema_small : (k : RowKind) (n : ℕ) (s : Schema) → schema_of k n ≡ Some s → n ≤ newest k
 schema_small k n s is = by (nat_le 1 n && nat_le n (newest k)) refl is
   where
-    by : (b : Bool) → (nat_le 1 n && nat_le n (newest k)) ≡ b → (if b then Some (record { kind = k; number = n }) else None) ≡ Some s → n ≤ newest k
+    by : (b : Bool) → (nat_le 1 n && nat_le n (newest k)) ≡ b
+        → (if b then Some (record { kind = k; number = n }) else None) ≡ Some s → n ≤ newest k
     by true t i = leb-true n (newest k) (and_parts (nat_le 1 n) _ t).1
     by false t i = absurd cc
 
@@ -123,7 +132,11 @@ newest_says kind.Domain n small =
     verbs : (b : Bool) → (if b then 3 else 5) ≤ 5
     verbs true = omega arith
     verbs false = omega arith
-newest_says kind.Operator n small = record { pending = pending (n == 3); verbs = verbs (n == 1); modes = λ t. clash (sym t) }
+newest_says kind.Operator n small = record {
+  pending = pending (n == 3);
+  verbs = verbs (n == 1);
+  modes = λ t. clash (sym t);
+}
   where
     verbs : (b : Bool) → (if b then 3 else 5) ≤ 5
     verbs true = omega arith
@@ -172,7 +185,8 @@ module _ (h : Hierarchy) (k : Key) (b : List ℕ) (r : Row) (is : IsRow h k b r)
         kind = key_about;
         schema = there_is (about r);
         range = subst (λ a. is_row_of a (newest_of a) r ≡ true) of_kind
-            (row_more is.0.0 (newest_of is.0.0.kind) (newest_says is.0.0.kind is.0.0.number (schema_small is.0.0.kind is.0.0.number is.0.0 written.schema)) is.0.0.kind r written.range);
+            (row_more is.0.0 (newest_of is.0.0.kind) (newest_says is.0.0.kind is.0.0.number
+            (schema_small is.0.0.kind is.0.0.number is.0.0 written.schema)) is.0.0.kind r written.range);
         bytes = refl;
       },
     ),
@@ -185,7 +199,9 @@ module _ (h : Hierarchy) (k : Key) (b : List ℕ) (r : Row) (is : IsRow h k b r)
 
   -- a row in the newest schema is written so
   pub newest_stays : (schema_in b == newest (about r)) ≡ true → b ≡ newest_bytes r
-  newest_stays new = written.bytes ∙ ap (λ n. row_bytes n r) (sym (schema_first is.0.0.number r) ∙ ap schema_in (sym written.bytes) ∙ number_is (schema_in b) (newest (about r)) new)
+  newest_stays new = written.bytes ∙ ap (λ n. row_bytes n r)
+      (sym (schema_first is.0.0.number r) ∙ ap schema_in (sym written.bytes)
+      ∙ number_is (schema_in b) (newest (about r)) new)
     where
       number_is : (m n : ℕ) → (m == n) ≡ true → m ≡ n
       number_is m n t = grind (arith, nat_tests)

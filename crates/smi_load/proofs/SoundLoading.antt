@@ -1,6 +1,8 @@
 -- What rows mean is sound: it can be told and saved.
-use Rattle.std.proofs.Common.{ℕ, ◌≡◌, ◌≤◌, ◌<◌, ◌+◌, inl, inr, Bool, true, false, List, [], ◌∷◌, length, Option, Some, None, Result, Ok, Err, refl, sym, ap, ◌∙◌, subst, arith}
-use Rattle.std.specs.Prelude.{◌==◌, ◌&&◌, ◌||◌, ◌%◌, nat_le, nat_lt, not, if◌then◌else◌, count_by, find, option_and_then, unwrap_or}
+use Rattle.std.proofs.Common.{ℕ, ◌≡◌, ◌≤◌, ◌<◌, ◌+◌, inl, inr, Bool, true, false, List, [], ◌∷◌, length, Option, Some}
+use Rattle.std.proofs.Common.{None, Result, Ok, Err, refl, sym, ap, ◌∙◌, subst, arith}
+use Rattle.std.specs.Prelude.{◌==◌, ◌&&◌, ◌||◌, ◌%◌, nat_le, nat_lt, not, if◌then◌else◌, count_by, find}
+use Rattle.std.specs.Prelude.{option_and_then, unwrap_or}
 use Rattle.std.specs.List.{AllByRecursion, list_all, list_any, range_with_len}
 use Rattle.std.proofs.lemmas.Bool.{and_from, and_parts, eqb-true, leb-true}
 use Rattle.std.proofs.lemmas.Bool.Decides.{nat_tests}
@@ -24,15 +26,20 @@ use Rattle.smi_rows.specs.declared.RowKind.{RowKind}
 use Rattle.smi_rows.specs.declared.RowKind.TheVariants as kind
 use Rattle.smi_rows.specs.declared.Schema.{Schema}
 use Rattle.smi_rows.specs.declared.StoredLink.{StoredLink}
-use Rattle.smi_rows.specs.Known.{are_child_links, are_commands_of, are_tree_links, has_domain, has_operator, is_child_link, is_command_of, is_holder_of, is_parent, is_tree_link}
-use Rattle.smi_rows.specs.Ranges.{are_links_in, are_pending_in, count_not_out, each_command_in, each_link_in, is_command_in, is_domain_in, is_grant_in, is_held, is_link_in, is_mode_in, is_operator_in, is_row_of, is_standing, is_work_in, is_between, rises_above, some_unsettled}
+use Rattle.smi_rows.specs.Known.{are_child_links, are_commands_of, are_tree_links, has_domain, has_operator}
+use Rattle.smi_rows.specs.Known.{is_child_link, is_command_of, is_holder_of, is_parent, is_tree_link}
+use Rattle.smi_rows.specs.Ranges.{are_links_in, are_pending_in, count_not_out, each_command_in, each_link_in}
+use Rattle.smi_rows.specs.Ranges.{is_command_in, is_domain_in, is_grant_in, is_held, is_link_in, is_mode_in}
+use Rattle.smi_rows.specs.Ranges.{is_operator_in, is_row_of, is_standing, is_work_in, is_between, rises_above}
+use Rattle.smi_rows.specs.Ranges.{some_unsettled}
 use Rattle.smi_rows.specs.Reading.{kept_domain, row_of}
 use Rattle.smi_rows.specs.Schema.{has_modes, most_pending_in, newest, schema_of}
 use Rattle.smi_rows.specs.Store.{Rows}
 use Rattle.smi_rows.specs.Stored.{KeptDomain, is_out, is_unsettled, stored}
 use Rattle.smi_rows.specs.Written.{IsRow, IsWrittenIn}
 use Rattle.smi_rows.proofs.Laws.{read_is_row}
-use Rattle.smi_protocol.specs.Loading.{domain_in, domain_of, grants_in, links_of, mode_under, operator_in, read, said, stored_at}
+use Rattle.smi_protocol.specs.Loading.{domain_in, domain_of, grants_in, links_of, mode_under, operator_in, read, said}
+use Rattle.smi_protocol.specs.Loading.{stored_at}
 use Rattle.smi_protocol.specs.Refusals.{most_links}
 use Rattle.smi_protocol.specs.SavedRows.{key}
 use Rattle.smi_protocol.specs.Sound.{In, IsCommand, IsGrantEpoch, IsLink, IsSound, most_handed_on}
@@ -50,16 +57,19 @@ module _ {X : Type 0} (p : X → Bool) (P : X → Type 0) (each : (x : X) → p 
   all_of [] all = tt
   all_of (x ∷ xs) all = let a = and_parts (p x) (list_all p xs) all in (each x a.0, all_of xs a.1)
 
-both_all : {X : Type 0} (P Q : X → Type 0) (R : X → Type 0) → ((x : X) → P x → Q x → R x) → (xs : List X) → AllByRecursion P xs → AllByRecursion Q xs → AllByRecursion R xs
+both_all : {X : Type 0} (P Q : X → Type 0) (R : X → Type 0) → ((x : X) → P x → Q x → R x) → (xs : List X)
+    → AllByRecursion P xs → AllByRecursion Q xs → AllByRecursion R xs
 both_all P Q R both [] p q = tt
 both_all P Q R both (x ∷ xs) p q = (both x p.0 q.0, both_all P Q R both xs p.1 q.1)
 
 -- the link to a domain is a stored one, or a new one
-at_stored : (P : StoredLink → Type 0) (x : ℕ) → P (stored x (Out 0) Included) → (links : List StoredLink) → AllByRecursion P links → P (stored_at links x)
+at_stored : (P : StoredLink → Type 0) (x : ℕ) → P (stored x (Out 0) Included) → (links : List StoredLink)
+    → AllByRecursion P links → P (stored_at links x)
 at_stored P x new [] all = new
 at_stored P x new (y ∷ links) all = by (y.domain == x) (at_stored P x new links all.1)
   where
-    by : (b : Bool) → P (stored_at links x) → P (unwrap_or (if b then Some y else find (λ (z : StoredLink). z.domain == x) links) (stored x (Out 0) Included))
+    by : (b : Bool) → P (stored_at links x) → P
+        (unwrap_or (if b then Some y else find (λ (z : StoredLink). z.domain == x) links) (stored x (Out 0) Included))
     by true rest = all.0
     by false rest = rest
 
@@ -67,7 +77,8 @@ none_any : {X : Type 0} (p : X → Bool) (xs : List X) → list_any p xs ≡ fal
 none_any p [] none = tt
 none_any p (x ∷ xs) none = by (p x) refl none (λ n. none_any p xs n)
   where
-    by : (b : Bool) → p x ≡ b → (b || list_any p xs) ≡ false → (list_any p xs ≡ false → AllByRecursion (λ x. p x ≡ false) xs) → AllByRecursion (λ x. p x ≡ false) (x ∷ xs)
+    by : (b : Bool) → p x ≡ b → (b || list_any p xs) ≡ false
+        → (list_any p xs ≡ false → AllByRecursion (λ x. p x ≡ false) xs) → AllByRecursion (λ x. p x ≡ false) (x ∷ xs)
     by true is n rest = clash n
     by false is n rest = (is, rest n)
 
@@ -80,7 +91,8 @@ some_any : {X : Type 0} (p : X → Bool) (xs : List X) → list_any p xs ≡ tru
 some_any p [] some = clash (sym some)
 some_any {X = X} p (x ∷ xs) some = by (p x) refl some (λ s. some_any p xs s)
   where
-    by : (b : Bool) → p x ≡ b → (b || list_any p xs) ≡ true → (list_any p xs ≡ true → (y : X) × In y xs × (p y ≡ true)) → (y : X) × In y (x ∷ xs) × (p y ≡ true)
+    by : (b : Bool) → p x ≡ b → (b || list_any p xs) ≡ true
+        → (list_any p xs ≡ true → (y : X) × In y xs × (p y ≡ true)) → (y : X) × In y (x ∷ xs) × (p y ≡ true)
     by true is s rest = (x, inl refl, is)
     by false is s rest = let found = rest s in (found.0, inr found.1, found.2)
 
@@ -98,8 +110,9 @@ in_all P x [] a all = absurd a
 in_all P x (y ∷ xs) (inl same) all = subst P (sym same) all.0
 in_all P x (y ∷ xs) (inr a) all = in_all P x xs a all.1
 
--- links behind a rising one are to later domains
-later : (low : ℕ) (y : StoredLink) (links : List StoredLink) → rises_above low links ≡ true → In y links → low < y.domain
+-- links after a rising one are to later domains
+later : (low : ℕ) (y : StoredLink) (links : List StoredLink) → rises_above low links ≡ true → In y links
+    → low < y.domain
 later low y [] rises a = absurd a
 later low y (x ∷ links) rises (inl same) =
     let r = and_parts (nat_lt low x.domain) _ rises in
@@ -112,10 +125,12 @@ later low y (x ∷ links) rises (inr a) =
     omega (arith, less, rest)
 
 -- where they rise, each is the link to its domain
-stored_once : (low : ℕ) (y : StoredLink) (links : List StoredLink) → rises_above low links ≡ true → In y links → stored_at links y.domain ≡ y
+stored_once : (low : ℕ) (y : StoredLink) (links : List StoredLink) → rises_above low links ≡ true → In y links
+    → stored_at links y.domain ≡ y
 stored_once low y [] rises a = absurd a
 stored_once low y (x ∷ links) rises (inl same) =
-    let here : (x.domain == y.domain) ≡ true = ap (λ (z : StoredLink). z.domain == y.domain) (sym same) ∙ itself y.domain in
+    let here : (x.domain == y.domain) ≡ true = ap (λ (z : StoredLink). z.domain == y.domain) (sym same)
+    ∙ itself y.domain in
     rw here (sym same)
   where
     itself : (n : ℕ) → (n == n) ≡ true
@@ -131,14 +146,16 @@ stored_once low y (x ∷ links) rises (inr a) =
 grant_epoch : (e : ℕ) → (nat_le e last_epoch && e % 2 == 1) ≡ true → IsGrantEpoch e
 grant_epoch e t = let a = and_parts (nat_le e last_epoch) _ t in (leb-true e last_epoch a.0, eqb-true (e % 2) 1 a.1)
 
-commands_sound : (h : Hierarchy) (s : Schema) (p : List Command) → each_command_in s p ≡ true → list_all (is_command_of h) p ≡ true → AllByRecursion (IsCommand h) p
+commands_sound : (h : Hierarchy) (s : Schema) (p : List Command) → each_command_in s p ≡ true
+    → list_all (is_command_of h) p ≡ true → AllByRecursion (IsCommand h) p
 commands_sound h s [] range known = tt
 commands_sound h s (c ∷ p) range known =
     let r = and_parts (is_command_in s c) _ range in
     let k = and_parts (is_command_of h c) _ known in
     (record { range = (and_parts _ _ r.0).0; known = k.0 }, commands_sound h s p r.1 k.1)
 
-link_sound : (h : Hierarchy) (s : Schema) (most : ℕ) → most_pending_in s ≤ most → (l : Link) → is_grant_in s l ≡ true → are_commands_of h l ≡ true → IsLink h most l
+link_sound : (h : Hierarchy) (s : Schema) (most : ℕ) → most_pending_in s ≤ most → (l : Link) → is_grant_in s l ≡ true
+    → are_commands_of h l ≡ true → IsLink h most l
 link_sound h s most few (Out k) range known = leb-true k last_epoch (and_parts (nat_le 1 k) _ range).1
 link_sound h s most few (Taking e) range known = leb-true e last_epoch range
 link_sound h s most few (Held e n p) range known =
@@ -178,11 +195,13 @@ pub record IsKeptDomain (h : Hierarchy) (d : ℕ) (k : KeptDomain) : Type 0 wher
 schema_small : (k : RowKind) (n : ℕ) (s : Schema) → schema_of k n ≡ Some s → n ≤ newest k
 schema_small k n s is = by (nat_le 1 n && nat_le n (newest k)) refl is
   where
-    by : (b : Bool) → (nat_le 1 n && nat_le n (newest k)) ≡ b → (if b then Some (record { kind = k; number = n }) else None) ≡ Some s → n ≤ newest k
+    by : (b : Bool) → (nat_le 1 n && nat_le n (newest k)) ≡ b
+        → (if b then Some (record { kind = k; number = n }) else None) ≡ Some s → n ≤ newest k
     by true t i = leb-true n (newest k) (and_parts (nat_le 1 n) _ t).1
     by false t i = absurd cc
 
-few_in_domains : (s : Schema) → schema_of s.kind s.number ≡ Some s → s.kind ≡ kind.Domain → most_pending_in s ≤ most_handed_on
+few_in_domains : (s : Schema) → schema_of s.kind s.number ≡ Some s → s.kind ≡ kind.Domain
+    → most_pending_in s ≤ most_handed_on
 few_in_domains s is about =
     let small : s.number ≤ 2 = subst (λ k. s.number ≤ newest k) about (schema_small s.kind s.number s is) in
     let older : (s.number == 3) ≡ false = grind (arith, nat_tests) in
@@ -196,7 +215,15 @@ few_in_all s = by (s.number == 3)
     by false = omega arith
 
 fresh_kept : (h : Hierarchy) (d : ℕ) → IsKeptDomain h d (kept_domain fresh 0 [])
-fresh_kept h d = record { standing = refl; holder = refl; work = refl; rises = refl; each = tt; modes = tt; children = tt }
+fresh_kept h d = record {
+  standing = refl;
+  holder = refl;
+  work = refl;
+  rises = refl;
+  each = tt;
+  modes = tt;
+  children = tt;
+}
 
 -- a row is read where it is a row
 pub said_row : (h : Hierarchy) (rows : Rows) (k : Key) (r : Row) → said h rows k ≡ Some r → (b : List ℕ) × IsRow h k b r
@@ -211,7 +238,8 @@ said_row h rows k r is = by (rows k) is
     by (Some b) i = (b, of_read b (row_of h k b) refl i)
 
 module _ (h : Hierarchy) (number : ℕ) (rows : Rows) where
-  pub domain_row_kept : (d : ℕ) (b : List ℕ) (k : KeptDomain) → IsRow h (key number d 0) b (row.Domain k) → IsKeptDomain h d k
+  pub domain_row_kept : (d : ℕ) (b : List ℕ) (k : KeptDomain) → IsRow h (key number d 0) b (row.Domain k)
+      → IsKeptDomain h d k
   domain_row_kept d b k is = by_kind s.kind refl w.range
     where
       s : Schema
@@ -235,21 +263,25 @@ module _ (h : Hierarchy) (number : ℕ) (rows : Rows) where
             work = c.0;
             rises = links.0;
             each =
-                both_all (λ x. is_link_in s x ≡ true) (λ x. is_child_link h d x ≡ true) (λ (x : StoredLink). IsLink h most_handed_on x.link)
+                both_all (λ x. is_link_in s x ≡ true) (λ x. is_child_link h d x ≡ true)
+                (λ (x : StoredLink). IsLink h most_handed_on x.link)
                 (λ x t u.
                 let p = and_parts _ (is_grant_in s x.link && is_mode_in s x.link x.mode) t in
                 let q = and_parts (is_grant_in s x.link) (is_mode_in s x.link x.mode) p.1 in
-                link_sound h s most_handed_on (few_in_domains s w.schema about) x.link q.0 (and_parts (is_parent h x.domain d) _ u).1)
+                link_sound h s most_handed_on (few_in_domains s w.schema about) x.link q.0
+                (and_parts (is_parent h x.domain d) _ u).1)
                 k.links ranges children;
             modes =
-                both_all (λ x. is_link_in s x ≡ true) (λ x. is_link_in s x ≡ true) (λ (x : StoredLink). is_held x.link ≡ false → x.mode ≡ Included)
+                both_all (λ x. is_link_in s x ≡ true) (λ x. is_link_in s x ≡ true)
+                (λ (x : StoredLink). is_held x.link ≡ false → x.mode ≡ Included)
                 (λ x t u.
                 let p = and_parts _ (is_grant_in s x.link && is_mode_in s x.link x.mode) t in
                 let q = and_parts (is_grant_in s x.link) (is_mode_in s x.link x.mode) p.1 in
                 own_mode s x.link x.mode q.1)
                 k.links ranges ranges;
             children =
-                both_all (λ x. is_child_link h d x ≡ true) (λ x. is_child_link h d x ≡ true) (λ (x : StoredLink). is_parent h x.domain d ≡ true)
+                both_all (λ x. is_child_link h d x ≡ true) (λ x. is_child_link h d x ≡ true)
+                (λ (x : StoredLink). is_parent h x.domain d ≡ true)
                 (λ x t u. (and_parts (is_parent h x.domain d) _ t).0) k.links children children;
           }
 
@@ -278,7 +310,8 @@ pub record IsKeptOperator (h : Hierarchy) (links : List StoredLink) : Type 0 whe
   pub each : AllByRecursion (λ (x : StoredLink). IsLink h most_pending x.link) links
 
 module _ (h : Hierarchy) (number : ℕ) (rows : Rows) where
-  pub operator_row_kept : (o : ℕ) (b : List ℕ) (links : List StoredLink) → IsRow h (key number 0 o) b (row.Operator links) → IsKeptOperator h links
+  pub operator_row_kept : (o : ℕ) (b : List ℕ) (links : List StoredLink)
+      → IsRow h (key number 0 o) b (row.Operator links) → IsKeptOperator h links
   operator_row_kept o b links is = by_kind s.kind w.range
     where
       s : Schema
@@ -297,17 +330,21 @@ module _ (h : Hierarchy) (number : ℕ) (rows : Rows) where
           record {
             few = leb-true (count_not_out links) 16 a.1;
             within =
-                both_all (λ x. is_link_in s x ≡ true) (λ x. is_tree_link h x ≡ true) (λ (x : StoredLink). is_between 1 (domain_count h) x.domain ≡ true)
+                both_all (λ x. is_link_in s x ≡ true) (λ x. is_tree_link h x ≡ true)
+                (λ (x : StoredLink). is_between 1 (domain_count h) x.domain ≡ true)
                 (λ x t u.
                 let p = and_parts (is_between 1 128 x.domain) (is_grant_in s x.link && is_mode_in s x.link x.mode) t in
-                and_from _ _ (and_parts (nat_le 1 x.domain) _ p.0).0 (and_parts (nat_le x.domain (domain_count h)) _ u).0)
+                and_from _ _ (and_parts (nat_le 1 x.domain) _ p.0).0
+                (and_parts (nat_le x.domain (domain_count h)) _ u).0)
                 links ranges names;
             each =
-                both_all (λ x. is_link_in s x ≡ true) (λ x. is_tree_link h x ≡ true) (λ (x : StoredLink). IsLink h most_pending x.link)
+                both_all (λ x. is_link_in s x ≡ true) (λ x. is_tree_link h x ≡ true)
+                (λ (x : StoredLink). IsLink h most_pending x.link)
                 (λ x t u.
                 let p = and_parts _ (is_grant_in s x.link && is_mode_in s x.link x.mode) t in
                 let q = and_parts (is_grant_in s x.link) (is_mode_in s x.link x.mode) p.1 in
-                link_sound h s most_pending (few_in_all s) x.link q.0 (and_parts (nat_le x.domain (domain_count h)) _ u).1)
+                link_sound h s most_pending (few_in_all s) x.link q.0
+                (and_parts (nat_le x.domain (domain_count h)) _ u).1)
                 links ranges names;
           }
 
@@ -353,30 +390,39 @@ few_used (y ∷ links) n = by (not (is_out y.link)) refl (few_used links n)
     other : (x : ℕ) → (x ≡ y.domain → ⊥) → in_use (y ∷ links) x ≡ in_use links x
     other x apart = at (y.domain == x) refl
       where
-        at : (b : Bool) → (y.domain == x) ≡ b → not (is_out (unwrap_or (if b then Some y else find (λ (z : StoredLink). z.domain == x) links) (stored x (Out 0) Included)).link) ≡ in_use links x
+        at : (b : Bool) → (y.domain == x) ≡ b → not
+            (is_out (unwrap_or (if b then Some y else find (λ (z : StoredLink). z.domain == x) links)
+            (stored x (Out 0) Included)).link) ≡ in_use links x
         at true is = absurd (apart (sym (eqb-true y.domain x is)))
         at false is = refl
 
     harder : not (is_out y.link) ≡ false → (x : ℕ) → in_use (y ∷ links) x ≡ true → in_use links x ≡ true
     harder out x = at (y.domain == x)
       where
-        at : (b : Bool) → not (is_out (unwrap_or (if b then Some y else find (λ (z : StoredLink). z.domain == x) links) (stored x (Out 0) Included)).link) ≡ true → in_use links x ≡ true
+        at : (b : Bool)
+            → not (is_out (unwrap_or (if b then Some y else find (λ (z : StoredLink). z.domain == x) links)
+            (stored x (Out 0) Included)).link) ≡ true → in_use links x ≡ true
         at true used = clash (sym used ∙ out)
         at false used = used
 
-    by : (b : Bool) → not (is_out y.link) ≡ b → count_by (in_use links) (range_with_len 1 n) ≤ passing links → count_by (in_use (y ∷ links)) (range_with_len 1 n) ≤ (if b then 1 + passing links else passing links)
-    by true is rest = let more = count_one_more (in_use links) (in_use (y ∷ links)) y.domain other 1 n in omega (arith, rest, more)
-    by false is rest = let more = count_harder (in_use links) (in_use (y ∷ links)) (range_with_len 1 n) (harder is) in omega (arith, rest, more)
+    by : (b : Bool) → not (is_out y.link) ≡ b → count_by (in_use links) (range_with_len 1 n) ≤ passing links
+        → count_by (in_use (y ∷ links)) (range_with_len 1 n) ≤ (if b then 1 + passing links else passing links)
+    by true is rest = let more = count_one_more (in_use links) (in_use (y ∷ links)) y.domain other 1 n in
+        omega (arith, rest, more)
+    by false is rest = let more = count_harder (in_use links) (in_use (y ∷ links)) (range_with_len 1 n)
+        (harder is) in omega (arith, rest, more)
 
 -- All that rows mean.
 
-outcome_of : (p : Phase) (gathered : ℕ) (links : List StoredLink) → is_work_in p gathered links ≡ true → is_outcome gathered ≡ true
+outcome_of : (p : Phase) (gathered : ℕ) (links : List StoredLink) → is_work_in p gathered links ≡ true
+    → is_outcome gathered ≡ true
 outcome_of Settled gathered links work =
     let none : gathered ≡ 0 = eqb-true gathered 0 (and_parts (gathered == 0) _ work).0 in
     rw none refl
 outcome_of Busy gathered links work = (and_parts (is_outcome gathered) _ work).0
 
-rest_of : (p : Phase) (gathered : ℕ) (links : List StoredLink) → is_work_in p gathered links ≡ true → is_settled p ≡ true → (gathered ≡ 0) × (some_unsettled links ≡ false)
+rest_of : (p : Phase) (gathered : ℕ) (links : List StoredLink) → is_work_in p gathered links ≡ true
+    → is_settled p ≡ true → (gathered ≡ 0) × (some_unsettled links ≡ false)
 rest_of Settled gathered links work settled =
     let a = and_parts (gathered == 0) (not (some_unsettled links)) work in
     (eqb-true gathered 0 a.0, negated (some_unsettled links) a.1)
@@ -386,7 +432,8 @@ rest_of Settled gathered links work settled =
     negated false t = refl
 rest_of Busy gathered links work settled = clash (sym settled)
 
-work_of : (p : Phase) (gathered : ℕ) (links : List StoredLink) → is_work_in p gathered links ≡ true → is_settled p ≡ false → some_unsettled links ≡ true
+work_of : (p : Phase) (gathered : ℕ) (links : List StoredLink) → is_work_in p gathered links ≡ true
+    → is_settled p ≡ false → some_unsettled links ≡ true
 work_of Settled gathered links work busy = clash busy
 work_of Busy gathered links work busy = (and_parts (is_outcome gathered) (some_unsettled links) work).1
 
@@ -394,25 +441,35 @@ pub grants_sound : (h : Hierarchy) (number : ℕ) (rows : Rows) → IsSound h (g
 grants_sound h number rows = record {
   standing = λ d. (domain_kept h number rows d).standing;
   holder = λ d. (domain_kept h number rows d).holder;
-  gathered = λ d. outcome_of (domain_in h number rows d).standing.phase (domain_in h number rows d).gathered (domain_in h number rows d).links (domain_kept h number rows d).work;
+  gathered = λ d. outcome_of (domain_in h number rows d).standing.phase (domain_in h number rows d).gathered
+      (domain_in h number rows d).links (domain_kept h number rows d).work;
   at_rest = λ d settled.
-      let rest = rest_of (domain_in h number rows d).standing.phase (domain_in h number rows d).gathered (domain_in h number rows d).links (domain_kept h number rows d).work settled in record {
+      let rest = rest_of (domain_in h number rows d).standing.phase (domain_in h number rows d).gathered
+      (domain_in h number rows d).links (domain_kept h number rows d).work settled in record {
         gathered = rest.0;
         still = any_none (λ x. is_unsettled (stored_at (domain_in h number rows d).links x).link)
-            (λ x. at_stored (λ (y : StoredLink). is_unsettled y.link ≡ false) x refl (domain_in h number rows d).links (none_any (λ (y : StoredLink). is_unsettled y.link) (domain_in h number rows d).links rest.1)) (children_of h d);
+            (λ x. at_stored (λ (y : StoredLink). is_unsettled y.link ≡ false) x refl
+            (domain_in h number rows d).links (none_any (λ (y : StoredLink). is_unsettled y.link)
+            (domain_in h number rows d).links rest.1)) (children_of h d);
       };
   at_work = λ d busy.
       let kept = domain_kept h number rows d in
       let links = (domain_in h number rows d).links in
-      let one = some_any (λ (y : StoredLink). is_unsettled y.link) links (work_of (domain_in h number rows d).standing.phase (domain_in h number rows d).gathered links kept.work busy) in
-      let child = child_in h d one.0.domain (in_all (λ (x : StoredLink). is_parent h x.domain d ≡ true) one.0 links one.1 kept.children) in
+      let one = some_any (λ (y : StoredLink). is_unsettled y.link) links
+      (work_of (domain_in h number rows d).standing.phase (domain_in h number rows d).gathered links kept.work
+      busy) in
+      let child = child_in h d one.0.domain (in_all (λ (x : StoredLink). is_parent h x.domain d ≡ true) one.0 links
+      one.1 kept.children) in
       any_in (λ x. is_unsettled (stored_at links x).link) one.0.domain (children_of h d) child
       (ap (λ (y : StoredLink). is_unsettled y.link) (stored_once 0 one.0 links kept.rises one.1) ∙ one.2);
-  own = λ o x. at_stored (λ (y : StoredLink). IsLink h most_pending y.link) x (omega arith) (operator_in h number rows o) (operator_kept h number rows o).each;
-  child = λ p x. at_stored (λ (y : StoredLink). IsLink h most_handed_on y.link) x (omega arith) (domain_in h number rows p).links (domain_kept h number rows p).each;
+  own = λ o x. at_stored (λ (y : StoredLink). IsLink h most_pending y.link) x (omega arith)
+      (operator_in h number rows o) (operator_kept h number rows o).each;
+  child = λ p x. at_stored (λ (y : StoredLink). IsLink h most_handed_on y.link) x (omega arith)
+      (domain_in h number rows p).links (domain_kept h number rows p).each;
   mode = λ p x parent out.
       ap (mode_under h number rows x) (number_is (parent_of h x) p parent)
-      ∙ at_stored (λ (y : StoredLink). is_held y.link ≡ false → y.mode ≡ Included) x (λ _. refl) (domain_in h number rows p).links (domain_kept h number rows p).modes out;
+      ∙ at_stored (λ (y : StoredLink). is_held y.link ≡ false → y.mode ≡ Included) x (λ _. refl)
+      (domain_in h number rows p).links (domain_kept h number rows p).modes out;
   few = λ o.
       let links = operator_in h number rows o in
       let used = few_used links (domain_count h) in

@@ -1,5 +1,6 @@
 -- Rows in their newest schemas stay as they are.
-use Rattle.std.proofs.Common.{ℕ, ◌≡◌, ◌+◌, Bool, true, false, List, [], ◌∷◌, Option, Some, None, Result, Ok, Err, inl, inr, refl, sym, ap, ◌∙◌, arith}
+use Rattle.std.proofs.Common.{ℕ, ◌≡◌, ◌+◌, Bool, true, false, List, [], ◌∷◌, Option, Some, None, Result, Ok, Err, inl}
+use Rattle.std.proofs.Common.{inr, refl, sym, ap, ◌∙◌, arith}
 use Rattle.std.specs.Prelude.{◌==◌, ◌&&◌, not, count_by, length, slice_index, if◌then◌else◌, option_and_then}
 use Rattle.std.specs.Option.{option_map_or}
 use Rattle.std.proofs.lemmas.Bool.{and_parts}
@@ -66,7 +67,8 @@ read_there h k b none = by (row_of h k b) refl none
 -- what is in a list is found there
 behind : (low : Key) (r : Saved) (xs : List Saved) → rises_after low xs ≡ true → In r xs → is_before low r.key ≡ true
 behind low r [] rising a = absurd a
-behind low r (x ∷ xs) rising (inl same) = ap (λ (z : Saved). is_before low z.key) same ∙ (and_parts (is_before low x.key) (rises_after x.key xs) rising).0
+behind low r (x ∷ xs) rising (inl same) = ap (λ (z : Saved). is_before low z.key) same
+    ∙ (and_parts (is_before low x.key) (rises_after x.key xs) rising).0
 behind low r (x ∷ xs) rising (inr a) =
     let p = and_parts (is_before low x.key) (rises_after x.key xs) rising in
     before_chain low x.key r.key p.0 (behind x.key r xs p.1 a)
@@ -77,13 +79,17 @@ differs a b first = grind (arith, nat_tests)
 in_found : (r : Saved) (xs : List Saved) → rises xs ≡ true → In r xs → found_in xs r.key ≡ Some r.bytes
 in_found r [] rising a = absurd a
 in_found r (x ∷ xs) rising (inl same) =
-    ap (λ (z : Saved). found_in (x ∷ xs) z.key) same ∙ ap (λ t. if t then Some x.bytes else found_in xs x.key) (same-itself x.key) ∙ ap (λ (z : Saved). Some z.bytes) (sym same)
+    ap (λ (z : Saved). found_in (x ∷ xs) z.key) same
+    ∙ ap (λ t. if t then Some x.bytes else found_in xs x.key) (same-itself x.key)
+    ∙ ap (λ (z : Saved). Some z.bytes) (sym same)
 in_found r (x ∷ xs) rising (inr a) =
-    ap (λ t. if t then Some x.bytes else found_in xs r.key) (differs x.key r.key (behind x.key r xs rising a)) ∙ in_found r xs (rest_rises x xs rising) a
+    ap (λ t. if t then Some x.bytes else found_in xs r.key) (differs x.key r.key (behind x.key r xs rising a))
+    ∙ in_found r xs (rest_rises x xs rising) a
 
 module _ (h : Hierarchy) (number : ℕ) (rows : Rows) (all : AllRead h number rows) where
   -- in its newest schema a row is of no older one
-  newest_now : (k : Key) (b : List ℕ) → in_newest h number rows k ≡ Some b → (k.station == number && is_older k b) ≡ false
+  newest_now : (k : Key) (b : List ℕ) → in_newest h number rows k ≡ Some b
+      → (k.station == number && is_older k b) ≡ false
   newest_now k b is = by (k.station == number) refl is (all k)
     where
       itself : (n : ℕ) → (n == n) ≡ true
@@ -93,16 +99,21 @@ module _ (h : Hierarchy) (number : ℕ) (rows : Rows) (all : AllRead h number ro
       of_row c s at i =
           let same : newest_bytes s ≡ b = cc in
           ap (is_older k) (sym same)
-          ∙ ap (λ o. option_map_or (λ z. not (schema_in (newest_bytes s) == newest z)) o false) (key_about h k c s (read_is_row h k c s at))
+          ∙ ap (λ o. option_map_or (λ z. not (schema_in (newest_bytes s) == newest z)) o false)
+          (key_about h k c s (read_is_row h k c s at))
           ∙ ap not (ap (λ n. n == newest (about s)) (schema_first (newest (about s)) s) ∙ itself (newest (about s)))
 
-      at_row : (o : Option (List ℕ)) → in_newest_if (option_and_then (λ c. read (row_of h k c)) o) o ≡ Some b → option_and_then (λ c. fault_in (row_of h k c)) o ≡ None → is_older k b ≡ false
+      at_row : (o : Option (List ℕ)) → in_newest_if (option_and_then (λ c. read (row_of h k c)) o) o ≡ Some b
+          → option_and_then (λ c. fault_in (row_of h k c)) o ≡ None → is_older k b ≡ false
       at_row None i none = absurd cc
       at_row (Some c) i none =
           let there = read_there h k c none in
           of_row c there.0 there.1 (sym (ap (λ x. in_newest_if (read x) (Some c)) there.1) ∙ i)
 
-      by : (t : Bool) → (k.station == number) ≡ t → (if t then in_newest_if (said h rows k) (rows k) else rows k) ≡ Some b → (if t then option_and_then (λ c. fault_in (row_of h k c)) (rows k) else None) ≡ None → (t && is_older k b) ≡ false
+      by : (t : Bool) → (k.station == number) ≡ t
+          → (if t then in_newest_if (said h rows k) (rows k) else rows k) ≡ Some b
+          → (if t then option_and_then (λ c. fault_in (row_of h k c)) (rows k) else None) ≡ None
+          → (t && is_older k b) ≡ false
       by true own i none = at_row (rows k) i none
       by false own i none = refl
 
@@ -117,22 +128,28 @@ module _ (h : Hierarchy) (number : ℕ) (rows : Rows) (all : AllRead h number ro
   none_older : (list : List Saved) → ((r : Saved) → In r list → is_renewed number r ≡ false) → older list ≡ 0
   unfolding older
   none_older [] none = refl
-  none_older (r ∷ more) none = ap (λ t. if t then 1 + older more else older more) (none r (inl refl)) ∙ none_older more (λ s a. none s (inr a))
+  none_older (r ∷ more) none = ap (λ t. if t then 1 + older more else older more) (none r (inl refl))
+      ∙ none_older more (λ s a. none s (inr a))
 
   -- a second time there is nothing to do
-  pub nothing_left : (after : Rows) (list : List Saved) → IsSame after (in_newest h number rows) → IsListing after list → count_by (is_renewed number) list ≡ 0
+  pub nothing_left : (after : Rows) (list : List Saved) → IsSame after (in_newest h number rows)
+      → IsListing after list → count_by (is_renewed number) list ≡ 0
   nothing_left after list same listing =
       sym (older_is list)
-      ∙ none_older list (λ r a. newest_now r.key r.bytes (sym (same r.key) ∙ sym (listing.same r.key) ∙ in_found r list listing.rises a))
+      ∙ none_older list (λ r a. newest_now r.key r.bytes
+      (sym (same r.key) ∙ sym (listing.same r.key) ∙ in_found r list listing.rises a))
 
 -- the newest of the newest are the same
-pub newest_twice : (h : Hierarchy) (number : ℕ) (rows : Rows) (k : Key) → in_newest h number (in_newest h number rows) k ≡ in_newest h number rows k
+pub newest_twice : (h : Hierarchy) (number : ℕ) (rows : Rows) (k : Key)
+    → in_newest h number (in_newest h number rows) k ≡ in_newest h number rows k
 newest_twice h number rows k = by (k.station == number) refl (said h rows k) refl
   where
     by : (t : Bool) → (k.station == number) ≡ t → (o : Option Row) → said h rows k ≡ o
-        → (if t then in_newest_if (said h (in_newest h number rows) k) (in_newest h number rows k) else in_newest h number rows k) ≡ in_newest h number rows k
+        → (if t then in_newest_if (said h (in_newest h number rows) k) (in_newest h number rows k)
+        else in_newest h number rows k) ≡ in_newest h number rows k
     by false own o is = refl
     by true own None is = ap (λ y. in_newest_if y (in_newest h number rows k)) (newest_says h number rows k ∙ is)
     by true own (Some s) is =
         ap (λ y. in_newest_if y (in_newest h number rows k)) (newest_says h number rows k ∙ is)
-        ∙ sym (ap (λ t. if t then in_newest_if (said h rows k) (rows k) else rows k) own ∙ ap (λ y. in_newest_if y (rows k)) is)
+        ∙ sym (ap (λ t. if t then in_newest_if (said h rows k) (rows k) else rows k) own
+        ∙ ap (λ y. in_newest_if y (rows k)) is)

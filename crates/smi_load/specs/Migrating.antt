@@ -1,5 +1,6 @@
 -- Rows of older schemas written anew in the newest.
-use Rattle.std.specs.Prelude.{ℕ, ◌≡◌, ◌⊎◌, ◌==◌, ◌&&◌, not, true, false, Bool, List, [], ◌∷◌, Option, Some, None, option_map, count_by, take, Result, Ok, Err, if◌then◌else◌}
+use Rattle.std.specs.Prelude.{ℕ, ◌≡◌, ◌⊎◌, ◌==◌, ◌&&◌, not, true, false, Bool, List, [], ◌∷◌, Option, Some, None}
+use Rattle.std.specs.Prelude.{option_map, count_by, take, Result, Ok, Err, if◌then◌else◌}
 use Rattle.std.specs.List.{filter_map}
 use Rattle.std.specs.Option.{option_map_or}
 use Rattle.smi_tree.specs.Hierarchy.{Hierarchy}
@@ -98,7 +99,8 @@ all_told h number (r ∷ more) = and_then (λ said. all_told h number more) (sai
 -- a row of the station anew, where it is of an older schema
 abbrev pub renewal : Hierarchy → ℕ → Saved → Option Saved
 renewal h number r =
-    if is_renewed number r then option_map (λ said. saved r.key (newest_bytes said)) (read (row_of h r.key r.bytes)) else None
+    if is_renewed number r then option_map (λ said. saved r.key (newest_bytes said)) (read (row_of h r.key r.bytes))
+    else None
 
 abbrev pub renewals : Hierarchy → ℕ → List Saved → List Saved
 renewals h number list = filter_map (renewal h number) list

@@ -14,7 +14,8 @@ use Rattle.smi_grants.specs.Kept.{Kept, grants_of}
 
 -- the station that begins with these grants: it shows its first states, and runs
 abbrev pub beginning_with : Hierarchy → ℕ → Result Kept OpenFault → Result Station OpenFault
-beginning_with h number (Ok kept) = Ok (record { grants = grants_of kept; display = first_display h number; is_stopped = false })
+beginning_with h number (Ok kept) =
+    Ok (record { grants = grants_of kept; display = first_display h number; is_stopped = false })
 beginning_with h number (Err fault) = Err fault
 
 -- the grants with which it begins

@@ -38,7 +38,8 @@ pub fn migrated_rows_stay<S: Stable>(
     store: &mut S,
 ) -> Result<u32, OpenFault>
     ensures none { S.is_honest store.new → IfOk result (λ n. n ≡ 0) }
-    ensures rows { S.is_honest store.new → OnOk result (IsSame (S.rows store.new) (in_newest tree.now number (S.rows store.old))) }
+    ensures rows { S.is_honest store.new → OnOk
+        result (IsSame (S.rows store.new) (in_newest tree.now number (S.rows store.old))) }
     ensures honest { S.is_honest store.new → S.is_honest store.old }
 {
     migrate(alloc, tree, number, store)?;
@@ -52,24 +53,36 @@ pub fn migrated_rows_stay<S: Stable>(
 /// premise.
 pub fn rows_say_what_is_kept()
     ensures begins { (h : Hierarchy) (number : ℕ) → IsStored h number no_grants no_rows }
-    ensures reads { (h : Hierarchy) (number : ℕ) (rows : Rows) → AllRead h number rows → IsStored h number (grants_in h number rows) rows }
-    ensures opens { (h : Hierarchy) (number : ℕ) (rows : Rows) (s : Station) → Opens h number rows (Ok s) → IsStored h number s.grants (after_start h number rows) }
-    ensures starts { (h : Hierarchy) (number : ℕ) (g : Grants) (rows : Rows) → IsBetween 1 (station_count h) number → g.boot ≢ last_boot → IsStored h number g rows →
+    ensures reads { (h : Hierarchy) (number : ℕ) (rows : Rows) → AllRead h number rows
+        → IsStored h number (grants_in h number rows) rows }
+    ensures opens { (h : Hierarchy) (number : ℕ) (rows : Rows) (s : Station) → Opens h number rows (Ok s)
+        → IsStored h number s.grants (after_start h number rows) }
+    ensures starts { (h : Hierarchy) (number : ℕ) (g : Grants) (rows : Rows) → IsBetween 1 (station_count h) number
+        → g.boot ≢ last_boot → IsStored h number g rows →
         IsStored h number (opened h number g).grants (after_start h number rows) }
-    ensures stays { (h : Hierarchy) (number : ℕ) (g : Grants) (rows : Rows) (what : Happening) → IsTree h → IsSayable what → refusal_of h number g what ≡ None → IsStored h number g rows →
-        IsStored h number (grant_step h number g what).grants (with_saved (option_map (saved_row h number (grant_step h number g what).grants) (grant_step h number g what).row) rows) }
-    ensures steps { (h : Hierarchy) (number : ℕ) (s : Station) (rows : Rows) (what : Happening) → IsTree h → IsSayable what → IsStored h number s.grants rows →
+    ensures stays { (h : Hierarchy) (number : ℕ) (g : Grants) (rows : Rows) (what : Happening) → IsTree h
+        → IsSayable what → refusal_of h number g what ≡ None → IsStored h number g rows →
+        IsStored h number (grant_step h number g what).grants
+        (with_saved (option_map (saved_row h number (grant_step h number g what).grants)
+        (grant_step h number g what).row) rows) }
+    ensures steps { (h : Hierarchy) (number : ℕ) (s : Station) (rows : Rows) (what : Happening) → IsTree h
+        → IsSayable what → IsStored h number s.grants rows →
         IsStored h number (after h number s what).station.grants (with_saved (after h number s what).saved rows) }
-    ensures events { (h : Hierarchy) (number : ℕ) (s : Station) (rows : Rows) (e : Event) → IsTree h → IsStored h number s.grants rows →
+    ensures events { (h : Hierarchy) (number : ℕ) (s : Station) (rows : Rows) (e : Event) → IsTree h
+        → IsStored h number s.grants rows →
         IsStored h number (after_event h number s e).station.grants (with_saved (after_event h number s e).saved rows) }
-    ensures migrates { (h : Hierarchy) (number : ℕ) (g : Grants) (before after : Rows) → IsPartly h number before after → IsStored h number g before → IsStored h number g after }
+    ensures migrates { (h : Hierarchy) (number : ℕ) (g : Grants) (before after : Rows)
+        → IsPartly h number before after → IsStored h number g before → IsStored h number g after }
     ensures sound { (h : Hierarchy) (number : ℕ) (g : Grants) (rows : Rows) → IsStored h number g rows → IsSound h g }
 {}
 
 /// A station that starts on rows that say what it kept is restarted with exactly that, one boot later, unless its
 /// boots are spent. It comes to nothing else but a fault of the store, or out of memory.
 pub fn stored_grants_restart()
-    ensures restarts { (h : Hierarchy) (number : ℕ) (g : Grants) (rows : Rows) → IsBetween 1 (station_count h) number → IsStored h number g rows → g.boot ≢ last_boot → Opens h number rows (Ok (opened h number g)) }
-    ensures spent { (h : Hierarchy) (number : ℕ) (g : Grants) (rows : Rows) → IsBetween 1 (station_count h) number → IsStored h number g rows → g.boot ≡ last_boot → Opens h number rows (Err BootsSpent) }
-    ensures only { (h : Hierarchy) (number : ℕ) (g : Grants) (rows : Rows) → IsBetween 1 (station_count h) number → IsStored h number g rows → (r : Result Station OpenFault) → Opens h number rows r → Restarts h number g r }
+    ensures restarts { (h : Hierarchy) (number : ℕ) (g : Grants) (rows : Rows) → IsBetween 1 (station_count h) number
+        → IsStored h number g rows → g.boot ≢ last_boot → Opens h number rows (Ok (opened h number g)) }
+    ensures spent { (h : Hierarchy) (number : ℕ) (g : Grants) (rows : Rows) → IsBetween 1 (station_count h) number
+        → IsStored h number g rows → g.boot ≡ last_boot → Opens h number rows (Err BootsSpent) }
+    ensures only { (h : Hierarchy) (number : ℕ) (g : Grants) (rows : Rows) → IsBetween 1 (station_count h) number
+        → IsStored h number g rows → (r : Result Station OpenFault) → Opens h number rows r → Restarts h number g r }
 {}

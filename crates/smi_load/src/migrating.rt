@@ -3,8 +3,10 @@
 ghost use Rattle.std.specs.Prelude.{◌≡◌, ◌⊎◌, ◌<◌, ◌≤◌, ◌+◌, ◌^◌, length, List, count_by, IfOk, IfErr, OnOk};
 ghost use Rattle.smi_tree.specs.Lookups.{station_count};
 ghost use Rattle.smi_rows.specs.Store.{Rows, Saved, IsListing, IsSame, with_row};
-ghost use Rattle.smi_load.specs.Migrating.{Counts, IfRefused, IsPartly, IsSavedPartly, IsToRenew, Migrates, in_newest, is_renewed, over};
-ghost use Rattle.smi_load.specs.Starting.{IfCertain, IfInDoubt, IfStoreFailed, IfUnchanged, IsOfStore, IsToldAsMemory};
+ghost use Rattle.smi_load.specs.Migrating.{Counts, IfRefused, IsPartly, IsSavedPartly, IsToRenew, Migrates};
+ghost use Rattle.smi_load.specs.Migrating.{in_newest, is_renewed, over};
+ghost use Rattle.smi_load.specs.Starting.{IfCertain, IfInDoubt, IfStoreFailed, IfUnchanged, IsOfStore};
+ghost use Rattle.smi_load.specs.Starting.{IsToldAsMemory};
 
 use crate::reading::has_station;
 use crate::renewing::renewals;
@@ -26,14 +28,19 @@ pub fn migrate<S: Stable>(
     store: &mut S,
 ) -> Result<u32, OpenFault>
     ensures migrates { S.is_honest store.new → Migrates tree.now number (S.rows store.old) result }
-    ensures newest { S.is_honest store.new → OnOk result (S.is_open store.new × IsSame (S.rows store.new) (in_newest tree.now number (S.rows store.old))) }
+    ensures newest { S.is_honest store.new → OnOk
+        result (S.is_open store.new × IsSame (S.rows store.new) (in_newest tree.now number (S.rows store.old))) }
     ensures count { S.is_honest store.new → IfOk result (λ n. Counts number (S.rows store.old) n) }
-    ensures counted { S.is_honest store.new → (list : List Saved) → IsListing (S.rows store.old) list → IfOk result (λ n. n ≡ count_by (is_renewed number) list) }
+    ensures counted { S.is_honest store.new → (list : List Saved) → IsListing (S.rows store.old) list
+        → IfOk result (λ n. n ≡ count_by (is_renewed number) list) }
     // Whatever it answers, and where it stops, some of the rows are saved by rising key, and all say what they said.
-    ensures partly { S.is_honest store.new → S.is_open store.old → S.is_open store.new → IsPartly tree.now number (S.rows store.old) (S.rows store.new) }
-    ensures crash { S.is_honest store.new → S.is_open store.old → (r : Rows) → S.may_find store.new r → IsPartly tree.now number (S.rows store.old) r }
+    ensures partly { S.is_honest store.new → S.is_open store.old → S.is_open store.new
+        → IsPartly tree.now number (S.rows store.old) (S.rows store.new) }
+    ensures crash { S.is_honest store.new → S.is_open store.old → (r : Rows) → S.may_find store.new r
+        → IsPartly tree.now number (S.rows store.old) r }
     ensures certain { S.is_honest store.new → S.is_open store.old → IfCertain result (S.is_open store.new) }
-    ensures refused { S.is_honest store.new → S.is_open store.old → IfRefused result (S.is_open store.new × IsSame (S.rows store.new) (S.rows store.old)) }
+    ensures refused { S.is_honest store.new → S.is_open store.old
+        → IfRefused result (S.is_open store.new × IsSame (S.rows store.new) (S.rows store.old)) }
     ensures unsaved { IfRefused result (S.saves store.new ≡ S.saves store.old) }
     ensures saves { S.is_honest store.new → IfOk result (λ n. S.saves store.new ≡ S.saves store.old + n) }
     ensures honest { S.is_honest store.new → S.is_honest store.old }
@@ -60,11 +67,15 @@ fn loaded_renewals<S: Stable>(
 ) -> Result<Vec<SavedRow>, OpenFault>
     requires least { 1 ≤ number }
     requires most { number ≤ station_count tree.now }
-    ensures anew { S.is_honest store.new → IfOk result (λ anew. S.is_open store.old × IsToRenew tree.now number (S.rows store.old) anew.items) }
+    ensures anew { S.is_honest store.new → IfOk
+        result (λ anew. S.is_open store.old × IsToRenew tree.now number (S.rows store.old) anew.items) }
     ensures migrates { S.is_honest store.new → Migrates tree.now number (S.rows store.old) result }
-    ensures certain { S.is_honest store.new → S.is_open store.old → IfCertain result (S.is_open store.new × IsSame (S.rows store.new) (S.rows store.old)) }
-    ensures kept { S.is_honest store.new → S.is_open store.old → S.is_open store.new → IsSame (S.rows store.new) (S.rows store.old) }
-    ensures crash { S.is_honest store.new → S.is_open store.old → (r : Rows) → S.may_find store.new r → IsSame r (S.rows store.old) }
+    ensures certain { S.is_honest store.new → S.is_open store.old
+        → IfCertain result (S.is_open store.new × IsSame (S.rows store.new) (S.rows store.old)) }
+    ensures kept { S.is_honest store.new → S.is_open store.old → S.is_open store.new
+        → IsSame (S.rows store.new) (S.rows store.old) }
+    ensures crash { S.is_honest store.new → S.is_open store.old → (r : Rows) → S.may_find store.new r
+        → IsSame r (S.rows store.old) }
     ensures honest { S.is_honest store.new → S.is_honest store.old }
     ensures saves { S.saves store.new ≡ S.saves store.old }
     ensures failures { S.failures store.old ≤ S.failures store.new }
@@ -77,10 +88,13 @@ fn loaded_renewals<S: Stable>(
 
 /// Saves the rows.
 fn save_all<S: Stable>(store: &mut S, rows: &[SavedRow]) -> Result<(), OpenFault>
-    ensures saved { S.is_honest store.new → S.is_open store.old → OnOk result (S.is_open store.new × IsSame (S.rows store.new) (over (S.rows store.old) rows.now)) }
+    ensures saved { S.is_honest store.new → S.is_open store.old
+        → OnOk result (S.is_open store.new × IsSame (S.rows store.new) (over (S.rows store.old) rows.now)) }
     ensures certain { S.is_honest store.new → S.is_open store.old → IfCertain result (S.is_open store.new) }
-    ensures partly { S.is_honest store.new → S.is_open store.old → S.is_open store.new → IsSavedPartly (S.rows store.old) rows.now (S.rows store.new) }
-    ensures crash { S.is_honest store.new → S.is_open store.old → (r : Rows) → S.may_find store.new r → IsSavedPartly (S.rows store.old) rows.now r }
+    ensures partly { S.is_honest store.new → S.is_open store.old → S.is_open store.new
+        → IsSavedPartly (S.rows store.old) rows.now (S.rows store.new) }
+    ensures crash { S.is_honest store.new → S.is_open store.old → (r : Rows) → S.may_find store.new r
+        → IsSavedPartly (S.rows store.old) rows.now r }
     ensures honest { S.is_honest store.new → S.is_honest store.old }
     ensures saves { OnOk result (S.saves store.new ≡ S.saves store.old + length rows.now) }
     ensures failures { S.failures store.old ≤ S.failures store.new }
@@ -94,10 +108,16 @@ fn save_all<S: Stable>(store: &mut S, rows: &[SavedRow]) -> Result<(), OpenFault
 }
 
 fn save_row<S: Stable>(store: &mut S, row: &SavedRow) -> Result<(), OpenFault>
-    ensures saved { S.is_honest store.new → OnOk result (S.is_open store.new × IsSame (S.rows store.new) (with_row row.now.key row.now.bytes (S.rows store.old))) }
-    ensures kept { S.is_honest store.new → S.is_open store.old → IfUnchanged result (S.is_open store.new × IsSame (S.rows store.new) (S.rows store.old)) }
-    ensures unsure { S.is_honest store.new → S.is_open store.new → IfInDoubt result (IsSame (S.rows store.new) (S.rows store.old) ⊎ IsSame (S.rows store.new) (with_row row.now.key row.now.bytes (S.rows store.old))) }
-    ensures crash { S.is_honest store.new → S.is_open store.old → (r : Rows) → S.may_find store.new r → IsSame r (S.rows store.old) ⊎ IsSame r (with_row row.now.key row.now.bytes (S.rows store.old)) }
+    ensures saved { S.is_honest store.new → OnOk
+        result (S.is_open store.new × IsSame (S.rows store.new)
+        (with_row row.now.key row.now.bytes (S.rows store.old))) }
+    ensures kept { S.is_honest store.new → S.is_open store.old
+        → IfUnchanged result (S.is_open store.new × IsSame (S.rows store.new) (S.rows store.old)) }
+    ensures unsure { S.is_honest store.new → S.is_open store.new
+        → IfInDoubt result (IsSame (S.rows store.new) (S.rows store.old)
+        ⊎ IsSame (S.rows store.new) (with_row row.now.key row.now.bytes (S.rows store.old))) }
+    ensures crash { S.is_honest store.new → S.is_open store.old → (r : Rows) → S.may_find store.new r
+        → IsSame r (S.rows store.old) ⊎ IsSame r (with_row row.now.key row.now.bytes (S.rows store.old)) }
     ensures honest { S.is_honest store.new → S.is_honest store.old }
     ensures saves { S.saves store.new ≡ S.saves store.old + 1 }
     ensures failures { S.failures store.old ≤ S.failures store.new }

@@ -42,7 +42,8 @@ fn renew(
     row: &SavedRow,
 ) -> Result<(), OpenFault>
     ensures told { Comes result (only_told (restoring.said_to tree.now number row.now)) }
-    ensures list { OnOk result (list.new.items ≡ list.old.items ++ cons_option (spec.renewal tree.now number row.now) []) }
+    ensures list { OnOk result (list.new.items ≡ list.old.items
+        ++ cons_option (spec.renewal tree.now number row.now) []) }
     ensures fault { IfErr result IsNotOfStore }
 {
     match renewal(*list.allocator(), tree, number, row)? {
@@ -74,7 +75,9 @@ fn renewal(
 /// A row that says this, anew where it is of an older schema.
 fn anew(alloc: Global, row: &SavedRow, said: &Row) -> Result<Option<SavedRow>, OpenFault>
     requires { HasFewLinks said.now }
-    ensures anew { IfOk result (λ anew. anew ≡ (if spec.is_older row.now.key row.now.bytes then Some (store.saved row.now.key (spec.newest_bytes said.now)) else None)) }
+    ensures anew { IfOk
+        result (λ anew. anew ≡ (if spec.is_older row.now.key row.now.bytes
+        then Some (store.saved row.now.key (spec.newest_bytes said.now)) else None)) }
     ensures fault { IfErr result (λ fault. fault ≡ OpenFault.Memory) }
 {
     if !is_older(row.key, &row.bytes) {

@@ -33,7 +33,8 @@ pub fn kept_of_rows<'a>(
     number: u16,
     rows: &[SavedRow],
 ) -> Result<Kept<'a>, OpenFault>
-    ensures opens { (all : Rows) → IsListing all rows.now → Opens tree.now number all (beginning_with tree.now number result) }
+    ensures opens { (all : Rows) → IsListing all rows.now
+        → Opens tree.now number all (beginning_with tree.now number result) }
     // Whatever the rows, what is taken from them can be told and saved.
     ensures sound { IfOk result (λ kept. IsSound tree.now (grants_of kept)) }
     ensures boot { IfOk result (λ kept. is_boot (grants_of kept).boot ≡ true) }
@@ -108,7 +109,8 @@ fn raise(kept: &mut Kept<'_>) -> Result<(), OpenFault>
 
 /// What the rows say, one after the other, takes the place of what was known.
 fn restore_all(kept: &mut Kept<'_>, rows: &[SavedRow]) -> Result<(), OpenFault>
-    ensures comes { Comes (leaving (grants_of kept.new) result) (restored kept.old.tree kept.old.number (grants_of kept.old) rows.now) }
+    ensures comes { Comes (leaving (grants_of kept.new) result)
+        (restored kept.old.tree kept.old.number (grants_of kept.old) rows.now) }
     ensures tree { kept.new.tree ≡ kept.old.tree }
     ensures number { kept.new.number ≡ kept.old.number }
 {
@@ -119,7 +121,8 @@ fn restore_all(kept: &mut Kept<'_>, rows: &[SavedRow]) -> Result<(), OpenFault>
 }
 
 fn restore(kept: &mut Kept<'_>, row: &SavedRow) -> Result<(), OpenFault>
-    ensures comes { Comes (leaving (grants_of kept.new) result) (taken kept.old.tree kept.old.number (grants_of kept.old) row.now) }
+    ensures comes { Comes (leaving (grants_of kept.new) result)
+        (taken kept.old.tree kept.old.number (grants_of kept.old) row.now) }
     ensures tree { kept.new.tree ≡ kept.old.tree }
     ensures number { kept.new.number ≡ kept.old.number }
 {

@@ -7,7 +7,8 @@ ghost use Rattle.smi_rows.specs.Store.{Rows, IsListing, IsSame, with_row};
 ghost use Rattle.smi_protocol.specs.Loading.{Opens};
 ghost use Rattle.smi_protocol.specs.Sound.{IsSound};
 ghost use Rattle.smi_grants.specs.Kept.{grants_of};
-ghost use Rattle.smi_load.specs.Starting.{IfCertain, IfInDoubt, IfStoreFailed, IfUnchanged, IsOfStore, IsToldAsMemory, after_start, beginning_with, with_boot};
+ghost use Rattle.smi_load.specs.Starting.{IfCertain, IfInDoubt, IfStoreFailed, IfUnchanged, IsOfStore};
+ghost use Rattle.smi_load.specs.Starting.{IsToldAsMemory, after_start, beginning_with, with_boot};
 
 use crate::restoring::kept_of_rows;
 use smi_grants::Kept;
@@ -29,15 +30,19 @@ pub fn loaded_kept<'a, S: Stable>(
 ) -> Result<Kept<'a>, OpenFault>
     requires least { 1 ≤ number }
     requires most { number ≤ station_count tree.now }
-    ensures opens { S.is_honest store.new → Opens tree.now number (S.rows store.old) (beginning_with tree.now number result) }
+    ensures opens { S.is_honest store.new → Opens tree.now number (S.rows store.old)
+        (beginning_with tree.now number result) }
     ensures sound { IfOk result (λ kept. IsSound tree.now (grants_of kept)) }
     ensures boot { IfOk result (λ kept. is_boot (grants_of kept).boot ≡ true) }
     ensures tree { IfOk result (λ kept. kept.tree ≡ tree.now) }
     ensures number { IfOk result (λ kept. kept.number ≡ number) }
     ensures open { S.is_honest store.new → OnOk result (S.is_open store.old) }
-    ensures certain { S.is_honest store.new → S.is_open store.old → IfCertain result (S.is_open store.new × IsSame (S.rows store.new) (S.rows store.old)) }
-    ensures kept { S.is_honest store.new → S.is_open store.old → S.is_open store.new → IsSame (S.rows store.new) (S.rows store.old) }
-    ensures crash { S.is_honest store.new → S.is_open store.old → (r : Rows) → S.may_find store.new r → IsSame r (S.rows store.old) }
+    ensures certain { S.is_honest store.new → S.is_open store.old
+        → IfCertain result (S.is_open store.new × IsSame (S.rows store.new) (S.rows store.old)) }
+    ensures kept { S.is_honest store.new → S.is_open store.old → S.is_open store.new
+        → IsSame (S.rows store.new) (S.rows store.old) }
+    ensures crash { S.is_honest store.new → S.is_open store.old → (r : Rows) → S.may_find store.new r
+        → IsSame r (S.rows store.old) }
     ensures honest { S.is_honest store.new → S.is_honest store.old }
     ensures saves { S.saves store.new ≡ S.saves store.old }
     ensures failures { S.failures store.old ≤ S.failures store.new }
@@ -50,10 +55,14 @@ pub fn loaded_kept<'a, S: Stable>(
 
 /// All rows of the store, by rising key.
 pub(crate) fn loaded<S: Stable>(store: &mut S) -> Result<Vec<SavedRow>, OpenFault>
-    ensures listing { S.is_honest store.new → IfOk result (λ list. S.is_open store.old × IsListing (S.rows store.old) list.items) }
-    ensures certain { S.is_honest store.new → S.is_open store.old → IfCertain result (S.is_open store.new × IsSame (S.rows store.new) (S.rows store.old)) }
-    ensures kept { S.is_honest store.new → S.is_open store.old → S.is_open store.new → IsSame (S.rows store.new) (S.rows store.old) }
-    ensures crash { S.is_honest store.new → S.is_open store.old → (r : Rows) → S.may_find store.new r → IsSame r (S.rows store.old) }
+    ensures listing { S.is_honest store.new → IfOk
+        result (λ list. S.is_open store.old × IsListing (S.rows store.old) list.items) }
+    ensures certain { S.is_honest store.new → S.is_open store.old
+        → IfCertain result (S.is_open store.new × IsSame (S.rows store.new) (S.rows store.old)) }
+    ensures kept { S.is_honest store.new → S.is_open store.old → S.is_open store.new
+        → IsSame (S.rows store.new) (S.rows store.old) }
+    ensures crash { S.is_honest store.new → S.is_open store.old → (r : Rows) → S.may_find store.new r
+        → IsSame r (S.rows store.old) }
     ensures honest { S.is_honest store.new → S.is_honest store.old }
     ensures saves { S.saves store.new ≡ S.saves store.old }
     ensures failures { S.failures store.old ≤ S.failures store.new }
@@ -71,10 +80,17 @@ pub(crate) fn loaded<S: Stable>(store: &mut S) -> Result<Vec<SavedRow>, OpenFaul
 /// The raised boot is saved. After a fault the rows are as before, but that after `Unsure` the boot is as before or as
 /// saved.
 pub fn save_boot<S: Stable>(store: &mut S, kept: &Kept<'_>) -> Result<(), OpenFault>
-    ensures saved { S.is_honest store.new → OnOk result (S.is_open store.new × IsSame (S.rows store.new) (with_boot kept.now.number (grants_of kept.now).boot (S.rows store.old))) }
-    ensures kept { S.is_honest store.new → S.is_open store.old → IfUnchanged result (S.is_open store.new × IsSame (S.rows store.new) (S.rows store.old)) }
-    ensures unsure { S.is_honest store.new → S.is_open store.new → IfInDoubt result (IsSame (S.rows store.new) (S.rows store.old) ⊎ IsSame (S.rows store.new) (with_boot kept.now.number (grants_of kept.now).boot (S.rows store.old))) }
-    ensures crash { S.is_honest store.new → S.is_open store.old → (r : Rows) → S.may_find store.new r → IsSame r (S.rows store.old) ⊎ IsSame r (with_boot kept.now.number (grants_of kept.now).boot (S.rows store.old)) }
+    ensures saved { S.is_honest store.new → OnOk
+        result (S.is_open store.new × IsSame (S.rows store.new)
+        (with_boot kept.now.number (grants_of kept.now).boot (S.rows store.old))) }
+    ensures kept { S.is_honest store.new → S.is_open store.old
+        → IfUnchanged result (S.is_open store.new × IsSame (S.rows store.new) (S.rows store.old)) }
+    ensures unsure { S.is_honest store.new → S.is_open store.new
+        → IfInDoubt result (IsSame (S.rows store.new) (S.rows store.old)
+        ⊎ IsSame (S.rows store.new) (with_boot kept.now.number (grants_of kept.now).boot (S.rows store.old))) }
+    ensures crash { S.is_honest store.new → S.is_open store.old → (r : Rows) → S.may_find store.new r
+        → IsSame r (S.rows store.old)
+        ⊎ IsSame r (with_boot kept.now.number (grants_of kept.now).boot (S.rows store.old)) }
     ensures honest { S.is_honest store.new → S.is_honest store.old }
     ensures saves { S.saves store.new ≤ S.saves store.old + 1 }
     ensures failures { S.failures store.old ≤ S.failures store.new }
@@ -94,10 +110,15 @@ pub fn save_boot<S: Stable>(store: &mut S, kept: &Kept<'_>) -> Result<(), OpenFa
 
 /// A row is saved.
 pub(crate) fn saved<S: Stable>(store: &mut S, key: Key, bytes: &[u8]) -> Result<(), OpenFault>
-    ensures saved { S.is_honest store.new → OnOk result (S.is_open store.new × IsSame (S.rows store.new) (with_row key bytes.now (S.rows store.old))) }
-    ensures kept { S.is_honest store.new → S.is_open store.old → IfUnchanged result (S.is_open store.new × IsSame (S.rows store.new) (S.rows store.old)) }
-    ensures unsure { S.is_honest store.new → S.is_open store.new → IfInDoubt result (IsSame (S.rows store.new) (S.rows store.old) ⊎ IsSame (S.rows store.new) (with_row key bytes.now (S.rows store.old))) }
-    ensures crash { S.is_honest store.new → S.is_open store.old → (r : Rows) → S.may_find store.new r → IsSame r (S.rows store.old) ⊎ IsSame r (with_row key bytes.now (S.rows store.old)) }
+    ensures saved { S.is_honest store.new → OnOk
+        result (S.is_open store.new × IsSame (S.rows store.new) (with_row key bytes.now (S.rows store.old))) }
+    ensures kept { S.is_honest store.new → S.is_open store.old
+        → IfUnchanged result (S.is_open store.new × IsSame (S.rows store.new) (S.rows store.old)) }
+    ensures unsure { S.is_honest store.new → S.is_open store.new
+        → IfInDoubt result (IsSame (S.rows store.new) (S.rows store.old)
+        ⊎ IsSame (S.rows store.new) (with_row key bytes.now (S.rows store.old))) }
+    ensures crash { S.is_honest store.new → S.is_open store.old → (r : Rows) → S.may_find store.new r
+        → IsSame r (S.rows store.old) ⊎ IsSame r (with_row key bytes.now (S.rows store.old)) }
     ensures honest { S.is_honest store.new → S.is_honest store.old }
     ensures saves { S.saves store.new ≡ S.saves store.old + 1 }
     ensures failures { S.failures store.old ≤ S.failures store.new }

@@ -13,11 +13,13 @@ use Rattle.smi_grant.specs.Holder as holder
 use Rattle.smi_grant.specs.Holder.{kind_of, number_of, holder_of}
 use Rattle.smi_grant.specs.Command as command
 use Rattle.smi_grant.specs.Command.{verb_of, argument_of, most_argument}
-use Rattle.smi_grant.specs.Record.{Standing, phase_number, phase_of, is_record, is_outcome, checked, last_epoch, last_number}
+use Rattle.smi_grant.specs.Record.{Standing, phase_number, phase_of, is_record, is_outcome, checked, last_epoch}
+use Rattle.smi_grant.specs.Record.{last_number}
 use Rattle.smi_message.specs.declared.fields.Fields.{Fields}
 use Rattle.smi_message.specs.declared.datagram.Body.{Body}
 use Rattle.smi_message.specs.declared.datagram.Body.TheVariants as body
-use Rattle.smi_message.specs.Message.{is_between, is_addressed, is_body, is_domain, is_object, is_boot, is_version, is_party, is_grant_epoch}
+use Rattle.smi_message.specs.Message.{is_between, is_addressed, is_body, is_domain, is_object, is_boot, is_version}
+use Rattle.smi_message.specs.Message.{is_party, is_grant_epoch}
 use Rattle.smi_message.specs.Spelling.{is_kind}
 use Rattle.smi_message.specs.Kinds.{fields_of, body_at, command_in, layout_of, is_rest_zero}
 use Rattle.smi_message.proofs.Bytes.{Fit}
@@ -54,7 +56,8 @@ layout_again from to tree (body.Watch x e) = refl
 layout_again from to tree (body.State x e v s) = refl
 layout_again from to tree (body.Unwatch x e) = refl
 
-pub kind_again : (from to tree : ℕ) (b : Body) → is_kind (fields_of from to tree b).layout (fields_of from to tree b).kind ≡ true
+pub kind_again : (from to tree : ℕ) (b : Body)
+    → is_kind (fields_of from to tree b).layout (fields_of from to tree b).kind ≡ true
 kind_again from to tree (body.Ask d) = refl
 kind_again from to tree (body.Take d h s) = refl
 kind_again from to tree (body.Drop d h e) = refl
@@ -137,7 +140,11 @@ record Addressed (f t n : ℕ) : Type 0 where
   tree : n ≤ 65535
 
 addressed : (from to tree : ℕ) → is_addressed from to tree ≡ true → Addressed from to tree
-addressed from to tree h = record { from = grind (arith, nat_tests); to = grind (arith, nat_tests); tree = grind (arith, nat_tests) }
+addressed from to tree h = record {
+  from = grind (arith, nat_tests);
+  to = grind (arith, nat_tests);
+  tree = grind (arith, nat_tests);
+}
 
 -- the numbers of a datagram that not all kinds have
 record Small (f : Fields) : Type 0 where
@@ -154,14 +161,34 @@ record Small (f : Fields) : Type 0 where
 small : (from to tree : ℕ) (b : Body) → is_body b ≡ true → Small (fields_of from to tree b)
 small from to tree (body.Ask d) h =
     let s = between_of 1 128 d h in
-    record { subject = omega arith; holder = omega arith; code = omega arith; epoch = omega arith; number = omega arith; argument = omega arith; echo = omega arith; boot = omega arith; sequence = omega arith }
+    record {
+      subject = omega arith;
+      holder = omega arith;
+      code = omega arith;
+      epoch = omega arith;
+      number = omega arith;
+      argument = omega arith;
+      echo = omega arith;
+      boot = omega arith;
+      sequence = omega arith;
+    }
 small from to tree (body.Take d x e) h =
     let a = and_parts (is_domain d) _ h in
     let b = and_parts (is_party x) (nat_le e last_epoch) a.1 in
     let s = between_of 1 128 d a.0 in
     let n = party_small x b.0 in
     let l = le_of e last_epoch b.1 in
-    record { subject = omega arith; holder = omega arith; code = omega arith; epoch = omega arith; number = omega arith; argument = omega arith; echo = omega arith; boot = omega arith; sequence = omega arith }
+    record {
+      subject = omega arith;
+      holder = omega arith;
+      code = omega arith;
+      epoch = omega arith;
+      number = omega arith;
+      argument = omega arith;
+      echo = omega arith;
+      boot = omega arith;
+      sequence = omega arith;
+    }
 small from to tree (body.Drop d x e) h =
     let a = and_parts (is_domain d) _ h in
     let b = and_parts (is_party x) (is_grant_epoch e) a.1 in
@@ -169,7 +196,17 @@ small from to tree (body.Drop d x e) h =
     let s = between_of 1 128 d a.0 in
     let n = party_small x b.0 in
     let l = le_of e last_epoch c.0 in
-    record { subject = omega arith; holder = omega arith; code = omega arith; epoch = omega arith; number = omega arith; argument = omega arith; echo = omega arith; boot = omega arith; sequence = omega arith }
+    record {
+      subject = omega arith;
+      holder = omega arith;
+      code = omega arith;
+      epoch = omega arith;
+      number = omega arith;
+      argument = omega arith;
+      echo = omega arith;
+      boot = omega arith;
+      sequence = omega arith;
+    }
 small from to tree (body.Run d x e m c) h =
     let a = and_parts (is_domain d) _ h in
     let b = and_parts (is_party x) _ a.1 in
@@ -182,7 +219,17 @@ small from to tree (body.Run d x e m c) h =
     let o = between_of 1 last_number m j.0 in
     let v = verb_small c in
     let w = argument_small c j.1 in
-    record { subject = omega arith; holder = omega arith; code = omega arith; epoch = omega arith; number = omega arith; argument = omega arith; echo = omega arith; boot = omega arith; sequence = omega arith }
+    record {
+      subject = omega arith;
+      holder = omega arith;
+      code = omega arith;
+      epoch = omega arith;
+      number = omega arith;
+      argument = omega arith;
+      echo = omega arith;
+      boot = omega arith;
+      sequence = omega arith;
+    }
 small from to tree (body.Tell d r) h =
     let a = and_parts (is_domain d) _ h in
     let b = and_parts (holder.is_in_range r.holder) _ a.1 in
@@ -194,12 +241,32 @@ small from to tree (body.Tell d r) h =
     let v = outcome_small r.outcome c.0 in
     let l = le_of r.epoch last_epoch g.0 in
     let o = le_of r.last last_number i.0 in
-    record { subject = omega arith; holder = omega arith; code = omega arith; epoch = omega arith; number = omega arith; argument = omega arith; echo = omega arith; boot = omega arith; sequence = omega arith }
+    record {
+      subject = omega arith;
+      holder = omega arith;
+      code = omega arith;
+      epoch = omega arith;
+      number = omega arith;
+      argument = omega arith;
+      echo = omega arith;
+      boot = omega arith;
+      sequence = omega arith;
+    }
 small from to tree (body.Watch x e) h =
     let a = and_parts (is_object x) (is_boot e) h in
     let s = between_of 1 640 x a.0 in
     let n = between_of 1 4000000000 e a.1 in
-    record { subject = omega arith; holder = omega arith; code = omega arith; epoch = omega arith; number = omega arith; argument = omega arith; echo = omega arith; boot = omega arith; sequence = omega arith }
+    record {
+      subject = omega arith;
+      holder = omega arith;
+      code = omega arith;
+      epoch = omega arith;
+      number = omega arith;
+      argument = omega arith;
+      echo = omega arith;
+      boot = omega arith;
+      sequence = omega arith;
+    }
 small from to tree (body.State x e v t) h =
     let a = and_parts (is_object x) _ h in
     let b = and_parts (is_boot e) _ a.1 in
@@ -210,12 +277,32 @@ small from to tree (body.State x e v t) h =
     let o = between_of 1 4000000000 v.boot g.0 in
     let l = le_of v.sequence 4000000000 g.1 in
     let w = between_of 1 64 t c.1 in
-    record { subject = omega arith; holder = omega arith; code = omega arith; epoch = omega arith; number = omega arith; argument = omega arith; echo = omega arith; boot = omega arith; sequence = omega arith }
+    record {
+      subject = omega arith;
+      holder = omega arith;
+      code = omega arith;
+      epoch = omega arith;
+      number = omega arith;
+      argument = omega arith;
+      echo = omega arith;
+      boot = omega arith;
+      sequence = omega arith;
+    }
 small from to tree (body.Unwatch x e) h =
     let a = and_parts (is_object x) (is_boot e) h in
     let s = between_of 1 640 x a.0 in
     let n = between_of 1 4000000000 e a.1 in
-    record { subject = omega arith; holder = omega arith; code = omega arith; epoch = omega arith; number = omega arith; argument = omega arith; echo = omega arith; boot = omega arith; sequence = omega arith }
+    record {
+      subject = omega arith;
+      holder = omega arith;
+      code = omega arith;
+      epoch = omega arith;
+      number = omega arith;
+      argument = omega arith;
+      echo = omega arith;
+      boot = omega arith;
+      sequence = omega arith;
+    }
 
 from_again : (from to tree : ℕ) (b : Body) → (fields_of from to tree b).from ≡ from
 from_again from to tree (body.Ask d) = refl
@@ -253,11 +340,29 @@ pub record AddressAgain (f t n : ℕ) (b : Body) : Type 0 where
   pub tree : (fields_of f t n b).tree ≡ n
 
 pub address_again : (from to tree : ℕ) (b : Body) → AddressAgain from to tree b
-address_again from to tree b = record { from = from_again from to tree b; to = to_again from to tree b; tree = tree_again from to tree b }
+address_again from to tree b = record {
+  from = from_again from to tree b;
+  to = to_again from to tree b;
+  tree = tree_again from to tree b;
+}
 
-pub fit : (from to tree : ℕ) (b : Body) → is_addressed from to tree ≡ true → is_body b ≡ true → Fit (fields_of from to tree b)
+pub fit : (from to tree : ℕ) (b : Body) → is_addressed from to tree ≡ true → is_body b ≡ true
+    → Fit (fields_of from to tree b)
 fit from to tree b g h =
     let a = addressed from to tree g in
     let s = small from to tree b h in
     let i = address_again from to tree b in
-    record { from = omega arith; to = omega arith; subject = omega arith; holder = omega arith; code = omega arith; epoch = omega arith; number = omega arith; argument = omega arith; tree = omega arith; echo = omega arith; boot = omega arith; sequence = omega arith }
+    record {
+      from = omega arith;
+      to = omega arith;
+      subject = omega arith;
+      holder = omega arith;
+      code = omega arith;
+      epoch = omega arith;
+      number = omega arith;
+      argument = omega arith;
+      tree = omega arith;
+      echo = omega arith;
+      boot = omega arith;
+      sequence = omega arith;
+    }

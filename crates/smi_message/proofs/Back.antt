@@ -18,20 +18,25 @@ use Rattle.smi_message.specs.declared.datagram.Body.{Body}
 use Rattle.smi_message.specs.declared.datagram.Body.TheVariants as body
 use Rattle.smi_message.specs.Message.{is_between}
 use Rattle.smi_message.specs.Spelling.{is_kind}
-use Rattle.smi_message.specs.Kinds.{fields_of, body_at, holder_at, command_in, command_at, told_at, take_at, drop_at, run_at, tell_at, state_at, layout_of, is_zero_unless, uses_grant, is_grant_zero, is_command_zero, is_watch_zero, is_rest_zero}
+use Rattle.smi_message.specs.Kinds.{fields_of, body_at, holder_at, command_in, command_at, told_at, take_at, drop_at}
+use Rattle.smi_message.specs.Kinds.{run_at, tell_at, state_at, layout_of, is_zero_unless, uses_grant, is_grant_zero}
+use Rattle.smi_message.specs.Kinds.{is_command_zero, is_watch_zero, is_rest_zero}
 use Rattle.smi_message.proofs.Bytes.{Agree, same}
 
 -- ---- which branch gave something
 
-if_some : {A : Type 0} (b : Bool) (x y : Option A) (a : A) → (if b then x else y) ≡ Some a → ((b ≡ true) × (x ≡ Some a)) ⊎ ((b ≡ false) × (y ≡ Some a))
+if_some : {A : Type 0} (b : Bool) (x y : Option A) (a : A) → (if b then x else y) ≡ Some a
+    → ((b ≡ true) × (x ≡ Some a)) ⊎ ((b ≡ false) × (y ≡ Some a))
 if_some true x y a e = inl (refl, e)
 if_some false x y a e = inr (refl, e)
 
-map_some : {A B : Type 0} (g : A → B) (o : Option A) (b : B) → option_map g o ≡ Some b → (a : A) × (o ≡ Some a) × (g a ≡ b)
+map_some : {A B : Type 0} (g : A → B) (o : Option A) (b : B) → option_map g o ≡ Some b
+    → (a : A) × (o ≡ Some a) × (g a ≡ b)
 map_some g None b e = absurd cc
 map_some g (Some a) b e = let i : g a ≡ b = cc in (a, refl, i)
 
-then_some : {A B : Type 0} (g : A → Option B) (o : Option A) (b : B) → option_and_then g o ≡ Some b → (a : A) × (o ≡ Some a) × (g a ≡ Some b)
+then_some : {A B : Type 0} (g : A → Option B) (o : Option A) (b : B) → option_and_then g o ≡ Some b
+    → (a : A) × (o ≡ Some a) × (g a ≡ Some b)
 then_some g None b e = absurd cc
 then_some g (Some a) b e = (a, refl, e)
 
@@ -48,13 +53,16 @@ holder_back : (k n : ℕ) (h : Holder) → holder_of k n ≡ Some h → SameHold
 holder_back k n h e =
     elim (if_some (k == 0) _ _ h e) [
       | inl p ↦ elim (if_some (n == 0) (Some Free) None h p.1) [
-        | inl q ↦ let k0 = eqb-true _ _ p.0 in let n0 = eqb-true _ _ q.0 in let i = some_is Free h q.1 in record { kind = ap kind_of (sym i) ∙ sym k0; number = ap number_of (sym i) ∙ sym n0 }
+        | inl q ↦ let k0 = eqb-true _ _ p.0 in let n0 = eqb-true _ _ q.0 in let i = some_is Free h q.1 in
+            record { kind = ap kind_of (sym i) ∙ sym k0; number = ap number_of (sym i) ∙ sym n0 }
         | inr q ↦ absurd cc
       ]
       | inr p ↦ elim (if_some (k == 1) (Some (Operator n)) _ h p.1) [
-        | inl q ↦ let k1 = eqb-true _ _ q.0 in let i = some_is (Operator n) h q.1 in record { kind = ap kind_of (sym i) ∙ sym k1; number = ap number_of (sym i) }
+        | inl q ↦ let k1 = eqb-true _ _ q.0 in let i = some_is (Operator n) h q.1 in
+            record { kind = ap kind_of (sym i) ∙ sym k1; number = ap number_of (sym i) }
         | inr q ↦ elim (if_some (k == 2) (Some (Domain n)) None h q.1) [
-          | inl r ↦ let k2 = eqb-true _ _ r.0 in let i = some_is (Domain n) h r.1 in record { kind = ap kind_of (sym i) ∙ sym k2; number = ap number_of (sym i) }
+          | inl r ↦ let k2 = eqb-true _ _ r.0 in let i = some_is (Domain n) h r.1 in
+              record { kind = ap kind_of (sym i) ∙ sym k2; number = ap number_of (sym i) }
           | inr r ↦ absurd cc
         ]
       ]
@@ -74,7 +82,8 @@ record SameCommand (v n : ℕ) (c : Command) : Type 0 where
   verb : verb_of c ≡ v
   argument : argument_of c ≡ n
 
-verb_is : (v m n : ℕ) (c d : Command) → (v == m) ≡ true → Some c ≡ Some d → verb_of c ≡ m → argument_of c ≡ n → SameCommand v n d
+verb_is : (v m n : ℕ) (c d : Command) → (v == m) ≡ true → Some c ≡ Some d → verb_of c ≡ m → argument_of c ≡ n
+    → SameCommand v n d
 verb_is v m n c d t e vm an =
     let i = some_is c d e in
     record { verb = ap verb_of (sym i) ∙ vm ∙ sym (eqb-true _ _ t); argument = ap argument_of (sym i) ∙ an }
@@ -193,7 +202,8 @@ drop_said f b k l e =
 
 run_said : (f : Fields) (b : Body) → f.kind ≡ 4 → run_at f ≡ Some b → IsSaid f b
 run_said f b k e =
-    let m = then_some (λ h. option_map (λ c. body.Run f.subject h f.epoch f.number c) (command_at f)) (holder_at f) b e in
+    let m = then_some (λ h. option_map (λ c. body.Run f.subject h f.epoch f.number c) (command_at f)) (holder_at f) b
+    e in
     let n = map_some (λ c. body.Run f.subject m.0 f.epoch f.number c) (command_at f) b m.2 in
     let s = holder_back f.holder_kind f.holder m.0 m.1 in
     let o = command_in_back f.layout f.code f.argument n.0 n.1 in
@@ -209,7 +219,8 @@ record IsTold (f : Fields) (r : Standing) : Type 0 where
 
 told_back : (f : Fields) (r : Standing) → told_at f ≡ Some r → IsTold f r
 told_back f r e =
-    let m = then_some (λ h. option_and_then (λ p. checked (standing f.epoch h f.number p f.code)) (phase_of f.phase)) (holder_at f) r e in
+    let m = then_some (λ h. option_and_then (λ p. checked (standing f.epoch h f.number p f.code)) (phase_of f.phase))
+    (holder_at f) r e in
     let n = then_some (λ p. checked (standing f.epoch m.0 f.number p f.code)) (phase_of f.phase) r m.2 in
     let i = checked_back (standing f.epoch m.0 f.number n.0 f.code) r n.2 in
     let s = holder_back f.holder_kind f.holder m.0 m.1 in
@@ -231,7 +242,8 @@ tell_said f b k l e =
 first_layout : (l k : ℕ) → is_kind l k ≡ true → (k == 4) ≡ false → l ≡ 1
 first_layout l k h n = grind (arith, nat_tests)
 
-eight : (l k : ℕ) → is_kind l k ≡ true → (k ≡ 1) ⊎ ((k ≡ 2) ⊎ ((k ≡ 3) ⊎ ((k ≡ 4) ⊎ ((k ≡ 5) ⊎ ((k ≡ 6) ⊎ ((k ≡ 7) ⊎ (k ≡ 8)))))))
+eight : (l k : ℕ) → is_kind l k ≡ true → (k ≡ 1)
+    ⊎ ((k ≡ 2) ⊎ ((k ≡ 3) ⊎ ((k ≡ 4) ⊎ ((k ≡ 5) ⊎ ((k ≡ 6) ⊎ ((k ≡ 7) ⊎ (k ≡ 8)))))))
 eight l k h = grind (arith, nat_tests)
 
 body_said : (f : Fields) (b : Body) → is_kind f.layout f.kind ≡ true → body_at f ≡ Some b → IsSaid f b
@@ -249,10 +261,13 @@ body_said f b h e =
             | inr o ↦ elim o [
               | inl k ↦ tell_said f b k (first (rw k refl)) (rw k at e)
               | inr o ↦ elim o [
-                | inl k ↦ ap (fields_of f.from f.to f.tree) (sym (some_is _ b (rw k at e))) ∙ rw (k, first (rw k refl)) refl
+                | inl k ↦ ap (fields_of f.from f.to f.tree) (sym (some_is _ b (rw k at e)))
+                    ∙ rw (k, first (rw k refl)) refl
                 | inr o ↦ elim o [
-                  | inl k ↦ ap (fields_of f.from f.to f.tree) (sym (some_is _ b (rw k at e))) ∙ rw (k, first (rw k refl)) refl
-                  | inr k ↦ ap (fields_of f.from f.to f.tree) (sym (some_is _ b (rw k at e))) ∙ rw (k, first (rw k refl)) refl
+                  | inl k ↦ ap (fields_of f.from f.to f.tree) (sym (some_is _ b (rw k at e)))
+                      ∙ rw (k, first (rw k refl)) refl
+                  | inr k ↦ ap (fields_of f.from f.to f.tree) (sym (some_is _ b (rw k at e)))
+                      ∙ rw (k, first (rw k refl)) refl
                 ]
               ]
             ]
@@ -262,5 +277,6 @@ body_said f b h e =
     ]
 
 -- what fields say has just those fields, where those that it does not use are zero
-pub fields_back : (f : Fields) (b : Body) → is_kind f.layout f.kind ≡ true → body_at f ≡ Some b → is_rest_zero f ≡ true → fields_of f.from f.to f.tree b ≡ f
+pub fields_back : (f : Fields) (b : Body) → is_kind f.layout f.kind ≡ true → body_at f ≡ Some b
+    → is_rest_zero f ≡ true → fields_of f.from f.to f.tree b ≡ f
 fields_back f b h e z = body_said f b h e ∙ used_again f z

@@ -1,10 +1,12 @@
 -- Fields that 44 bytes have spell those bytes, and fields are read as they were written.
-use Rattle.std.proofs.Common.{◌≡◌, ℕ, zero, suc, ◌+◌, ◌^◌, ◌<◌, List, [], ◌∷◌, ◌++◌, length, get_or, drop, refl, sym, ap, ◌∙◌, arith}
+use Rattle.std.proofs.Common.{◌≡◌, ℕ, zero, suc, ◌+◌, ◌^◌, ◌<◌, List, [], ◌∷◌, ◌++◌, length, get_or, drop, refl, sym}
+use Rattle.std.proofs.Common.{ap, ◌∙◌, arith}
 use Rattle.std.specs.Prelude.{slice_index}
 use Rattle.std.specs.Int.{w16, w32, w64, to_be_bytes}
 use Rattle.std.proofs.Math.Seq.{drop-cons}
 use Rattle.std.proofs.lemmas.List.{drop_all}
-use Rattle.std.proofs.lemmas.Nat.{be_bytes_2, be_bytes_4, be_bytes_8, from_be_bytes-to_be_bytes_2, from_be_bytes-to_be_bytes_4, from_be_bytes-to_be_bytes_8}
+use Rattle.std.proofs.lemmas.Nat.{be_bytes_2, be_bytes_4, be_bytes_8, from_be_bytes-to_be_bytes_2}
+use Rattle.std.proofs.lemmas.Nat.{from_be_bytes-to_be_bytes_4, from_be_bytes-to_be_bytes_8}
 use Rattle.smi_message.specs.declared.fields.Fields.{Fields}
 use Rattle.smi_message.specs.Layout.{bytes_of, fields_at, u16_at, u32_at, u64_at}
 
@@ -33,7 +35,8 @@ made layout kind from to subject holder_kind phase holder code epoch number argu
   sequence = sequence;
 }
 
-made_again : (f : Fields) → made f.layout f.kind f.from f.to f.subject f.holder_kind f.phase f.holder f.code f.epoch f.number f.argument f.tree f.echo f.boot f.sequence ≡ f
+made_again : (f : Fields) → made f.layout f.kind f.from f.to f.subject f.holder_kind f.phase f.holder f.code f.epoch
+    f.number f.argument f.tree f.echo f.boot f.sequence ≡ f
 unfolding made
 made_again f = refl
 
@@ -57,8 +60,10 @@ pub record Agree (f g : Fields) : Type 0 where
 
 pub same : (f g : Fields) → Agree f g → f ≡ g
 same f g a =
-    let t : made f.layout f.kind f.from f.to f.subject f.holder_kind f.phase f.holder f.code f.epoch f.number f.argument f.tree f.echo f.boot f.sequence
-    ≡ made g.layout g.kind g.from g.to g.subject g.holder_kind g.phase g.holder g.code g.epoch g.number g.argument g.tree g.echo g.boot g.sequence
+    let t : made f.layout f.kind f.from f.to f.subject f.holder_kind f.phase f.holder f.code f.epoch f.number
+    f.argument f.tree f.echo f.boot f.sequence
+    ≡ made g.layout g.kind g.from g.to g.subject g.holder_kind g.phase g.holder g.code g.epoch g.number g.argument
+    g.tree g.echo g.boot g.sequence
     = cc in
     sym (made_again f) ∙ t ∙ made_again g
 
@@ -89,29 +94,42 @@ two b i h =
     let t = slice_index b i ∷ slice_index b (i + 1) ∷ [] in
     be_bytes_2 t (u16_at b i) refl (small t (h i, (h (i + 1), tt))) refl
 
-four : (b : List ℕ) (i : ℕ) → IsBytes b → to_be_bytes w32 (u32_at b i) ≡ slice_index b i ∷ slice_index b (i + 1) ∷ slice_index b (i + 2) ∷ slice_index b (i + 3) ∷ []
+four : (b : List ℕ) (i : ℕ) → IsBytes b → to_be_bytes w32 (u32_at b i) ≡ slice_index b i ∷ slice_index b (i + 1)
+    ∷ slice_index b (i + 2) ∷ slice_index b (i + 3) ∷ []
 four b i h =
     let t = slice_index b i ∷ slice_index b (i + 1) ∷ slice_index b (i + 2) ∷ slice_index b (i + 3) ∷ [] in
     be_bytes_4 t (u32_at b i) refl (small t (h i, (h (i + 1), (h (i + 2), (h (i + 3), tt))))) refl
 
-eight : (b : List ℕ) (i : ℕ) → IsBytes b → to_be_bytes w64 (u64_at b i) ≡ slice_index b i ∷ slice_index b (i + 1) ∷ slice_index b (i + 2) ∷ slice_index b (i + 3) ∷ slice_index b (i + 4) ∷ slice_index b (i + 5) ∷ slice_index b (i + 6) ∷ slice_index b (i + 7) ∷ []
+eight : (b : List ℕ) (i : ℕ) → IsBytes b → to_be_bytes w64 (u64_at b i) ≡ slice_index b i ∷ slice_index b (i + 1)
+    ∷ slice_index b (i + 2) ∷ slice_index b (i + 3) ∷ slice_index b (i + 4) ∷ slice_index b (i + 5)
+    ∷ slice_index b (i + 6) ∷ slice_index b (i + 7) ∷ []
 eight b i h =
-    let t = slice_index b i ∷ slice_index b (i + 1) ∷ slice_index b (i + 2) ∷ slice_index b (i + 3) ∷ slice_index b (i + 4) ∷ slice_index b (i + 5) ∷ slice_index b (i + 6) ∷ slice_index b (i + 7) ∷ [] in
-    be_bytes_8 t (u64_at b i) refl (small t (h i, (h (i + 1), (h (i + 2), (h (i + 3), (h (i + 4), (h (i + 5), (h (i + 6), (h (i + 7), tt))))))))) refl
+    let t = slice_index b i ∷ slice_index b (i + 1) ∷ slice_index b (i + 2) ∷ slice_index b (i + 3)
+    ∷ slice_index b (i + 4) ∷ slice_index b (i + 5) ∷ slice_index b (i + 6) ∷ slice_index b (i + 7) ∷ [] in
+    be_bytes_8 t (u64_at b i) refl
+    (small t (h i, (h (i + 1), (h (i + 2), (h (i + 3), (h (i + 4), (h (i + 5), (h (i + 6), (h (i + 7), tt)))))))))
+    refl
 
-joined : List ℕ → List ℕ → List ℕ → List ℕ → List ℕ → List ℕ → List ℕ → List ℕ → List ℕ → List ℕ → List ℕ → List ℕ → List ℕ → List ℕ → List ℕ
+joined : List ℕ → List ℕ → List ℕ → List ℕ → List ℕ → List ℕ → List ℕ → List ℕ → List ℕ → List ℕ → List ℕ → List ℕ
+    → List ℕ → List ℕ → List ℕ
 joined a b c d e f g h i j k l m n = a ++ b ++ c ++ d ++ e ++ f ++ g ++ h ++ i ++ j ++ k ++ l ++ m ++ n
 
-bytes_joined : (f : Fields) → bytes_of f ≡ joined (0x53 ∷ 0x4D ∷ f.layout ∷ f.kind ∷ []) (to_be_bytes w16 f.from) (to_be_bytes w16 f.to) (to_be_bytes w16 f.subject) (f.holder_kind ∷ f.phase ∷ []) (to_be_bytes w16 f.holder) (to_be_bytes w16 f.code) (to_be_bytes w64 f.epoch) (to_be_bytes w32 f.number) (to_be_bytes w16 f.argument) (to_be_bytes w16 f.tree) (to_be_bytes w32 f.echo) (to_be_bytes w32 f.boot) (to_be_bytes w32 f.sequence)
+bytes_joined : (f : Fields) → bytes_of f ≡ joined (0x53 ∷ 0x4D ∷ f.layout ∷ f.kind ∷ []) (to_be_bytes w16 f.from)
+    (to_be_bytes w16 f.to) (to_be_bytes w16 f.subject) (f.holder_kind ∷ f.phase ∷ []) (to_be_bytes w16 f.holder)
+    (to_be_bytes w16 f.code) (to_be_bytes w64 f.epoch) (to_be_bytes w32 f.number) (to_be_bytes w16 f.argument)
+    (to_be_bytes w16 f.tree) (to_be_bytes w32 f.echo) (to_be_bytes w32 f.boot) (to_be_bytes w32 f.sequence)
 unfolding joined
 bytes_joined f = refl
 
-cells_joined : (b : List ℕ) → joined (cells 4 0 b) (cells 2 4 b) (cells 2 6 b) (cells 2 8 b) (cells 2 10 b) (cells 2 12 b) (cells 2 14 b) (cells 8 16 b) (cells 4 24 b) (cells 2 28 b) (cells 2 30 b) (cells 4 32 b) (cells 4 36 b) (cells 4 40 b) ≡ cells 44 0 b
+cells_joined : (b : List ℕ) → joined (cells 4 0 b) (cells 2 4 b) (cells 2 6 b) (cells 2 8 b) (cells 2 10 b)
+    (cells 2 12 b) (cells 2 14 b) (cells 8 16 b) (cells 4 24 b) (cells 2 28 b) (cells 2 30 b) (cells 4 32 b)
+    (cells 4 36 b) (cells 4 40 b) ≡ cells 44 0 b
 unfolding joined
 cells_joined b = refl
 
 -- 44 bytes that begin as a datagram does are what their fields spell
-pub bytes_again : (b : List ℕ) → length b ≡ 44 → IsBytes b → slice_index b 0 ≡ 0x53 → slice_index b 1 ≡ 0x4D → bytes_of (fields_at b) ≡ b
+pub bytes_again : (b : List ℕ) → length b ≡ 44 → IsBytes b → slice_index b 0 ≡ 0x53 → slice_index b 1 ≡ 0x4D
+    → bytes_of (fields_at b) ≡ b
 bytes_again b l h s m =
     let head : 0x53 ∷ 0x4D ∷ slice_index b 2 ∷ slice_index b 3 ∷ [] ≡ cells 4 0 b = cc in
     let from : to_be_bytes w16 (u16_at b 4) ≡ cells 2 4 b = two b 4 h in
@@ -126,8 +144,13 @@ bytes_again b l h s m =
     let echo : to_be_bytes w32 (u32_at b 32) ≡ cells 4 32 b = four b 32 h in
     let boot : to_be_bytes w32 (u32_at b 36) ≡ cells 4 36 b = four b 36 h in
     let sequence : to_be_bytes w32 (u32_at b 40) ≡ cells 4 40 b = four b 40 h in
-    let all : joined (0x53 ∷ 0x4D ∷ slice_index b 2 ∷ slice_index b 3 ∷ []) (to_be_bytes w16 (u16_at b 4)) (to_be_bytes w16 (u16_at b 6)) (to_be_bytes w16 (u16_at b 8)) (slice_index b 10 ∷ slice_index b 11 ∷ []) (to_be_bytes w16 (u16_at b 12)) (to_be_bytes w16 (u16_at b 14)) (to_be_bytes w64 (u64_at b 16)) (to_be_bytes w32 (u32_at b 24)) (to_be_bytes w16 (u16_at b 28)) (to_be_bytes w16 (u16_at b 30)) (to_be_bytes w32 (u32_at b 32)) (to_be_bytes w32 (u32_at b 36)) (to_be_bytes w32 (u32_at b 40))
-    ≡ joined (cells 4 0 b) (cells 2 4 b) (cells 2 6 b) (cells 2 8 b) (cells 2 10 b) (cells 2 12 b) (cells 2 14 b) (cells 8 16 b) (cells 4 24 b) (cells 2 28 b) (cells 2 30 b) (cells 4 32 b) (cells 4 36 b) (cells 4 40 b)
+    let all : joined (0x53 ∷ 0x4D ∷ slice_index b 2 ∷ slice_index b 3 ∷ []) (to_be_bytes w16 (u16_at b 4))
+    (to_be_bytes w16 (u16_at b 6)) (to_be_bytes w16 (u16_at b 8)) (slice_index b 10 ∷ slice_index b 11 ∷ [])
+    (to_be_bytes w16 (u16_at b 12)) (to_be_bytes w16 (u16_at b 14)) (to_be_bytes w64 (u64_at b 16))
+    (to_be_bytes w32 (u32_at b 24)) (to_be_bytes w16 (u16_at b 28)) (to_be_bytes w16 (u16_at b 30))
+    (to_be_bytes w32 (u32_at b 32)) (to_be_bytes w32 (u32_at b 36)) (to_be_bytes w32 (u32_at b 40))
+    ≡ joined (cells 4 0 b) (cells 2 4 b) (cells 2 6 b) (cells 2 8 b) (cells 2 10 b) (cells 2 12 b) (cells 2 14 b)
+    (cells 8 16 b) (cells 4 24 b) (cells 2 28 b) (cells 2 30 b) (cells 4 32 b) (cells 4 36 b) (cells 4 40 b)
     = rw (head, from, to, subject, holder, code, epoch, number, argument, tree, echo, boot, sequence) refl in
     bytes_joined (fields_at b) ∙ all ∙ cells_joined b ∙ cells-all 44 0 b (sym l)
 

@@ -1,5 +1,6 @@
 -- The fields of each kind of datagram, and what they say.
-use Rattle.std.specs.Prelude.{ℕ, ◌&&◌, ◌||◌, ◌==◌, Bool, true, false, if◌then◌else◌, Option, Some, None, option_and_then}
+use Rattle.std.specs.Prelude.{ℕ, ◌&&◌, ◌||◌, ◌==◌, Bool, true, false, if◌then◌else◌, Option, Some, None}
+use Rattle.std.specs.Prelude.{option_and_then}
 use Rattle.std.specs.Option.{option_map}
 use Rattle.smi_grant.specs.declared.Holder.{Holder}
 use Rattle.smi_grant.specs.declared.Command.{Command}
@@ -57,9 +58,20 @@ fields_of from to tree (body.Take d h seen) =
 fields_of from to tree (body.Drop d h e) =
     record (about_grant 3 from to tree d h) { epoch = e }
 fields_of from to tree (body.Run d h e n c) =
-    record (about_grant 4 from to tree d h) { layout = layout_of c; code = verb_of c; epoch = e; number = n; argument = argument_of c }
+    record (about_grant 4 from to tree d h) {
+      layout = layout_of c;
+      code = verb_of c;
+      epoch = e;
+      number = n;
+      argument = argument_of c;
+    }
 fields_of from to tree (body.Tell d r) =
-    record (about_grant 5 from to tree d r.holder) { phase = phase_number r.phase; code = r.outcome; epoch = r.epoch; number = r.last }
+    record (about_grant 5 from to tree d r.holder) {
+      phase = phase_number r.phase;
+      code = r.outcome;
+      epoch = r.epoch;
+      number = r.last;
+    }
 fields_of from to tree (body.Watch x echo) = record (plain 6 from to tree x) { echo = echo }
 fields_of from to tree (body.State x echo v s) =
     record (plain 7 from to tree x) { code = s; echo = echo; boot = v.boot; sequence = v.sequence }
@@ -80,7 +92,8 @@ command_at f = command_in f.layout f.code f.argument
 -- the record that is told
 abbrev pub told_at : Fields → Option Standing
 told_at f =
-    option_and_then (λ h. option_and_then (λ p. checked (standing f.epoch h f.number p f.code)) (phase_of f.phase)) (holder_at f)
+    option_and_then (λ h. option_and_then (λ p. checked (standing f.epoch h f.number p f.code)) (phase_of f.phase))
+    (holder_at f)
 
 abbrev pub take_at : Fields → Option Body
 take_at f = option_map (λ h. body.Take f.subject h f.epoch) (holder_at f)

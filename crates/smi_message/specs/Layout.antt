@@ -6,7 +6,8 @@ use Rattle.smi_message.specs.declared.fields.Fields.{Fields}
 -- the bytes, in the order of their places: `S`, `M`, and then the fields
 abbrev pub bytes_of : Fields → List ℕ
 bytes_of f =
-    (0x53 ∷ 0x4D ∷ f.layout ∷ f.kind ∷ []) ++ to_be_bytes w16 f.from ++ to_be_bytes w16 f.to ++ to_be_bytes w16 f.subject
+    (0x53 ∷ 0x4D ∷ f.layout ∷ f.kind ∷ []) ++ to_be_bytes w16 f.from ++ to_be_bytes w16 f.to
+    ++ to_be_bytes w16 f.subject
     ++ (f.holder_kind ∷ f.phase ∷ []) ++ to_be_bytes w16 f.holder ++ to_be_bytes w16 f.code ++ to_be_bytes w64 f.epoch
     ++ to_be_bytes w32 f.number ++ to_be_bytes w16 f.argument ++ to_be_bytes w16 f.tree ++ to_be_bytes w32 f.echo
     ++ to_be_bytes w32 f.boot ++ to_be_bytes w32 f.sequence
@@ -16,12 +17,14 @@ abbrev pub u16_at : List ℕ → ℕ → ℕ
 u16_at b i = from_be_bytes w16 (slice_index b i ∷ slice_index b (i + 1) ∷ [])
 
 abbrev pub u32_at : List ℕ → ℕ → ℕ
-u32_at b i = from_be_bytes w32 (slice_index b i ∷ slice_index b (i + 1) ∷ slice_index b (i + 2) ∷ slice_index b (i + 3) ∷ [])
+u32_at b i =
+    from_be_bytes w32 (slice_index b i ∷ slice_index b (i + 1) ∷ slice_index b (i + 2) ∷ slice_index b (i + 3) ∷ [])
 
 abbrev pub u64_at : List ℕ → ℕ → ℕ
 u64_at b i =
     from_be_bytes w64
-    (slice_index b i ∷ slice_index b (i + 1) ∷ slice_index b (i + 2) ∷ slice_index b (i + 3) ∷ slice_index b (i + 4) ∷ slice_index b (i + 5) ∷ slice_index b (i + 6) ∷ slice_index b (i + 7) ∷ [])
+    (slice_index b i ∷ slice_index b (i + 1) ∷ slice_index b (i + 2) ∷ slice_index b (i + 3) ∷ slice_index b (i + 4)
+    ∷ slice_index b (i + 5) ∷ slice_index b (i + 6) ∷ slice_index b (i + 7) ∷ [])
 
 -- what the bytes say at each place
 abbrev pub fields_at : List ℕ → Fields

@@ -1,5 +1,6 @@
 -- The one spelling of each datagram, and the first test that other bytes fail.
-use Rattle.std.specs.Prelude.{ℕ, ◌&&◌, ◌||◌, ◌==◌, Bool, if◌then◌else◌, List, length, slice_index, Option, Some, None, Result, Ok, Err}
+use Rattle.std.specs.Prelude.{ℕ, ◌&&◌, ◌||◌, ◌==◌, Bool, if◌then◌else◌, List, length, slice_index, Option, Some, None}
+use Rattle.std.specs.Prelude.{Result, Ok, Err}
 use Rattle.smi_message.specs.declared.bad.Bad.{Bad}
 use Rattle.smi_message.specs.declared.bad.Bad.TheVariants as bad
 use Rattle.smi_message.specs.declared.datagram.Body.{Body}
@@ -18,7 +19,8 @@ message_of f b = record { from = f.from; to = f.to; tree = f.tree; body = b }
 abbrev pub message_where : Fields → Option Body → Result Message Bad
 message_where f None = Err bad.Range
 message_where f (Some b) =
-    if is_message (message_of f b) then (if is_rest_zero f then Ok (message_of f b) else Err bad.Unused) else Err bad.Range
+    if is_message (message_of f b) then (if is_rest_zero f then Ok (message_of f b) else Err bad.Unused)
+    else Err bad.Range
 
 unfoldable pub message_at : Fields → Result Message Bad
 message_at f = message_where f (body_at f)

@@ -1,15 +1,20 @@
 use crate::Bad;
+use thiserror::Error;
 
 /// Why a station refuses what it received. It then changes and sends nothing.
-#[derive(Clone, Copy, Debug, PartialEq, Eq)]
+#[derive(Clone, Copy, Debug, PartialEq, Eq, Error)]
 pub enum Refusal {
     /// The bytes are no datagram.
+    #[error(transparent)]
     Bad(Bad),
     /// The datagram is of another tree.
+    #[error("7: a datagram of another tree")]
     OtherTree,
     /// The datagram is for another station.
+    #[error("8: a datagram for another station")]
     OtherStation,
     /// The datagram names what is not there, or comes from whom it may not come.
+    #[error("9: it names what is not there, or comes from the wrong station")]
     Unknown,
 }
 

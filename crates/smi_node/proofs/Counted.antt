@@ -1,5 +1,6 @@
 -- What whole turns leave of the link: what was received, and how often it failed.
-use Rattle.std.proofs.Common.{◌≡◌, ℕ, zero, suc, ◌+◌, ◌≤◌, List, [], ◌∷◌, ◌++◌, Option, Some, None, Result, refl, sym, ap, subst, ◌∙◌, append-nil, append_assoc, arith}
+use Rattle.std.proofs.Common.{◌≡◌, ℕ, zero, suc, ◌+◌, ◌≤◌, List, [], ◌∷◌, ◌++◌, Option, Some, None, Result, refl, sym}
+use Rattle.std.proofs.Common.{ap, subst, ◌∙◌, append-nil, append_assoc, arith}
 use Rattle.std.specs.Prelude.{IfSome}
 use Rattle.smi_protocol.specs.Step.{Out}
 use Rattle.smi_protocol.specs.declared.event.Event.{Event}
@@ -9,7 +10,8 @@ use Rattle.smi_protocol.specs.declared.event.StepFault.{StepFault}
 use Rattle.smi_operator.specs.Sides.{seat_count}
 use Rattle.smi_node.specs.Carried.{Edges, Node}
 use Rattle.smi_node.specs.Linked.{LinkShows}
-use Rattle.smi_node.specs.Served.{AreFailed, Coming, Came, Quiet, Failed, Hears, ServesSeats, TakesTurns, Turns, came_in, came_with, carrying, failed_in, failed_with, speaker, with_link}
+use Rattle.smi_node.specs.Served.{AreFailed, Coming, Came, Quiet, Failed, Hears, ServesSeats, TakesTurns, Turns}
+use Rattle.smi_node.specs.Served.{came_in, came_with, carrying, failed_in, failed_with, speaker, with_link}
 use Rattle.smi_node.proofs.Edges.{IsKept, carry_keeps, kept_twice, seat_keeps}
 
 -- what a link tells, and its count, grow by this
@@ -21,21 +23,24 @@ nothing_more : (r : Option (List (List ℕ))) → IfSome r (λ xs. r ≡ Some (x
 nothing_more (Some xs) = ap Some (sym (append-nil xs))
 nothing_more None = tt
 
-joined : (r s t : Option (List (List ℕ))) (one two : List (List ℕ)) → IfSome r (λ xs. s ≡ Some (xs ++ one)) → IfSome s (λ xs. t ≡ Some (xs ++ two)) → IfSome r (λ xs. t ≡ Some (xs ++ (one ++ two)))
+joined : (r s t : Option (List (List ℕ))) (one two : List (List ℕ)) → IfSome r (λ xs. s ≡ Some (xs ++ one))
+    → IfSome s (λ xs. t ≡ Some (xs ++ two)) → IfSome r (λ xs. t ≡ Some (xs ++ (one ++ two)))
 joined None s t one two first rest = tt
 joined (Some xs) s t one two first rest = (rw first at rest) ∙ ap Some (append_assoc xs one two)
 
 pub no_growth : (a : LinkShows) → Grows [] 0 a a
 no_growth a = record { received = nothing_more a.received; failures = omega arith }
 
-pub grows_twice : (one two : List (List ℕ)) (m n : ℕ) (a b c : LinkShows) → Grows one m a b → Grows two n b c → Grows (one ++ two) (m + n) a c
+pub grows_twice : (one two : List (List ℕ)) (m n : ℕ) (a b c : LinkShows) → Grows one m a b → Grows two n b c
+    → Grows (one ++ two) (m + n) a c
 grows_twice one two m n a b c x y = record {
   received = joined a.received b.received c.received one two x.received y.received;
   failures = (let p = x.failures in let q = y.failures in omega (arith, p, q));
 }
 
 -- where what was received is kept, nothing comes
-kept_grows : (came : List (List ℕ)) (failed : ℕ) (a : LinkShows) (b c : Edges) → Grows came failed a b.link → IsKept b c → Grows came failed a c.link
+kept_grows : (came : List (List ℕ)) (failed : ℕ) (a : LinkShows) (b c : Edges) → Grows came failed a b.link
+    → IsKept b c → Grows came failed a c.link
 kept_grows came failed a b c x y = record {
   received = subst (λ r. IfSome a.received (λ xs. r ≡ Some (xs ++ came))) (sym y.received) x.received;
   failures = (let p = x.failures in let q = y.failures in omega (arith, p, q));
@@ -44,37 +49,48 @@ kept_grows came failed a b c x y = record {
 abbrev StepsIn : Type 0 → Type 1
 StepsIn T = T → Event → T → Out → Result Heard StepFault → Type 0
 
-hears : {T : Type 0} (S : StepsIn T) (operators : List ℕ) (coming : Coming) (a b : Node T) → Hears (carrying S operators) coming a b None
+hears : {T : Type 0} (S : StepsIn T) (operators : List ℕ) (coming : Coming) (a b : Node T)
+    → Hears (carrying S operators) coming a b None
     → Grows (came_with coming) (failed_with coming) a.edges.link b.edges.link
 hears S operators (Came bytes) a b heard =
     let kept = carry_keeps S operators heard.2 None (with_link a heard.0) b None heard.4 in
     let counts = heard.1.2 in
-    kept_grows (bytes ∷ []) 0 a.edges.link (with_link a heard.0).edges b.edges (record { received = heard.1.0; failures = omega (arith, counts) }) kept
-hears S operators Quiet a b heard = kept_grows [] 0 a.edges.link a.edges b.edges (no_growth a.edges.link) (carry_keeps S operators event.Tick None a b None heard)
+    kept_grows (bytes ∷ []) 0 a.edges.link (with_link a heard.0).edges b.edges
+    (record { received = heard.1.0; failures = omega (arith, counts) }) kept
+hears S operators Quiet a b heard = kept_grows [] 0 a.edges.link a.edges b.edges (no_growth a.edges.link)
+    (carry_keeps S operators event.Tick None a b None heard)
 hears {T} S operators Failed a b heard = record {
-  received = subst (λ r. IfSome a.edges.link.received (λ xs. r ≡ Some (xs ++ []))) (sym (ap (λ (n : Node T). n.edges.link.received) heard.1)) (nothing_more a.edges.link.received);
+  received = subst (λ r. IfSome a.edges.link.received (λ xs. r ≡ Some (xs ++ [])))
+      (sym (ap (λ (n : Node T). n.edges.link.received) heard.1)) (nothing_more a.edges.link.received);
   failures = (let n = ap (λ (n : Node T). n.edges.link.failures) heard.1 in omega (arith, n));
 }
 
 same_edges : (e : Edges) → IsKept e e
 same_edges e = record { seats = refl; received = refl; failures = omega arith }
 
-seats : {T : Type 0} (S : StepsIn T) (operators : List ℕ) (all many : ℕ) (a b : Node T) → ServesSeats (carrying S operators) operators all many a b → IsKept a.edges b.edges
+seats : {T : Type 0} (S : StepsIn T) (operators : List ℕ) (all many : ℕ) (a b : Node T)
+    → ServesSeats (carrying S operators) operators all many a b → IsKept a.edges b.edges
 seats {T} S operators all zero a b same = subst (λ (n : Node T). IsKept a.edges n.edges) (sym same) (same_edges a.edges)
 seats S operators all (suc seat) a b served =
-    kept_twice a.edges served.0.edges b.edges (seats S operators all seat a served.0 served.1) (seat_keeps S operators (speaker operators all seat) seat served.0 b None served.2)
+    kept_twice a.edges served.0.edges b.edges (seats S operators all seat a served.0 served.1)
+    (seat_keeps S operators (speaker operators all seat) seat served.0 b None served.2)
 
-turn : {T : Type 0} (S : StepsIn T) (operators : List ℕ) (coming : Coming) (a b : Node T) → Turns (carrying S operators) operators coming a b None
+turn : {T : Type 0} (S : StepsIn T) (operators : List ℕ) (coming : Coming) (a b : Node T)
+    → Turns (carrying S operators) operators coming a b None
     → Grows (came_with coming) (failed_with coming) a.edges.link b.edges.link
 turn S operators coming a b made =
     let n = seat_count made.0.edges.desk in
-    kept_grows (came_with coming) (failed_with coming) a.edges.link made.0.edges b.edges (hears S operators coming a made.0 made.1) (seats S operators n n made.0 b made.2)
+    kept_grows (came_with coming) (failed_with coming) a.edges.link made.0.edges b.edges
+    (hears S operators coming a made.0 made.1) (seats S operators n n made.0 b made.2)
 
-pub turns_count : {T : Type 0} (S : StepsIn T) (operators : List ℕ) (comings : List Coming) (a b : Node T) → TakesTurns (carrying S operators) operators comings a b
+pub turns_count : {T : Type 0} (S : StepsIn T) (operators : List ℕ) (comings : List Coming) (a b : Node T)
+    → TakesTurns (carrying S operators) operators comings a b
     → Grows (came_in comings) (failed_in comings) a.edges.link b.edges.link
-turns_count {T} S operators [] a b same = subst (λ (n : Node T). Grows [] 0 a.edges.link n.edges.link) (sym same) (no_growth a.edges.link)
+turns_count {T} S operators [] a b same = subst (λ (n : Node T). Grows [] 0 a.edges.link n.edges.link) (sym same)
+    (no_growth a.edges.link)
 turns_count S operators (coming ∷ more) a b taken =
-    grows_twice (came_in more) (came_with coming) (failed_in more) (failed_with coming) a.edges.link taken.0.edges.link b.edges.link
+    grows_twice (came_in more) (came_with coming) (failed_in more) (failed_with coming) a.edges.link
+    taken.0.edges.link b.edges.link
     (turns_count S operators more a taken.0 taken.1) (turn S operators coming taken.0 b taken.2)
 
 -- those that failed in a row are as many of all that failed

@@ -1,5 +1,6 @@
--- What each carry leaves as it was: how many seats there are, and what was received.
-use Rattle.std.proofs.Common.{◌≡◌, ℕ, ◌≤◌, Bool, true, false, List, [], ◌∷◌, Option, Some, None, Result, ap, ◌∙◌, arith}
+-- What each carry leaves unchanged: how many seats there are, and what was received.
+use Rattle.std.proofs.Common.{◌≡◌, ℕ, ◌≤◌, Bool, true, false, List, [], ◌∷◌, Option, Some, None, Result, ap, ◌∙◌}
+use Rattle.std.proofs.Common.{arith}
 use Rattle.smi_grant.specs.Record.{Standing}
 use Rattle.smi_protocol.specs.Step.{Out}
 use Rattle.smi_protocol.specs.declared.event.Event.{Event}
@@ -27,7 +28,8 @@ pub record IsKept (before after : Edges) : Type 0 where
 
 -- The seats.
 
-ends_at : (seat : ℕ) (place : Option ℕ) (code : ℕ) (asked : Option Standing) (a b : Desk) → EndsAt seat place code asked a b → seat_count b ≡ seat_count a
+ends_at : (seat : ℕ) (place : Option ℕ) (code : ℕ) (asked : Option Standing) (a b : Desk)
+    → EndsAt seat place code asked a b → seat_count b ≡ seat_count a
 ends_at seat None code asked a b same = ap seat_count same
 ends_at seat (Some place) code asked a b steps = steps.count
 
@@ -35,11 +37,13 @@ tells_newest : (seat : Option ℕ) (code : ℕ) (a b : Desk) → TellsNewest sea
 tells_newest None code a b same = ap seat_count same
 tells_newest (Some seat) code a b told = ends_at seat (newest_of (work_at a seat)) code None a b told
 
-marks_at : (seat : ℕ) (place : Option ℕ) (m : Mark) (a b : Desk) → MarksAt seat place m a b → seat_count b ≡ seat_count a
+marks_at : (seat : ℕ) (place : Option ℕ) (m : Mark) (a b : Desk) → MarksAt seat place m a b
+    → seat_count b ≡ seat_count a
 marks_at seat None m a b same = ap seat_count same
 marks_at seat (Some place) m a b steps = steps.count
 
-marks : (seat : Option ℕ) (issued : Option Mark) (a b : Desk) → MarksNewest seat issued a b → seat_count b ≡ seat_count a
+marks : (seat : Option ℕ) (issued : Option Mark) (a b : Desk) → MarksNewest seat issued a b
+    → seat_count b ≡ seat_count a
 marks (Some seat) (Some m) a b marked = marks_at seat (newest_of (work_at a seat)) m a b marked
 marks (Some seat) None a b same = ap seat_count same
 marks None issued a b same = ap seat_count same
@@ -48,11 +52,14 @@ tells_at : (seat : Option ℕ) (x : Answer) (a b : Desk) → TellsAt seat x a b 
 tells_at None x a b same = ap seat_count same
 tells_at (Some seat) x a b told = ends_at seat told.0 x.told.code x.told.asked a b told.2
 
-tells_all : (operators : List ℕ) (xs : List Answer) (a b : Desk) → TellsAll operators xs a b → seat_count b ≡ seat_count a
+tells_all : (operators : List ℕ) (xs : List Answer) (a b : Desk) → TellsAll operators xs a b
+    → seat_count b ≡ seat_count a
 tells_all operators [] a b same = ap seat_count same
-tells_all operators (x ∷ xs) a b told = tells_all operators xs told.0 b told.2 ∙ tells_at (seat_of operators x.operator) x a told.0 told.1
+tells_all operators (x ∷ xs) a b told = tells_all operators xs told.0 b told.2
+    ∙ tells_at (seat_of operators x.operator) x a told.0 told.1
 
-tells : (operators : List ℕ) (seat code : Option ℕ) (xs : List Answer) (a b : Desk) → Tells operators seat code xs a b → seat_count b ≡ seat_count a
+tells : (operators : List ℕ) (seat code : Option ℕ) (xs : List Answer) (a b : Desk)
+    → Tells operators seat code xs a b → seat_count b ≡ seat_count a
 tells operators seat (Some code) xs a b told = tells_newest seat code a b told
 tells operators seat None xs a b told = tells_all operators xs a b told
 
@@ -63,9 +70,11 @@ sends_on ms a b sent = let e = sent.failures in omega (arith, e)
 
 -- A carry.
 
-follows : (operators : List ℕ) (seat code : Option ℕ) (handed : Out) (a b : Edges) (f : Option CarryFault) → Follows operators seat code handed a b f → IsKept a b
+follows : (operators : List ℕ) (seat code : Option ℕ) (handed : Out) (a b : Edges) (f : Option CarryFault)
+    → Follows operators seat code handed a b f → IsKept a b
 follows operators seat code handed a b None all = record {
-  seats = tells operators seat code handed.answers all.marked b.desk all.tells ∙ marks seat handed.issued a.desk all.marked all.marks;
+  seats = tells operators seat code handed.answers all.marked b.desk all.tells
+      ∙ marks seat handed.issued a.desk all.marked all.marks;
   received = all.sent.received;
   failures = sends_on handed.datagrams a.link b.link all.sent;
 }
@@ -83,15 +92,18 @@ all_kept a b same = record {
   failures = (let n = ap (λ (e : Edges). e.link.failures) same in omega (arith, n));
 }
 
-follows_step : (stopped : Bool) (operators : List ℕ) (seat code : Option ℕ) (handed : Out) (a b : Edges) (f : Option CarryFault)
+follows_step : (stopped : Bool) (operators : List ℕ) (seat code : Option ℕ) (handed : Out) (a b : Edges)
+    (f : Option CarryFault)
     → FollowsStep stopped operators seat code handed a b f → IsKept a b
 follows_step true operators seat code handed a b f none = all_kept a b none.1
 follows_step false operators seat code handed a b f all = follows operators seat code handed a b f all
 
-pub carry_keeps : {T : Type 0} (StepsBy : T → Event → T → Out → Result Heard StepFault → Type 0) (operators : List ℕ) (e : Event) (seat : Option ℕ) (a b : Node T) (f : Option CarryFault)
+pub carry_keeps : {T : Type 0} (StepsBy : T → Event → T → Out → Result Heard StepFault → Type 0) (operators : List ℕ)
+    (e : Event) (seat : Option ℕ) (a b : Node T) (f : Option CarryFault)
     → carrying StepsBy operators e seat a b f → IsKept a.edges b.edges
 carry_keeps StepsBy operators e seat a b f carried =
-    follows_step (is_stopped_by carried.1.made) operators seat (code_of (is_report e) carried.1.made) carried.0 a.edges b.edges f carried.1.follows
+    follows_step (is_stopped_by carried.1.made) operators seat (code_of (is_report e) carried.1.made) carried.0
+    a.edges b.edges f carried.1.follows
 
 -- one and then another
 pub kept_twice : (a b c : Edges) → IsKept a b → IsKept b c → IsKept a c
@@ -101,7 +113,8 @@ kept_twice a b c x y = record {
   failures = (let m = x.failures in let n = y.failures in omega (arith, m, n));
 }
 
-obeys : {T : Type 0} (StepsBy : T → Event → T → Out → Result Heard StepFault → Type 0) (operators : List ℕ) (seat : ℕ) (e : Option Event) (a b : Node T) (f : Option CarryFault)
+obeys : {T : Type 0} (StepsBy : T → Event → T → Out → Result Heard StepFault → Type 0) (operators : List ℕ)
+    (seat : ℕ) (e : Option Event) (a b : Node T) (f : Option CarryFault)
     → Obeys (carrying StepsBy operators) seat e a b f → IsKept a.edges b.edges
 obeys StepsBy operators seat (Some e) a b f carried = carry_keeps StepsBy operators e (Some seat) a b f carried
 obeys {T} StepsBy operators seat None a b f told = record {
@@ -110,13 +123,17 @@ obeys {T} StepsBy operators seat None a b f told = record {
   failures = (let n = ap (λ (n : Node T). n.edges.link.failures) told.3 in omega (arith, n));
 }
 
-obeys_given : {T : Type 0} (StepsBy : T → Event → T → Out → Result Heard StepFault → Type 0) (operators : List ℕ) (who : Option ℕ) (seat : ℕ) (given : Option Order) (a b : Node T) (f : Option CarryFault)
+obeys_given : {T : Type 0} (StepsBy : T → Event → T → Out → Result Heard StepFault → Type 0) (operators : List ℕ)
+    (who : Option ℕ) (seat : ℕ) (given : Option Order) (a b : Node T) (f : Option CarryFault)
     → ObeysGiven (carrying StepsBy operators) who seat given a b f → IsKept a.edges b.edges
-obeys_given StepsBy operators who seat (Some what) a b f carried = obeys StepsBy operators seat (event_of who what) a b f carried
-obeys_given {T} StepsBy operators who seat None a b f none = all_kept a.edges b.edges (ap (λ (n : Node T). n.edges) none.1)
+obeys_given StepsBy operators who seat (Some what) a b f carried =
+    obeys StepsBy operators seat (event_of who what) a b f carried
+obeys_given {T} StepsBy operators who seat None a b f none =
+    all_kept a.edges b.edges (ap (λ (n : Node T). n.edges) none.1)
 
 -- a seat that is served
-pub seat_keeps : {T : Type 0} (StepsBy : T → Event → T → Out → Result Heard StepFault → Type 0) (operators : List ℕ) (who : Option ℕ) (seat : ℕ) (a b : Node T) (f : Option CarryFault)
+pub seat_keeps : {T : Type 0} (StepsBy : T → Event → T → Out → Result Heard StepFault → Type 0) (operators : List ℕ)
+    (who : Option ℕ) (seat : ℕ) (a b : Node T) (f : Option CarryFault)
     → ServesSeat (carrying StepsBy operators) who seat a b f → IsKept a.edges b.edges
 seat_keeps StepsBy operators who seat a b f served =
     let rest = obeys_given StepsBy operators who seat served.0 (with_desk a served.1) b f served.3 in

@@ -27,14 +27,18 @@ abbrev pub outcome_of : Core → Event → Outcome
 outcome_of c e = after_event (tree_of c) (number_of c) (station_of c) e
 
 -- The station and its store go so from before to after in a step: all that is said of `Station::step`.
-pub record StepsTo {S : Type 0} (is_honest is_open : S → Type 0) (rows : S → Rows) (saves failures : S → ℕ) (before : Whole S) (e : Event) (after : Whole S) (handed : Out) (r : Result Heard StepFault) : Type 0 where
+pub record StepsTo {S : Type 0} (is_honest is_open : S → Type 0) (rows : S → Rows) (saves failures : S → ℕ)
+    (before : Whole S) (e : Event) (after : Whole S) (handed : Out) (r : Result Heard StepFault) : Type 0 where
   pub step : before.core.is_stopped ≡ false → Steps before.core after.core (outcome_of before.core e) handed r
-  pub store : before.core.is_stopped ≡ false → Leaves is_honest is_open rows saves failures before.store after.store r (outcome_of before.core e).saved
-  pub stored : before.core.is_stopped ≡ false → is_honest after.store → is_open before.store → IsStoredIn (rows before.store) before.core → OnOk r (IsStoredIn (rows after.store) after.core)
+  pub store : before.core.is_stopped ≡ false
+      → Leaves is_honest is_open rows saves failures before.store after.store r (outcome_of before.core e).saved
+  pub stored : before.core.is_stopped ≡ false → is_honest after.store → is_open before.store
+      → IsStoredIn (rows before.store) before.core → OnOk r (IsStoredIn (rows after.store) after.core)
   pub may_send : before.core.is_stopped ≡ false → OnOk r (MaySendAll after.core handed.datagrams)
   pub kept : IfKept r (after.core ≡ before.core)
   pub stops : IfStopped r (after.core ≡ record before.core { is_stopped = true })
-  pub stopped : before.core.is_stopped ≡ true → (r ≡ Err fault.Stopped) × (handed ≡ nothing_out) × (after.store ≡ before.store)
+  pub stopped : before.core.is_stopped ≡ true
+      → (r ≡ Err fault.Stopped) × (handed ≡ nothing_out) × (after.store ≡ before.store)
 
 -- what a station is served with: what its link shows, its desk, and what its board shows
 pub record Edges : Type 0 where
@@ -105,7 +109,10 @@ FollowsStep true operators seat code handed before after f = (f ≡ Some Stopped
 FollowsStep false operators seat code handed before after f = Follows operators seat code handed before after f
 
 -- An event is carried: it steps the station, and what follows the step does.
-pub record Carries {T : Type 0} (StepsBy : T → Event → T → Out → Result Heard StepFault → Type 0) (operators : List ℕ) (e : Event) (seat : Option ℕ) (handed : Out) (before after : Node T) (f : Option CarryFault) : Type 0 where
+pub record Carries {T : Type 0} (StepsBy : T → Event → T → Out → Result Heard StepFault → Type 0)
+    (operators : List ℕ) (e : Event) (seat : Option ℕ) (handed : Out) (before after : Node T) (f : Option CarryFault)
+    : Type 0 where
   pub made : Result Heard StepFault
   pub steps : StepsBy before.station e after.station handed made
-  pub follows : FollowsStep (is_stopped_by made) operators seat (code_of (is_report e) made) handed before.edges after.edges f
+  pub follows : FollowsStep (is_stopped_by made) operators seat (code_of (is_report e) made) handed before.edges
+      after.edges f

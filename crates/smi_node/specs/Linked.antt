@@ -9,14 +9,16 @@ pub record LinkShows : Type 0 where
   pub handed : Option (List (ℕ × List ℕ))
   pub failures : ℕ
 
-abbrev pub shown_by : {L : Type 0} → (L → Option (List (List ℕ))) → (L → Option (List (ℕ × List ℕ))) → (L → ℕ) → L → LinkShows
+abbrev pub shown_by : {L : Type 0} → (L → Option (List (List ℕ))) → (L → Option (List (ℕ × List ℕ))) → (L → ℕ) → L
+    → LinkShows
 shown_by received handed failures l = record { received = received l; handed = handed l; failures = failures l }
 
 -- a list with so many of its elements left out
 abbrev pub IsWithout : {X : Type 0} → ℕ → List X → List X → Type 0
 IsWithout lost [] kept = (lost ≡ 0) × (kept ≡ [])
 IsWithout {X} lost (x ∷ xs) kept =
-    ((rest : List X) × (kept ≡ x ∷ rest) × IsWithout lost xs rest) ⊎ ((fewer : ℕ) × (lost ≡ fewer + 1) × IsWithout fewer xs kept)
+    ((rest : List X) × (kept ≡ x ∷ rest) × IsWithout lost xs rest)
+    ⊎ ((fewer : ℕ) × (lost ≡ fewer + 1) × IsWithout fewer xs kept)
 
 -- a datagram as it is handed on: to its receiver
 abbrev pub parcel : Message → ℕ × List ℕ

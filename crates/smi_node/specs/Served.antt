@@ -1,5 +1,6 @@
 -- What a node does in its turns: a list of carries, each from where the one before left all.
-use Rattle.std.specs.Prelude.{ℕ, zero, suc, ◌≡◌, ◌<◌, ◌≤◌, ◌+◌, ◌==◌, ◌++◌, ◌⊎◌, Bool, true, false, if◌then◌else◌, List, [], ◌∷◌, length, slice_get, Option, Some, None, IfSome, Result, Ok, Err}
+use Rattle.std.specs.Prelude.{ℕ, zero, suc, ◌≡◌, ◌<◌, ◌≤◌, ◌+◌, ◌==◌, ◌++◌, ◌⊎◌, Bool, true, false, if◌then◌else◌}
+use Rattle.std.specs.Prelude.{List, [], ◌∷◌, length, slice_get, Option, Some, None, IfSome, Result, Ok, Err}
 use Rattle.smi_protocol.specs.Step.{Out}
 use Rattle.smi_protocol.specs.declared.event.Event.{Event}
 use Rattle.smi_protocol.specs.declared.event.Event.TheVariants as event
@@ -24,7 +25,8 @@ Carrying T = Event → Option ℕ → Node T → Node T → Option CarryFault �
 
 -- it is carried, whatever its step handed out
 abbrev pub carrying : {T : Type 0} → (T → Event → T → Out → Result Heard StepFault → Type 0) → List ℕ → Carrying T
-carrying StepsBy operators e seat before after f = (handed : Out) × Carries StepsBy operators e seat handed before after f
+carrying StepsBy operators e seat before after f =
+    (handed : Out) × Carries StepsBy operators e seat handed before after f
 
 abbrev pub with_link : {T : Type 0} → Node T → LinkShows → Node T
 with_link n link = node n.station (edges link n.edges.desk n.edges.board)
@@ -47,7 +49,8 @@ is_failed Failed = true
 
 -- what is received is a datagram that the link gave and tells
 abbrev pub ReceivesOne : List ℕ → LinkShows → LinkShows → Type 0
-ReceivesOne bytes before after = Grows before.received after.received bytes × (after.handed ≡ before.handed) × (after.failures ≡ before.failures)
+ReceivesOne bytes before after = Grows before.received after.received bytes × (after.handed ≡ before.handed)
+    × (after.failures ≡ before.failures)
 
 -- the event is the delivery of these bytes
 abbrev pub IsDelivery : List ℕ → Event → Type 0
@@ -59,7 +62,8 @@ IsDelivery bytes event.Tick = ⊥
 -- a datagram is carried as its delivery, nothing as a tick; of a fault the link has one more
 abbrev pub Hears : {T : Type 0} → Carrying T → Coming → Node T → Node T → Option CarryFault → Type 0
 Hears C (Came bytes) before after f =
-    (link : LinkShows) × ReceivesOne bytes before.edges.link link × (e : Event) × IsDelivery bytes e × C e None (with_link before link) after f
+    (link : LinkShows) × ReceivesOne bytes before.edges.link link × (e : Event) × IsDelivery bytes e
+    × C e None (with_link before link) after f
 Hears C Quiet before after f = C event.Tick None before after f
 Hears C Failed before after f =
     (f ≡ None) × (after ≡ with_link before (record before.edges.link { failures = before.edges.link.failures + 1 }))
@@ -84,23 +88,27 @@ not_here = 26
 abbrev pub Obeys : {T : Type 0} → Carrying T → ℕ → Option Event → Node T → Node T → Option CarryFault → Type 0
 Obeys C seat (Some e) before after f = C e (Some seat) before after f
 Obeys C seat None before after f =
-    (f ≡ None) × (desk : Desk) × TellsNewest (Some seat) not_here before.edges.desk desk × (after ≡ with_desk before desk)
+    (f ≡ None) × (desk : Desk) × TellsNewest (Some seat) not_here before.edges.desk desk
+    × (after ≡ with_desk before desk)
 
 -- an order that the seat gave is obeyed at once, if it gave one
-abbrev pub ObeysGiven : {T : Type 0} → Carrying T → Option ℕ → ℕ → Option Order → Node T → Node T → Option CarryFault → Type 0
+abbrev pub ObeysGiven : {T : Type 0} → Carrying T → Option ℕ → ℕ → Option Order → Node T → Node T → Option CarryFault
+    → Type 0
 ObeysGiven C who seat (Some what) before after f = Obeys C seat (event_of who what) before after f
 ObeysGiven C who seat None before after f = (f ≡ None) × (after ≡ before)
 
 -- a seat is served
 abbrev pub ServesSeat : {T : Type 0} → Carrying T → Option ℕ → ℕ → Node T → Node T → Option CarryFault → Type 0
 ServesSeat C who seat before after f =
-    (given : Option Order) × (desk : Desk) × Steps before.edges.desk desk seat (Gives given) × ObeysGiven C who seat given (with_desk before desk) after f
+    (given : Option Order) × (desk : Desk) × Steps before.edges.desk desk seat (Gives given)
+    × ObeysGiven C who seat given (with_desk before desk) after f
 
 -- so many seats are served, one after the other from 0
 abbrev pub ServesSeats : {T : Type 0} → Carrying T → List ℕ → (seats many : ℕ) → Node T → Node T → Type 0
 ServesSeats C operators seats zero before after = after ≡ before
 ServesSeats {T} C operators seats (suc seat) before after =
-    (between : Node T) × ServesSeats C operators seats seat before between × ServesSeat C (speaker operators seats seat) seat between after None
+    (between : Node T) × ServesSeats C operators seats seat before between
+    × ServesSeat C (speaker operators seats seat) seat between after None
 
 -- all seats are served, or those up to one that ends in a fault
 abbrev pub ServesAll : {T : Type 0} → Carrying T → List ℕ → (seats : ℕ) → Node T → Node T → Option CarryFault → Type 0
@@ -114,10 +122,12 @@ ServesAll {T} C operators seats before after (Some f) =
 -- a turn hears once and then serves the seats; it ends with the first fault
 abbrev pub Turns : {T : Type 0} → Carrying T → List ℕ → Coming → Node T → Node T → Option CarryFault → Type 0
 Turns {T} C operators coming before after None =
-    (heard : Node T) × Hears C coming before heard None × ServesAll C operators (seat_count heard.edges.desk) heard after None
+    (heard : Node T) × Hears C coming before heard None
+    × ServesAll C operators (seat_count heard.edges.desk) heard after None
 Turns {T} C operators coming before after (Some f) =
     Hears C coming before after (Some f)
-    ⊎ ((heard : Node T) × Hears C coming before heard None × ServesAll C operators (seat_count heard.edges.desk) heard after (Some f))
+    ⊎ ((heard : Node T) × Hears C coming before heard None
+    × ServesAll C operators (seat_count heard.edges.desk) heard after (Some f))
 
 -- whole turns, one after the other; what came in them stands with the newest first
 abbrev pub TakesTurns : {T : Type 0} → Carrying T → List ℕ → List Coming → Node T → Node T → Type 0
@@ -142,10 +152,14 @@ Breaks {T} C operators turns comings f before after =
     × (coming : Coming) × Turns C operators coming between after (Some f)
 
 -- all turns were made; or the last one ended in a fault, which is answered; or the link failed too often in a row
-abbrev pub Ends : {T : Type 0} → Carrying T → List ℕ → ℕ → List Coming → Node T → Node T → Result (Unit {0}) ServeFault → Type 0
-Ends C operators turns comings before after (Ok u) = (length comings ≡ turns) × TakesTurns C operators comings before after
-Ends C operators turns comings before after (Err serve.Stopped) = Breaks C operators turns comings carry.Stopped before after
-Ends C operators turns comings before after (Err serve.Memory) = Breaks C operators turns comings carry.Memory before after
+abbrev pub Ends : {T : Type 0} → Carrying T → List ℕ → ℕ → List Coming → Node T → Node T
+    → Result (Unit {0}) ServeFault → Type 0
+Ends C operators turns comings before after (Ok u) =
+    (length comings ≡ turns) × TakesTurns C operators comings before after
+Ends C operators turns comings before after (Err serve.Stopped) =
+    Breaks C operators turns comings carry.Stopped before after
+Ends C operators turns comings before after (Err serve.Memory) =
+    Breaks C operators turns comings carry.Memory before after
 Ends C operators turns comings before after (Err serve.Link) =
     (length comings ≤ turns) × TakesTurns C operators comings before after × AreFailed most_faults comings
 
@@ -185,9 +199,11 @@ IfLinkFailed (Err serve.Link) P = P
 
 -- A node serves so many turns, in which, as far as they are whole, this came, the newest first: what the link tells
 -- as received is what came, and it counts each of its faults.
-pub record Serves {T : Type 0} (C : Carrying T) (operators : List ℕ) (turns : ℕ) (before after : Node T) (r : Result (Unit {0}) ServeFault) : Type 0 where
+pub record Serves {T : Type 0} (C : Carrying T) (operators : List ℕ) (turns : ℕ) (before after : Node T)
+    (r : Result (Unit {0}) ServeFault) : Type 0 where
   pub comings : List Coming
   pub ends : Ends C operators turns comings before after r
-  pub received : IfWhole r (IfSome before.edges.link.received (λ xs. after.edges.link.received ≡ Some (xs ++ came_in comings)))
+  pub received
+      : IfWhole r (IfSome before.edges.link.received (λ xs. after.edges.link.received ≡ Some (xs ++ came_in comings)))
   pub failures : IfWhole r (before.edges.link.failures + failed_in comings ≤ after.edges.link.failures)
   pub spent : IfLinkFailed r (before.edges.link.failures + most_faults ≤ after.edges.link.failures)

@@ -6,9 +6,13 @@ use Rattle.smi_view.specs.Shows.{BoardShows}
 -- it is published after all that was pending; where none was shown, nothing is
 abbrev pub Publishes : Option Shown → BoardShows → BoardShows → Type 0
 Publishes None before after = after ≡ before
-Publishes (Some s) before after = after ≡ record { publications = before.publications ++ before.pending ++ s ∷ []; pending = [] }
+Publishes (Some s) before after = after ≡ record {
+  publications = before.publications ++ before.pending ++ s ∷ [];
+  pending = [];
+}
 
 -- the board refused it: nothing was published, and it is pending at most
 abbrev pub Refuses : Option Shown → BoardShows → BoardShows → Type 0
 Refuses None before after = ⊥
-Refuses (Some s) before after = (after.publications ≡ before.publications) × ((after.pending ≡ before.pending) ⊎ (after.pending ≡ before.pending ++ s ∷ []))
+Refuses (Some s) before after = (after.publications ≡ before.publications)
+    × ((after.pending ≡ before.pending) ⊎ (after.pending ≡ before.pending ++ s ∷ []))

@@ -42,7 +42,8 @@ seat_of operators operator = position (λ o. o == operator) operators
 abbrev pub TellsAt : Option ℕ → Answer → Desk → Desk → Type 0
 TellsAt None a before after = after ≡ before
 TellsAt (Some seat) a before after =
-    (place : Option ℕ) × IsPlaceOf a.told.order a.mark (work_at before seat) place × EndsAt seat place a.told.code a.told.asked before after
+    (place : Option ℕ) × IsPlaceOf a.told.order a.mark (work_at before seat) place
+    × EndsAt seat place a.told.code a.told.asked before after
 
 abbrev pub TellsOne : List ℕ → Answer → Desk → Desk → Type 0
 TellsOne operators a before after = TellsAt (seat_of operators a.operator) a before after
@@ -50,4 +51,5 @@ TellsOne operators a before after = TellsAt (seat_of operators a.operator) a bef
 -- answers are told one after the other
 abbrev pub TellsAll : List ℕ → List Answer → Desk → Desk → Type 0
 TellsAll operators [] before after = after ≡ before
-TellsAll operators (a ∷ more) before after = (between : Desk) × TellsOne operators a before between × TellsAll operators more between after
+TellsAll operators (a ∷ more) before after =
+    (between : Desk) × TellsOne operators a before between × TellsAll operators more between after

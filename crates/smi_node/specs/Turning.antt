@@ -14,7 +14,8 @@ HearsSo C before after (Err f) = (coming : Coming) × Hears C coming before afte
 
 -- a turn was made, or ended in a fault
 abbrev pub TurnsSo : {T : Type 0} → Carrying T → List ℕ → Node T → Node T → Result Bool CarryFault → Type 0
-TurnsSo C operators before after (Ok failed) = (coming : Coming) × (failed ≡ is_failed coming) × Turns C operators coming before after None
+TurnsSo C operators before after (Ok failed) =
+    (coming : Coming) × (failed ≡ is_failed coming) × Turns C operators coming before after None
 TurnsSo C operators before after (Err f) = (coming : Coming) × Turns C operators coming before after (Some f)
 
 -- so many faults in a row, after one more turn
@@ -28,7 +29,8 @@ ended_by carry.Stopped = serve.Stopped
 ended_by carry.Memory = serve.Memory
 
 -- so many turns were made, the newest of them so many faults, and not too many
-pub record MadeTurns {T : Type 0} (C : Carrying T) (operators : List ℕ) (turns faults : ℕ) (before after : Node T) : Type 0 where
+pub record MadeTurns {T : Type 0} (C : Carrying T) (operators : List ℕ) (turns faults : ℕ) (before after : Node T)
+    : Type 0 where
   pub comings : List Coming
   pub count : length comings ≡ turns
   pub path : TakesTurns C operators comings before after

@@ -17,13 +17,16 @@ use smi_rows::Stable;
 use smi_station::Station;
 use smi_view::{Board, BoardId};
 use std::sync::Wait;
+use thiserror::Error;
 
 /// Why an event was not carried, or not to its end.
-#[derive(Clone, Copy, Debug, PartialEq, Eq)]
+#[derive(Clone, Copy, Debug, PartialEq, Eq, Error)]
 pub enum CarryFault {
     /// The station has stopped: nothing was sent, published or answered.
+    #[error("the station has stopped")]
     Stopped,
     /// Memory was refused to the board: nothing was published or answered, and all else was done.
+    #[error("out of memory")]
     Memory,
 }
 
@@ -70,7 +73,8 @@ fn step<S: Stable>(
     event: Event<'_>,
     out: &mut Out,
 ) -> Result<Heard, StepFault>
-    ensures { StepsTo S.is_honest S.is_open S.rows S.saves S.failures station.old event.entry station.new out.new result }
+    ensures { StepsTo S.is_honest S.is_open S.rows S.saves S.failures station.old event.entry station.new out.new
+        result }
 {
     station.step(event, out)
 }
@@ -103,7 +107,9 @@ fn follow<L: DatagramLink, J: BoardId, R: Wait>(
     desk: &mut Desk,
     board: &mut Board<J>,
 ) -> Result<(), CarryFault>
-    ensures { Follows operators.now seat code out.now (edges (shown_by L.received L.handed L.failures link.old) desk.old board.old) (edges (shown_by L.received L.handed L.failures link.new) desk.new board.new) (fault_in result) }
+    ensures { Follows operators.now seat code out.now
+        (edges (shown_by L.received L.handed L.failures link.old) desk.old board.old)
+        (edges (shown_by L.received L.handed L.failures link.new) desk.new board.new) (fault_in result) }
 {
     send_all(link, out.datagrams());
     mark_newest(desk, seat, out.issued());
@@ -128,7 +134,10 @@ pub(crate) fn carry_for<S: Stable, L: DatagramLink, J: BoardId, R: Wait>(
     desk: &mut Desk,
     board: &mut Board<J>,
 ) -> Result<(), CarryFault>
-    ensures { Carries (StepsTo S.is_honest S.is_open S.rows S.saves S.failures) operators.now event.entry seat out.new (node station.old (edges (shown_by L.received L.handed L.failures link.old) desk.old board.old)) (node station.new (edges (shown_by L.received L.handed L.failures link.new) desk.new board.new)) (fault_in result) }
+    ensures { Carries (StepsTo S.is_honest S.is_open S.rows S.saves S.failures) operators.now event.entry seat
+        out.new (node station.old (edges (shown_by L.received L.handed L.failures link.old) desk.old board.old))
+        (node station.new (edges (shown_by L.received L.handed L.failures link.new) desk.new board.new))
+        (fault_in result) }
 {
     let is_report = is_report(&event);
     let made = step(station, event, out);
@@ -168,7 +177,11 @@ pub fn carry<S: Stable, L: DatagramLink, J: BoardId, R: Wait>(
     desk: &mut Desk,
     board: &mut Board<J>,
 ) -> Result<(), CarryFault>
-    ensures { Carries (StepsTo S.is_honest S.is_open S.rows S.saves S.failures) (operators_in station.old.core) event.entry seat out.new (node station.old (edges (shown_by L.received L.handed L.failures link.old) desk.old board.old)) (node station.new (edges (shown_by L.received L.handed L.failures link.new) desk.new board.new)) (fault_in result) }
+    ensures { Carries (StepsTo S.is_honest S.is_open S.rows S.saves S.failures) (operators_in station.old.core)
+        event.entry seat out.new (node station.old
+        (edges (shown_by L.received L.handed L.failures link.old) desk.old board.old))
+        (node station.new (edges (shown_by L.received L.handed L.failures link.new) desk.new board.new))
+        (fault_in result) }
 {
     let operators = station.operators();
     carry_for(rt, operators, station, event, seat, out, link, desk, board)

@@ -5,7 +5,8 @@ ghost use Rattle.smi_operator.specs.Sides.{seat_count};
 ghost use Rattle.smi_station.specs.Readers.{operators_in};
 ghost use Rattle.smi_node.specs.Carried.{StepsTo, edges, fault_in, node};
 ghost use Rattle.smi_node.specs.Linked.{shown_by};
-ghost use Rattle.smi_node.specs.Served.{Obeys, Serves, ServesAll, ServesSeat, carrying, event_of, most_faults, speaker};
+ghost use Rattle.smi_node.specs.Served.{Obeys, Serves, ServesAll, ServesSeat, carrying, event_of, most_faults};
+ghost use Rattle.smi_node.specs.Served.{speaker};
 ghost use Rattle.smi_node.specs.Turning.{HearsSo, TurnsSo, ended_by, in_a_row};
 
 use crate::carrying::{CarryFault, carry_for};
@@ -18,15 +19,19 @@ use smi_rows::Stable;
 use smi_station::Station;
 use smi_view::{Board, BoardId};
 use std::sync::Wait;
+use thiserror::Error;
 
 /// Why a node ended before its turns did.
-#[derive(Clone, Copy, Debug, PartialEq, Eq)]
+#[derive(Clone, Copy, Debug, PartialEq, Eq, Error)]
 pub enum ServeFault {
     /// The station has stopped.
+    #[error("the station has stopped")]
     Stopped,
     /// Memory was refused to the board.
+    #[error("out of memory")]
     Memory,
     /// The link failed to receive a hundred times in a row.
+    #[error("the link failed a hundred times in a row")]
     Link,
 }
 
@@ -71,7 +76,10 @@ fn obey<S: Stable, L: DatagramLink, J: BoardId, R: Wait>(
     desk: &mut Desk,
     board: &mut Board<J>,
 ) -> Result<(), CarryFault>
-    ensures { Obeys (carrying (StepsTo S.is_honest S.is_open S.rows S.saves S.failures) operators.now) seat event.entry (node station.old (edges (shown_by L.received L.handed L.failures link.old) desk.old board.old)) (node station.new (edges (shown_by L.received L.handed L.failures link.new) desk.new board.new)) (fault_in result) }
+    ensures { Obeys (carrying (StepsTo S.is_honest S.is_open S.rows S.saves S.failures) operators.now) seat
+        event.entry (node station.old (edges (shown_by L.received L.handed L.failures link.old) desk.old board.old))
+        (node station.new (edges (shown_by L.received L.handed L.failures link.new) desk.new board.new))
+        (fault_in result) }
 {
     match event {
         Some(event) => carry_for(
@@ -105,7 +113,10 @@ fn serve_seat<S: Stable, L: DatagramLink, J: BoardId, R: Wait>(
     board: &mut Board<J>,
 ) -> Result<(), CarryFault>
     requires { seat < seat_count desk.old }
-    ensures { ServesSeat (carrying (StepsTo S.is_honest S.is_open S.rows S.saves S.failures) operators.now) who seat (node station.old (edges (shown_by L.received L.handed L.failures link.old) desk.old board.old)) (node station.new (edges (shown_by L.received L.handed L.failures link.new) desk.new board.new)) (fault_in result) }
+    ensures { ServesSeat (carrying (StepsTo S.is_honest S.is_open S.rows S.saves S.failures) operators.now) who seat
+        (node station.old (edges (shown_by L.received L.handed L.failures link.old) desk.old board.old))
+        (node station.new (edges (shown_by L.received L.handed L.failures link.new) desk.new board.new))
+        (fault_in result) }
 {
     match desk.next(seat) {
         Some(order) => obey(
@@ -133,7 +144,11 @@ fn serve_seats<S: Stable, L: DatagramLink, J: BoardId, R: Wait>(
     desk: &mut Desk,
     board: &mut Board<J>,
 ) -> Result<(), CarryFault>
-    ensures { ServesAll (carrying (StepsTo S.is_honest S.is_open S.rows S.saves S.failures) operators.now) operators.now (seat_count desk.old) (node station.old (edges (shown_by L.received L.handed L.failures link.old) desk.old board.old)) (node station.new (edges (shown_by L.received L.handed L.failures link.new) desk.new board.new)) (fault_in result) }
+    ensures { ServesAll (carrying (StepsTo S.is_honest S.is_open S.rows S.saves S.failures) operators.now)
+        operators.now (seat_count desk.old) (node station.old
+        (edges (shown_by L.received L.handed L.failures link.old) desk.old board.old))
+        (node station.new (edges (shown_by L.received L.handed L.failures link.new) desk.new board.new))
+        (fault_in result) }
 {
     let seats = desk.seat_count();
     for seat in 0..seats {
@@ -169,7 +184,9 @@ fn hear<S: Stable, L: DatagramLink, J: BoardId, R: Wait>(
     desk: &mut Desk,
     board: &mut Board<J>,
 ) -> Result<bool, CarryFault>
-    ensures { HearsSo (carrying (StepsTo S.is_honest S.is_open S.rows S.saves S.failures) operators.now) (node station.old (edges (shown_by L.received L.handed L.failures link.old) desk.old board.old)) (node station.new (edges (shown_by L.received L.handed L.failures link.new) desk.new board.new)) result }
+    ensures { HearsSo (carrying (StepsTo S.is_honest S.is_open S.rows S.saves S.failures) operators.now)
+        (node station.old (edges (shown_by L.received L.handed L.failures link.old) desk.old board.old))
+        (node station.new (edges (shown_by L.received L.handed L.failures link.new) desk.new board.new)) result }
 {
     let mut buffer = [0u8; 45];
     match link.receive(&mut buffer) {
@@ -202,7 +219,10 @@ fn turn<S: Stable, L: DatagramLink, J: BoardId, R: Wait>(
     desk: &mut Desk,
     board: &mut Board<J>,
 ) -> Result<bool, CarryFault>
-    ensures { TurnsSo (carrying (StepsTo S.is_honest S.is_open S.rows S.saves S.failures) operators.now) operators.now (node station.old (edges (shown_by L.received L.handed L.failures link.old) desk.old board.old)) (node station.new (edges (shown_by L.received L.handed L.failures link.new) desk.new board.new)) result }
+    ensures { TurnsSo (carrying (StepsTo S.is_honest S.is_open S.rows S.saves S.failures) operators.now)
+        operators.now
+        (node station.old (edges (shown_by L.received L.handed L.failures link.old) desk.old board.old))
+        (node station.new (edges (shown_by L.received L.handed L.failures link.new) desk.new board.new)) result }
 {
     match hear(rt, operators, station, out, link, desk, board) {
         Ok(failed) => match serve_seats(rt, operators, station, out, link, desk, board) {
@@ -250,7 +270,10 @@ pub fn serve<S: Stable, L: DatagramLink, J: BoardId, R: Wait>(
     board: &mut Board<J>,
     turns: u32,
 ) -> Result<(), ServeFault>
-    ensures { Serves (carrying (StepsTo S.is_honest S.is_open S.rows S.saves S.failures) (operators_in station.old.core)) (operators_in station.old.core) turns (node station.old (edges (shown_by L.received L.handed L.failures link.old) desk.old board.old)) (node station.new (edges (shown_by L.received L.handed L.failures link.new) desk.new board.new)) result }
+    ensures { Serves (carrying (StepsTo S.is_honest S.is_open S.rows S.saves S.failures)
+        (operators_in station.old.core)) (operators_in station.old.core) turns
+        (node station.old (edges (shown_by L.received L.handed L.failures link.old) desk.old board.old))
+        (node station.new (edges (shown_by L.received L.handed L.failures link.new) desk.new board.new)) result }
 {
     let operators = station.operators();
     let mut out = Out::new();

@@ -23,17 +23,20 @@ refilled xs ws same =
 nobody : Entry
 nobody = begun (order.Ask 0)
 
-changed_is : (f : Entry → Entry) (i : ℕ) (xs : List Entry) → i < length xs → changed_at f i xs ≡ set xs i (f (get_or xs i nobody))
+changed_is : (f : Entry → Entry) (i : ℕ) (xs : List Entry) → i < length xs
+    → changed_at f i xs ≡ set xs i (f (get_or xs i nobody))
 changed_is f i xs within = rw (slice_get-get_or xs i nobody within) refl
 
 changed_length : (f : Entry → Entry) (i : ℕ) (xs : List Entry) → i < length xs → length (changed_at f i xs) ≡ length xs
 changed_length f i xs within = ap length (changed_is f i xs within) ∙ length-set xs i (f (get_or xs i nobody))
 
 -- the items after a change through a slice: as many, and with the same orders
-written : (f : Entry → Entry) (i : ℕ) (xs ws : List Entry) → i < length xs → ws ≡ changed_at f i xs → refill (length xs) xs ws ≡ changed_at f i xs
+written : (f : Entry → Entry) (i : ℕ) (xs ws : List Entry) → i < length xs → ws ≡ changed_at f i xs
+    → refill (length xs) xs ws ≡ changed_at f i xs
 written f i xs ws within is = refilled xs ws (ap length is ∙ changed_length f i xs within) ∙ is
 
-pub written_length : (f : Entry → Entry) (i : ℕ) (xs ws : List Entry) → i < length xs → ws ≡ changed_at f i xs → length (refill (length xs) xs ws) ≡ length xs
+pub written_length : (f : Entry → Entry) (i : ℕ) (xs ws : List Entry) → i < length xs → ws ≡ changed_at f i xs
+    → length (refill (length xs) xs ws) ≡ length xs
 written_length f i xs ws within is = ap length (written f i xs ws within is) ∙ changed_length f i xs within
 
 pub written_orders : (f : Entry → Entry) (i : ℕ) (xs ws : List Entry) → i < length xs → ws ≡ changed_at f i xs
@@ -48,8 +51,16 @@ pub answered_in_order : (told new_told : List Told) (xs ws stay : List Entry) (o
     → new_told ≡ told ++ handed_out ws → stay ≡ still_in_work ws
     → map order_told new_told ++ map order_in stay ≡ orders
 answered_in_order told new_told xs ws stay orders all same handed stays =
-    rw (handed, stays, map-append order_told told (handed_out ws), append_assoc (map order_told told) (map order_told (handed_out ws)) (map order_in (still_in_work ws)), orders_stay ws, same) all
+    rw (
+      handed,
+      stays,
+      map-append order_told told (handed_out ws),
+      append_assoc (map order_told told) (map order_told (handed_out ws)) (map order_in (still_in_work ws)),
+      orders_stay ws,
+      same,
+    ) all
 
 -- and no more stay than there were
-pub answered_few : (xs ws stay : List Entry) (most : ℕ) → length xs ≤ most → length ws ≡ length xs → stay ≡ still_in_work ws → length stay ≤ most
+pub answered_few : (xs ws stay : List Entry) (most : ℕ) → length xs ≤ most → length ws ≡ length xs
+    → stay ≡ still_in_work ws → length stay ≤ most
 answered_few xs ws stay most few same stays = rw stays (omega (arith, few, same, fewer_stay ws))

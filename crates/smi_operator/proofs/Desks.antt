@@ -9,7 +9,8 @@ use Rattle.smi_operator.specs.declared.ends.Seat.{Seat}
 use Rattle.smi_operator.specs.declared.ends.Post.{Post}
 use Rattle.smi_operator.specs.declared.ends.Desk.{Desk}
 use Rattle.smi_operator.specs.declared.ends.Finished.{Finished}
-use Rattle.smi_operator.specs.Sides.{IsSeatOf, IsSeatAt, IsFinishedAt, IsEndedAt, SamePost, SamePosts, SameDesk, Steps, Ends, post_at, seat_count}
+use Rattle.smi_operator.specs.Sides.{IsSeatOf, IsSeatAt, IsFinishedAt, IsEndedAt, SamePost, SamePosts, SameDesk}
+use Rattle.smi_operator.specs.Sides.{Steps, Ends, post_at, seat_count}
 
 same_refl : (p : Option Post) → SamePosts p p
 same_refl (Some p) = (((refl, refl, refl, refl), refl), ((refl, refl, refl, refl), refl))
@@ -43,7 +44,8 @@ IsThere None = ⊥
 there : (posts : List Post) (i : ℕ) → i < length posts → IsThere (slice_get posts i)
 there posts i within = by_case (slice_get_cases posts i).1
   where
-    by_case : ((x : Post) × (i < length posts) × (slice_get posts i ≡ Some x) × (get_or posts i x ≡ x)) ⊎ ((length posts ≤ i) × (slice_get posts i ≡ None))
+    by_case : ((x : Post) × (i < length posts) × (slice_get posts i ≡ Some x) × (get_or posts i x ≡ x))
+        ⊎ ((length posts ≤ i) × (slice_get posts i ≡ None))
         → IsThere (slice_get posts i)
     by_case (inl found) = rw found.2 tt
     by_case (inr past) = absurd (omega (arith, within, past.0))
@@ -55,11 +57,14 @@ stepped R None q is_p is_q step = absurd is_p
 stepped R (Some p) None is_p is_q step = absurd is_q
 
 -- one call leaves the desk the same
-pub steps_same : (old new : Desk) (seat : ℕ) (R : Post → Post → Type 0) → seat < seat_count old → Steps old new seat R → SameDesk old new
+pub steps_same : (old new : Desk) (seat : ℕ) (R : Post → Post → Type 0) → seat < seat_count old
+    → Steps old new seat R → SameDesk old new
 steps_same old new seat R within steps = record { count = steps.count; posts = λ i. at i (cases_eq i seat) }
   where
     at : (i : ℕ) → (i ≡ seat) ⊎ (i ≡ seat → ⊥) → SamePosts (post_at old i) (post_at new i)
-    at i (inl is) = rw is (stepped R (post_at old seat) (post_at new seat) (there old.posts.items seat within) (there new.posts.items seat (omega (arith, within, steps.count))) steps.this)
+    at i (inl is) =
+        rw is (stepped R (post_at old seat) (post_at new seat) (there old.posts.items seat within)
+        (there new.posts.items seat (omega (arith, within, steps.count))) steps.this)
     at i (inr other) = rw (steps.others i other) (same_refl (post_at old i))
 
 -- A seat that has ended is still that of the same desk.
@@ -74,16 +79,20 @@ ended_at : (s : Seat) (f : Finished) (p q : Post) → IsSeatOf s p → Ends s f 
 ended_at s f p q of ends same =
     let t = ends.0 in
     let to_post = ring_trans s.orders.end p.orders.end q.orders.end of.0 same.0.0 in
-    let to_seat = ring_trans q.answers.end p.answers.end s.answers.end (ring_sym p.answers.end q.answers.end same.1.0) of.1 in (
-      rw ends.2.0 (ring_trans t.orders.end s.orders.end q.orders.end (ring_sym s.orders.end t.orders.end ends.1.0.0) to_post),
+    let to_seat = ring_trans q.answers.end p.answers.end s.answers.end
+    (ring_sym p.answers.end q.answers.end same.1.0) of.1 in (
+      rw ends.2.0 (ring_trans t.orders.end s.orders.end q.orders.end (ring_sym s.orders.end t.orders.end ends.1.0.0)
+          to_post),
       rw ends.2.1 (ring_trans q.answers.end s.answers.end t.answers.end to_seat ends.1.1.0),
     )
 
-ended_posts : (s : Seat) (f : Finished) (p q : Option Post) → IfSome p (IsSeatOf s) → Ends s f → SamePosts p q → IfSome q (IsFinishedAt f)
+ended_posts : (s : Seat) (f : Finished) (p q : Option Post) → IfSome p (IsSeatOf s) → Ends s f → SamePosts p q
+    → IfSome q (IsFinishedAt f)
 ended_posts s f (Some p) (Some q) of ends same = ended_at s f p q of ends same
 ended_posts s f None None of ends same = tt
 ended_posts s f None (Some q) of ends same = absurd same
 ended_posts s f (Some p) None of ends same = absurd same
 
-pub ended_at_desk : (s : Seat) (f : Finished) (old new : Desk) (i : ℕ) → IsSeatAt s old i → Ends s f → SameDesk old new → IsEndedAt f new i
+pub ended_at_desk : (s : Seat) (f : Finished) (old new : Desk) (i : ℕ) → IsSeatAt s old i → Ends s f
+    → SameDesk old new → IsEndedAt f new i
 ended_at_desk s f old new i of ends same = ended_posts s f (post_at old i) (post_at new i) of ends (same.posts i)

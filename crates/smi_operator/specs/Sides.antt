@@ -1,5 +1,6 @@
 -- What a seat and a desk show.
-use Rattle.std.specs.Prelude.{◌≡◌, ◌≢◌, ◌≤◌, ℕ, ◌+◌, List, [], ◌∷◌, ◌++◌, length, true, Option, Some, None, IfSome, slice_get}
+use Rattle.std.specs.Prelude.{◌≡◌, ◌≢◌, ◌≤◌, ℕ, ◌+◌, List, [], ◌∷◌, ◌++◌, length, true, Option, Some, None, IfSome}
+use Rattle.std.specs.Prelude.{slice_get}
 use mathlib.Core.List.{IsPrefix}
 use Rattle.rtrb.specs.Ring.{sent, received, known_items, known_free, IsPair, SameProducer, SameConsumer}
 use Rattle.smi_grant.specs.Record.{Standing}
@@ -68,9 +69,11 @@ pub record Steps (old new : Desk) (seat : ℕ) (R : Post → Post → Type 0) : 
 -- an order is given that may join those in work, or none; what else was seen is left, and no place is lost
 abbrev pub Gives : Option Order → Post → Post → Type 0
 Gives (Some o) a b =
-    (may_join (work_of a) o ≡ true) × (work_of b ≡ work_of a ++ begun o ∷ []) × (given b ≡ given a ++ o ∷ []) × (answered b ≡ answered a)
+    (may_join (work_of a) o ≡ true) × (work_of b ≡ work_of a ++ begun o ∷ []) × (given b ≡ given a ++ o ∷ [])
+    × (answered b ≡ answered a)
     × IsPrefix (left a) (o ∷ left b) × (room a ≤ room b)
-Gives None a b = (work_of b ≡ work_of a) × (given b ≡ given a) × (answered b ≡ answered a) × IsPrefix (left a) (left b) × (room a ≤ room b)
+Gives None a b = (work_of b ≡ work_of a) × (given b ≡ given a) × (answered b ≡ answered a)
+    × IsPrefix (left a) (left b) × (room a ≤ room b)
 
 -- the order at this place ends, and what can be handed out is, each answer in a place of its own
 abbrev pub Answers : ℕ → ℕ → Option Standing → Post → Post → Type 0
@@ -84,7 +87,8 @@ Answers place code asked a b =
 -- the newest order in work is marked
 abbrev pub Marks : Mark → Post → Post → Type 0
 Marks m a b =
-    (work_of b ≡ newest_marked (work_of a) m) × (answered b ≡ answered a) × (given b ≡ given a) × (left b ≡ left a) × (room b ≡ room a)
+    (work_of b ≡ newest_marked (work_of a) m) × (answered b ≡ answered a) × (given b ≡ given a) × (left b ≡ left a)
+    × (room b ≡ room a)
 
 -- A seat that has ended.
 
@@ -131,13 +135,15 @@ pub record Met (f : Finished) (p : Post) : Type 0 where
 -- the lists of both stay
 abbrev pub Stays : Finished → Finished → Post → Post → Type 0
 Stays f g p q =
-    (given q ≡ given p) × (answered q ≡ answered p) × (work_of q ≡ work_of p) × (sent g.orders ≡ sent f.orders) × (received g.answers ≡ received f.answers)
+    (given q ≡ given p) × (answered q ≡ answered p) × (work_of q ≡ work_of p) × (sent g.orders ≡ sent f.orders)
+    × (received g.answers ≡ received f.answers)
 
 -- Seats that were just opened.
 
 -- nothing was said yet
 abbrev pub IsFresh : Seat → Post → Type 0
-IsFresh s p = IsSeatOf s p × (submitted s ≡ []) × (told_to s ≡ []) × (given p ≡ []) × (answered p ≡ []) × (work_of p ≡ [])
+IsFresh s p = IsSeatOf s p × (submitted s ≡ []) × (told_to s ≡ []) × (given p ≡ []) × (answered p ≡ [])
+    × (work_of p ≡ [])
 
 -- each seat is that of the post with its number
 abbrev pub AreSeats : List Seat → List Post → Type 0

@@ -1,5 +1,6 @@
 -- Orders in work: which may be in work together, and when their answers are handed out.
-use Rattle.std.specs.Prelude.{ℕ, ◌≡◌, ◌<◌, ◌==◌, ◌-◌, ◌&&◌, ◌||◌, nat_lt, Bool, false, if◌then◌else◌, List, [], ◌∷◌, length, set, slice_get, Option, Some, None, IfSome, option_map}
+use Rattle.std.specs.Prelude.{ℕ, ◌≡◌, ◌<◌, ◌==◌, ◌-◌, ◌&&◌, ◌||◌, nat_lt, Bool, false, if◌then◌else◌, List, [], ◌∷◌}
+use Rattle.std.specs.Prelude.{length, set, slice_get, Option, Some, None, IfSome, option_map}
 use Rattle.std.specs.Option.{option_map_or}
 use Rattle.std.specs.List.{list_all}
 use Rattle.smi_grant.specs.Record.{Standing}
@@ -92,7 +93,8 @@ IsOfNone o m work most = (i : ℕ) → i < most → IfSome (slice_get work i) (�
 
 -- the place of the oldest order in work that an answer is of, if there is one
 abbrev pub IsPlaceOf : Order → Option Mark → List Entry → Option ℕ → Type 0
-IsPlaceOf o m work (Some i) = (i < length work) × IfSome (slice_get work i) (λ e. IsAnsweredBy o m e.work) × IsOfNone o m work i
+IsPlaceOf o m work (Some i) = (i < length work) × IfSome (slice_get work i) (λ e. IsAnsweredBy o m e.work)
+    × IsOfNone o m work i
 IsPlaceOf o m work None = IsOfNone o m work (length work)
 
 -- The answers of the oldest orders are handed out, up to one that has not ended.

@@ -2,7 +2,8 @@
 
 ghost use Rattle.std.specs.Prelude.{◌≡◌, ◌<◌, length, IsTrue, IfSome, Some, slice_get, option_map, true};
 ghost use Rattle.smi_operator.specs.Working.{IsPlaceOf, may_join, newest_of};
-ghost use Rattle.smi_operator.specs.Sides.{Steps, Gives, Answers, Marks, post_at, seat_count, work_of, left, room, IsEndedAt, Met, Stays};
+ghost use Rattle.smi_operator.specs.Sides.{Steps, Gives, Answers, Marks, post_at, seat_count, work_of, left, room};
+ghost use Rattle.smi_operator.specs.Sides.{IsEndedAt, Met, Stays};
 
 use crate::ends::{Desk, Finished};
 use crate::work::Work;
@@ -24,13 +25,15 @@ impl Desk {
     pub fn next(&mut self, seat: usize) -> Option<Order>
         requires { seat < seat_count self.old }
         ensures step { Steps self.old self.new seat (Gives result) }
-        ensures succeeds { IfSome (post_at self.old seat) (λ p. IfSome (slice_get (left p) 0) (λ o. may_join (work_of p) o ≡ true → length (work_of p) < room p → result ≡ Some o)) }
+        ensures succeeds { IfSome (post_at self.old seat)
+            (λ p. IfSome (slice_get (left p) 0) (λ o. may_join (work_of p) o ≡ true → length (work_of p) < room p
+            → result ≡ Some o)) }
     {
         self.posts[seat].next()
     }
 
     /// Ends the order of a seat that is in work at this place, the oldest at 0, with a code, and a record where
-    /// it asked for one. An order that had ended stays as it was.
+    /// it asked for one. An order that had ended stays unchanged.
     ///
     /// The seat is told once all its older orders have ended too; until then the order stays in work.
     pub fn answer(&mut self, seat: usize, place: usize, code: u16, asked: Option<Record>)
@@ -57,7 +60,8 @@ impl Desk {
     /// The order of a seat that is in work at this place, the oldest at 0, and the command that it became.
     pub fn in_work(&self, seat: usize, place: usize) -> Option<Work>
         requires { seat < seat_count self.now }
-        ensures { IfSome (post_at self.now seat) (λ p. result ≡ option_map (λ e. e.work) (slice_get (work_of p) place)) }
+        ensures { IfSome (post_at self.now seat) (λ p. result
+            ≡ option_map (λ e. e.work) (slice_get (work_of p) place)) }
     {
         self.posts[seat].in_work(place)
     }

@@ -1,8 +1,10 @@
 //! The station's end of one seat.
 
-ghost use Rattle.std.specs.Prelude.{◌≡◌, ◌<◌, ◌≤◌, ◌+◌, ◌++◌, ◌∷◌, [], length, true, slice_get, Some, IfSome, IfNone, option_map};
+ghost use Rattle.std.specs.Prelude.{◌≡◌, ◌<◌, ◌≤◌, ◌+◌, ◌++◌, ◌∷◌, [], length, true, slice_get, Some, IfSome, IfNone};
+ghost use Rattle.std.specs.Prelude.{option_map};
 ghost use mathlib.Core.List.{IsPrefix};
-ghost use Rattle.smi_operator.specs.Working.{IsPlaceOf, begun, ending, may_join, ended_at, newest_marked, newest_of, handed_out, still_in_work};
+ghost use Rattle.smi_operator.specs.Working.{IsPlaceOf, begun, ending, may_join, ended_at, newest_marked, newest_of};
+ghost use Rattle.smi_operator.specs.Working.{handed_out, still_in_work};
 ghost use Rattle.smi_operator.specs.Sides.{given, answered, left, room, SamePost};
 
 use crate::ends::Post;
@@ -23,7 +25,9 @@ impl Post {
         ensures left { IfSome result (λ o. IsPrefix (left self.old) (o ∷ left self.new)) }
         ensures none_left { IfNone result (IsPrefix (left self.old) (left self.new)) }
         ensures room { room self.old ≤ room self.new }
-        ensures succeeds { IfSome (slice_get (left self.old) 0) (λ o. may_join self.old.work.items o ≡ true → length self.old.work.items < room self.old → result ≡ Some o) }
+        ensures succeeds { IfSome (slice_get (left self.old) 0)
+            (λ o. may_join self.old.work.items o ≡ true → length self.old.work.items < room self.old
+            → result ≡ Some o) }
     {
         if self.orders.slots() == 0 || self.answers.slots() <= self.work.len() {
             return None;
@@ -42,10 +46,12 @@ impl Post {
         requires { place < length self.old.work.items }
         ensures ring { SamePost self.old self.new }
         ensures work { self.new.work.items ≡ still_in_work (ended_at self.old.work.items place (ending code asked)) }
-        ensures answered { answered self.new ≡ answered self.old ++ handed_out (ended_at self.old.work.items place (ending code asked)) }
+        ensures answered { answered self.new ≡ answered self.old
+            ++ handed_out (ended_at self.old.work.items place (ending code asked)) }
         ensures given { given self.new ≡ given self.old }
         ensures left { left self.new ≡ left self.old }
-        ensures room { room self.new + length (handed_out (ended_at self.old.work.items place (ending code asked))) ≡ room self.old }
+        ensures room { room self.new + length (handed_out (ended_at self.old.work.items place (ending code asked)))
+            ≡ room self.old }
     {
         end_at(self.work.as_mut_slice(), place, Ending { code, asked });
         hand_out(&mut self.work, &mut self.answers);

@@ -79,7 +79,7 @@ fn later_answers_wait_for_earlier_ones(rt: HostRuntime) -> Result<(), Fail> {
     assert_eq!(rt; desk.in_work(0, 2), None);
     assert!(rt; answer(&mut desk, 1, 0, None));
     assert_eq!(rt; seat.told(), None);
-    // An order that has ended stays as it was, at its place.
+    // An order that has ended stays unchanged, at its place.
     assert!(rt; answer(&mut desk, 1, 5, None));
     assert_eq!(rt; desk.in_work(0, 1), Some(work(Order::Include(1, 2), 2)));
     assert!(rt; answer(&mut desk, 0, 8, None));

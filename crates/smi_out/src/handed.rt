@@ -28,7 +28,12 @@ impl Model for Out {
 
     ghost Value = { step.Out };
 
-    ghost view = { λ o. record { datagrams = take o.sent o.datagrams; answers = take o.answered o.answers; issued = o.issued; shown = o.shown } };
+    ghost view = { λ o. record {
+      datagrams = take o.sent o.datagrams;
+      answers = take o.answered o.answers;
+      issued = o.issued;
+      shown = o.shown;
+    } };
 
     ghost invariant = { λ o. IsStored most_sent o.datagrams o.sent × IsStored most_answers o.answers o.answered };
 }

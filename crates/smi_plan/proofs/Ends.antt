@@ -17,7 +17,8 @@ use Rattle.smi_tree.specs.Lookups.{station_count}
 use Rattle.smi_out.specs.Handed.{sent_after}
 use Rattle.smi_out.proofs.Sending.{sent_twice}
 use Rattle.smi_protocol.specs.Grants.{Grants}
-use Rattle.smi_protocol.specs.Hearing.{ended, ended_record, ended_sends, ends, hears, is_ahead, is_heard, parent_heard, parent_told}
+use Rattle.smi_protocol.specs.Hearing.{ended, ended_record, ended_sends, ends, hears, is_ahead, is_heard}
+use Rattle.smi_protocol.specs.Hearing.{parent_heard, parent_told}
 use Rattle.smi_protocol.specs.Messages.{holder_station, requests_due, tells_holder}
 use Rattle.smi_protocol.specs.Sound.{IsLink, IsSound, most_handed_on}
 use Rattle.smi_protocol.specs.Step.{Out}
@@ -42,9 +43,11 @@ module _ (h : Hierarchy) (number : ℕ) (g : Grants) (p d : ℕ) (r : Standing) 
   holder_stays false = refl
 
   -- its command ends where it was at work and is not
-  end_told : (b : Bool) → ends h on p ≡ b → told_end h number p (g.records p) ((ended b on p).records p) ≡ ended_sends h number b on p
+  end_told : (b : Bool) → ends h on p ≡ b → told_end h number p (g.records p) ((ended b on p).records p)
+      ≡ ended_sends h number b on p
   end_told true is =
-      let working : is_settled (g.records p).phase ≡ false = not_true (is_settled (g.records p).phase) (and_parts (not (is_settled (g.records p).phase)) _ is).0 in
+      let working : is_settled (g.records p).phase
+      ≡ false = not_true (is_settled (g.records p).phase) (and_parts (not (is_settled (g.records p).phase)) _ is).0 in
       ap (told_end h number p (g.records p)) (put_here g.records p (ended_record on p))
       ∙ ap (λ b. if not b && true then tells_holder h number p (ended_record on p) ∷ [] else []) working
   end_told false is = by (is_settled (g.records p).phase)
@@ -54,25 +57,44 @@ module _ (h : Hierarchy) (number : ℕ) (g : Grants) (p d : ℕ) (r : Standing) 
       by false = refl
 
   -- what is sent
-  pub parent_sends : (out : Out) → record out { datagrams = sent_after (sent_after out.datagrams (told_end h number p (g.records p) after)) (requests_due h number (Domain p) d (told_link (g.links (Domain p) d) (Domain p) r)) } ≡ with_step out (parent_told h number g p d r)
+  pub parent_sends : (out : Out)
+      → record out {
+        datagrams = sent_after (sent_after out.datagrams (told_end h number p (g.records p) after))
+            (requests_due h number (Domain p) d (told_link (g.links (Domain p) d) (Domain p) r));
+      }
+      ≡ with_step out (parent_told h number g p d r)
   parent_sends out =
-      ap (λ (ms : List Message). record out { datagrams = sent_after (sent_after out.datagrams ms) (requests_due h number (Domain p) d (told_link (g.links (Domain p) d) (Domain p) r)) }) (end_told (ends h on p) refl)
-      ∙ ap (λ (l : Link). record out { datagrams = sent_after (sent_after out.datagrams (ended_sends h number (ends h on p) on p)) (requests_due h number (Domain p) d l) }) (sym (put_link_here g.links (Domain p) d (told_link (g.links (Domain p) d) (Domain p) r)))
-      ∙ ap (λ (ms : List Message). record out { datagrams = ms }) (sent_twice out.datagrams (ended_sends h number (ends h on p) on p) (requests_due h number (Domain p) d (on.links (Domain p) d)))
+      ap (λ (ms : List Message). record out {
+        datagrams = sent_after (sent_after out.datagrams ms)
+            (requests_due h number (Domain p) d (told_link (g.links (Domain p) d) (Domain p) r));
+      })
+      (end_told (ends h on p) refl)
+      ∙ ap (λ (l : Link). record out {
+        datagrams = sent_after
+            (sent_after out.datagrams (ended_sends h number (ends h on p) on p)) (requests_due h number (Domain p) d l);
+      }) (sym (put_link_here g.links (Domain p) d (told_link (g.links (Domain p) d) (Domain p) r)))
+      ∙ ap (λ (ms : List Message). record out { datagrams = ms })
+      (sent_twice out.datagrams (ended_sends h number (ends h on p) on p)
+      (requests_due h number (Domain p) d (on.links (Domain p) d)))
 
-  module _ (tree : IsTree h) (sound : IsSound h g) (child : is_parent h d p ≡ true) (news : is_record r ≡ true) (outcome : is_outcome r.outcome ≡ true) (listens : hears (g.links (Domain p) d) (Domain p) r ≡ true) where
+  module _ (tree : IsTree h) (sound : IsSound h g) (child : is_parent h d p ≡ true) (news : is_record r ≡ true)
+      (outcome : is_outcome r.outcome ≡ true) (listens : hears (g.links (Domain p) d) (Domain p) r ≡ true) where
     pub parent_stays : IsSound h (parent_told h number g p d r).grants
     parent_stays =
-        let b = and_parts (is_heard (told_heard (g.links (Domain p) d) (Domain p) r)) (not (is_ahead (g.links (Domain p) d) r)) listens in
+        let b = and_parts (is_heard (told_heard (g.links (Domain p) d) (Domain p) r))
+        (not (is_ahead (g.links (Domain p) d) r)) listens in
         parent_sound h g sound p d r (is_record-facts r news) outcome child b.0 (not_true _ b.1)
 
     -- a domain at work has a holder whose station is known
-    pub holder_known : is_settled (g.records p).phase ≡ false → IsBetween 1 (station_count h) (unwrap_or (holder_station h after.holder) 0)
+    pub holder_known : is_settled (g.records p).phase ≡ false
+        → IsBetween 1 (station_count h) (unwrap_or (holder_station h after.holder) 0)
     holder_known working =
         let old = standing_facts (g.records p) (sound.standing p) in
         let new = standing_facts after (parent_stays.standing p) in
-        let held : is_free after.holder ≡ false = ap is_free (holder_stays (ends h on p)) ∙ working_held (g.records p) old.lawful working in
+        let held : is_free after.holder ≡ false = ap is_free (holder_stays (ends h on p))
+        ∙ working_held (g.records p) old.lawful working in
         holder_there h tree p after.holder held new.holder (parent_stays.holder p)
 
     pub parent_link : IsLink h most_handed_on (told_link (g.links (Domain p) d) (Domain p) r)
-    parent_link = sound_told h most_handed_on (g.links (Domain p) d) (Domain p) r refl (is_record-facts r news) (sound.child p d)
+    parent_link = sound_told h most_handed_on (g.links (Domain p) d) (Domain p) r refl (is_record-facts r news)
+        (sound.child p d)

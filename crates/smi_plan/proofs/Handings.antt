@@ -28,21 +28,28 @@ use Rattle.smi_protocol.proofs.Tables.{put_here}
 use Rattle.smi_plan.specs.Handing.{with_step}
 
 -- the record after a change that makes a sound step
-pub told_after : (h : Hierarchy) (number : ℕ) (g : Grants) (step : GrantStep) (c : Change) (d : ℕ) (r : Standing) → Plans h number g step c → IsSound h step.grants → r ≡ (changed h g c).records d → is_standing r ≡ true
-told_after h number g step c d r plans sound is = subst (λ z. is_standing z ≡ true) (sym (is ∙ ap (λ (a : Grants). a.records d) (sym plans.grants))) (sound.standing d)
+pub told_after : (h : Hierarchy) (number : ℕ) (g : Grants) (step : GrantStep) (c : Change) (d : ℕ) (r : Standing)
+    → Plans h number g step c → IsSound h step.grants → r ≡ (changed h g c).records d → is_standing r ≡ true
+told_after h number g step c d r plans sound is =
+    subst (λ z. is_standing z ≡ true) (sym (is ∙ ap (λ (a : Grants). a.records d) (sym plans.grants)))
+    (sound.standing d)
 
 -- the record is told as it is after the step
 abbrev pub telling : Out → Message → Out
 telling out m = record out { datagrams = sent_after out.datagrams (m ∷ []) }
 
 module _ (h : Hierarchy) (number : ℕ) (g : Grants) (from d : ℕ) (out : Out) where
-  decided_tells : (note : Entry) (v : Verdict) → telling out (tells h number from d ((decided h number g from d note v).grants.records d)) ≡ with_step out (decided h number g from d note v)
+  decided_tells : (note : Entry) (v : Verdict)
+      → telling out (tells h number from d ((decided h number g from d note v).grants.records d))
+      ≡ with_step out (decided h number g from d note v)
   decided_tells note (New r) = ap (λ (z : Standing). telling out (tells h number from d z)) (put_here g.records d r)
   decided_tells note Same = refl
 
-  pub decided_told : (note : Entry) (v : Verdict) (c : Change) (r : Standing) → Plans h number g (decided h number g from d note v) c → r ≡ (changed h g c).records d
+  pub decided_told : (note : Entry) (v : Verdict) (c : Change) (r : Standing)
+      → Plans h number g (decided h number g from d note v) c → r ≡ (changed h g c).records d
       → telling out (tells h number from d r) ≡ with_step out (decided h number g from d note v)
-  decided_told note v c r plans is = ap (λ (z : Standing). telling out (tells h number from d z)) (is ∙ ap (λ (a : Grants). a.records d) (sym plans.grants)) ∙ decided_tells note v
+  decided_told note v c r plans is = ap (λ (z : Standing). telling out (tells h number from d z))
+      (is ∙ ap (λ (a : Grants). a.records d) (sym plans.grants)) ∙ decided_tells note v
 
   module _ (who : Holder) (e n : ℕ) (c : Command) where
     abbrev busy : Bool
@@ -52,25 +59,40 @@ module _ (h : Hierarchy) (number : ℕ) (g : Grants) (from d : ℕ) (out : Out) 
     own = own_code h g d c
 
     -- a command that runs
-    pub run_told : (change : Change) (r : Standing) → Plans h number g (run_comes h number g from d who e n c) change → r ≡ (changed h g change).records d → admits (g.records d) who e n ≡ true
-        → record out { datagrams = sent_after (telling out (tells h number from d r)).datagrams (child_requests h number g d c) } ≡ with_step out (run_comes h number g from d who e n c)
+    pub run_told : (change : Change) (r : Standing) → Plans h number g (run_comes h number g from d who e n c) change
+        → r ≡ (changed h g change).records d → admits (g.records d) who e n ≡ true
+        → record out {
+          datagrams = sent_after (telling out (tells h number from d r)).datagrams
+              (child_requests h number g d c);
+        } ≡ with_step out (run_comes h number g from d who e n c)
     run_told change r plans is runs =
         let here : (run_comes h number g from d who e n c).grants.records d ≡ started (g.records d) busy own =
-        ap (λ b. (if b then ran h number g from d e n c busy own else answered h number g from d).grants.records d) runs ∙ put_here g.records d (started (g.records d) busy own) in
-        ap (λ (z : Standing). record out { datagrams = sent_after (telling out (tells h number from d z)).datagrams (child_requests h number g d c) }) (is ∙ ap (λ (a : Grants). a.records d) (sym plans.grants) ∙ here)
-        ∙ sym (ap (λ b. with_step out (if b then ran h number g from d e n c busy own else answered h number g from d)) runs)
+        ap (λ b. (if b then ran h number g from d e n c busy own else answered h number g from d).grants.records d)
+        runs ∙ put_here g.records d (started (g.records d) busy own) in
+        ap (λ (z : Standing). record out {
+          datagrams = sent_after (telling out (tells h number from d z)).datagrams
+              (child_requests h number g d c);
+        }) (is ∙ ap (λ (a : Grants). a.records d) (sym plans.grants) ∙ here)
+        ∙ sym (ap (λ b. with_step out (if b then ran h number g from d e n c busy own
+        else answered h number g from d)) runs)
 
     -- and one that does not
-    pub same_told : (change : Change) (r : Standing) → Plans h number g (run_comes h number g from d who e n c) change → r ≡ (changed h g change).records d → admits (g.records d) who e n ≡ false
+    pub same_told : (change : Change) (r : Standing)
+        → Plans h number g (run_comes h number g from d who e n c) change → r ≡ (changed h g change).records d
+        → admits (g.records d) who e n ≡ false
         → telling out (tells h number from d r) ≡ with_step out (run_comes h number g from d who e n c)
     same_told change r plans is stays =
         let here : (run_comes h number g from d who e n c).grants.records d ≡ g.records d =
-        ap (λ b. (if b then ran h number g from d e n c busy own else answered h number g from d).grants.records d) stays in
-        ap (λ (z : Standing). telling out (tells h number from d z)) (is ∙ ap (λ (a : Grants). a.records d) (sym plans.grants) ∙ here)
-        ∙ sym (ap (λ b. with_step out (if b then ran h number g from d e n c busy own else answered h number g from d)) stays)
+        ap (λ b. (if b then ran h number g from d e n c busy own else answered h number g from d).grants.records d)
+        stays in
+        ap (λ (z : Standing). telling out (tells h number from d z))
+        (is ∙ ap (λ (a : Grants). a.records d) (sym plans.grants) ∙ here)
+        ∙ sym (ap (λ b. with_step out (if b then ran h number g from d e n c busy own
+        else answered h number g from d)) stays)
 
 -- a command runs where nothing is at work
-pub settled_there : (g : Grants) (d : ℕ) (who : Holder) (e n : ℕ) → admits (g.records d) who e n ≡ true → is_settled (g.records d).phase ≡ true
+pub settled_there : (g : Grants) (d : ℕ) (who : Holder) (e n : ℕ) → admits (g.records d) who e n ≡ true
+    → is_settled (g.records d).phase ≡ true
 settled_there g d who e n t =
     let a = and_parts (same_holder (g.records d).holder who) _ t in
     let b = and_parts ((g.records d).epoch == e) _ a.1 in

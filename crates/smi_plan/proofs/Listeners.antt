@@ -1,5 +1,6 @@
 -- Who listens to a record has a link here that it changes.
-use Rattle.std.proofs.Common.{ℕ, ◌≡◌, true, inl, inr, Option, Some, None, [], ◌∷◌, map, sym, ap, ◌∙◌, subst, Bool, false}
+use Rattle.std.proofs.Common.{ℕ, ◌≡◌, true, inl, inr, Option, Some, None, [], ◌∷◌, map, sym, ap, ◌∙◌, subst, Bool}
+use Rattle.std.proofs.Common.{false}
 use Rattle.std.specs.Prelude.{if◌then◌else◌}
 use Rattle.smi_grant.specs.declared.Holder.{Holder}
 use Rattle.smi_grant.specs.declared.Holder.TheVariants.{Operator, Domain}
@@ -18,14 +19,16 @@ use Rattle.smi_protocol.proofs.SoundSteps.{found, listening_parent}
 use Rattle.smi_protocol.proofs.Tables.{number_self, operator_ours}
 
 module _ (h : Hierarchy) (number : ℕ) (g : Grants) (d : ℕ) (r : Standing) where
-  listens : (who : Holder) → listener h number g d r ≡ Some who → In who (listeners h number d) × (hears (g.links who d) who r ≡ true)
+  listens : (who : Holder) → listener h number g d r ≡ Some who
+      → In who (listeners h number d) × (hears (g.links who d) who r ≡ true)
   listens who is = found (λ who. hears (g.links who d) who r) (listeners h number d) who is
 
   ours : (o : ℕ) → In (Operator o) (listeners h number d) → In o (operators_of h number)
-  ours o a = elim (in_both (Operator o) (map Operator (operators_of h number)) (parent_here h number (parent_of h d)) a) [
-    | inl b ↦ let c = from_mapped Operator (Operator o) (operators_of h number) b in named c.0 c.1 c.2
-    | inr b ↦ nobody (parent_of h d) b
-  ]
+  ours o a = elim (in_both (Operator o) (map Operator (operators_of h number)) (parent_here h number (parent_of h d))
+      a) [
+        | inl b ↦ let c = from_mapped Operator (Operator o) (operators_of h number) b in named c.0 c.1 c.2
+        | inr b ↦ nobody (parent_of h d) b
+      ]
     where
       named : (p : ℕ) → In p (operators_of h number) → Operator o ≡ Operator p → In o (operators_of h number)
       named p b is = let same : o ≡ p = cc in subst (λ z. In z (operators_of h number)) (sym same) b
@@ -39,9 +42,11 @@ module _ (h : Hierarchy) (number : ℕ) (g : Grants) (d : ℕ) (r : Standing) wh
           by true (inr i) = absurd i
           by false i = absurd i
 
-  pub operator_may : (o : ℕ) → IsBetween 1 (domain_count h) d → listener h number g d r ≡ Some (Operator o) → MayOrder h number o d
+  pub operator_may : (o : ℕ) → IsBetween 1 (domain_count h) d → listener h number g d r ≡ Some (Operator o)
+      → MayOrder h number o d
   operator_may o within is = record {
-    operator = ap (λ p. is_number p number) (operator_ours h number o (ours o (listens (Operator o) is).0)) ∙ number_self number;
+    operator = ap (λ p. is_number p number) (operator_ours h number o (ours o (listens (Operator o) is).0))
+        ∙ number_self number;
     domain = within;
   }
 
@@ -51,5 +56,6 @@ module _ (h : Hierarchy) (number : ℕ) (g : Grants) (d : ℕ) (r : Standing) wh
   pub parent_within : IsTree h → (p : ℕ) → listener h number g d r ≡ Some (Domain p) → IsBetween 1 (domain_count h) p
   parent_within tree p is = (child_there h tree d p (parent_is p is)).1
 
-  pub parent_hears : (p : ℕ) → listener h number g d r ≡ Some (Domain p) → hears (g.links (Domain p) d) (Domain p) r ≡ true
+  pub parent_hears : (p : ℕ) → listener h number g d r ≡ Some (Domain p)
+      → hears (g.links (Domain p) d) (Domain p) r ≡ true
   parent_hears p is = (listens (Domain p) is).1

@@ -1,5 +1,6 @@
 -- What is sent of the grants, one by one, and that it can be said.
-use Rattle.std.proofs.Common.{ℕ, zero, suc, inl, inr, ◌≡◌, ◌<◌, ◌+◌, ◌-◌, true, List, [], ◌∷◌, length, drop, drop-cons, get_or, map, Option, Some, None, refl, sym, ap, ◌∙◌, subst, arith}
+use Rattle.std.proofs.Common.{ℕ, zero, suc, inl, inr, ◌≡◌, ◌<◌, ◌+◌, ◌-◌, true, List, [], ◌∷◌, length, drop}
+use Rattle.std.proofs.Common.{drop-cons, get_or, map, Option, Some, None, refl, sym, ap, ◌∙◌, subst, arith}
 use Rattle.std.specs.Prelude.{IfSome}
 use Rattle.std.specs.List.{cons_option, filter_map, flat_map, range_with_len}
 use Rattle.smi_command.specs.declared.Due.{Due}
@@ -40,18 +41,22 @@ drop_next xs i d within = drop-cons xs i d within ∙ ap (λ n. get_or xs i d �
 
 -- what a link is due, one by one
 pub due_sent : (before : List Message) (f : Due → Message) (due : ℕ → Option Due) (n i : ℕ) → i < n
-    → sent_after before (map f (filter_map due (range_with_len i (n - i)))) ≡ sent_after (sent_after before (map f (if_any (due i)))) (map f (filter_map due (range_with_len (i + 1) (n - (i + 1)))))
+    → sent_after before (map f (filter_map due (range_with_len i (n - i))))
+    ≡ sent_after (sent_after before (map f (if_any (due i))))
+    (map f (filter_map due (range_with_len (i + 1) (n - (i + 1)))))
 due_sent before f due n i within =
     ap (λ xs. sent_after before (map f (filter_map due xs))) (range_next i n i within)
     ∙ by (due i) (filter_map due (range_with_len (i + 1) (n - (i + 1))))
   where
-    by : (o : Option Due) (rest : List Due) → sent_after before (map f (cons_option o rest)) ≡ sent_after (sent_after before (map f (if_any o))) (map f rest)
+    by : (o : Option Due) (rest : List Due) → sent_after before (map f (cons_option o rest))
+        ≡ sent_after (sent_after before (map f (if_any o))) (map f rest)
     by None rest = refl
     by (Some x) rest = refl
 
 -- a list one by one
 pub list_sent : (before : List Message) (f : ℕ → List Message) (xs : List ℕ) (i d : ℕ) → i < length xs
-    → sent_after before (flat_map f (drop i xs)) ≡ sent_after (sent_after before (f (get_or xs i d))) (flat_map f (drop (i + 1) xs))
+    → sent_after before (flat_map f (drop i xs))
+    ≡ sent_after (sent_after before (f (get_or xs i d))) (flat_map f (drop (i + 1) xs))
 list_sent before f xs i d within =
     ap (λ ys. sent_after before (flat_map f ys)) (drop_next xs i d within)
     ∙ sym (sent_twice before (f (get_or xs i d)) (flat_map f (drop (i + 1) xs)))
@@ -62,15 +67,19 @@ in_at (x ∷ xs) zero d within = inl refl
 in_at (x ∷ xs) (suc i) d within = inr (in_at xs i d (omega (arith, within)))
 
 -- a child in the list of a domain's
-pub child_at : (h : Hierarchy) (d : ℕ) (xs : List ℕ) (i e : ℕ) → xs ≡ children_of h d → i < length xs → is_parent h (get_or xs i e) d ≡ true
+pub child_at : (h : Hierarchy) (d : ℕ) (xs : List ℕ) (i e : ℕ) → xs ≡ children_of h d → i < length xs
+    → is_parent h (get_or xs i e) d ≡ true
 child_at h d xs i e is within =
-    subst (λ ys. is_parent h (get_or ys i e) d ≡ true) (sym is) (parent_is h d (get_or (children_of h d) i e) (in_at (children_of h d) i e (subst (λ ys. i < length ys) is within)))
+    subst (λ ys. is_parent h (get_or ys i e) d ≡ true) (sym is)
+    (parent_is h d (get_or (children_of h d) i e)
+    (in_at (children_of h d) i e (subst (λ ys. i < length ys) is within)))
 
 pub child_within : (h : Hierarchy) → IsTree h → (d x : ℕ) → is_parent h x d ≡ true → IsBetween 1 (domain_count h) x
 child_within h tree d x is = (child_there h tree x d is).0
 
 -- what a sound link is due can be said
-pub link_due : (h : Hierarchy) (most : ℕ) (l : Link) → IsLink h most l → (i : ℕ) → IfSome (due_of l i) (λ due. is_due due ≡ true)
+pub link_due : (h : Hierarchy) (most : ℕ) (l : Link) → IsLink h most l → (i : ℕ)
+    → IfSome (due_of l i) (λ due. is_due due ≡ true)
 link_due h most l sound i = by (due_of l i) refl
   where
     by : (o : Option Due) → due_of l i ≡ o → IfSome o (λ due. is_due due ≡ true)
@@ -83,6 +92,10 @@ link_due h most l sound i = by (due_of l i) refl
         said (Run e n c) t = t
 
 -- so can what a child's link is due that a command has changed
-pub relinked_due : (h : Hierarchy) (g : Grants) → IsSound h g → (d x : ℕ) → is_settled (g.records d).phase ≡ true → (c : Command) (l : Link) → IsCommand h c → is_parent h x d ≡ true → Relinked l ≡ change_of h g d c x
+pub relinked_due : (h : Hierarchy) (g : Grants) → IsSound h g → (d x : ℕ) → is_settled (g.records d).phase ≡ true
+    → (c : Command) (l : Link) → IsCommand h c → is_parent h x d ≡ true → Relinked l ≡ change_of h g d c x
     → (i : ℕ) → IfSome (due_of l i) (λ due. is_due due ≡ true)
-relinked_due h g sound d x rests c l command child is = link_due h most_handed_on l (subst (λ (z : ChildChange). IsLink h most_handed_on (link_after z (g.links (Domain d) x))) (sym is) (changed h g d c sound rests command x child).link)
+relinked_due h g sound d x rests c l command child is =
+    link_due h most_handed_on l
+    (subst (λ (z : ChildChange). IsLink h most_handed_on (link_after z (g.links (Domain d) x))) (sym is)
+    (changed h g d c sound rests command x child).link)

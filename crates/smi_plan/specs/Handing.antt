@@ -33,4 +33,5 @@ answer_at o d (Out k) i x = None
 
 -- a domain's holder is told a record with which the domain's command ends
 abbrev pub told_end : Hierarchy → ℕ → ℕ → Standing → Standing → List Message
-told_end h number d old new = if not (is_settled old.phase) && is_settled new.phase then tells_holder h number d new ∷ [] else []
+told_end h number d old new = if not (is_settled old.phase) && is_settled new.phase
+    then tells_holder h number d new ∷ [] else []

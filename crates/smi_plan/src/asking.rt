@@ -22,7 +22,11 @@ pub(crate) fn send_record(out: &mut Out, kept: &Kept<'_>, to: u16, domain: u16, 
     requires to { IsBetween 1 (station_count kept.now.tree) to }
     requires domain { IsBetween 1 (domain_count kept.now.tree) domain }
     requires told { is_standing told ≡ true }
-    ensures { out.new ≡ record out.old { datagrams = sent_after out.old.datagrams (tells kept.now.tree kept.now.number to domain told ∷ []) } }
+    ensures { out.new
+        ≡ record out.old {
+          datagrams = sent_after out.old.datagrams
+              (tells kept.now.tree kept.now.number to domain told ∷ []);
+        } }
 {
     let datagram = tell(kept.tree(), kept.number(), to, domain, told);
     out.send(datagram);
@@ -44,7 +48,8 @@ pub fn ask(out: &mut Out, kept: &Kept<'_>, from: u16, domain: u16)
     requires sound { IsSound kept.now.tree (grants_of kept.now) }
     requires from { IsBetween 1 (station_count kept.now.tree) from }
     requires domain { IsBetween 1 (domain_count kept.now.tree) domain }
-    ensures { out.new ≡ with_step out.old (keeping.answered kept.now.tree kept.now.number (grants_of kept.now) from domain) }
+    ensures { out.new
+        ≡ with_step out.old (keeping.answered kept.now.tree kept.now.number (grants_of kept.now) from domain) }
 {
     send_record(out, kept, from, domain, kept.record(domain));
 }
@@ -64,8 +69,10 @@ pub fn take(
     requires party { is_free holder ≡ false }
     requires holder { holder_spec.is_in_range holder ≡ true }
     requires may_hold { known.is_holder_of kept.now.tree domain holder ≡ true }
-    ensures plan { Plans kept.now.tree kept.now.number (grants_of kept.now) (keeping.take_comes kept.now.tree kept.now.number (grants_of kept.now) from domain holder seen) result }
-    ensures sent { out.new ≡ with_step out.old (keeping.take_comes kept.now.tree kept.now.number (grants_of kept.now) from domain holder seen) }
+    ensures plan { Plans kept.now.tree kept.now.number (grants_of kept.now)
+        (keeping.take_comes kept.now.tree kept.now.number (grants_of kept.now) from domain holder seen) result }
+    ensures sent { out.new ≡ with_step out.old
+        (keeping.take_comes kept.now.tree kept.now.number (grants_of kept.now) from domain holder seen) }
 {
     let change = kept.take_comes(domain, holder, seen);
     let standing = record_after(kept, &change, domain);
@@ -89,8 +96,10 @@ pub fn drop_grant(
     requires from { IsBetween 1 (station_count kept.now.tree) from }
     requires domain { IsBetween 1 (domain_count kept.now.tree) domain }
     requires party { is_free holder ≡ false }
-    ensures plan { Plans kept.now.tree kept.now.number (grants_of kept.now) (keeping.drop_comes kept.now.tree kept.now.number (grants_of kept.now) from domain holder epoch) result }
-    ensures sent { out.new ≡ with_step out.old (keeping.drop_comes kept.now.tree kept.now.number (grants_of kept.now) from domain holder epoch) }
+    ensures plan { Plans kept.now.tree kept.now.number (grants_of kept.now)
+        (keeping.drop_comes kept.now.tree kept.now.number (grants_of kept.now) from domain holder epoch) result }
+    ensures sent { out.new ≡ with_step out.old
+        (keeping.drop_comes kept.now.tree kept.now.number (grants_of kept.now) from domain holder epoch) }
 {
     let change = kept.drop_comes(domain, holder, epoch);
     let standing = record_after(kept, &change, domain);

@@ -29,7 +29,11 @@ fn send_if_due(
     requires domain { IsBetween 1 (domain_count tree.now) domain }
     requires holder { is_party holder ≡ true }
     requires due { IfSome what (λ due. is_due due ≡ true) }
-    ensures { out.new ≡ record out.old { datagrams = sent_after out.old.datagrams (map (messages.requests tree.now number holder domain) (messages.if_any what)) } }
+    ensures { out.new
+        ≡ record out.old {
+          datagrams = sent_after out.old.datagrams
+              (map (messages.requests tree.now number holder domain) (messages.if_any what));
+        } }
 {
     match what {
         Some(what) => out.send(request(tree, number, holder, domain, what)),
@@ -50,7 +54,11 @@ pub(crate) fn send_due(
     requires domain { IsBetween 1 (domain_count tree.now) domain }
     requires holder { is_party holder ≡ true }
     requires link { (i : ℕ) → IfSome (due_of link.now i) (λ due. is_due due ≡ true) }
-    ensures { out.new ≡ record out.old { datagrams = sent_after out.old.datagrams (messages.requests_due tree.now number holder domain link.now) } }
+    ensures { out.new
+        ≡ record out.old {
+          datagrams = sent_after out.old.datagrams
+              (messages.requests_due tree.now number holder domain link.now);
+        } }
 {
     for i in 0..MOST_PENDING {
         send_if_due(out, tree, number, holder, domain, due(link, i));
@@ -83,7 +91,11 @@ pub(crate) fn send_newest(
     requires domain { IsBetween 1 (domain_count tree.now) domain }
     requires holder { is_party holder ≡ true }
     requires link { (i : ℕ) → IfSome (due_of link.now i) (λ due. is_due due ≡ true) }
-    ensures { out.new ≡ record out.old { datagrams = sent_after out.old.datagrams (messages.request_newest tree.now number holder domain link.now) } }
+    ensures { out.new
+        ≡ record out.old {
+          datagrams = sent_after out.old.datagrams
+              (messages.request_newest tree.now number holder domain link.now);
+        } }
 {
     let newest = pending_count(link).saturating_sub(1);
     send_if_due(out, tree, number, holder, domain, due(link, newest));

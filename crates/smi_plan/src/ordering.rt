@@ -46,7 +46,9 @@ fn hand_out(
     requires operator { is_number (operator_station_of kept.now.tree operator) kept.now.number ≡ true }
     requires domain { IsBetween 1 (domain_count kept.now.tree) domain }
     requires link { IfOk link (IsLink kept.now.tree most_pending) }
-    ensures { out.new ≡ with_step out.old (ordering.obeyed kept.now.tree kept.now.number (grants_of kept.now) operator domain command link) }
+    ensures { out.new
+        ≡ with_step out.old (ordering.obeyed kept.now.tree kept.now.number (grants_of kept.now) operator domain
+        command link) }
 {
     match link {
         Ok(link) => {
@@ -75,7 +77,9 @@ fn command(out: &mut Out, kept: &Kept<'_>, operator: u16, domain: u16, command: 
     requires domain { IsBetween 1 (domain_count kept.now.tree) domain }
     requires command { IsCommand kept.now.tree command }
     requires link { IsLink kept.now.tree most_pending ((grants_of kept.now).links (Operator operator) domain) }
-    ensures { out.new ≡ with_step out.old (ordering.commands kept.now.tree kept.now.number (grants_of kept.now) operator domain command) }
+    ensures { out.new
+        ≡ with_step out.old (ordering.commands kept.now.tree kept.now.number (grants_of kept.now) operator domain
+        command) }
 {
     let link = kept.link(Holder::Operator(operator), domain);
     hand_out(
@@ -94,8 +98,11 @@ ghost use Rattle.smi_protocol.specs.Sound.{IsCommand};
 /// What an order asks of its domain is sent.
 fn send_order(out: &mut Out, kept: &Kept<'_>, operator: u16, order: &Order)
     requires sound { IsSound kept.now.tree (grants_of kept.now) }
-    requires accepted { refusal_of kept.now.tree kept.now.number (grants_of kept.now) (Orders operator order.now) ≡ None }
-    ensures { out.new ≡ with_step out.old (ordering.order_comes kept.now.tree kept.now.number (grants_of kept.now) operator order.now) }
+    requires accepted { refusal_of kept.now.tree kept.now.number (grants_of kept.now) (Orders operator order.now)
+        ≡ None }
+    ensures { out.new
+        ≡ with_step out.old (ordering.order_comes kept.now.tree kept.now.number (grants_of kept.now) operator
+        order.now) }
 {
     let _tree = kept.tree();
     let holder = Holder::Operator(operator);
@@ -148,9 +155,12 @@ fn send_order(out: &mut Out, kept: &Kept<'_>, operator: u16, order: &Order)
 /// sent. Other orders leave the grants alone.
 pub fn order(out: &mut Out, kept: &Kept<'_>, operator: u16, order: &Order) -> Change
     requires sound { IsSound kept.now.tree (grants_of kept.now) }
-    requires accepted { refusal_of kept.now.tree kept.now.number (grants_of kept.now) (Orders operator order.now) ≡ None }
-    ensures plan { Plans kept.now.tree kept.now.number (grants_of kept.now) (ordering.order_comes kept.now.tree kept.now.number (grants_of kept.now) operator order.now) result }
-    ensures sent { out.new ≡ with_step out.old (ordering.order_comes kept.now.tree kept.now.number (grants_of kept.now) operator order.now) }
+    requires accepted { refusal_of kept.now.tree kept.now.number (grants_of kept.now) (Orders operator order.now)
+        ≡ None }
+    ensures plan { Plans kept.now.tree kept.now.number (grants_of kept.now)
+        (ordering.order_comes kept.now.tree kept.now.number (grants_of kept.now) operator order.now) result }
+    ensures sent { out.new ≡ with_step out.old
+        (ordering.order_comes kept.now.tree kept.now.number (grants_of kept.now) operator order.now) }
 {
     send_order(out, kept, operator, order);
     kept.order_comes(operator, order)

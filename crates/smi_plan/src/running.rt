@@ -30,7 +30,12 @@ fn send_to_child(out: &mut Out, kept: &Kept<'_>, domain: u16, command: Command, 
     requires command { IsCommand kept.now.tree command }
     requires rests { is_settled ((grants_of kept.now).records domain).phase ≡ true }
     requires child { is_parent kept.now.tree child domain ≡ true }
-    ensures { out.new ≡ record out.old { datagrams = sent_after out.old.datagrams (keeping.child_request kept.now.tree kept.now.number domain child (change_of kept.now.tree (grants_of kept.now) domain command child)) } }
+    ensures { out.new
+        ≡ record out.old {
+          datagrams = sent_after out.old.datagrams
+              (keeping.child_request kept.now.tree kept.now.number domain child
+              (change_of kept.now.tree (grants_of kept.now) domain command child));
+        } }
 {
     match kept.change_of(domain, command, child) {
         ChildChange::Relinked(link) => {
@@ -54,7 +59,11 @@ fn send_to_children(out: &mut Out, kept: &Kept<'_>, domain: u16, command: Comman
     requires domain { IsBetween 1 (domain_count kept.now.tree) domain }
     requires command { IsCommand kept.now.tree command }
     requires rests { is_settled ((grants_of kept.now).records domain).phase ≡ true }
-    ensures { out.new ≡ record out.old { datagrams = sent_after out.old.datagrams (keeping.child_requests kept.now.tree kept.now.number (grants_of kept.now) domain command) } }
+    ensures { out.new
+        ≡ record out.old {
+          datagrams = sent_after out.old.datagrams
+              (keeping.child_requests kept.now.tree kept.now.number (grants_of kept.now) domain command);
+        } }
 {
     let children = kept.tree().children(domain);
     for child in children {
@@ -80,8 +89,11 @@ pub fn run(
     requires party { is_free holder ≡ false }
     requires number { number ≤ last_number }
     requires command { IsCommand kept.now.tree command }
-    ensures plan { Plans kept.now.tree kept.now.number (grants_of kept.now) (keeping.run_comes kept.now.tree kept.now.number (grants_of kept.now) from domain holder epoch number command) result }
-    ensures sent { out.new ≡ with_step out.old (keeping.run_comes kept.now.tree kept.now.number (grants_of kept.now) from domain holder epoch number command) }
+    ensures plan { Plans kept.now.tree kept.now.number (grants_of kept.now)
+        (keeping.run_comes kept.now.tree kept.now.number (grants_of kept.now) from domain holder epoch number
+        command) result }
+    ensures sent { out.new ≡ with_step out.old
+        (keeping.run_comes kept.now.tree kept.now.number (grants_of kept.now) from domain holder epoch number command) }
 {
     let change = kept.run_comes(domain, holder, epoch, number, command);
     let standing = record_after(kept, &change, domain);

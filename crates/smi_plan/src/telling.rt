@@ -135,7 +135,11 @@ ghost use Rattle.smi_protocol.specs.Messages.{if_any};
 /// What has settled is answered, one after the other.
 fn send_answers(out: &mut Out, operator: u16, domain: u16, link: &Link, settlements: &Settlements)
     requires room { length out.old.answers ≡ 0 }
-    ensures answers { out.new ≡ record out.old { answers = answered_after out.old.answers (hearing.answers_of operator domain link.now settlements.now) } }
+    ensures answers { out.new
+        ≡ record out.old {
+          answers = answered_after out.old.answers
+              (hearing.answers_of operator domain link.now settlements.now);
+        } }
     ensures few { length out.new.answers ≤ 8 }
 {
     for i in 0..settlements.len() {
@@ -146,7 +150,11 @@ fn send_answers(out: &mut Out, operator: u16, domain: u16, link: &Link, settleme
 /// What has settled with a record is answered, if anything.
 fn answer_heard(out: &mut Out, operator: u16, domain: u16, link: &Link, heard: &LinkHeard)
     requires room { length out.old.answers ≡ 0 }
-    ensures answers { out.new ≡ record out.old { answers = answered_after out.old.answers (hearing.answers_of operator domain link.now (hearing.settlements_in heard.now)) } }
+    ensures answers { out.new
+        ≡ record out.old {
+          answers = answered_after out.old.answers
+              (hearing.answers_of operator domain link.now (hearing.settlements_in heard.now));
+        } }
     ensures few { length out.new.answers ≤ 8 }
 {
     match heard {
@@ -169,8 +177,10 @@ fn tell_operator(
     requires sound { IsSound kept.now.tree (grants_of kept.now) }
     requires news { is_record news.now ≡ true }
     requires room { length out.old.answers ≡ 0 }
-    ensures plan { Plans kept.now.tree kept.now.number (grants_of kept.now) (hearing.operator_told kept.now.tree kept.now.number (grants_of kept.now) operator domain news.now) result }
-    ensures sent { out.new ≡ with_step out.old (hearing.operator_told kept.now.tree kept.now.number (grants_of kept.now) operator domain news.now) }
+    ensures plan { Plans kept.now.tree kept.now.number (grants_of kept.now)
+        (hearing.operator_told kept.now.tree kept.now.number (grants_of kept.now) operator domain news.now) result }
+    ensures sent { out.new ≡ with_step out.old
+        (hearing.operator_told kept.now.tree kept.now.number (grants_of kept.now) operator domain news.now) }
     ensures few { length out.new.answers ≤ 8 }
 {
     let holder = Holder::Operator(operator);
@@ -227,8 +237,13 @@ ghost use Rattle.smi_protocol.specs.Messages.{holder_station};
 fn send_end(out: &mut Out, kept: &Kept<'_>, domain: u16, standing: Record)
     requires domain { IsBetween 1 (domain_count kept.now.tree) domain }
     requires told { is_standing standing ≡ true }
-    requires to { record_spec.is_settled ((grants_of kept.now).records domain).phase ≡ false → IsBetween 1 (station_count kept.now.tree) (unwrap_or (holder_station kept.now.tree standing.holder) 0) }
-    ensures { out.new ≡ record out.old { datagrams = sent_after out.old.datagrams (told_end kept.now.tree kept.now.number domain ((grants_of kept.now).records domain) standing) } }
+    requires to { record_spec.is_settled ((grants_of kept.now).records domain).phase ≡ false
+        → IsBetween 1 (station_count kept.now.tree) (unwrap_or (holder_station kept.now.tree standing.holder) 0) }
+    ensures { out.new
+        ≡ record out.old {
+          datagrams = sent_after out.old.datagrams
+              (told_end kept.now.tree kept.now.number domain ((grants_of kept.now).records domain) standing);
+        } }
 {
     if !is_settled(kept.record(domain).phase) && is_settled(standing.phase) {
         send_record(
@@ -257,8 +272,10 @@ fn tell_parent(out: &mut Out, kept: &Kept<'_>, parent: u16, child: u16, news: &R
     requires news { is_record news.now ≡ true }
     requires outcome { is_outcome news.now.outcome ≡ true }
     requires hears { hearing.hears ((grants_of kept.now).links (Domain parent) child) (Domain parent) news.now ≡ true }
-    ensures plan { Plans kept.now.tree kept.now.number (grants_of kept.now) (hearing.parent_told kept.now.tree kept.now.number (grants_of kept.now) parent child news.now) result }
-    ensures sent { out.new ≡ with_step out.old (hearing.parent_told kept.now.tree kept.now.number (grants_of kept.now) parent child news.now) }
+    ensures plan { Plans kept.now.tree kept.now.number (grants_of kept.now)
+        (hearing.parent_told kept.now.tree kept.now.number (grants_of kept.now) parent child news.now) result }
+    ensures sent { out.new ≡ with_step out.old
+        (hearing.parent_told kept.now.tree kept.now.number (grants_of kept.now) parent child news.now) }
 {
     let tree = kept.tree();
     let holder = Holder::Domain(parent);
@@ -281,8 +298,10 @@ pub fn tell(out: &mut Out, kept: &Kept<'_>, domain: u16, news: &Record) -> Chang
     requires news { is_record news.now ≡ true }
     requires outcome { is_outcome news.now.outcome ≡ true }
     requires room { length out.old.answers ≡ 0 }
-    ensures plan { Plans kept.now.tree kept.now.number (grants_of kept.now) (hearing.tell_comes kept.now.tree kept.now.number (grants_of kept.now) domain news.now) result }
-    ensures sent { out.new ≡ with_step out.old (hearing.tell_comes kept.now.tree kept.now.number (grants_of kept.now) domain news.now) }
+    ensures plan { Plans kept.now.tree kept.now.number (grants_of kept.now)
+        (hearing.tell_comes kept.now.tree kept.now.number (grants_of kept.now) domain news.now) result }
+    ensures sent { out.new ≡ with_step out.old
+        (hearing.tell_comes kept.now.tree kept.now.number (grants_of kept.now) domain news.now) }
     ensures few { length out.new.answers ≤ 8 }
 {
     let _tree = kept.tree();

@@ -1,5 +1,6 @@
 -- What a station sends is in the ranges of its kind.
-use Rattle.std.proofs.Common.{ℕ, zero, suc, ◌≡◌, ◌≤◌, ◌<◌, ◌+◌, ◌-◌, ◌%◌, Bool, true, false, List, [], ◌∷◌, length, Option, Some, None, refl, sym, ap, ◌∙◌, subst, arith}
+use Rattle.std.proofs.Common.{ℕ, zero, suc, ◌≡◌, ◌≤◌, ◌<◌, ◌+◌, ◌-◌, ◌%◌, Bool, true, false, List, [], ◌∷◌, length}
+use Rattle.std.proofs.Common.{Option, Some, None, refl, sym, ap, ◌∙◌, subst, arith}
 use Rattle.std.specs.Prelude.{◌==◌, nat_le, slice_get, unwrap_or, option_and_then, option_map, if◌then◌else◌}
 use Rattle.std.specs.List.{AllByRecursion}
 use Rattle.std.proofs.lemmas.Bool.{and_from, and_parts, eqb-true, eq-eqb, leb-true}
@@ -34,17 +35,20 @@ pub between : (low high n : ℕ) → low ≤ n → n ≤ high → is_between low
 between low high n least most = grind (arith, nat_tests)
 
 pub is_within : (low high n : ℕ) → is_between low high n ≡ true → IsBetween low high n
-is_within low high n t = let p = and_parts (nat_le low n) (nat_le n high) t in record { least = leb-true low n p.0; most = leb-true n high p.1 }
+is_within low high n t = let p = and_parts (nat_le low n) (nat_le n high) t in
+    record { least = leb-true low n p.0; most = leb-true n high p.1 }
 
 -- What is due.
 
-pending_there : (p : List Command) (i : ℕ) (c : Command) (P : Command → Type 0) → AllByRecursion P p → slice_get p i ≡ Some c → P c × (i < length p)
+pending_there : (p : List Command) (i : ℕ) (c : Command) (P : Command → Type 0) → AllByRecursion P p
+    → slice_get p i ≡ Some c → P c × (i < length p)
 pending_there [] i c P all at = absurd (nothing i at)
   where
     nothing : (i : ℕ) → slice_get [] i ≡ Some c → ⊥
     nothing i at = cc
 pending_there (x ∷ p) zero c P all at = let same : x ≡ c = cc in (subst P same all.0, omega arith)
-pending_there (x ∷ p) (suc i) c P all at = let r = pending_there p i c P all.1 at in let less = r.1 in (r.0, omega (arith, less))
+pending_there (x ∷ p) (suc i) c P all at = let r = pending_there p i c P all.1 at in let less = r.1 in
+    (r.0, omega (arith, less))
 
 grant_epoch : (e : ℕ) → e ≤ last_epoch → e % 2 ≡ 1 → is_grant_epoch e ≡ true
 grant_epoch e most odd = and_from _ _ (below e most) (eq-eqb (e % 2) 1 odd)
@@ -56,7 +60,8 @@ epoch_in : (s : ℕ) → s ≤ last_epoch → nat_le s last_epoch ≡ true
 epoch_in s most = grind (arith, nat_tests)
 
 -- whatever a sound link is due can be said
-pub due_in : (h : Hierarchy) (most : ℕ) (l : Link) (i : ℕ) (due : Due) → IsLink h most l → due_of l i ≡ Some due → is_due due ≡ true
+pub due_in : (h : Hierarchy) (most : ℕ) (l : Link) (i : ℕ) (due : Due) → IsLink h most l → due_of l i ≡ Some due
+    → is_due due ≡ true
 due_in h most (Out k) i due sound at = absurd cc
 due_in h most (Taking s) i due sound at = by (i == 0) at
   where
@@ -65,7 +70,8 @@ due_in h most (Taking s) i due sound at = by (i == 0) at
     by false is = absurd cc
 due_in h most (Held e n p) i due sound at = by (slice_get p i) refl at
   where
-    by : (o : Option Command) → slice_get p i ≡ o → option_map (λ c. Run e (base_of n p + 1 + i) c) o ≡ Some due → is_due due ≡ true
+    by : (o : Option Command) → slice_get p i ≡ o → option_map (λ c. Run e (base_of n p + 1 + i) c) o ≡ Some due
+        → is_due due ≡ true
     by None is a = absurd cc
     by (Some c) is a =
         let same : Run e (base_of n p + 1 + i) c ≡ due = cc in
@@ -75,7 +81,8 @@ due_in h most (Held e n p) i due sound at = by (slice_get p i) refl at
         let less : i < length p = there.1 in
         subst (λ z. is_due z ≡ true) same
         (and_from _ _ (grant_epoch e sound.0.0 sound.0.1)
-        (and_from _ _ (between 1 last_number (base_of n p + 1 + i) (omega arith) (omega (arith, less, pending.numbered, pending.newest))) command.range))
+        (and_from _ _ (between 1 last_number (base_of n p + 1 + i) (omega arith)
+        (omega (arith, less, pending.numbered, pending.newest))) command.range))
 due_in h most (Dropping e) i due sound at = by (i == 0) at
   where
     by : (b : Bool) → (if b then Some (Drop e) else None) ≡ Some due → is_due due ≡ true
@@ -83,7 +90,8 @@ due_in h most (Dropping e) i due sound at = by (i == 0) at
     by false is = absurd cc
 
 -- what is due makes a lawful datagram
-pub due_said : (d : ℕ) (who : Holder) (due : Due) → is_domain d ≡ true → is_party who ≡ true → is_due due ≡ true → is_body (request d who due) ≡ true
+pub due_said : (d : ℕ) (who : Holder) (due : Due) → is_domain d ≡ true → is_party who ≡ true → is_due due ≡ true
+    → is_body (request d who due) ≡ true
 due_said d who (Take s) a b c = and_from _ _ a (and_from _ _ b c)
 due_said d who (Drop e) a b c = and_from _ _ a (and_from _ _ b c)
 due_said d who (Run e n x) a b c = and_from _ _ a (and_from _ _ b c)
@@ -91,9 +99,11 @@ due_said d who (Run e n x) a b c = and_from _ _ a (and_from _ _ b c)
 -- Who is there.
 
 -- what is at a number has its place
-pub number_within : {X : Type 0} (rows : List X) (n : ℕ) (row : X) → entry rows n ≡ Some row → IsBetween 1 (length rows) n
+pub number_within : {X : Type 0} (rows : List X) (n : ℕ) (row : X) → entry rows n ≡ Some row
+    → IsBetween 1 (length rows) n
 number_within rows zero row at = absurd cc
-number_within rows (suc n) row at = let less : n < length rows = within n (rw (positive n) at at) in record { least = omega arith; most = omega (arith, less) }
+number_within rows (suc n) row at = let less : n < length rows = within n (rw (positive n) at at) in
+    record { least = omega arith; most = omega (arith, less) }
   where
     positive : (n : ℕ) → (suc n == 0) ≡ false
     positive n = grind (arith, nat_tests)
@@ -132,16 +142,23 @@ row_there {X = X} rows (suc n) within =
     at (y ∷ ys) (suc i) less = at ys i (omega (arith, less))
 
 -- the station of a domain that is there
-pub home_there : (h : Hierarchy) → IsTree h → (d : ℕ) → IsBetween 1 (domain_count h) d → IsBetween 1 (station_count h) (home h d)
+pub home_there : (h : Hierarchy) → IsTree h → (d : ℕ) → IsBetween 1 (domain_count h) d
+    → IsBetween 1 (station_count h) (home h d)
 home_there h tree d within =
-    let r = row_there h.domains d (record { least = within.least; most = omega (arith, within.most, tree.lawful.domains.rows) }) in
-    subst (IsBetween 1 (station_count h)) (sym (ap (λ (o : Option DomainRow). unwrap_or (option_map (λ (row : DomainRow). row.station) o) 0) r.1)) (tree.lawful.domains.each d r.0 r.1).station
+    let r = row_there h.domains d
+    (record { least = within.least; most = omega (arith, within.most, tree.lawful.domains.rows) }) in
+    subst (IsBetween 1 (station_count h)) (sym
+    (ap (λ (o : Option DomainRow). unwrap_or (option_map (λ (row : DomainRow). row.station) o) 0) r.1))
+    (tree.lawful.domains.each d r.0 r.1).station
 
 -- a child is there, and so is its parent
-pub child_there : (h : Hierarchy) → IsTree h → (d p : ℕ) → is_parent h d p ≡ true → IsBetween 1 (domain_count h) d × IsBetween 1 (domain_count h) p
+pub child_there : (h : Hierarchy) → IsTree h → (d p : ℕ) → is_parent h d p ≡ true
+    → IsBetween 1 (domain_count h) d × IsBetween 1 (domain_count h) p
 child_there h tree d p t = by (entry h.domains d) refl (number_is (parent_of h d) p t)
   where
-    by : (o : Option DomainRow) → entry h.domains d ≡ o → option_and_then (λ (row : DomainRow). row.parent) o ≡ Some p → IsBetween 1 (domain_count h) d × IsBetween 1 (domain_count h) p
+    by : (o : Option DomainRow) → entry h.domains d ≡ o
+        → option_and_then (λ (row : DomainRow). row.parent) o ≡ Some p
+        → IsBetween 1 (domain_count h) d × IsBetween 1 (domain_count h) p
     by None is i = absurd cc
     by (Some row) is i =
         let within = number_within h.domains d row is in
@@ -153,21 +170,27 @@ child_there h tree d p t = by (entry h.domains d) refl (number_is (parent_of h d
         )
 
 -- the station of a holder of the tree
-pub holder_there : (h : Hierarchy) → IsTree h → (d : ℕ) (who : Holder) → is_free who ≡ false → holder.is_in_range who ≡ true → is_holder_of h d who ≡ true → IsBetween 1 (station_count h) (unwrap_or (holder_station h who) 0)
+pub holder_there : (h : Hierarchy) → IsTree h → (d : ℕ) (who : Holder) → is_free who ≡ false
+    → holder.is_in_range who ≡ true → is_holder_of h d who ≡ true
+    → IsBetween 1 (station_count h) (unwrap_or (holder_station h who) 0)
 holder_there h tree d Free party range known = absurd cc
 holder_there h tree d (Operator o) party range known =
     let a = and_parts (nat_le 1 o) (nat_le o 32) range in
     let most : o ≤ operator_count h = leb-true o (operator_count h) known in
-    let r = row_there h.homes o (record { least = leb-true 1 o a.0; most = omega (arith, most, tree.lawful.operators.rows) }) in
+    let r = row_there h.homes o
+    (record { least = leb-true 1 o a.0; most = omega (arith, most, tree.lawful.operators.rows) }) in
     subst (IsBetween 1 (station_count h)) (sym (ap (λ o. unwrap_or o 0) r.1)) (tree.lawful.operators.each o r.0 r.1)
 holder_there h tree d (Domain p) party range known = home_there h tree p (child_there h tree d p known).1
 
 module _ (h : Hierarchy) (tree : IsTree h) where
   -- a domain that a station keeps is there, and so is the station
-  pub kept_there : (station d : ℕ) → is_keeper h station d ≡ true → IsBetween 1 (domain_count h) d × IsBetween 1 (station_count h) station × (home h d ≡ station)
+  pub kept_there : (station d : ℕ) → is_keeper h station d ≡ true
+      → IsBetween 1 (domain_count h) d × IsBetween 1 (station_count h) station × (home h d ≡ station)
   kept_there station d t = by (entry h.domains d) refl t
     where
-      by : (o : Option DomainRow) → entry h.domains d ≡ o → is_number (option_map (λ (row : DomainRow). row.station) o) station ≡ true → IsBetween 1 (domain_count h) d × IsBetween 1 (station_count h) station × (home h d ≡ station)
+      by : (o : Option DomainRow) → entry h.domains d ≡ o
+          → is_number (option_map (λ (row : DomainRow). row.station) o) station ≡ true
+          → IsBetween 1 (domain_count h) d × IsBetween 1 (station_count h) station × (home h d ≡ station)
       by None is n = absurd cc
       by (Some row) is n =
           let within = number_within h.domains d row is in
@@ -182,30 +205,40 @@ module _ (h : Hierarchy) (tree : IsTree h) where
   domain_in d within = between 1 128 d within.least (omega (arith, within.most, tree.lawful.domains.most))
 
   -- an operator of a station is there
-  pub operator_there : (station o : ℕ) → is_number (operator_station_of h o) station ≡ true → is_party (Operator o) ≡ true
+  pub operator_there : (station o : ℕ) → is_number (operator_station_of h o) station ≡ true
+      → is_party (Operator o) ≡ true
   operator_there station o t =
       let within = number_within h.homes o station (number_is (operator_station_of h o) station t) in
-      and_from _ _ refl (between 1 32 o within.least (omega (arith, within.most, tree.lawful.operators.rows, tree.lawful.operators.most)))
+      and_from _ _ refl (between 1 32 o within.least
+      (omega (arith, within.most, tree.lawful.operators.rows, tree.lawful.operators.most)))
 
   pub domain_party : (p : ℕ) → IsBetween 1 (domain_count h) p → is_party (Domain p) ≡ true
   domain_party p within = and_from _ _ refl (domain_in p within)
 
   module _ (number : ℕ) (here : IsBetween 1 (station_count h) number) where
     -- a datagram to a station of the tree
-    pub message_in : (to : ℕ) (b : Body) → IsBetween 1 (station_count h) to → is_body b ≡ true → is_message (says h number to b) ≡ true
+    pub message_in : (to : ℕ) (b : Body) → IsBetween 1 (station_count h) to → is_body b ≡ true
+        → is_message (says h number to b) ≡ true
     message_in to b there fits =
         and_from _ _
         (and_from _ _ (between 1 128 number here.least (omega (arith, here.most, tree.lawful.stations)))
-        (and_from _ _ (between 1 128 to there.least (omega (arith, there.most, tree.lawful.stations))) (between 1 65535 h.number tree.number tree.lawful.number)))
+        (and_from _ _ (between 1 128 to there.least (omega (arith, there.most, tree.lawful.stations)))
+        (between 1 65535 h.number tree.number tree.lawful.number)))
         fits
 
-    pub tell_in : (to d : ℕ) (r : Standing) → IsBetween 1 (station_count h) to → IsBetween 1 (domain_count h) d → is_standing r ≡ true → is_message (tells h number to d r) ≡ true
-    tell_in to d r there within standing = message_in to (body.Tell d r) there (and_from _ _ (domain_in d within) standing)
+    pub tell_in : (to d : ℕ) (r : Standing) → IsBetween 1 (station_count h) to → IsBetween 1 (domain_count h) d
+        → is_standing r ≡ true → is_message (tells h number to d r) ≡ true
+    tell_in to d r there within standing = message_in to (body.Tell d r) there
+        (and_from _ _ (domain_in d within) standing)
 
-    pub request_in : (who : Holder) (d station : ℕ) (due : Due) → is_keeper h station d ≡ true → is_party who ≡ true → is_due due ≡ true → is_message (requests h number who d due) ≡ true
+    pub request_in : (who : Holder) (d station : ℕ) (due : Due) → is_keeper h station d ≡ true → is_party who ≡ true
+        → is_due due ≡ true → is_message (requests h number who d due) ≡ true
     request_in who d station due kept party fits =
         let k = kept_there station d kept in
-        message_in (home h d) (request d who due) (subst (IsBetween 1 (station_count h)) (sym k.2) k.1) (due_said d who due (domain_in d k.0) party fits)
+        message_in (home h d) (request d who due) (subst (IsBetween 1 (station_count h)) (sym k.2) k.1)
+        (due_said d who due (domain_in d k.0) party fits)
 
-    pub request_at : (who : Holder) (d : ℕ) (due : Due) → IsBetween 1 (domain_count h) d → is_party who ≡ true → is_due due ≡ true → is_message (requests h number who d due) ≡ true
-    request_at who d due within party fits = message_in (home h d) (request d who due) (home_there h tree d within) (due_said d who due (domain_in d within) party fits)
+    pub request_at : (who : Holder) (d : ℕ) (due : Due) → IsBetween 1 (domain_count h) d → is_party who ≡ true
+        → is_due due ≡ true → is_message (requests h number who d due) ≡ true
+    request_at who d due within party fits = message_in (home h d) (request d who due) (home_there h tree d within)
+        (due_said d who due (domain_in d within) party fits)

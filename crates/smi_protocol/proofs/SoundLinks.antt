@@ -1,5 +1,6 @@
 -- A link stays one of which datagrams can speak.
-use Rattle.std.proofs.Common.{ℕ, zero, suc, ◌≡◌, ◌<◌, false, List, [], ◌∷◌, ◌++◌, length, drop, Ok, sym, ap, subst, arith, length-append, length-drop}
+use Rattle.std.proofs.Common.{ℕ, zero, suc, ◌≡◌, ◌<◌, false, List, [], ◌∷◌, ◌++◌, length, drop, Ok, sym, ap, subst}
+use Rattle.std.proofs.Common.{arith, length-append, length-drop}
 use Rattle.std.specs.List.{AllByRecursion}
 use Rattle.smi_grant.specs.declared.Command.{Command}
 use Rattle.smi_grant.specs.declared.Holder.{Holder}
@@ -21,7 +22,8 @@ all_left P zero xs a = a
 all_left P (suc k) [] a = tt
 all_left P (suc k) (x ∷ xs) a = all_left P k xs a.1
 
-all_and_one : {X : Type 0} (P : X → Type 0) (xs : List X) (x : X) → AllByRecursion P xs → P x → AllByRecursion P (xs ++ x ∷ [])
+all_and_one : {X : Type 0} (P : X → Type 0) (xs : List X) (x : X) → AllByRecursion P xs → P x
+    → AllByRecursion P (xs ++ x ∷ [])
 all_and_one P [] x a here = (here, tt)
 all_and_one P (y ∷ xs) x a here = (a.0, all_and_one P xs x a.1 here)
 
@@ -37,7 +39,8 @@ module _ (h : Hierarchy) (most : ℕ) where
       subst (IsLink h most) (sym b.3) (subst (IsLink h most) b.2 sound).0
 
   pub sound_issued : (l : Link) (c : Command) (m : Link) → command_issued l c ≡ Ok m → IsCommand h c
-      → ((e n : ℕ) (p : List Command) → l ≡ Held e n p → length p < most_pending → length p < most) → IsLink h most l → IsLink h most m
+      → ((e n : ℕ) (p : List Command) → l ≡ Held e n p → length p < most_pending → length p < most) → IsLink h most l
+      → IsLink h most m
   sound_issued l c m is command room sound =
       let i = command_issues l c m is in
       let old : IsLink h most (Held i.epoch i.number i.pending) = subst (IsLink h most) i.was sound in
@@ -53,7 +56,8 @@ module _ (h : Hierarchy) (most : ℕ) where
         },
       )
 
-  pub sound_told : (l : Link) (me : Holder) (r : Standing) → is_free me ≡ false → IsRecord r → IsLink h most l → IsLink h most (told_link l me r)
+  pub sound_told : (l : Link) (me : Holder) (r : Standing) → is_free me ≡ false → IsRecord r → IsLink h most l
+      → IsLink h most (told_link l me r)
   sound_told (Out k) me r party lawful sound = sound
   sound_told (Taking s) me r party lawful sound =
       by_row_taking (λ old new. IsLink h most new) me r s

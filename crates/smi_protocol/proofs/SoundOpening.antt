@@ -22,5 +22,6 @@ opens_sound h = record {
   own = λ o d. omega arith;
   child = λ p d. omega arith;
   mode = λ p d parent out. refl;
-  few = λ o. let none : links_in_use h no_grants o ≡ 0 = count_none (λ d. false) (range_with_len 1 (domain_count h)) (λ d. refl) in omega (arith, none);
+  few = λ o. let none : links_in_use h no_grants o
+      ≡ 0 = count_none (λ d. false) (range_with_len 1 (domain_count h)) (λ d. refl) in omega (arith, none);
 }

@@ -1,4 +1,4 @@
--- What a change of some links leaves as it was, and what the parts of a lawful record come to.
+-- What a change of some links leaves unchanged, and what the parts of a lawful record come to.
 use Rattle.std.proofs.Common.{ℕ, ◌≡◌, ◌≤◌, Bool, true, false, refl, ap, arith}
 use Rattle.std.specs.Prelude.{◌==◌, ◌||◌, nat_le, max, not, count_by}
 use Rattle.std.specs.List.{list_any, range_with_len}
@@ -31,7 +31,8 @@ standing_facts r is =
     let b = and_parts (is_outcome r.outcome) (is_record r) a.1 in
     record { holder = a.0; outcome = b.0; lawful = is_record-facts r b.1 }
 
-pub standing_true : (r : Standing) → holder.is_in_range r.holder ≡ true → is_outcome r.outcome ≡ true → IsRecord r → is_standing r ≡ true
+pub standing_true : (r : Standing) → holder.is_in_range r.holder ≡ true → is_outcome r.outcome ≡ true → IsRecord r
+    → is_standing r ≡ true
 standing_true r a b c = and_from _ _ a (and_from _ _ b (is_record-true r c))
 
 pub small_outcome : (x : ℕ) → x ≤ 7 → is_outcome x ≡ true
@@ -60,9 +61,12 @@ larger_outcome x y a b = by (nat_le x y) refl
 -- Links.
 
 -- a domain whose links are the same waits as before
-pub waits_alike : (h : Hierarchy) (g k : Grants) (d : ℕ) → ((x : ℕ) → k.links (Domain d) x ≡ g.links (Domain d) x) → waits_for_children h k d ≡ waits_for_children h g d
+pub waits_alike : (h : Hierarchy) (g k : Grants) (d : ℕ) → ((x : ℕ) → k.links (Domain d) x ≡ g.links (Domain d) x)
+    → waits_for_children h k d ≡ waits_for_children h g d
 waits_alike h g k d same = ap (λ (t : ℕ → Link). list_any (λ x. is_unsettled (t x)) (children_of h d)) (fun_ext same)
 
 -- an operator whose links are the same has as many in use
-pub use_alike : (h : Hierarchy) (g k : Grants) (o : ℕ) → ((x : ℕ) → k.links (Operator o) x ≡ g.links (Operator o) x) → links_in_use h k o ≡ links_in_use h g o
-use_alike h g k o same = ap (λ (t : ℕ → Link). count_by (λ d. not (is_out (t d))) (range_with_len 1 (domain_count h))) (fun_ext same)
+pub use_alike : (h : Hierarchy) (g k : Grants) (o : ℕ) → ((x : ℕ) → k.links (Operator o) x ≡ g.links (Operator o) x)
+    → links_in_use h k o ≡ links_in_use h g o
+use_alike h g k o same =
+    ap (λ (t : ℕ → Link). count_by (λ d. not (is_out (t d))) (range_with_len 1 (domain_count h))) (fun_ext same)

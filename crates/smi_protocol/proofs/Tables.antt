@@ -1,5 +1,6 @@
 -- Tables with another value at one number, and the rows of a tree by number.
-use Rattle.std.proofs.Common.{ℕ, zero, suc, refl, sym, ap, ◌∙◌, ◌≡◌, ◌+◌, ◌-◌, Bool, true, false, List, [], ◌∷◌, ◌⊎◌, inl, inr, Option, Some, None, subst, arith}
+use Rattle.std.proofs.Common.{ℕ, zero, suc, refl, sym, ap, ◌∙◌, ◌≡◌, ◌+◌, ◌-◌, Bool, true, false, List, [], ◌∷◌, ◌⊎◌}
+use Rattle.std.proofs.Common.{inl, inr, Option, Some, None, subst, arith}
 use Rattle.std.specs.Prelude.{◌==◌, ◌&&◌, ◌||◌, if◌then◌else◌, slice_get, option_and_then}
 use Rattle.std.specs.Option.{option_map_or}
 use Rattle.std.specs.List.{list_any}
@@ -30,10 +31,12 @@ pub number_self : (n : ℕ) → (n == n) ≡ true
 number_self n = grind (arith, nat_tests)
 
 -- what holds of each value holds of a table with another value at one number
-pub at_put : {X : Type 0} (P : X → Type 0) (table : ℕ → X) (x : ℕ) (v : X) (d : ℕ) → (d ≡ x → P v) → P (table d) → P (put table x v d)
+pub at_put : {X : Type 0} (P : X → Type 0) (table : ℕ → X) (x : ℕ) (v : X) (d : ℕ) → (d ≡ x → P v) → P (table d)
+    → P (put table x v d)
 at_put P table x v d here other = elim (either (d == x)) [ inl t ↦ rw t (here (eqb-true d x t)) | inr f ↦ rw f other ]
 
-pub at_put_link : (P : Link → Type 0) (links : Holder → ℕ → Link) (who : Holder) (x : ℕ) (l : Link) (me : Holder) (d : ℕ) → (d ≡ x → me ≡ who → P l) → P (links me d) → P (put_link links who x l me d)
+pub at_put_link : (P : Link → Type 0) (links : Holder → ℕ → Link) (who : Holder) (x : ℕ) (l : Link) (me : Holder)
+    (d : ℕ) → (d ≡ x → me ≡ who → P l) → P (links me d) → P (put_link links who x l me d)
 at_put_link P links who x l me d here other = elim (either (d == x && same_holder me who)) [
   | inl t ↦ let a = and_parts (d == x) _ t in rw t (here (eqb-true d x a.0) (same_is me who a.1))
   | inr f ↦ rw f other
@@ -45,10 +48,13 @@ put_link_here links who x l = rw (number_self x) (rw (same_self who) refl)
 pub put_here : {X : Type 0} (table : ℕ → X) (n : ℕ) (v : X) → put table n v n ≡ v
 put_here table n v = rw (number_self n) refl
 
-pub put_there : {X : Type 0} (table : ℕ → X) (n : ℕ) (v : X) (other : ℕ) → (other ≡ n → ⊥) → put table n v other ≡ table other
-put_there table n v other o = elim (either (other == n)) [ inl t ↦ absurd (o (eqb-true other n t)) | inr f ↦ ap (λ b. if b then v else table other) f ]
+pub put_there : {X : Type 0} (table : ℕ → X) (n : ℕ) (v : X) (other : ℕ) → (other ≡ n → ⊥)
+    → put table n v other ≡ table other
+put_there table n v other o = elim (either (other == n))
+    [ inl t ↦ absurd (o (eqb-true other n t)) | inr f ↦ ap (λ b. if b then v else table other) f ]
 
-pub entry_of : {X : Type 0} (rows : List X) (i : ℕ) (row : X) → slice_get rows i ≡ Some row → entry rows (i + 1) ≡ Some row
+pub entry_of : {X : Type 0} (rows : List X) (i : ℕ) (row : X) → slice_get rows i ≡ Some row
+    → entry rows (i + 1) ≡ Some row
 entry_of rows i row is = rw (later i) (ap (slice_get rows) (back i) ∙ is)
   where
     later : (j : ℕ) → (j + 1 == 0) ≡ false
@@ -58,7 +64,8 @@ entry_of rows i row is = rw (later i) (ap (slice_get rows) (back i) ∙ is)
     back j = omega arith
 
 -- the operators of a station, and the children of a domain
-pub operator_ours : (h : Hierarchy) (number o : ℕ) → In o (operators_of h number) → operator_station_of h o ≡ Some number
+pub operator_ours : (h : Hierarchy) (number o : ℕ) → In o (operators_of h number)
+    → operator_station_of h o ≡ Some number
 operator_ours h number o a =
     let b = from_numbers (λ home. home == number) h.homes 1 o a in
     ap (entry h.homes) b.4 ∙ entry_of h.homes b.0 b.1 b.2 ∙ ap Some (eqb-true b.1 number b.3)
@@ -66,7 +73,8 @@ operator_ours h number o a =
 pub child_of : (h : Hierarchy) (d x : ℕ) → In x (children_of h d) → parent_of h x ≡ Some d
 child_of h d x a =
     let b = from_numbers (is_child_of d) h.domains 1 x a in
-    ap (λ o. option_and_then (λ (row : DomainRow). row.parent) o) (ap (entry h.domains) b.4 ∙ entry_of h.domains b.0 b.1 b.2) ∙ above b.1.parent b.3
+    ap (λ o. option_and_then (λ (row : DomainRow). row.parent) o)
+    (ap (entry h.domains) b.4 ∙ entry_of h.domains b.0 b.1 b.2) ∙ above b.1.parent b.3
   where
     above : (o : Option ℕ) → option_map_or (λ p. p == d) o false ≡ true → o ≡ Some d
     above None i = absurd cc
@@ -78,7 +86,8 @@ number_is (Some m) n i = ap Some (eqb-true m n i)
 
 -- a domain has one parent
 pub one_parent : (h : Hierarchy) (x a b : ℕ) → is_parent h x a ≡ true → is_parent h x b ≡ true → a ≡ b
-one_parent h x a b i j = let same : Some a ≡ Some b = sym (number_is (parent_of h x) a i) ∙ number_is (parent_of h x) b j in cc
+one_parent h x a b i j = let same : Some a ≡ Some b = sym (number_is (parent_of h x) a i)
+    ∙ number_is (parent_of h x) b j in cc
 
 -- a domain is among the children of its parent
 pub child_in : (h : Hierarchy) (d x : ℕ) → is_parent h x d ≡ true → In x (children_of h d)
@@ -88,12 +97,21 @@ child_in h d (suc n) t = by (slice_get h.domains n) refl (rw (positive n) at t)
     positive : (n : ℕ) → (suc n == 0) ≡ false
     positive n = grind (arith, nat_tests)
 
-    by : (o : Option DomainRow) → slice_get h.domains n ≡ o → option_map_or (λ m. m == d) (option_and_then (λ (row : DomainRow). row.parent) (slice_get h.domains (suc n - 1))) false ≡ true → In (suc n) (children_of h d)
-    by None at i = absurd (let wrong : false ≡ true = sym (ap (λ z. option_map_or (λ m. m == d) (option_and_then (λ (row : DomainRow). row.parent) z) false) (ap (slice_get h.domains) (back n) ∙ at)) ∙ i in cc)
+    by : (o : Option DomainRow) → slice_get h.domains n ≡ o
+        → option_map_or (λ m. m == d) (option_and_then (λ (row : DomainRow). row.parent)
+        (slice_get h.domains (suc n - 1))) false ≡ true → In (suc n) (children_of h d)
+    by None at i =
+        absurd (let wrong
+        : false ≡ true =
+        sym (ap (λ z. option_map_or (λ m. m == d) (option_and_then (λ (row : DomainRow). row.parent) z) false)
+        (ap (slice_get h.domains) (back n) ∙ at)) ∙ i in cc)
       where
         back : (n : ℕ) → suc n - 1 ≡ n
         back n = omega arith
-    by (Some row) at i = subst (λ z. In z (children_of h d)) (next n) (in_numbers (is_child_of d) h.domains 1 n row at (sym (ap (λ z. option_map_or (λ m. m == d) (option_and_then (λ (row : DomainRow). row.parent) z) false) (ap (slice_get h.domains) (back n) ∙ at)) ∙ i))
+    by (Some row) at i = subst (λ z. In z (children_of h d)) (next n)
+        (in_numbers (is_child_of d) h.domains 1 n row at
+        (sym (ap (λ z. option_map_or (λ m. m == d) (option_and_then (λ (row : DomainRow). row.parent) z) false)
+        (ap (slice_get h.domains) (back n) ∙ at)) ∙ i))
       where
         back : (n : ℕ) → suc n - 1 ≡ n
         back n = omega arith
@@ -110,7 +128,8 @@ pub none_passes : (test : ℕ → Bool) (xs : List ℕ) (x : ℕ) → list_any t
 none_passes test [] x none a = absurd a
 none_passes test (y ∷ xs) x none a = by (test y) refl none a (λ n i. none_passes test xs x n i)
   where
-    by : (b : Bool) → test y ≡ b → (b || list_any test xs) ≡ false → In x (y ∷ xs) → (list_any test xs ≡ false → In x xs → test x ≡ false) → test x ≡ false
+    by : (b : Bool) → test y ≡ b → (b || list_any test xs) ≡ false → In x (y ∷ xs)
+        → (list_any test xs ≡ false → In x xs → test x ≡ false) → test x ≡ false
     by true is n i rest = absurd cc
     by false is n (inl same) rest = ap test same ∙ is
     by false is n (inr i) rest = rest n i

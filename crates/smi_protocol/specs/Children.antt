@@ -1,5 +1,6 @@
 -- What a command that runs at a domain does to the domain's links to its children.
-use Rattle.std.specs.Prelude.{ℕ, ◌==◌, ◌&&◌, max, Bool, true, false, if◌then◌else◌, List, [], ◌∷◌, map, Result, Ok, Err}
+use Rattle.std.specs.Prelude.{ℕ, ◌==◌, ◌&&◌, max, Bool, true, false, if◌then◌else◌, List, [], ◌∷◌, map, Result, Ok}
+use Rattle.std.specs.Prelude.{Err}
 use Rattle.smi_grant.specs.declared.Command.{Command}
 use Rattle.smi_grant.specs.declared.Command.TheVariants.{Do, Include, Exclude, Manual, Ignore}
 use Rattle.smi_grant.specs.declared.Holder.{Holder}
@@ -99,7 +100,8 @@ code_of (ComesInto m) = 0
 -- the station's links after the command: those of the domain to its children
 abbrev pub links_after : Hierarchy → Grants → ℕ → Command → Holder → ℕ → Link
 links_after h g d c who x =
-    if is_parent h x d && same_holder who (Domain d) then link_after (change_of h g d c x) (g.links (Domain d) x) else g.links who x
+    if is_parent h x d && same_holder who (Domain d) then link_after (change_of h g d c x) (g.links (Domain d) x)
+    else g.links who x
 
 -- the modes of the domain's children after the command
 abbrev pub modes_after : Hierarchy → Grants → ℕ → Command → ℕ → Mode

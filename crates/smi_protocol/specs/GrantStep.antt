@@ -32,7 +32,14 @@ unchanged g sends = record { grants = g; row = None; entries = []; sends = sends
 
 -- the row of a domain changes
 abbrev pub domain_changed : Grants → ℕ → List Entry → List Message → GrantStep
-domain_changed g d entries sends = record { grants = g; row = Some (OfDomain d); entries = entries; sends = sends; answers = []; issued = None }
+domain_changed g d entries sends = record {
+  grants = g;
+  row = Some (OfDomain d);
+  entries = entries;
+  sends = sends;
+  answers = [];
+  issued = None;
+}
 
 -- a link of the domain to a child waits for something
 abbrev pub waits_for_children : Hierarchy → Grants → ℕ → Bool

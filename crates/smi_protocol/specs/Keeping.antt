@@ -15,7 +15,8 @@ use Rattle.smi_command.specs.declared.Link.TheVariants.{Dropping}
 use Rattle.smi_rows.specs.Known.{is_parent}
 use Rattle.smi_protocol.specs.Grants.{Grants, put, with_record}
 use Rattle.smi_protocol.specs.Messages.{tells, requests_due}
-use Rattle.smi_protocol.specs.Children.{ChildChange, Relinked, ComesInto, change_of, links_after, modes_after, own_code}
+use Rattle.smi_protocol.specs.Children.{ChildChange, Relinked, ComesInto, change_of, links_after, modes_after}
+use Rattle.smi_protocol.specs.Children.{own_code}
 use Rattle.smi_protocol.specs.GrantStep.{GrantStep, unchanged, domain_changed, waits_for_children}
 use Rattle.smi_protocol.specs.declared.entry.Entry.{Entry}
 use Rattle.smi_protocol.specs.declared.entry.Entry.TheVariants as entry

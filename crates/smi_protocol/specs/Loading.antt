@@ -1,5 +1,6 @@
 -- What the rows of a station mean, and what it comes to where it opens on them.
-use Rattle.std.specs.Prelude.{ℕ, ◌≡◌, ◌≢◌, ◌⊎◌, ◌==◌, Bool, true, false, List, [], find, Option, Some, None, option_and_then, unwrap_or, Result, Ok, Err, if◌then◌else◌}
+use Rattle.std.specs.Prelude.{ℕ, ◌≡◌, ◌≢◌, ◌⊎◌, ◌==◌, Bool, true, false, List, [], find, Option, Some, None}
+use Rattle.std.specs.Prelude.{option_and_then, unwrap_or, Result, Ok, Err, if◌then◌else◌}
 use Rattle.smi_grant.specs.declared.Holder.{Holder}
 use Rattle.smi_grant.specs.declared.Holder.TheVariants.{Free, Operator, Domain}
 use Rattle.smi_grant.specs.Record.{fresh}
@@ -116,7 +117,8 @@ IsStation h number b = is_between 1 (station_count h) number ≡ b
 -- out of memory, come where they come.
 abbrev pub Opens : Hierarchy → ℕ → Rows → Result Station OpenFault → Type 0
 Opens h number rows (Ok s) =
-    IsStation h number true × AllRead h number rows × ((grants_in h number rows).boot ≢ last_boot) × (s ≡ opened h number (grants_in h number rows))
+    IsStation h number true × AllRead h number rows × ((grants_in h number rows).boot ≢ last_boot)
+    × (s ≡ opened h number (grants_in h number rows))
 Opens h number rows (Err open_fault.NoSuchStation) = IsStation h number false
 Opens h number rows (Err (open_fault.Row k code)) = IsStation h number true × IsFirstFault h number rows k code
 Opens h number rows (Err open_fault.BootsSpent) =
@@ -129,9 +131,11 @@ Opens h number rows (Err open_fault.Memory) = Unit {0}
 pub record AreSaved (h : Hierarchy) (number : ℕ) (g : Grants) (rows : Rows) : Type 0 where
   pub boot : said h rows (key number 0 0) ≡ Some (row.Boot g.boot)
   pub domain : (d : ℕ) → is_keeper h number d ≡ true →
-      (said h rows (key number d 0) ≡ Some (domain_row h g d)) ⊎ ((said h rows (key number d 0) ≡ None) × (domain_row h g d ≡ row.Domain (kept_domain fresh 0 [])))
+      (said h rows (key number d 0) ≡ Some (domain_row h g d))
+      ⊎ ((said h rows (key number d 0) ≡ None) × (domain_row h g d ≡ row.Domain (kept_domain fresh 0 [])))
   pub operator : (o : ℕ) → is_number (operator_station_of h o) number ≡ true →
-      (said h rows (key number 0 o) ≡ Some (operator_row h g o)) ⊎ ((said h rows (key number 0 o) ≡ None) × (operator_row h g o ≡ row.Operator []))
+      (said h rows (key number 0 o) ≡ Some (operator_row h g o))
+      ⊎ ((said h rows (key number 0 o) ≡ None) × (operator_row h g o ≡ row.Operator []))
 
 -- What a station keeps is the same: the records and codes of its domains, their links to their children and the
 -- modes of these, and the links of its operators to the domains of the tree.
@@ -139,6 +143,8 @@ pub record KeepsTheSame (h : Hierarchy) (number : ℕ) (g k : Grants) : Type 0 w
   pub boot : k.boot ≡ g.boot
   pub records : (d : ℕ) → is_keeper h number d ≡ true → k.records d ≡ g.records d
   pub gathered : (d : ℕ) → is_keeper h number d ≡ true → k.gathered d ≡ g.gathered d
-  pub children : (d x : ℕ) → is_keeper h number d ≡ true → is_parent h x d ≡ true → k.links (Domain d) x ≡ g.links (Domain d) x
+  pub children : (d x : ℕ) → is_keeper h number d ≡ true → is_parent h x d ≡ true
+      → k.links (Domain d) x ≡ g.links (Domain d) x
   pub modes : (d x : ℕ) → is_keeper h number d ≡ true → is_parent h x d ≡ true → k.modes x ≡ g.modes x
-  pub operators : (o d : ℕ) → is_number (operator_station_of h o) number ≡ true → is_between 1 (domain_count h) d ≡ true → k.links (Operator o) d ≡ g.links (Operator o) d
+  pub operators : (o d : ℕ) → is_number (operator_station_of h o) number ≡ true
+      → is_between 1 (domain_count h) d ≡ true → k.links (Operator o) d ≡ g.links (Operator o) d

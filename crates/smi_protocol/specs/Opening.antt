@@ -50,6 +50,6 @@ all_shown h s = filter_map (shown_at s.grants.boot s.display.conditions) (range_
 abbrev pub opening_entries : Hierarchy → ℕ → Station → List Entry
 opening_entries h number s = entry.Booted number s.grants.boot ∷ map entry.Passed (all_shown h s)
 
--- a step that is stopped behind its save has changed the grants alone
+-- a step that is stopped after its save has changed the grants alone
 abbrev pub saved_only : Hierarchy → ℕ → Station → Happening → Station
 saved_only h number s what = record s { grants = (after h number s what).station.grants; is_stopped = true }

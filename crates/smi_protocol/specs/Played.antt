@@ -14,7 +14,7 @@ use Rattle.smi_protocol.specs.declared.entry.Entry.{Entry}
 use Rattle.smi_protocol.specs.declared.order.Order.{Order}
 
 -- What is done: the datagram of a number is delivered (of all that were sent, from 1), an operator of a station
--- orders, a device of a station reports, a station ticks, is started again, or stops behind the save of what a
+-- orders, a device of a station reports, a station ticks, is started again, or stops after the save of what a
 -- datagram that is delivered to it brings about, and is started again.
 pub data Act : Type 0 where
   Deliver : ℕ → Act
@@ -123,7 +123,7 @@ started h p number kept saved s = record {
 abbrev pub steps : Hierarchy → Play → ℕ → Happening → Turn
 steps h p number what = stepped p number (after h number (p.stations number) what)
 
--- a station stops behind its save, and is started again
+-- a station stops after its save, and is started again
 abbrev pub stops : Hierarchy → Play → ℕ → Outcome → Turn
 stops h p number o = started h p number o.kept o.saved (opened h number o.station.grants)
 
@@ -132,7 +132,7 @@ abbrev pub delivers : Hierarchy → Play → Option Message → Turn
 delivers h p None = still p
 delivers h p (Some m) = steps h p m.to (Comes m)
 
--- its receiver stops behind the save, if it was sent
+-- its receiver stops after the save, if it was sent
 abbrev pub stops_after : Hierarchy → Play → ℕ → Option Message → Turn
 stops_after h p station None = still p
 stops_after h p station (Some m) = stops h p station (after h station (p.stations station) (Comes m))
@@ -181,6 +181,6 @@ acts_of lines = map (λ x. x.act) lines
 abbrev pub Plays : Hierarchy → List Line → Type 0
 Plays h lines = played h (acts_of lines) ≡ map (λ x. x.shows) lines
 
--- an act behind an example
+-- an act after an example
 abbrev pub turn_after : Hierarchy → List Line → Act → Turn
 turn_after h lines act = turn h (play_after h (beginning h) (acts_of lines)) act

@@ -1,5 +1,6 @@
 -- What a station refuses, by the first test that fails.
-use Rattle.std.specs.Prelude.{ℕ, ◌+◌, ◌==◌, ◌&&◌, nat_le, not, Bool, false, if◌then◌else◌, Option, Some, None, Result, Ok, Err, count_by}
+use Rattle.std.specs.Prelude.{ℕ, ◌+◌, ◌==◌, ◌&&◌, nat_le, not, Bool, false, if◌then◌else◌, Option, Some, None, Result}
+use Rattle.std.specs.Prelude.{Ok, Err, count_by}
 use Rattle.std.specs.Option.{option_or}
 use Rattle.std.specs.List.{range_with_len}
 use Rattle.smi_grant.specs.declared.Command.{Command}
@@ -9,7 +10,8 @@ use Rattle.smi_message.specs.declared.Body.{Body}
 use Rattle.smi_message.specs.declared.Body.TheVariants as body
 use Rattle.smi_message.specs.Message.{Message, is_between}
 use Rattle.smi_tree.specs.Hierarchy.{Hierarchy}
-use Rattle.smi_tree.specs.Lookups.{station_count, state_count, action_count, domain_count, device_count, station_of, operator_station_of}
+use Rattle.smi_tree.specs.Lookups.{station_count, state_count, action_count, domain_count, device_count, station_of}
+use Rattle.smi_tree.specs.Lookups.{operator_station_of}
 use Rattle.smi_publish.specs.Publishing.{is_kept_by}
 use Rattle.smi_command.specs.declared.Link.{Link}
 use Rattle.smi_command.specs.Order.{take_begun, drop_begun, command_issued}
@@ -101,7 +103,8 @@ why_not (Err code) = Some code
 -- 23 the link is not out, 25 sixteen others are not
 abbrev pub take_refusal : Hierarchy → Grants → ℕ → ℕ → Option ℕ
 take_refusal h g o d =
-    option_or (why_not (take_begun (g.links (Operator o) d))) (if nat_le most_links (links_in_use h g o) then Some 25 else None)
+    option_or (why_not (take_begun (g.links (Operator o) d)))
+    (if nat_le most_links (links_in_use h g o) then Some 25 else None)
 
 -- 21 not held, 22 pending, 24 no number left
 abbrev pub command_refusal : Grants → ℕ → ℕ → Command → Option ℕ

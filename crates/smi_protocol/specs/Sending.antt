@@ -32,7 +32,8 @@ MaySay h number s to (body.Take d who seen) = (to ≡ home h d) × IsDue h numbe
 MaySay h number s to (body.Drop d who e) = (to ≡ home h d) × IsDue h number s.grants who d (Drop e)
 MaySay h number s to (body.Run d who e n c) = (to ≡ home h d) × IsDue h number s.grants who d (Run e n c)
 MaySay h number s to (body.Ask d) = to ≡ home h d
-MaySay h number s to (body.Watch x echo) = (to ≡ object_home h x) × (is_watched h number s.display x ≡ true) × (echo ≡ s.grants.boot)
+MaySay h number s to (body.Watch x echo) =
+    (to ≡ object_home h x) × (is_watched h number s.display x ≡ true) × (echo ≡ s.grants.boot)
 MaySay h number s to (body.Unwatch x echo) = (is_watched h number s.display x ≡ false) × (echo ≡ s.grants.boot)
 MaySay h number s to (body.State x echo v state) =
     (shown_at s.grants.boot s.display.conditions x ≡ Some (record { object = x; version = v; state = state }))

@@ -1,5 +1,6 @@
 -- How the states of a station's objects come about, and who is shown them.
-use Rattle.std.specs.Prelude.{ℕ, ◌+◌, ◌==◌, ◌&&◌, Bool, true, false, if◌then◌else◌, List, [], ◌∷◌, ◌++◌, map, filter, Option, Some, None}
+use Rattle.std.specs.Prelude.{ℕ, ◌+◌, ◌==◌, ◌&&◌, Bool, true, false, if◌then◌else◌, List, [], ◌∷◌, ◌++◌, map, filter}
+use Rattle.std.specs.Prelude.{Option, Some, None}
 use Rattle.std.specs.Option.{option_map_or}
 use Rattle.std.specs.List.{list_any}
 use Rattle.smi_grant.specs.declared.Command.{Command}
@@ -44,7 +45,8 @@ device_members h conditions d = map (λ x. member x (option_map_or (λ c. c.stat
 
 -- a child that was not shown yet is in state 0
 abbrev pub child_members : Hierarchy → Grants → (ℕ → Option Shown) → ℕ → List Member
-child_members h g shown d = map (λ x. member x (option_map_or (λ s. s.state) (shown x) 0)) (filter (is_member g d) (children_of h d))
+child_members h g shown d = map (λ x. member x (option_map_or (λ s. s.state) (shown x) 0))
+    (filter (is_member g d) (children_of h d))
 
 -- devices by number, and then children by number
 abbrev pub members_of : Hierarchy → Grants → (ℕ → Option Condition) → (ℕ → Option Shown) → ℕ → List Member

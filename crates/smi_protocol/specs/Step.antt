@@ -17,9 +17,11 @@ use Rattle.smi_protocol.specs.Happening.{Happening, Comes, Orders, Reports, Tick
 use Rattle.smi_protocol.specs.Refusals.{refusal_of}
 use Rattle.smi_protocol.specs.GrantStep.{GrantStep}
 use Rattle.smi_protocol.specs.GrantsOf.{grant_step}
-use Rattle.smi_protocol.specs.Watching.{Notice, unnoticed, watch_comes, unwatch_comes, state_comes, told_state, record_comes, order_noticed}
+use Rattle.smi_protocol.specs.Watching.{Notice, unnoticed, watch_comes, unwatch_comes, state_comes, told_state}
+use Rattle.smi_protocol.specs.Watching.{record_comes, order_noticed}
 use Rattle.smi_protocol.specs.Ticking.{most_sent, tick_noticed}
-use Rattle.smi_protocol.specs.Showing.{members_of, domain_of_happening, moved_by, followed, passed_in, shown_to_all, is_spent}
+use Rattle.smi_protocol.specs.Showing.{members_of, domain_of_happening, moved_by, followed, passed_in, shown_to_all}
+use Rattle.smi_protocol.specs.Showing.{is_spent}
 use Rattle.smi_protocol.specs.SavedRows.{saved_row}
 use Rattle.smi_protocol.specs.declared.event.Event.{Event}
 use Rattle.smi_protocol.specs.declared.event.Event.TheVariants as event
@@ -79,7 +81,8 @@ refused s code answers = record {
 abbrev pub body_noticed : Hierarchy → ℕ → ℕ → Display → ℕ → Body → Notice
 body_noticed h number boot s from (body.Tell d r) = record_comes h number s d r
 body_noticed h number boot s from (body.Watch x echo) = watch_comes h number boot s from x echo
-body_noticed h number boot s from (body.State x echo v state) = state_comes h number boot s from echo (told_state x v state)
+body_noticed h number boot s from (body.State x echo v state) =
+    state_comes h number boot s from echo (told_state x v state)
 body_noticed h number boot s from (body.Unwatch x echo) = unwatch_comes s from x echo
 body_noticed h number boot s from _ = unnoticed s
 
@@ -91,7 +94,8 @@ notice h number g s (Reports device state) = unnoticed s
 notice h number g s Ticks = tick_noticed h number g s
 
 -- the states of the station's objects after the step
-abbrev pub conditions_by : Hierarchy → Station → Grants → Display → (ℕ → Option Condition) → Option ℕ → ℕ → Option Condition
+abbrev pub conditions_by : Hierarchy → Station → Grants → Display → (ℕ → Option Condition) → Option ℕ → ℕ
+    → Option Condition
 conditions_by h s grants display moved None = moved
 conditions_by h s grants display moved (Some d) =
     followed
@@ -119,7 +123,11 @@ showed_entries number (Some s) = entry.Showed number s ∷ []
 -- the two halves of a step and the states that follow, put together
 abbrev pub put_together : Hierarchy → ℕ → Station → GrantStep → Notice → (ℕ → Option Condition) → List Shown → Outcome
 put_together h number s g n conditions passed = record {
-  station = record { grants = g.grants; display = record n.display { conditions = conditions }; is_stopped = is_spent passed };
+  station = record {
+    grants = g.grants;
+    display = record n.display { conditions = conditions };
+    is_stopped = is_spent passed;
+  };
   heard = heard_of (option_map (saved_row h number g.grants) g.row);
   saved = option_map (saved_row h number g.grants) g.row;
   out = record {
@@ -138,7 +146,8 @@ accepted h number s what =
     let g = grant_step h number s.grants what in
     let n = notice h number s.grants s.display what in
     let conditions = conditions_after h s g.grants n.display what in
-    put_together h number s g n conditions (passed_in h s.grants.boot s.display.conditions conditions (domain_of_happening h what))
+    put_together h number s g n conditions (passed_in h s.grants.boot s.display.conditions conditions
+    (domain_of_happening h what))
 
 -- a step, refused or not
 abbrev pub answered_or : Hierarchy → ℕ → Station → Happening → Option ℕ → Outcome

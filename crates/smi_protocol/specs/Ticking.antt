@@ -1,5 +1,6 @@
 -- What a tick sends again.
-use Rattle.std.specs.Prelude.{ℕ, ◌+◌, ◌-◌, ◌==◌, ◌&&◌, ◌||◌, nat_lt, nat_le, not, Bool, false, if◌then◌else◌, List, [], ◌∷◌, ◌++◌, map, filter, take, Option, Some, None}
+use Rattle.std.specs.Prelude.{ℕ, ◌+◌, ◌-◌, ◌==◌, ◌&&◌, ◌||◌, nat_lt, nat_le, not, Bool, false, if◌then◌else◌, List}
+use Rattle.std.specs.Prelude.{[], ◌∷◌, ◌++◌, map, filter, take, Option, Some, None}
 use Rattle.std.specs.List.{flat_map, range_with_len}
 use Rattle.smi_grant.specs.declared.Holder.TheVariants.{Operator, Domain}
 use Rattle.smi_message.specs.Message.{Message}
@@ -42,7 +43,7 @@ is_before a b = is_key_before (place_key a) (place_key b)
 abbrev pub first_place : Place
 first_place = place.Child 1
 
--- the place behind a place: behind the last object it is the first
+-- the place after a place: after the last object it is the first
 abbrev pub next_place : Hierarchy → Place → Place
 next_place h (place.Child x) = place.Child (x + 1)
 next_place h (place.Link o d n) = place.Link o d (n + 1)
@@ -90,7 +91,8 @@ owed_question h number o (Some d) = owed (place.Ask o) (asks_about h number d) �
 
 -- a watch
 abbrev pub owed_watch : Hierarchy → ℕ → ℕ → Display → ℕ → List Owed
-owed_watch h number boot s x = if is_watched h number s x then owed (place.Watch x) (watches h number boot x) ∷ [] else []
+owed_watch h number boot s x = if is_watched h number s x then owed (place.Watch x) (watches h number boot x) ∷ []
+    else []
 
 -- all that is due, by place
 abbrev pub all_owed : Hierarchy → ℕ → Grants → Display → List Owed
@@ -104,7 +106,7 @@ all_owed h number g s =
 abbrev pub owed_from : Place → List Owed → List Owed
 owed_from p all = take most_sent (filter (λ x. not (is_before x.place p)) all)
 
--- where the next tick begins: behind the last that was sent, or at the first where all was
+-- where the next tick begins: after the last that was sent, or at the first where all was
 abbrev pub place_behind : Hierarchy → Place → ℕ → List Owed → Place
 place_behind h last room [] = if room == 0 then next_place h last else first_place
 place_behind h last room (x ∷ more) = place_behind h x.place (room - 1) more

@@ -1,5 +1,6 @@
 -- Who watches whom: what a station makes of watches, of the states that it is shown, and of orders to watch.
-use Rattle.std.specs.Prelude.{ℕ, ◌==◌, ◌||◌, nat_lt, not, Bool, true, false, if◌then◌else◌, List, [], ◌∷◌, length, map, filter, Option, Some, None}
+use Rattle.std.specs.Prelude.{ℕ, ◌==◌, ◌||◌, nat_lt, not, Bool, true, false, if◌then◌else◌, List, [], ◌∷◌, length}
+use Rattle.std.specs.Prelude.{map, filter, Option, Some, None}
 use Rattle.smi_grant.specs.declared.Shown.{Shown}
 use Rattle.smi_grant.specs.declared.Version.{Version}
 use Rattle.smi_grant.specs.Record.{Standing}
@@ -68,7 +69,8 @@ lists_after lists x from echo = if is_full lists x from then lists else watched 
 -- it is answered by what the object shows, unless the list is full
 abbrev pub watch_answer : Hierarchy → ℕ → ℕ → Display → ℕ → ℕ → ℕ → List Message
 watch_answer h number boot s from x echo =
-    if is_full (lists_before s from echo) x from then [] else map (shows h number from echo) (if_any (shown_at boot s.conditions x))
+    if is_full (lists_before s from echo) x from then []
+    else map (shows h number from echo) (if_any (shown_at boot s.conditions x))
 
 -- an older echo than the greatest is ignored
 abbrev pub watch_comes : Hierarchy → ℕ → ℕ → Display → ℕ → ℕ → ℕ → Notice
@@ -91,7 +93,12 @@ told_state x v state = record { object = x; version = v; state = state }
 
 -- an accepted state is the last that was shown
 abbrev pub showed_if : Display → Shown → Acceptance → Notice
-showed_if s state Accepted = record { display = record s { shown = last_after s.shown Accepted state }; sends = []; answers = []; showed = Some state }
+showed_if s state Accepted = record {
+  display = record s { shown = last_after s.shown Accepted state };
+  sends = [];
+  answers = [];
+  showed = Some state;
+}
 showed_if s state _ = unnoticed s
 
 -- one that answers an earlier boot is ignored, and one that is not watched is answered so

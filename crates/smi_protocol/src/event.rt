@@ -1,4 +1,5 @@
 use crate::order::Order;
+use thiserror::Error;
 
 /// What comes to a station.
 #[derive(Clone, Copy, Debug)]
@@ -26,12 +27,15 @@ pub enum Heard {
 }
 
 /// Why a step was not made.
-#[derive(Clone, Copy, Debug, PartialEq, Eq)]
+#[derive(Clone, Copy, Debug, PartialEq, Eq, Error)]
 pub enum StepFault {
     /// 31: the store did not save the row, and nothing has changed.
+    #[error("31: the row was not saved")]
     NotStored,
     /// 32: the station has stopped, or stops now, as nobody knows whether the row was saved.
+    #[error("32: the station has stopped")]
     Stopped,
     /// 33: memory was refused, and nothing has changed.
+    #[error("33: out of memory")]
     Memory,
 }

@@ -19,10 +19,11 @@ ghost use Rattle.smi_protocol.specs.examples.Commands as commands;
 /// How the stations begin.
 pub fn opening()
     ensures first { opening_entries worked_tree A (first_opened worked_tree A) ≡ Booted A 1 ∷ passed DCS 1 0 OFF ∷ [] }
-    ensures second { opening_entries worked_tree B (first_opened worked_tree B) ≡ Booted B 1 ∷ passed TPC 1 0 OFF ∷ passed HV 1 0 OFF ∷ [] }
+    ensures second { opening_entries worked_tree B (first_opened worked_tree B) ≡ Booted B 1 ∷ passed TPC 1 0 OFF
+        ∷ passed HV 1 0 OFF ∷ [] }
 {}
 
-/// The keeper stops behind the save of a grant, and answers the take when it comes again.
+/// The keeper stops after the save of a grant, and answers the take when it comes again.
 pub fn saved_but_not_told()
     ensures { Plays worked_tree grants.saved_but_not_told }
 {}
@@ -67,7 +68,7 @@ pub fn repeated_run()
     ensures { Plays worked_tree commands.repeated_run }
 {}
 
-/// The keeper stops behind the save of a run, and the run is over.
+/// The keeper stops after the save of a run, and the run is over.
 #[tactic(auto, unfolding(smi_tree::specs::Hierarchy::ancestors))]
 pub fn stopped_after_run()
     ensures { Plays worked_tree commands.stopped_after_run }
@@ -113,15 +114,24 @@ pub fn eight_pending()
 /// issued says the same.
 #[tactic(auto, unfolding(smi_tree::specs::Hierarchy::ancestors))]
 pub fn marks_of_two_pending()
-    ensures answers { (turn_after worked_tree commands.both_run (Deliver 7)).out.answers ≡ answer_command BOB TPC 1 1 (command.Do CONFIGURE) 8 ∷ answer_command BOB TPC 1 2 (command.Do START) 0 ∷ [] }
-    ensures marks { map (λ a. a.mark) (turn_after worked_tree commands.both_run (Deliver 7)).out.answers ≡ Some (mark TPC 1 1) ∷ Some (mark TPC 1 2) ∷ [] }
-    ensures issued { (turn_after worked_tree commands.one_ordered (bob (Do TPC START))).out.issued ≡ Some (mark TPC 1 2) }
+    ensures answers { (turn_after worked_tree commands.both_run (Deliver 7)).out.answers
+        ≡ answer_command BOB TPC 1 1 (command.Do CONFIGURE) 8 ∷ answer_command BOB TPC 1 2 (command.Do START) 0 ∷ [] }
+    ensures marks { map (λ a. a.mark) (turn_after worked_tree commands.both_run (Deliver 7)).out.answers
+        ≡ Some (mark TPC 1 1) ∷ Some (mark TPC 1 2) ∷ [] }
+    ensures issued { (turn_after worked_tree commands.one_ordered (bob (Do TPC START))).out.issued
+        ≡ Some (mark TPC 1 2) }
 {}
 
 /// The rows that are saved: of DCS when it is granted, and of BOB when he has taken TPC and when two commands
 /// are pending.
 pub fn saved_rows()
-    ensures granted { (turn_after worked_tree grants.asked_for_DCS (StopAfter A 1)).saved ≡ Some (saved (key A DCS 0) (0x02 ∷ 0x01 ∷ 0x00 ∷ 0x02 ∷ 0 ∷ 0 ∷ 0 ∷ 0 ∷ 0 ∷ 0 ∷ 0 ∷ 0x01 ∷ 0 ∷ 0 ∷ 0 ∷ 0 ∷ 0 ∷ 0 ∷ 0 ∷ 0 ∷ 0 ∷ 0 ∷ 0 ∷ 0 ∷ [])) }
-    ensures held { (turn_after worked_tree grants.granted (Deliver 2)).saved ≡ Some (saved (key B 0 BOB) (0x03 ∷ 0 ∷ 0 ∷ 0x01 ∷ 0 ∷ 0x02 ∷ 0x02 ∷ 0 ∷ 0 ∷ 0 ∷ 0 ∷ 0 ∷ 0 ∷ 0 ∷ 0 ∷ 0x01 ∷ 0 ∷ 0 ∷ 0 ∷ 0 ∷ 0 ∷ 0 ∷ 0 ∷ 0 ∷ [])) }
-    ensures two_pending { (turn_after worked_tree commands.one_ordered (bob (Do TPC START))).saved ≡ Some (saved (key B 0 BOB) (0x03 ∷ 0 ∷ 0 ∷ 0x01 ∷ 0 ∷ 0x02 ∷ 0x05 ∷ 0 ∷ 0 ∷ 0 ∷ 0 ∷ 0 ∷ 0 ∷ 0 ∷ 0 ∷ 0x01 ∷ 0 ∷ 0 ∷ 0 ∷ 0x02 ∷ 0 ∷ 0x01 ∷ 0 ∷ 0x01 ∷ 0 ∷ 0x01 ∷ 0 ∷ 0x01 ∷ 0 ∷ 0x02 ∷ [])) }
+    ensures granted { (turn_after worked_tree grants.asked_for_DCS (StopAfter A 1)).saved
+        ≡ Some (saved (key A DCS 0) (0x02 ∷ 0x01 ∷ 0x00 ∷ 0x02 ∷ 0 ∷ 0 ∷ 0 ∷ 0 ∷ 0 ∷ 0 ∷ 0 ∷ 0x01 ∷ 0 ∷ 0 ∷ 0 ∷ 0 ∷ 0
+        ∷ 0 ∷ 0 ∷ 0 ∷ 0 ∷ 0 ∷ 0 ∷ 0 ∷ [])) }
+    ensures held { (turn_after worked_tree grants.granted (Deliver 2)).saved
+        ≡ Some (saved (key B 0 BOB) (0x03 ∷ 0 ∷ 0 ∷ 0x01 ∷ 0 ∷ 0x02 ∷ 0x02 ∷ 0 ∷ 0 ∷ 0 ∷ 0 ∷ 0 ∷ 0 ∷ 0 ∷ 0 ∷ 0x01 ∷ 0
+        ∷ 0 ∷ 0 ∷ 0 ∷ 0 ∷ 0 ∷ 0 ∷ 0 ∷ [])) }
+    ensures two_pending { (turn_after worked_tree commands.one_ordered (bob (Do TPC START))).saved
+        ≡ Some (saved (key B 0 BOB) (0x03 ∷ 0 ∷ 0 ∷ 0x01 ∷ 0 ∷ 0x02 ∷ 0x05 ∷ 0 ∷ 0 ∷ 0 ∷ 0 ∷ 0 ∷ 0 ∷ 0 ∷ 0 ∷ 0x01 ∷ 0
+        ∷ 0 ∷ 0 ∷ 0x02 ∷ 0 ∷ 0x01 ∷ 0 ∷ 0x01 ∷ 0 ∷ 0x01 ∷ 0 ∷ 0x01 ∷ 0 ∷ 0x02 ∷ [])) }
 {}

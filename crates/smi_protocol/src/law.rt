@@ -22,33 +22,41 @@ ghost use Rattle.smi_protocol.specs.Step.{after, after_reading};
 
 /// The bytes of a datagram are heard as that datagram.
 pub fn datagrams_are_heard()
-    ensures { (h : Hierarchy) (number : ℕ) (s : Station) (m : Message) → is_message m ≡ true → after_reading h number s (reading (spelling m)) ≡ after h number s (Comes m) }
+    ensures { (h : Hierarchy) (number : ℕ) (s : Station) (m : Message) → is_message m ≡ true
+        → after_reading h number s (reading (spelling m)) ≡ after h number s (Comes m) }
 {}
 
 /// What a station keeps of grants is sound when it was never started, and stays so whatever comes, forged or
 /// not: any datagram in the ranges of its kind, any order, any report (specs/Sound.antt).
 pub fn grants_stay_sound()
     ensures opens { (h : Hierarchy) → IsSound h no_grants }
-    ensures stays { (h : Hierarchy) (number : ℕ) (g : Grants) (what : Happening) → IsTree h → IsSound h g → IsSayable what → refusal_of h number g what ≡ None → IsSound h (grant_step h number g what).grants }
+    ensures stays { (h : Hierarchy) (number : ℕ) (g : Grants) (what : Happening) → IsTree h → IsSound h g
+        → IsSayable what → refusal_of h number g what ≡ None → IsSound h (grant_step h number g what).grants }
 {}
 
 /// Whatever comes to a station whose grants are sound, each datagram that it then sends of them is in the ranges
 /// of its kind.
 pub fn what_is_sent_is_in_range()
-    ensures { (h : Hierarchy) (number : ℕ) (g : Grants) (what : Happening) → IsTree h → IsBetween 1 (station_count h) number → IsSound h g → IsSayable what → refusal_of h number g what ≡ None → AllInRange (grant_step h number g what).sends }
+    ensures { (h : Hierarchy) (number : ℕ) (g : Grants) (what : Happening) → IsTree h
+        → IsBetween 1 (station_count h) number → IsSound h g → IsSayable what → refusal_of h number g what ≡ None
+        → AllInRange (grant_step h number g what).sends }
 {}
 
 /// The rows of a station whose grants are sound read back: that of each domain that it keeps, and that of each of
 /// its operators, each as what the row says.
 pub fn sound_rows_read_back()
-    ensures domains { (h : Hierarchy) (g : Grants) (number d : ℕ) → IsTree h → IsSound h g → is_keeper h number d ≡ true →
+    ensures domains { (h : Hierarchy) (g : Grants) (number d : ℕ) → IsTree h → IsSound h g
+        → is_keeper h number d ≡ true →
         IsRow h (saved_row h number g (OfDomain d)).key (saved_row h number g (OfDomain d)).bytes (domain_row h g d) }
-    ensures operators { (h : Hierarchy) (g : Grants) (number o : ℕ) → IsTree h → IsSound h g → is_number (operator_station_of h o) number ≡ true →
-        IsRow h (saved_row h number g (OfOperator o)).key (saved_row h number g (OfOperator o)).bytes (operator_row h g o) }
+    ensures operators { (h : Hierarchy) (g : Grants) (number o : ℕ) → IsTree h → IsSound h g
+        → is_number (operator_station_of h o) number ≡ true →
+        IsRow h (saved_row h number g (OfOperator o)).key (saved_row h number g (OfOperator o)).bytes
+        (operator_row h g o) }
 {}
 
 /// What the rows of a station mean is what it kept when it saved them, where its grants were sound: of each of its
 /// domains and operators it saved the row, or nothing had changed there.
 pub fn saved_rows_mean_what_was_kept()
-    ensures { (h : Hierarchy) (number : ℕ) (g : Grants) (rows : Rows) → IsSound h g → AreSaved h number g rows → KeepsTheSame h number g (grants_in h number rows) }
+    ensures { (h : Hierarchy) (number : ℕ) (g : Grants) (rows : Rows) → IsSound h g → AreSaved h number g rows
+        → KeepsTheSame h number g (grants_in h number rows) }
 {}

@@ -10,7 +10,8 @@ ghost use Rattle.smi_protocol.specs.Happening.{Orders, Reports};
 ghost use Rattle.smi_protocol.specs.Opening.{first_opened};
 ghost use Rattle.smi_protocol.specs.Step.{after};
 ghost use Rattle.smi_protocol.specs.declared.event.Heard.TheVariants.{Refused};
-ghost use Rattle.smi_protocol.specs.declared.order.Order.TheVariants.{Take, Drop, Do, Include, Exclude, Manual, Ignore, Ask, Watch, Unwatch};
+ghost use Rattle.smi_protocol.specs.declared.order.Order.TheVariants.{Take, Drop, Do, Include, Exclude, Manual};
+ghost use Rattle.smi_protocol.specs.declared.order.Order.TheVariants.{Ignore, Ask, Watch, Unwatch};
 ghost use Rattle.smi_protocol.specs.examples.WorkedTree.{worked_tree, A, B, ANN, BOB, DCS, TPC, HV};
 ghost use Rattle.smi_protocol.specs.examples.WideTree.{deep_tree, SEC};
 ghost use Rattle.smi_protocol.specs.examples.Orders.{linked, told_at_once, outcomes, pending};
@@ -48,7 +49,8 @@ pub fn orders_while_commands_are_pending()
     ensures drop { told_at_once worked_tree (linked worked_tree (Held 1 8 (pending 8))) (Drop DCS) ≡ 22 ∷ [] }
     ensures drop_with_one { told_at_once worked_tree (linked worked_tree (Held 1 1 (pending 1))) (Drop DCS) ≡ 22 ∷ [] }
     ensures eighth { told_at_once worked_tree (linked worked_tree (Held 1 7 (pending 7))) (Do DCS 1) ≡ [] }
-    ensures before_24 { told_at_once worked_tree (linked worked_tree (Held 1 1000000 (pending 8))) (Do DCS 1) ≡ 22 ∷ [] }
+    ensures before_24 { told_at_once worked_tree (linked worked_tree (Held 1 1000000 (pending 8))) (Do DCS 1) ≡ 22
+        ∷ [] }
 {}
 
 /// 23: the take is under way or over. 24: the numbers of the grant are used up.

@@ -1,5 +1,6 @@
 -- What a station publishes of its objects.
-use Rattle.std.specs.Prelude.{ℕ, ◌≡◌, ◌<◌, ◌≤◌, ◌==◌, not, if◌then◌else◌, Bool, false, List, length, Option, Some, None, option_and_then, option_map, IfSome}
+use Rattle.std.specs.Prelude.{ℕ, ◌≡◌, ◌<◌, ◌≤◌, ◌==◌, not, if◌then◌else◌, Bool, false, List, length, Option, Some}
+use Rattle.std.specs.Prelude.{None, option_and_then, option_map, IfSome}
 use Rattle.std.specs.List.{filter_map}
 use Rattle.smi_grant.specs.declared.state.Shown.{Shown}
 use Rattle.smi_tree.specs.Hierarchy.{entry}
@@ -21,7 +22,11 @@ conditions_of p object = condition_in p.table object
 
 -- the version and the state of an object
 abbrev pub shown : ℕ → ℕ → Condition → Shown
-shown boot object c = record { object = object; version = record { boot = boot; sequence = c.sequence }; state = c.state }
+shown boot object c = record {
+  object = object;
+  version = record { boot = boot; sequence = c.sequence };
+  state = c.state;
+}
 
 -- what an object shows, where it is kept here
 abbrev pub shown_at : ℕ → (ℕ → Option Condition) → ℕ → Option Shown

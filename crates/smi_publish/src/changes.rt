@@ -69,7 +69,7 @@ impl Changes {
         &self.shown[..self.count]
     }
 
-    /// One more object shows something anew, behind the others.
+    /// One more object shows something anew, after the others.
     pub fn push(&mut self, shown: Shown)
         requires { length self.old < most_changes }
         ensures { self.new ≡ self.old ++ shown ∷ [] }

@@ -17,7 +17,11 @@ impl Condition {
 
     /// What an object in this condition shows after this boot of its station.
     pub(crate) fn shown(self, object: u16, boot: u32) -> Shown
-        ensures { result ≡ record { object = object; version = record { boot = boot; sequence = self.sequence }; state = self.state } }
+        ensures { result ≡ record {
+          object = object;
+          version = record { boot = boot; sequence = self.sequence };
+          state = self.state;
+        } }
     {
         Shown {
             object,

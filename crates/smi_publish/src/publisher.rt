@@ -31,13 +31,15 @@ impl Model for Publisher {
 impl Publisher {
     ghost use Rattle.std.specs.Prelude.{◌≡◌, ◌<◌, ◌+◌, ◌≤◌, ◌↔◌, length, ℕ, IfOk, IsTrue};
     ghost use Rattle.smi_tree.specs.Lookups.{domain_count};
-    ghost use Rattle.smi_publish.specs.Published.{HasRoom, conditions_of, shown_at, change_at, changes_at, most_changes};
-    ghost use Rattle.smi_publish.specs.Publishing.{first_condition, reported, acted, evaluated, device_objects, is_among, moved_at};
+    ghost use Rattle.smi_publish.specs.Published.{HasRoom, conditions_of, shown_at, change_at, changes_at};
+    ghost use Rattle.smi_publish.specs.Published.{most_changes};
+    ghost use Rattle.smi_publish.specs.Publishing.{first_condition, reported, acted, evaluated, device_objects};
+    ghost use Rattle.smi_publish.specs.Publishing.{is_among, moved_at};
 
     /// The objects of a station after a start, in their classes' first states, at sequence 0 of this
     /// boot: the units of the domains that the station keeps, and the devices in them.
     ///
-    /// Its error is want of memory.
+    /// It fails only where memory ran out.
     pub fn new(alloc: Global, tree: &Tree, station: u16, boot: u32) -> Result<Publisher, AllocError>
         ensures boot { IfOk result (λ publisher. publisher.boot ≡ boot) }
         ensures opened { IfOk result (λ publisher. conditions_of publisher ≡ first_condition tree.now station) }
@@ -113,10 +115,12 @@ impl Publisher {
     pub fn run_action(&mut self, tree: &Tree, domain: u16, action: u16) -> Changes
         requires least { 1 ≤ domain }
         requires most { domain ≤ domain_count tree.now }
-        requires room { (object : ℕ) → IsTrue (is_among (device_objects tree.now domain) object) → HasRoom (conditions_of self.old) object }
+        requires room { (object : ℕ) → IsTrue (is_among (device_objects tree.now domain) object)
+            → HasRoom (conditions_of self.old) object }
         ensures boot { self.new.boot ≡ self.old.boot }
         ensures conditions { conditions_of self.new ≡ acted tree.now (conditions_of self.old) domain action }
-        ensures changes { result ≡ changes_at self.old.boot (conditions_of self.old) (conditions_of self.new) (device_objects tree.now domain) }
+        ensures changes { result ≡ changes_at self.old.boot (conditions_of self.old) (conditions_of self.new)
+            (device_objects tree.now domain) }
         ensures few { length result < most_changes }
     {
         let domains = tree.domain_count();

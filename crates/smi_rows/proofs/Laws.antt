@@ -1,11 +1,13 @@
 -- A row is read to what was written, and nothing else is read.
-use Rattle.std.proofs.Common.{◌≡◌, ℕ, ◌<◌, ◌≤◌, ◌^◌, Bool, true, false, List, [], ◌∷◌, ◌++◌, length, Option, Some, None, Result, Ok, Err, IfOk, refl, sym, ap, subst, ◌∙◌, arith, length-append}
+use Rattle.std.proofs.Common.{◌≡◌, ℕ, ◌<◌, ◌≤◌, ◌^◌, Bool, true, false, List, [], ◌∷◌, ◌++◌, length, Option, Some}
+use Rattle.std.proofs.Common.{None, Result, Ok, Err, IfOk, refl, sym, ap, subst, ◌∙◌, arith, length-append}
 use Rattle.std.specs.Prelude.{◌&&◌, ◌==◌, nat_le, if◌then◌else◌, option_map, option_and_then, slice_index}
 use Rattle.std.specs.Int.{w16, to_be_bytes}
 use Rattle.std.specs.Str.{bytes_eq}
 use Rattle.std.proofs.lemmas.Bool.{and_parts, and_from, leb-true, le-leb, eqb-true}
 use Rattle.std.proofs.lemmas.Bool.Decides.{nat_tests}
-use Rattle.std.proofs.lemmas.Nat.{from_be_bytes-to_be_bytes_2, from_be_bytes-to_be_bytes_4, from_be_bytes-to_be_bytes_8}
+use Rattle.std.proofs.lemmas.Nat.{from_be_bytes-to_be_bytes_2, from_be_bytes-to_be_bytes_4}
+use Rattle.std.proofs.lemmas.Nat.{from_be_bytes-to_be_bytes_8}
 use Rattle.std.proofs.lemmas.Slice.Eq.{bytes_eq-Decides}
 use Rattle.smi_grant.specs.declared.Holder.{Holder}
 use Rattle.smi_grant.specs.declared.Holder.TheVariants.{Free, Operator, Domain}
@@ -13,7 +15,8 @@ use Rattle.smi_grant.specs.declared.Phase.{Phase}
 use Rattle.smi_grant.specs.declared.Phase.TheVariants.{Settled, Busy}
 use Rattle.smi_grant.specs.Holder as holder
 use Rattle.smi_grant.specs.Holder.{kind_of as holder_kind, number_of, holder_of}
-use Rattle.smi_grant.specs.Record.{Standing, standing, phase_number, phase_of, is_record, is_outcome, checked, last_epoch, last_number}
+use Rattle.smi_grant.specs.Record.{Standing, standing, phase_number, phase_of, is_record, is_outcome, checked}
+use Rattle.smi_grant.specs.Record.{last_epoch, last_number}
 use Rattle.smi_tree.specs.Hierarchy.{Hierarchy}
 use Rattle.smi_rows.specs.declared.key.Key.{Key}
 use Rattle.smi_rows.specs.declared.key.RowKind.{RowKind}
@@ -27,9 +30,13 @@ use Rattle.smi_rows.specs.declared.row.Row.TheVariants as row
 use Rattle.smi_rows.specs.declared.schema.Schema.{Schema}
 use Rattle.smi_rows.specs.Key.{kind_of}
 use Rattle.smi_rows.specs.Known.{is_known}
-use Rattle.smi_rows.specs.Layout.{holder_bytes, work_bytes, domain_bytes, operator_bytes, links_bytes, row_bytes, u16_at, u32_at, u64_at}
-use Rattle.smi_rows.specs.Ranges.{is_boot, is_standing, is_work_in, is_domain_in, is_operator_in, are_links_in, each_link_in, rises_above, is_row_in, is_row_of}
-use Rattle.smi_rows.specs.Reading.{are_cut, has_length_of, standing_at, kept_domain, domain_at, links_at, row_at, is_said, where_said, said_at, refused, known_row, schema_row, kind_row, row_of, Reads}
+use Rattle.smi_rows.specs.Layout.{holder_bytes, work_bytes, domain_bytes, operator_bytes, links_bytes, row_bytes}
+use Rattle.smi_rows.specs.Layout.{u16_at, u32_at, u64_at}
+use Rattle.smi_rows.specs.Ranges.{is_boot, is_standing, is_work_in, is_domain_in, is_operator_in, are_links_in}
+use Rattle.smi_rows.specs.Ranges.{each_link_in, rises_above, is_row_in, is_row_of}
+use Rattle.smi_rows.specs.Reading.{are_cut, has_length_of, standing_at, kept_domain, domain_at, links_at, row_at}
+use Rattle.smi_rows.specs.Reading.{is_said, where_said, said_at, refused, known_row, schema_row, kind_row, row_of}
+use Rattle.smi_rows.specs.Reading.{Reads}
 use Rattle.smi_rows.specs.Schema.{schema_of}
 use Rattle.smi_rows.specs.Stored.{KeptDomain}
 use Rattle.smi_rows.specs.Written.{IsWritten, IsRow}
@@ -59,7 +66,8 @@ few s xs h =
     let l = rising-few s 0 xs (omega arith) p.0 p.1 in
     omega arith
 
-operator-again : (s : Schema) (xs : List StoredLink) → is_operator_in s xs ≡ true → ReadsAgain s kind.Operator (row.Operator xs)
+operator-again : (s : Schema) (xs : List StoredLink) → is_operator_in s xs ≡ true
+    → ReadsAgain s kind.Operator (row.Operator xs)
 operator-again s xs h =
     let a = and_parts (are_links_in s xs) _ h in
     let p = and_parts (rises_above 0 xs) (each_link_in s xs) a.0 in
@@ -69,8 +77,10 @@ operator-again s xs h =
     record {
       some = omega (arith, long);
       first = refl;
-      length_of = and_from _ _ (le-leb 4 (length b) (omega (arith, long))) (ap (λ i. are_cut s i (links_bytes xs)) counted ∙ links-cut s xs p.1);
-      row = ap (λ i. option_map (λ links. row.Operator links) (links_at s i (links_bytes xs))) counted ∙ ap (option_map (λ links. row.Operator links)) (links-again s xs p.1);
+      length_of = and_from _ _ (le-leb 4 (length b) (omega (arith, long)))
+          (ap (λ i. are_cut s i (links_bytes xs)) counted ∙ links-cut s xs p.1);
+      row = ap (λ i. option_map (λ links. row.Operator links) (links_at s i (links_bytes xs))) counted
+          ∙ ap (option_map (λ links. row.Operator links)) (links-again s xs p.1);
     }
 
 holder-again : (h : Holder) → holder_of (holder_kind h) (number_of h) ≡ Some h
@@ -91,13 +101,15 @@ outcome_small : (x : ℕ) → is_outcome x ≡ true → x < 2 ^ 16
 outcome_small x h = grind (arith, nat_tests)
 
 work_small : (p : Phase) (gathered : ℕ) (xs : List StoredLink) → is_work_in p gathered xs ≡ true → gathered < 2 ^ 16
-work_small Settled gathered xs h = let p = and_parts (gathered == 0) _ h in let z : gathered ≡ 0 = eqb-true _ _ p.0 in omega arith
+work_small Settled gathered xs h = let p = and_parts (gathered == 0) _ h in
+    let z : gathered ≡ 0 = eqb-true _ _ p.0 in omega arith
 work_small Busy gathered xs h = outcome_small gathered (and_parts (is_outcome gathered) _ h).0
 
 checked-again : (r : Standing) → is_record r ≡ true → checked r ≡ Some r
 checked-again r h = ap (λ (t : Bool). if t then Some r else None) h
 
-standing-again : (n : ℕ) (r : Standing) (gathered : ℕ) (rest : List ℕ) → is_standing r ≡ true → standing_at (holder_bytes n r ++ work_bytes r gathered ++ rest) ≡ Some r
+standing-again : (n : ℕ) (r : Standing) (gathered : ℕ) (rest : List ℕ) → is_standing r ≡ true
+    → standing_at (holder_bytes n r ++ work_bytes r gathered ++ rest) ≡ Some r
 standing-again n r gathered rest h =
     let a = and_parts (holder.is_in_range r.holder) _ h in
     let b = and_parts (is_outcome r.outcome) (is_record r) a.1 in
@@ -106,13 +118,18 @@ standing-again n r gathered rest h =
     let e : r.epoch ≤ last_epoch = leb-true _ _ c.0 in
     let l : r.last ≤ last_number = leb-true _ _ d.0 in
     let all = holder_bytes n r ++ work_bytes r gathered ++ rest in
-    let number : u16_at all 2 ≡ number_of r.holder = from_be_bytes-to_be_bytes_2 (number_of r.holder) (holder_small r.holder a.0) in
+    let number : u16_at all 2 ≡ number_of r.holder = from_be_bytes-to_be_bytes_2 (number_of r.holder)
+    (holder_small r.holder a.0) in
     let epoch : u64_at all 4 ≡ r.epoch = from_be_bytes-to_be_bytes_8 r.epoch (omega arith) in
     let last : u32_at all 12 ≡ r.last = from_be_bytes-to_be_bytes_4 r.last (omega arith) in
     let outcome : u16_at all 18 ≡ r.outcome = from_be_bytes-to_be_bytes_2 r.outcome (outcome_small r.outcome b.0) in
-    let holder : holder_of (holder_kind r.holder) (u16_at all 2) ≡ Some r.holder = ap (holder_of (holder_kind r.holder)) number ∙ holder-again r.holder in
-    ap (option_and_then (λ x. option_and_then (λ p. checked (standing (u64_at all 4) x (u32_at all 12) p (u16_at all 18))) (phase_of (phase_number r.phase)))) holder
-    ∙ ap (option_and_then (λ p. checked (standing (u64_at all 4) r.holder (u32_at all 12) p (u16_at all 18)))) (phase-again r.phase)
+    let holder : holder_of (holder_kind r.holder) (u16_at all 2)
+    ≡ Some r.holder = ap (holder_of (holder_kind r.holder)) number ∙ holder-again r.holder in
+    ap (option_and_then
+    (λ x. option_and_then (λ p. checked (standing (u64_at all 4) x (u32_at all 12) p (u16_at all 18)))
+    (phase_of (phase_number r.phase)))) holder
+    ∙ ap (option_and_then (λ p. checked (standing (u64_at all 4) r.holder (u32_at all 12) p (u16_at all 18))))
+    (phase-again r.phase)
     ∙ ap (λ i. checked (standing i r.holder (u32_at all 12) r.phase (u16_at all 18))) epoch
     ∙ ap (λ i. checked (standing r.epoch r.holder i r.phase (u16_at all 18))) last
     ∙ ap (λ i. checked (standing r.epoch r.holder r.last r.phase i)) outcome
@@ -125,18 +142,24 @@ domain-again s d h =
     let p = and_parts (rises_above 0 d.links) (each_link_in s d.links) b'.1 in
     let b = domain_bytes s.number d in
     let counted : u16_at b 22 ≡ length d.links = from_be_bytes-to_be_bytes_2 (length d.links) (few s d.links b'.1) in
-    let gathered : u16_at b 20 ≡ d.gathered = from_be_bytes-to_be_bytes_2 d.gathered (work_small d.standing.phase d.gathered d.links b'.0) in
-    let long = length-append (holder_bytes s.number d.standing ++ work_bytes d.standing d.gathered ++ to_be_bytes w16 (length d.links)) (links_bytes d.links) in
-    let stands : standing_at b ≡ Some d.standing = standing-again s.number d.standing d.gathered (to_be_bytes w16 (length d.links) ++ links_bytes d.links) a.0 in
-    let links : links_at s (u16_at b 22) (links_bytes d.links) ≡ Some d.links = ap (λ i. links_at s i (links_bytes d.links)) counted ∙ links-again s d.links p.1 in
+    let gathered : u16_at b 20 ≡ d.gathered = from_be_bytes-to_be_bytes_2 d.gathered
+    (work_small d.standing.phase d.gathered d.links b'.0) in
+    let long = length-append (holder_bytes s.number d.standing ++ work_bytes d.standing d.gathered
+    ++ to_be_bytes w16 (length d.links)) (links_bytes d.links) in
+    let stands : standing_at b ≡ Some d.standing = standing-again s.number d.standing d.gathered
+    (to_be_bytes w16 (length d.links) ++ links_bytes d.links) a.0 in
+    let links : links_at s (u16_at b 22) (links_bytes d.links)
+    ≡ Some d.links = ap (λ i. links_at s i (links_bytes d.links)) counted ∙ links-again s d.links p.1 in
     let said : domain_at s b ≡ Some d =
-    ap (option_and_then (λ r. option_map (kept_domain r (u16_at b 20)) (links_at s (u16_at b 22) (links_bytes d.links)))) stands
+    ap (option_and_then (λ r. option_map (kept_domain r (u16_at b 20))
+    (links_at s (u16_at b 22) (links_bytes d.links)))) stands
     ∙ ap (option_map (kept_domain d.standing (u16_at b 20))) links
     ∙ ap (λ i. Some (kept_domain d.standing i d.links)) gathered in
     record {
       some = omega (arith, long);
       first = refl;
-      length_of = and_from _ _ (le-leb 24 (length b) (omega (arith, long))) (ap (λ i. are_cut s i (links_bytes d.links)) counted ∙ links-cut s d.links p.1);
+      length_of = and_from _ _ (le-leb 24 (length b) (omega (arith, long)))
+          (ap (λ i. are_cut s i (links_bytes d.links)) counted ∙ links-cut s d.links p.1);
       row = ap (option_map (λ x. row.Domain x)) said;
     }
 
@@ -160,7 +183,8 @@ said-again s r h =
     ap (option_and_then (where_said s b)) (reads-again s s.kind r h).row
     ∙ ap (λ (t : Bool). if t then Some r else None) (and_from (is_row_in s r) (bytes_eq b b) h same)
 
-written-read : (h : Hierarchy) (k : Key) (s : Schema) (r : Row) → kind_of k ≡ Some s.kind → schema_of s.kind s.number ≡ Some s → is_row_in s r ≡ true →
+written-read : (h : Hierarchy) (k : Key) (s : Schema) (r : Row) → kind_of k ≡ Some s.kind
+    → schema_of s.kind s.number ≡ Some s → is_row_in s r ≡ true →
     row_of h k (row_bytes s.number r) ≡ known_row h k (Some r)
 written-read h k s r kind schema range =
     let b = row_bytes s.number r in
@@ -176,7 +200,8 @@ written-read h k s r kind schema range =
     not_zero : (n : ℕ) → 0 < n → (n == 0) ≡ false
     not_zero n h = grind (arith, nat_tests)
 
-pub written_is_read : (h : Hierarchy) (k : Key) (b : List ℕ) (r : Row) → IsWritten k b r → row_of h k b ≡ known_row h k (Some r)
+pub written_is_read : (h : Hierarchy) (k : Key) (b : List ℕ) (r : Row) → IsWritten k b r
+    → row_of h k b ≡ known_row h k (Some r)
 written_is_read h k b r w = ap (row_of h k) w.1.bytes ∙ written-read h k w.0 r w.1.kind w.1.schema w.1.range
 
 pub row_is_read : (h : Hierarchy) (k : Key) (b : List ℕ) (r : Row) → IsRow h k b r → row_of h k b ≡ Ok r
@@ -184,18 +209,21 @@ row_is_read h k b r w = written_is_read h k b r w.0 ∙ ap (λ (t : Bool). if t 
 
 -- ---- what is read is written so
 
-if_ok : {A : Type 0} (t : Bool) (x : Result A RowFault) (e : RowFault) (r : A) → (if t then x else Err e) ≡ Ok r → (t ≡ true) × (x ≡ Ok r)
+if_ok : {A : Type 0} (t : Bool) (x : Result A RowFault) (e : RowFault) (r : A) → (if t then x else Err e) ≡ Ok r
+    → (t ≡ true) × (x ≡ Ok r)
 if_ok true x e r h = (refl, h)
 if_ok false x e r h = absurd cc
 
-known-parts : (h : Hierarchy) (k : Key) (o : Option Row) (r : Row) → known_row h k o ≡ Ok r → (o ≡ Some r) × (is_known h k r ≡ true)
+known-parts : (h : Hierarchy) (k : Key) (o : Option Row) (r : Row) → known_row h k o ≡ Ok r
+    → (o ≡ Some r) × (is_known h k r ≡ true)
 known-parts h k None r e = absurd cc
 known-parts h k (Some q) r e =
     let p = if_ok (is_known h k q) (Ok q) (Code 4) r e in
     let same : q ≡ r = cc in
     (cc, ap (is_known h k) (sym same) ∙ p.0)
 
-said-parts : (s : Schema) (b : List ℕ) (o : Option Row) (r : Row) → option_and_then (where_said s b) o ≡ Some r → is_said s b r ≡ true
+said-parts : (s : Schema) (b : List ℕ) (o : Option Row) (r : Row) → option_and_then (where_said s b) o ≡ Some r
+    → is_said s b r ≡ true
 said-parts s b None r e = absurd cc
 said-parts s b (Some q) r e = here (is_said s b q) refl e
   where
@@ -206,11 +234,14 @@ said-parts s b (Some q) r e = here (is_said s b q) refl e
 schema-parts : (k : RowKind) (n : ℕ) (s : Schema) → schema_of k n ≡ Some s → (s.kind ≡ k) × (s.number ≡ n)
 schema-parts k n s e = here (nat_le 1 n && _) e
   where
-    here : (t : Bool) → (if t then Some (let x : Schema = record { kind = k; number = n } in x) else None) ≡ Some s → (s.kind ≡ k) × (s.number ≡ n)
-    here true e = let same : (let x : Schema = record { kind = k; number = n } in x) ≡ s = cc in (ap (λ (x : Schema). x.kind) (sym same), ap (λ (x : Schema). x.number) (sym same))
+    here : (t : Bool) → (if t then Some (let x : Schema = record { kind = k; number = n } in x) else None) ≡ Some s
+        → (s.kind ≡ k) × (s.number ≡ n)
+    here true e = let same : (let x : Schema = record { kind = k; number = n } in x) ≡ s = cc in
+        (ap (λ (x : Schema). x.kind) (sym same), ap (λ (x : Schema). x.number) (sym same))
     here false e = absurd cc
 
-by-schema : (h : Hierarchy) (k : Key) (b : List ℕ) (kind : RowKind) (o : Option Schema) (r : Row) → kind_of k ≡ Some kind → schema_of kind (slice_index b 0) ≡ o → schema_row h k b o ≡ Ok r → IsRow h k b r
+by-schema : (h : Hierarchy) (k : Key) (b : List ℕ) (kind : RowKind) (o : Option Schema) (r : Row)
+    → kind_of k ≡ Some kind → schema_of kind (slice_index b 0) ≡ o → schema_row h k b o ≡ Ok r → IsRow h k b r
 by-schema h k b kind None r about is e = absurd cc
 by-schema h k b kind (Some s) r about is e =
     let p = if_ok (has_length_of s.kind s b) (known_row h k (said_at s b)) (Code 1) r e in
@@ -229,11 +260,13 @@ by-schema h k b kind (Some s) r about is e =
       q.1,
     )
 
-by-kind : (h : Hierarchy) (k : Key) (b : List ℕ) (o : Option RowKind) (r : Row) → kind_of k ≡ o → kind_row h k b o ≡ Ok r → IsRow h k b r
+by-kind : (h : Hierarchy) (k : Key) (b : List ℕ) (o : Option RowKind) (r : Row) → kind_of k ≡ o
+    → kind_row h k b o ≡ Ok r → IsRow h k b r
 by-kind h k b None r is e = absurd cc
 by-kind h k b (Some kind) r is e = here (length b == 0) e
   where
-    here : (t : Bool) → (if t then refused fault.Length else schema_row h k b (schema_of kind (slice_index b 0))) ≡ Ok r → IsRow h k b r
+    here : (t : Bool) → (if t then refused fault.Length else schema_row h k b (schema_of kind (slice_index b 0)))
+        ≡ Ok r → IsRow h k b r
     here true e = absurd cc
     here false e = by-schema h k b kind (schema_of kind (slice_index b 0)) r is refl e
 
@@ -242,17 +275,20 @@ read_is_row h k b r e = by-kind h k b (kind_of k) r refl e
 
 -- ---- what a reading tells of a result
 
-pub reads_row : (h : Hierarchy) (k : Key) (b : List ℕ) (x : Result Row RowFault) → Reads x (row_of h k b) → IfOk x (λ r. IsRow h k b r)
+pub reads_row : (h : Hierarchy) (k : Key) (b : List ℕ) (x : Result Row RowFault) → Reads x (row_of h k b)
+    → IfOk x (λ r. IsRow h k b r)
 reads_row h k b (Ok r) e = read_is_row h k b r e
 reads_row h k b (Err f) e = tt
 
 pub reads-along : (x y z : Result Row RowFault) → y ≡ z → Reads x y → Reads x z
 reads-along x y z e t = subst (Reads x) e t
 
-pub unknown_row : (h : Hierarchy) (k : Key) (b : List ℕ) (r : Row) → IsWritten k b r → is_known h k r ≡ false → row_of h k b ≡ refused fault.Unknown
+pub unknown_row : (h : Hierarchy) (k : Key) (b : List ℕ) (r : Row) → IsWritten k b r → is_known h k r ≡ false
+    → row_of h k b ≡ refused fault.Unknown
 unknown_row h k b r w n = written_is_read h k b r w ∙ ap (λ (t : Bool). if t then Ok r else refused fault.Unknown) n
 
-pub in_range : (h : Hierarchy) (k : Key) (b : List ℕ) (x : Result Row RowFault) → Reads x (row_of h k b) → x ≡ refused fault.Range → (r : Row) → IsWritten k b r → ⊥
+pub in_range : (h : Hierarchy) (k : Key) (b : List ℕ) (x : Result Row RowFault) → Reads x (row_of h k b)
+    → x ≡ refused fault.Range → (r : Row) → IsWritten k b r → ⊥
 in_range h k b x reads is r w =
     let said : row_of h k b ≡ Err (Code 3) = subst (λ y. Reads y (row_of h k b)) is reads in
     here (is_known h k r) (sym (written_is_read h k b r w) ∙ said)

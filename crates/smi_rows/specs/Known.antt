@@ -9,7 +9,8 @@ use Rattle.smi_grant.specs.declared.Holder.TheVariants.{Free, Operator, Domain}
 use Rattle.smi_command.specs.declared.Link.{Link}
 use Rattle.smi_command.specs.declared.Link.TheVariants.{Out, Taking, Held, Dropping}
 use Rattle.smi_tree.specs.Hierarchy.{Hierarchy}
-use Rattle.smi_tree.specs.Lookups.{action_count, station_count, operator_count, domain_count, parent_of, station_of, operator_station_of}
+use Rattle.smi_tree.specs.Lookups.{action_count, station_count, operator_count, domain_count, parent_of, station_of}
+use Rattle.smi_tree.specs.Lookups.{operator_station_of}
 use Rattle.smi_rows.specs.declared.key.Key.{Key}
 use Rattle.smi_rows.specs.declared.row.StoredLink.{StoredLink}
 use Rattle.smi_rows.specs.declared.row.Row.{Row}

@@ -65,7 +65,8 @@ work_bytes r gathered =
 
 abbrev pub domain_bytes : ℕ → KeptDomain → List ℕ
 domain_bytes schema d =
-    holder_bytes schema d.standing ++ work_bytes d.standing d.gathered ++ to_be_bytes w16 (length d.links) ++ links_bytes d.links
+    holder_bytes schema d.standing ++ work_bytes d.standing d.gathered ++ to_be_bytes w16 (length d.links)
+    ++ links_bytes d.links
 
 abbrev pub operator_bytes : ℕ → List StoredLink → List ℕ
 operator_bytes schema links = (schema ∷ 0 ∷ []) ++ to_be_bytes w16 (length links) ++ links_bytes links
@@ -86,9 +87,11 @@ abbrev pub u16_at : List ℕ → ℕ → ℕ
 u16_at b i = from_be_bytes w16 (slice_index b i ∷ slice_index b (i + 1) ∷ [])
 
 abbrev pub u32_at : List ℕ → ℕ → ℕ
-u32_at b i = from_be_bytes w32 (slice_index b i ∷ slice_index b (i + 1) ∷ slice_index b (i + 2) ∷ slice_index b (i + 3) ∷ [])
+u32_at b i =
+    from_be_bytes w32 (slice_index b i ∷ slice_index b (i + 1) ∷ slice_index b (i + 2) ∷ slice_index b (i + 3) ∷ [])
 
 abbrev pub u64_at : List ℕ → ℕ → ℕ
 u64_at b i =
     from_be_bytes w64
-    (slice_index b i ∷ slice_index b (i + 1) ∷ slice_index b (i + 2) ∷ slice_index b (i + 3) ∷ slice_index b (i + 4) ∷ slice_index b (i + 5) ∷ slice_index b (i + 6) ∷ slice_index b (i + 7) ∷ [])
+    (slice_index b i ∷ slice_index b (i + 1) ∷ slice_index b (i + 2) ∷ slice_index b (i + 3) ∷ slice_index b (i + 4)
+    ∷ slice_index b (i + 5) ∷ slice_index b (i + 6) ∷ slice_index b (i + 7) ∷ [])

@@ -1,5 +1,7 @@
 -- What the bytes of a row say, or the first test that they fail.
-use Rattle.std.specs.Prelude.{ℕ, ◌≡◌, zero, suc, ◌+◌, ◌-◌, ◌*◌, ◌&&◌, ◌==◌, nat_le, nat_lt, Bool, if◌then◌else◌, List, [], ◌∷◌, ◌++◌, length, drop, slice_index, Option, Some, None, option_map, option_and_then, Result, Ok, Err}
+use Rattle.std.specs.Prelude.{ℕ, ◌≡◌, zero, suc, ◌+◌, ◌-◌, ◌*◌, ◌&&◌, ◌==◌, nat_le, nat_lt, Bool, if◌then◌else◌, List}
+use Rattle.std.specs.Prelude.{[], ◌∷◌, ◌++◌, length, drop, slice_index, Option, Some, None, option_map}
+use Rattle.std.specs.Prelude.{option_and_then, Result, Ok, Err}
 use Rattle.std.specs.Str.{bytes_eq}
 use Rattle.smi_grant.specs.declared.Command.{Command}
 use Rattle.smi_grant.specs.Command.{command_of}
@@ -32,11 +34,11 @@ use Rattle.smi_rows.specs.Stored.{KeptDomain, mode_of, stored}
 abbrev pub has_lists : Schema → Bool
 has_lists s = nat_lt 1 (most_pending_in s)
 
--- the number of pending commands behind the oldest
+-- the number of pending commands after the oldest
 abbrev pub others_at : List ℕ → ℕ
 others_at b = u16_at b 20
 
--- how many bytes a link takes that stands at the front: 20, or what its list of commands takes
+-- how many bytes a link takes that stands at the beginning: 20, or what its list of commands takes
 abbrev pub size_at : Schema → List ℕ → ℕ
 size_at s b = if slice_index b 2 == 5 && has_lists s then 22 + 4 * others_at b else 20
 
@@ -52,7 +54,7 @@ domain_front = 24
 abbrev pub operator_front : ℕ
 operator_front = 4
 
--- behind the front, which ends with their number, there are so many links and nothing else
+-- after the beginning, which ends with their number, there are so many links and nothing else
 abbrev pub has_links_behind : Schema → ℕ → List ℕ → Bool
 has_links_behind s front b = nat_le front (length b) && are_cut s (u16_at b (front - 2)) (drop front b)
 
@@ -75,11 +77,12 @@ commands_at (suc n) b = option_and_then (λ c. option_map (λ more. c ∷ more) 
 abbrev pub only_at : List ℕ → Option (List Command)
 only_at b = option_map (λ c. c ∷ []) (command_at (drop 16 b))
 
--- the oldest pending command, and up to seven others behind their number
+-- the oldest pending command, and up to seven others after their number
 abbrev pub several_at : List ℕ → Option (List Command)
 several_at b =
     if nat_le (others_at b) 7
-    then option_and_then (λ first. option_map (λ more. first ++ more) (commands_at (others_at b) (drop 22 b))) (only_at b)
+    then option_and_then (λ first. option_map (λ more. first ++ more) (commands_at (others_at b) (drop 22 b)))
+    (only_at b)
     else None
 
 abbrev pub held_at : List ℕ → List Command → Link
@@ -96,7 +99,8 @@ grant_at s b =
     else None)))))
 
 abbrev pub link_at : Schema → List ℕ → Option StoredLink
-link_at s b = option_and_then (λ m. option_map (λ l. stored (u16_at b 0) l m) (grant_at s b)) (mode_of (slice_index b 3))
+link_at s b = option_and_then (λ m. option_map (λ l. stored (u16_at b 0) l m) (grant_at s b))
+    (mode_of (slice_index b 3))
 
 -- so many links
 abbrev pub links_at : Schema → ℕ → List ℕ → Option (List StoredLink)
@@ -114,7 +118,8 @@ kept_domain r gathered links = record { standing = r; gathered = gathered; links
 
 abbrev pub domain_at : Schema → List ℕ → Option KeptDomain
 domain_at s b =
-    option_and_then (λ r. option_map (kept_domain r (u16_at b 20)) (links_at s (u16_at b 22) (drop domain_front b))) (standing_at b)
+    option_and_then (λ r. option_map (kept_domain r (u16_at b 20)) (links_at s (u16_at b 22) (drop domain_front b)))
+    (standing_at b)
 
 -- what a row seems to say, from the numbers that stand at its places
 abbrev pub row_at : RowKind → Schema → List ℕ → Option Row

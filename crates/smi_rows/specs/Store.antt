@@ -1,5 +1,6 @@
 -- Rows by their keys, and what a save makes of them.
-use Rattle.std.specs.Prelude.{ℕ, ◌≡◌, ◌⊎◌, ◌==◌, ◌&&◌, nat_lt, Bool, true, if◌then◌else◌, List, [], ◌∷◌, Option, Some, None, Result, Ok, Err}
+use Rattle.std.specs.Prelude.{ℕ, ◌≡◌, ◌⊎◌, ◌==◌, ◌&&◌, nat_lt, Bool, true, if◌then◌else◌, List, [], ◌∷◌, Option, Some}
+use Rattle.std.specs.Prelude.{None, Result, Ok, Err}
 use Rattle.smi_rows.specs.declared.key.Key.{Key}
 use Rattle.smi_rows.specs.declared.stable.StoreFault.{StoreFault}
 use Rattle.smi_rows.specs.declared.stable.StoreFault.TheVariants.{Memory, Device, Unsure}
@@ -72,7 +73,7 @@ IfUnsure (Err Memory) P = Unit {0}
 IfUnsure (Err Device) P = Unit {0}
 IfUnsure (Err Unsure) P = P
 
--- a failure of the store, and not want of memory
+-- a failure of the store, and not out of memory
 abbrev pub IfFailed : {X : Type 0} → Result X StoreFault → Type 0 → Type 0
 IfFailed (Ok x) P = Unit {0}
 IfFailed (Err Memory) P = Unit {0}

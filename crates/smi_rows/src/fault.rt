@@ -1,16 +1,21 @@
 use std::alloc::{AllocError, AllocFailed};
+use thiserror::Error;
 
 /// What is wrong with a row: the first of these tests that it fails.
-#[derive(Clone, Copy, Debug, PartialEq, Eq)]
+#[derive(Clone, Copy, Debug, PartialEq, Eq, Error)]
 pub enum Fault {
     /// It is empty, or has a byte too few or too many for what it says.
+    #[error("1: too few bytes, or too many")]
     Length = 1,
     /// There is no such schema of such rows.
+    #[error("2: an unknown schema")]
     Schema,
     /// No row that is written so has values in their ranges.
+    #[error("3: a value is out of range")]
     Range,
     /// It names a domain, an operator, a holder, a link, an action or a target that the tree does
     /// not have there, or its key does.
+    #[error("4: it names what the tree does not have")]
     Unknown,
 }
 
@@ -27,11 +32,13 @@ impl Fault {
 }
 
 /// Why a row was not read.
-#[derive(Clone, Copy, Debug, PartialEq, Eq)]
+#[derive(Clone, Copy, Debug, PartialEq, Eq, Error)]
 pub enum RowFault {
     /// The [number](Fault::number) of the first test that the row fails.
+    #[error("a row has fault {0}")]
     Code(u16),
     /// Memory ran out.
+    #[error("out of memory")]
     Memory,
 }
 

@@ -16,8 +16,10 @@ pub fn saved_is_loaded<S: Stable>(
     key: Key,
     bytes: &[u8],
 ) -> Result<Vec<SavedRow>, StoreFault>
-    ensures loaded { S.is_honest store.new → IfOk result (λ list. IsListing (with_row key bytes.now (S.rows store.old)) list.items) }
-    ensures kept { S.is_honest store.new → OnOk result (S.is_open store.new × IsSame (S.rows store.new) (with_row key bytes.now (S.rows store.old))) }
+    ensures loaded { S.is_honest store.new → IfOk
+        result (λ list. IsListing (with_row key bytes.now (S.rows store.old)) list.items) }
+    ensures kept { S.is_honest store.new → OnOk
+        result (S.is_open store.new × IsSame (S.rows store.new) (with_row key bytes.now (S.rows store.old))) }
     ensures honest { S.is_honest store.new → S.is_honest store.old }
     ensures saves { S.saves store.new ≡ S.saves store.old + 1 }
     ensures failures { S.failures store.old ≤ S.failures store.new }
@@ -28,13 +30,14 @@ pub fn saved_is_loaded<S: Stable>(
 }
 
 /// Whatever a save comes to, what is loaded after it is as the save says: the rows with that one
-/// replaced, the rows as they were, or for `Unsure` one of the two.
+/// replaced, the rows unchanged, or for `Unsure` one of the two.
 pub fn loaded_is_as_told<S: Stable>(
     store: &mut S,
     key: Key,
     bytes: &[u8],
 ) -> Result<Aftermath, StoreFault>
-    ensures loaded { S.is_honest store.new → S.is_open store.old → IfOk result (λ r. ListsAfter r.0 (S.rows store.old) (with_row key bytes.now (S.rows store.old)) r.1.items) }
+    ensures loaded { S.is_honest store.new → S.is_open store.old
+        → IfOk result (λ r. ListsAfter r.0 (S.rows store.old) (with_row key bytes.now (S.rows store.old)) r.1.items) }
     ensures honest { S.is_honest store.new → S.is_honest store.old }
     ensures saves { S.saves store.new ≡ S.saves store.old + 1 }
     ensures failures { S.failures store.old ≤ S.failures store.new }
@@ -53,7 +56,9 @@ pub fn a_failure_leaves_what_was_saved<S: Stable>(
     bytes: &[u8],
     later: &[u8],
 ) -> Result<Aftermath, StoreFault>
-    ensures loaded { S.is_honest store.new → IfOk result (λ r. ListsAfter r.0 (with_row key bytes.now (S.rows store.old)) (with_row key later.now (with_row key bytes.now (S.rows store.old))) r.1.items) }
+    ensures loaded { S.is_honest store.new → IfOk
+        result (λ r. ListsAfter r.0 (with_row key bytes.now (S.rows store.old))
+        (with_row key later.now (with_row key bytes.now (S.rows store.old))) r.1.items) }
     ensures honest { S.is_honest store.new → S.is_honest store.old }
     ensures saves { OnOk result (S.saves store.new ≡ S.saves store.old + 2) }
     ensures failures { S.failures store.old ≤ S.failures store.new }

@@ -14,7 +14,7 @@ use std::alloc::{AllocError, Global};
 
 /// The bytes of the row of a boot.
 ///
-/// Want of memory is answered where a growth was refused, and nowhere else.
+/// Out of memory is answered where an allocation was refused, and nowhere else.
 pub fn write_boot(alloc: Global, boot: u32) -> Result<Vec<u8>, AllocError>
     ensures { IfOk result (λ row. row.items ≡ spec.boot_bytes (newest RowKind.Boot) boot) }
 {
@@ -28,7 +28,7 @@ impl DomainRow {
 
     /// The bytes of the row.
     ///
-    /// Want of memory is answered where a growth was refused, and nowhere else.
+    /// Out of memory is answered where an allocation was refused, and nowhere else.
     pub fn write(&self, alloc: Global) -> Result<Vec<u8>, AllocError>
         requires { length self.now.links < 2 ^ 16 }
         ensures { IfOk result (λ row. row.items ≡ spec.domain_bytes (newest RowKind.Domain) self.now) }
@@ -44,7 +44,7 @@ impl OperatorRow {
 
     /// The bytes of the row.
     ///
-    /// Want of memory is answered where a growth was refused, and nowhere else.
+    /// Out of memory is answered where an allocation was refused, and nowhere else.
     pub fn write(&self, alloc: Global) -> Result<Vec<u8>, AllocError>
         requires { length self.now < 2 ^ 16 }
         ensures { IfOk result (λ row. row.items ≡ spec.operator_bytes (newest RowKind.Operator) self.now) }
@@ -148,7 +148,8 @@ fn put_idle(
     epoch: u64,
     number: u32,
 ) -> Result<(), AllocError>
-    ensures { OnOk result (row.new.items ≡ row.old.items ++ (spec.front_bytes domain form mode epoch number ++ spec.no_command)) }
+    ensures { OnOk result (row.new.items ≡ row.old.items
+        ++ (spec.front_bytes domain form mode epoch number ++ spec.no_command)) }
 {
     put_front(row, domain, form, mode, epoch, number)?;
     row.extend_from_slice(&[0, 0, 0, 0])
@@ -162,7 +163,8 @@ fn put_held(
     number: u32,
     pending: &Pending,
 ) -> Result<(), AllocError>
-    ensures { OnOk result (row.new.items ≡ row.old.items ++ spec.grant_bytes domain mode (Link.Held epoch number pending.now)) }
+    ensures { OnOk result (row.new.items ≡ row.old.items
+        ++ spec.grant_bytes domain mode (Link.Held epoch number pending.now)) }
 {
     let commands = pending.as_slice();
     match commands {

@@ -12,7 +12,7 @@ use smi_tally::Tally;
 use std::alloc::{AllocError, Global};
 use std::marker::Model;
 
-/// A store in memory, which never fails but for want of memory.
+/// A store in memory, which fails only where memory ran out.
 #[derive(Drop)]
 pub struct MemoryStable {
     rows: Vec<SavedRow>,
@@ -109,7 +109,7 @@ impl Stable for MemoryStable {
 
     ghost is_open = { λ _. Unit {0} };
 
-    // It never fails but for want of memory.
+    // It fails only where memory ran out.
     ghost failures = { λ _. 0 };
 
     ghost saves = { λ s. s.saves };

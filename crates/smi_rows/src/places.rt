@@ -1,6 +1,7 @@
 //! What stands at the places of a row, whatever its values.
 
-ghost use Rattle.std.specs.Prelude.{◌≡◌, ◌≤◌, ◌+◌, ◌*◌, true, length, if◌then◌else◌, nat_le, Some, None, option_map, ◌++◌};
+ghost use Rattle.std.specs.Prelude.{◌≡◌, ◌≤◌, ◌+◌, ◌*◌, true, length, if◌then◌else◌, nat_le, Some, None, option_map};
+ghost use Rattle.std.specs.Prelude.{◌++◌};
 ghost use Rattle.smi_rows.specs.Reading as spec;
 
 use crate::bytes::{u16_at, u32_at, u64_at};
@@ -25,9 +26,10 @@ fn has_lists(schema: Schema) -> bool
     schema.most_pending() > 1
 }
 
-/// How many bytes the link takes that stands at the front, where there are so many.
+/// How many bytes the link takes that stands at the beginning, where there are so many.
 pub(crate) fn link_size(schema: Schema, b: &[u8]) -> Option<usize>
-    ensures { result ≡ (if nat_le (spec.size_at schema b.now) (length b.now) then Some (spec.size_at schema b.now) else None) }
+    ensures { result ≡ (if nat_le (spec.size_at schema b.now) (length b.now) then Some (spec.size_at schema b.now)
+        else None) }
 {
     if b.len() < LINK {
         return None;
@@ -42,7 +44,7 @@ pub(crate) fn link_size(schema: Schema, b: &[u8]) -> Option<usize>
     if size <= b.len() { Some(size) } else { None }
 }
 
-/// How many bytes the link takes that stands at the front.
+/// How many bytes the link takes that stands at the beginning.
 pub(crate) fn size_at(schema: Schema, b: &[u8]) -> usize
     requires { spec.size_at schema b.now ≤ length b.now }
     ensures size { result ≡ spec.size_at schema b.now }
@@ -69,7 +71,7 @@ pub(crate) fn are_cut(schema: Schema, count: u16, links: &[u8]) -> bool
     rest.is_empty()
 }
 
-/// The link that stands at the front.
+/// The link that stands at the beginning.
 pub(crate) fn link_at(schema: Schema, b: &[u8]) -> Option<StoredLink>
     requires { spec.size_at schema b.now ≤ length b.now }
     ensures { result ≡ spec.link_at schema b.now }
@@ -131,7 +133,7 @@ fn several_at(b: &[u8]) -> Option<Pending>
     with_commands(oldest, others, &b[LINK + 2..])
 }
 
-/// The pending commands, and behind them so many that stand in the bytes.
+/// The pending commands, and after them so many that stand in the bytes.
 fn with_commands(oldest: Pending, others: u16, b: &[u8]) -> Option<Pending>
     requires room { length oldest + others ≤ 8 }
     requires whole { 4 * others ≤ length b.now }

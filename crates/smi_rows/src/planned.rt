@@ -120,22 +120,39 @@ impl<S: Stable> Stable for PlannedStable<S> {
     ghost rests = { λ p. S.rests p.store };
 
     fn save(&mut self, key: Key, bytes: &[u8]) -> Result<(), StoreFault>
-        ensures saved { S.is_honest self.new.store → OnOk result (S.is_open self.new.store × IsSame (S.rows self.new.store) (with_row key bytes.now (S.rows self.old.store))) }
-        ensures kept { S.is_honest self.new.store → IfNotSaved result (S.is_open self.old.store → S.is_open self.new.store × IsSame (S.rows self.new.store) (S.rows self.old.store)) }
-        ensures unsure { S.is_honest self.new.store → S.is_open self.new.store → IfUnsure result (IsSame (S.rows self.new.store) (S.rows self.old.store) ⊎ IsSame (S.rows self.new.store) (with_row key bytes.now (S.rows self.old.store))) }
-        ensures crash { S.is_honest self.new.store → S.is_open self.old.store → (r : Rows) → S.may_find self.new.store r → IsSame r (S.rows self.old.store) ⊎ IsSame r (with_row key bytes.now (S.rows self.old.store)) }
+        ensures saved { S.is_honest self.new.store
+            → OnOk result (S.is_open self.new.store × IsSame (S.rows self.new.store)
+            (with_row key bytes.now (S.rows self.old.store))) }
+        ensures kept { S.is_honest self.new.store → IfNotSaved result
+            (S.is_open self.old.store → S.is_open self.new.store
+            × IsSame (S.rows self.new.store) (S.rows self.old.store)) }
+        ensures unsure { S.is_honest self.new.store → S.is_open self.new.store
+            → IfUnsure result (IsSame (S.rows self.new.store) (S.rows self.old.store)
+            ⊎ IsSame (S.rows self.new.store) (with_row key bytes.now (S.rows self.old.store))) }
+        ensures crash { S.is_honest self.new.store → S.is_open self.old.store → (r : Rows)
+            → S.may_find self.new.store r → IsSame r (S.rows self.old.store)
+            ⊎ IsSame r (with_row key bytes.now (S.rows self.old.store)) }
         ensures honest { S.is_honest self.new.store → S.is_honest self.old.store }
         ensures saves { self.new.saves.count ≡ self.old.saves.count + 1 }
-        ensures failures { S.failures self.old.store + self.old.struck.count ≤ S.failures self.new.store + self.new.struck.count }
-        ensures cause { IfFailed result (S.failures self.old.store + self.old.struck.count < S.failures self.new.store + self.new.struck.count) }
+        ensures failures { S.failures self.old.store + self.old.struck.count ≤ S.failures self.new.store
+            + self.new.struck.count }
+        ensures cause { IfFailed result (S.failures self.old.store + self.old.struck.count
+            < S.failures self.new.store + self.new.struck.count) }
         // The plan strikes, and is spent.
-        ensures device { due_of self.old.planned ≡ Some Plan.Device → (result ≡ Err StoreFault.Device) × (self.new.store ≡ self.old.store) }
-        ensures before { due_of self.old.planned ≡ Some Plan.Before → (result ≡ Err StoreFault.Unsure) × (self.new.store ≡ self.old.store) }
-        ensures after { due_of self.old.planned ≡ Some Plan.After → IsErr result × (S.saves self.new.store ≡ S.saves self.old.store + 1) }
+        ensures device { due_of self.old.planned ≡ Some Plan.Device
+            → (result ≡ Err StoreFault.Device) × (self.new.store ≡ self.old.store) }
+        ensures before { due_of self.old.planned ≡ Some Plan.Before
+            → (result ≡ Err StoreFault.Unsure) × (self.new.store ≡ self.old.store) }
+        ensures after { due_of self.old.planned ≡ Some Plan.After
+            → IsErr result × (S.saves self.new.store ≡ S.saves self.old.store + 1) }
         // Where the store below saved the row, it stays.
-        ensures landed { due_of self.old.planned ≡ Some Plan.After → S.is_honest self.new.store → self.old.struck.count < self.new.struck.count → (result ≡ Err StoreFault.Unsure) × S.is_open self.new.store × IsSame (S.rows self.new.store) (with_row key bytes.now (S.rows self.old.store)) }
+        ensures landed { due_of self.old.planned ≡ Some Plan.After → S.is_honest self.new.store
+            → self.old.struck.count < self.new.struck.count
+            → (result ≡ Err StoreFault.Unsure) × S.is_open self.new.store
+            × IsSame (S.rows self.new.store) (with_row key bytes.now (S.rows self.old.store)) }
         // No plan strikes before its time.
-        ensures passed_on { due_of self.old.planned ≡ None → (self.new.struck.count ≡ self.old.struck.count) × (S.saves self.new.store ≡ S.saves self.old.store + 1) }
+        ensures passed_on { due_of self.old.planned ≡ None
+            → (self.new.struck.count ≡ self.old.struck.count) × (S.saves self.new.store ≡ S.saves self.old.store + 1) }
         ensures left { self.new.planned ≡ left_of self.old.planned }
     {
         self.saves.raise();
@@ -158,16 +175,23 @@ impl<S: Stable> Stable for PlannedStable<S> {
     }
 
     fn load(&mut self) -> Result<Vec<SavedRow>, StoreFault>
-        ensures loaded { S.is_honest self.new.store → IfOk result (λ list. S.is_open self.old.store × IsListing (S.rows self.old.store) list.items) }
-        ensures open { S.is_honest self.new.store → S.is_open self.old.store → IfSure result (S.is_open self.new.store) }
-        ensures kept { S.is_honest self.new.store → S.is_open self.old.store → S.is_open self.new.store → IsSame (S.rows self.new.store) (S.rows self.old.store) }
-        ensures crash { S.is_honest self.new.store → S.is_open self.old.store → (r : Rows) → S.may_find self.new.store r → IsSame r (S.rows self.old.store) }
+        ensures loaded { S.is_honest self.new.store
+            → IfOk result (λ list. S.is_open self.old.store × IsListing (S.rows self.old.store) list.items) }
+        ensures open { S.is_honest self.new.store → S.is_open self.old.store
+            → IfSure result (S.is_open self.new.store) }
+        ensures kept { S.is_honest self.new.store → S.is_open self.old.store → S.is_open self.new.store
+            → IsSame (S.rows self.new.store) (S.rows self.old.store) }
+        ensures crash { S.is_honest self.new.store → S.is_open self.old.store → (r : Rows)
+            → S.may_find self.new.store r → IsSame r (S.rows self.old.store) }
         ensures honest { S.is_honest self.new.store → S.is_honest self.old.store }
         ensures saves { self.new.saves.count ≡ self.old.saves.count }
-        ensures failures { S.failures self.old.store + self.old.struck.count ≤ S.failures self.new.store + self.new.struck.count }
-        ensures cause { IfFailed result (S.failures self.old.store + self.old.struck.count < S.failures self.new.store + self.new.struck.count) }
+        ensures failures { S.failures self.old.store + self.old.struck.count ≤ S.failures self.new.store
+            + self.new.struck.count }
+        ensures cause { IfFailed result (S.failures self.old.store + self.old.struck.count
+            < S.failures self.new.store + self.new.struck.count) }
         // No plan strikes, and none is spent.
-        ensures passed_on { (self.new.struck.count ≡ self.old.struck.count) × (S.saves self.new.store ≡ S.saves self.old.store) }
+        ensures passed_on { (self.new.struck.count ≡ self.old.struck.count)
+            × (S.saves self.new.store ≡ S.saves self.old.store) }
         ensures left { self.new.planned ≡ self.old.planned }
     {
         self.store.load()

@@ -34,14 +34,15 @@ impl Row {
     /// What the row of this key says at a station of the tree, or the first test that it fails.
     ///
     /// Rows of the newest schema of their kind are read and those of all before it, each to the value
-    /// that was written. Want of memory is answered where a growth was refused, and nowhere else.
+    /// that was written. Out of memory is answered where an allocation was refused, and nowhere else.
     pub fn read(alloc: Global, tree: &Tree, key: Key, bytes: &[u8]) -> Result<Row, RowFault>
         // What is read was written so, and the tree has what it names.
         ensures found { IfOk result (λ row. IsRow tree.now key bytes.now row) }
         // What was written so is read, where the tree has what it names.
         ensures only { (row : Said) → IsRow tree.now key bytes.now row → Reads result (Ok row) }
         // It is unknown where it was written so, and the tree lacks something that it names.
-        ensures unknown { (row : Said) → IsWritten key bytes.now row → is_known tree.now key row ≡ false → Reads result (refused Fault.Unknown) }
+        ensures unknown { (row : Said) → IsWritten key bytes.now row → is_known tree.now key row ≡ false
+            → Reads result (refused Fault.Unknown) }
         // It is out of range only where it is written as no row is.
         ensures out_of_range { result ≡ refused Fault.Range → (row : Said) → IsWritten key bytes.now row → ⊥ }
         // The first test that fails.
@@ -80,7 +81,7 @@ fn has_length(schema: Schema, bytes: &[u8]) -> bool
     }
 }
 
-/// Whether behind the front, which ends with their number, there are so many links and nothing else.
+/// Whether after the beginning, which ends with their number, there are so many links and nothing else.
 fn has_links_behind(schema: Schema, front: usize, bytes: &[u8]) -> bool
     requires { 2 ≤ front }
     ensures { result ≡ spec.has_links_behind schema front bytes.now }

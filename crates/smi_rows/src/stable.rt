@@ -14,15 +14,19 @@ ghost use Rattle.smi_rows.specs.Store.{
 
 use crate::key::Key;
 use crate::saved::SavedRow;
+use thiserror::Error;
 
 /// Why a store did not do what it was asked.
-#[derive(Clone, Copy, Debug, PartialEq, Eq)]
+#[derive(Clone, Copy, Debug, PartialEq, Eq, Error)]
 pub enum StoreFault {
     /// Memory ran out. The rows are as before.
+    #[error("out of memory")]
     Memory,
     /// The device failed. The rows are as before.
+    #[error("the device failed, and the rows are as before")]
     Device,
     /// The device failed, and the row is as before or as saved.
+    #[error("the device failed, and the row may be saved or not")]
     Unsure,
 }
 
@@ -54,11 +58,16 @@ pub trait Stable {
     /// After `Memory` and `Device` the rows are as before; after `Unsure` an open finds the row as
     /// before or as saved.
     fn save(&mut self, key: Key, bytes: &[u8]) -> Result<(), StoreFault>
-        ensures saved { is_honest self.new → OnOk result (is_open self.new × IsSame (rows self.new) (with_row key bytes.now (rows self.old))) }
-        ensures kept { is_honest self.new → IfNotSaved result (is_open self.old → is_open self.new × IsSame (rows self.new) (rows self.old)) }
-        ensures unsure { is_honest self.new → is_open self.new → IfUnsure result (IsSame (rows self.new) (rows self.old) ⊎ IsSame (rows self.new) (with_row key bytes.now (rows self.old))) }
+        ensures saved { is_honest self.new
+            → OnOk result (is_open self.new × IsSame (rows self.new) (with_row key bytes.now (rows self.old))) }
+        ensures kept { is_honest self.new → IfNotSaved result
+            (is_open self.old → is_open self.new × IsSame (rows self.new) (rows self.old)) }
+        ensures unsure { is_honest self.new → is_open self.new
+            → IfUnsure result (IsSame (rows self.new) (rows self.old)
+            ⊎ IsSame (rows self.new) (with_row key bytes.now (rows self.old))) }
         // A stop now leaves the rows as before or as saved.
-        ensures crash { is_honest self.new → is_open self.old → (r : Rows) → may_find self.new r → IsSame r (rows self.old) ⊎ IsSame r (with_row key bytes.now (rows self.old)) }
+        ensures crash { is_honest self.new → is_open self.old → (r : Rows) → may_find self.new r
+            → IsSame r (rows self.old) ⊎ IsSame r (with_row key bytes.now (rows self.old)) }
         ensures honest { is_honest self.new → is_honest self.old }
         ensures saves { saves self.new ≡ saves self.old + 1 }
         ensures failures { failures self.old ≤ failures self.new }
@@ -67,15 +76,19 @@ pub trait Stable {
     /// All rows, by rising key. The rows stay, whatever the answer, and a store that failed for good
     /// lists none.
     fn load(&mut self) -> Result<Vec<SavedRow>, StoreFault>
-        ensures loaded { is_honest self.new → IfOk result (λ list. is_open self.old × IsListing (rows self.old) list.items) }
+        ensures loaded { is_honest self.new → IfOk
+            result (λ list. is_open self.old × IsListing (rows self.old) list.items) }
         ensures open { is_honest self.new → is_open self.old → IfSure result (is_open self.new) }
-        ensures kept { is_honest self.new → is_open self.old → is_open self.new → IsSame (rows self.new) (rows self.old) }
-        ensures crash { is_honest self.new → is_open self.old → (r : Rows) → may_find self.new r → IsSame r (rows self.old) }
+        ensures kept { is_honest self.new → is_open self.old → is_open self.new
+            → IsSame (rows self.new) (rows self.old) }
+        ensures crash { is_honest self.new → is_open self.old → (r : Rows) → may_find self.new r
+            → IsSame r (rows self.old) }
         ensures honest { is_honest self.new → is_honest self.old }
         ensures saves { saves self.new ≡ saves self.old }
         ensures failures { failures self.old ≤ failures self.new }
         ensures cause { IfFailed result (failures self.old < failures self.new) };
 
     // While the store is honest and open, a stop leaves its rows.
-    ghost rests: { (store : Self) → is_honest store → is_open store → (r : Rows) → may_find store r → IsSame r (rows store) };
+    ghost rests: { (store : Self) → is_honest store → is_open store → (r : Rows) → may_find store r
+        → IsSame r (rows store) };
 }

@@ -1,5 +1,6 @@
 -- What a line of a schedule lets happen, and what a word picks, names what the tree has.
-use Rattle.std.proofs.Common.{ℕ, zero, suc, ◌≡◌, ◌≤◌, ◌<◌, ◌+◌, ◌/◌, ◌%◌, Bool, true, false, List, [], ◌∷◌, length, Option, Some, None, Result, Ok, Err, IfOk, refl, sym, ap, ◌∙◌, subst, arith}
+use Rattle.std.proofs.Common.{ℕ, zero, suc, ◌≡◌, ◌≤◌, ◌<◌, ◌+◌, ◌/◌, ◌%◌, Bool, true, false, List, [], ◌∷◌, length}
+use Rattle.std.proofs.Common.{Option, Some, None, Result, Ok, Err, IfOk, refl, sym, ap, ◌∙◌, subst, arith}
 use Rattle.std.specs.Prelude.{◌==◌, ◌&&◌, nat_lt, if◌then◌else◌, ok_or}
 use Rattle.std.proofs.lemmas.Bool.{and_from}
 use Rattle.std.proofs.lemmas.Bool.Decides.{nat_tests}
@@ -8,7 +9,8 @@ use Rattle.smi_tree.specs.Fault.{◌>>=◌}
 use Rattle.smi_tree.specs.Name.{number_of}
 use Rattle.smi_tree.specs.Hierarchy.{Hierarchy}
 use Rattle.smi_tree.specs.Lawful.{IsBetween, IsTree}
-use Rattle.smi_tree.specs.Lookups.{action_count, device_count, domain_count, operator_count, state_count, station_count}
+use Rattle.smi_tree.specs.Lookups.{action_count, device_count, domain_count, operator_count, state_count}
+use Rattle.smi_tree.specs.Lookups.{station_count}
 use Rattle.smi_tree.specs.Text.{words}
 use Rattle.smi_tree.specs.File.{is_comment}
 use Rattle.smi_tree.specs.declared.fault.Fault.{Fault}
@@ -32,7 +34,8 @@ use Rattle.smi_schedule.specs.declared.said.Said.{Said}
 use Rattle.smi_schedule.specs.declared.said.Said.TheVariants as said
 use Rattle.smi_schedule.specs.Naming.{has_deed, has_device, has_item, has_operator, has_order, has_station}
 
-within : (names : List (List ℕ)) (name : List ℕ) (n : ℕ) → ok_or (number_of names name) UnknownName ≡ Ok n → is_between 1 (length names) n ≡ true
+within : (names : List (List ℕ)) (name : List ℕ) (n : ℕ) → ok_or (number_of names name) UnknownName ≡ Ok n
+    → is_between 1 (length names) n ≡ true
 within names name n is = by (number_of names name) refl is
   where
     by : (o : Option ℕ) → number_of names name ≡ o → ok_or o UnknownName ≡ Ok n → is_between 1 (length names) n ≡ true
@@ -61,19 +64,23 @@ module _ (h : Hierarchy) where
   Items (Err fault) = Unit {0}
 
   -- what holds of all that a step of reading may give
-  then_orders : {X : Type 0} (r : Result X Fault) (f : X → Result Order Fault) → ((x : X) → r ≡ Ok x → Orders (f x)) → Orders (r >>= f)
+  then_orders : {X : Type 0} (r : Result X Fault) (f : X → Result Order Fault) → ((x : X) → r ≡ Ok x → Orders (f x))
+      → Orders (r >>= f)
   then_orders (Ok x) f holds = holds x refl
   then_orders (Err fault) f holds = tt
 
-  then_deeds : {X : Type 0} (r : Result X Fault) (f : X → Result Deed Fault) → ((x : X) → r ≡ Ok x → Deeds (f x)) → Deeds (r >>= f)
+  then_deeds : {X : Type 0} (r : Result X Fault) (f : X → Result Deed Fault) → ((x : X) → r ≡ Ok x → Deeds (f x))
+      → Deeds (r >>= f)
   then_deeds (Ok x) f holds = holds x refl
   then_deeds (Err fault) f holds = tt
 
-  then_named : {X : Type 0} (r : Result X Fault) (f : X → Result Item Fault) → ((x : X) → r ≡ Ok x → Named (f x)) → Named (r >>= f)
+  then_named : {X : Type 0} (r : Result X Fault) (f : X → Result Item Fault) → ((x : X) → r ≡ Ok x → Named (f x))
+      → Named (r >>= f)
   then_named (Ok x) f holds = holds x refl
   then_named (Err fault) f holds = tt
 
-  then_items : {X : Type 0} (r : Result X Fault) (f : X → Result (Option Item) Fault) → ((x : X) → r ≡ Ok x → Items (f x)) → Items (r >>= f)
+  then_items : {X : Type 0} (r : Result X Fault) (f : X → Result (Option Item) Fault)
+      → ((x : X) → r ≡ Ok x → Items (f x)) → Items (r >>= f)
   then_items (Ok x) f holds = holds x refl
   then_items (Err fault) f holds = tt
 
@@ -82,7 +89,8 @@ module _ (h : Hierarchy) where
   order_named (said_order.Take d) = then_orders (known.domain h d) _ (λ n is. refl)
   order_named (said_order.Drop d) = then_orders (known.domain h d) _ (λ n is. refl)
   order_named (said_order.Ask d) = then_orders (known.domain h d) _ (λ n is. refl)
-  order_named (said_order.Do d a) = then_orders (known.domain h d) _ (λ n is. then_orders (known.action h a) _ (λ m at. refl))
+  order_named (said_order.Do d a) = then_orders (known.domain h d) _
+      (λ n is. then_orders (known.action h a) _ (λ m at. refl))
   order_named (said_order.Include d t) = then_orders (known.domains h d t) _ (λ n is. refl)
   order_named (said_order.Exclude d t) = then_orders (known.domains h d t) _ (λ n is. refl)
   order_named (said_order.Manual d t) = then_orders (known.domains h d t) _ (λ n is. refl)
@@ -98,8 +106,10 @@ module _ (h : Hierarchy) where
   deed_named (said_deed.Deliver k) = refl
   deed_named (said_deed.Recent j) = refl
   deed_named (said_deed.Order o x) =
-      then_deeds (known.operator h o) _ (λ n is. then_deeds (known.order_known h x) _ (λ what at. and_from _ _ (within h.operator_names o n is) (order_ok x what at)))
-  deed_named (said_deed.Report d s) = then_deeds (known.device h d) _ (λ n is. then_deeds (known.state h s) _ (λ m at. within h.device_names d n is))
+      then_deeds (known.operator h o) _ (λ n is. then_deeds (known.order_known h x) _
+      (λ what at. and_from _ _ (within h.operator_names o n is) (order_ok x what at)))
+  deed_named (said_deed.Report d s) = then_deeds (known.device h d) _
+      (λ n is. then_deeds (known.state h s) _ (λ m at. within h.device_names d n is))
   deed_named (said_deed.Tick s) = then_deeds (known.station h s) _ (λ n is. within h.station_names s n is)
 
   deed_ok : (x : SaidDeed) (d : Deed) → known.deed_known h x ≡ Ok d → has_deed h d ≡ true
@@ -109,14 +119,21 @@ module _ (h : Hierarchy) where
   unfolding known.known
   item_named (said.Do x) = then_named (known.deed_known h x) _ (λ d is. deed_ok x d is)
   item_named (said.Restart s) = then_named (known.station h s) _ (λ n is. within h.station_names s n is)
-  item_named (said.Stop s when x) = then_named (known.station h s) _ (λ n is. then_named (known.deed_known h x) _ (λ d at. and_from _ _ (within h.station_names s n is) (deed_ok x d at)))
-  item_named (said.Fail s how x) = then_named (known.station h s) _ (λ n is. then_named (known.deed_known h x) _ (λ d at. and_from _ _ (within h.station_names s n is) (deed_ok x d at)))
+  item_named (said.Stop s when x) = then_named (known.station h s) _
+      (λ n is. then_named (known.deed_known h x) _
+      (λ d at. and_from _ _ (within h.station_names s n is) (deed_ok x d at)))
+  item_named (said.Fail s how x) = then_named (known.station h s) _
+      (λ n is. then_named (known.deed_known h x) _
+      (λ d at. and_from _ _ (within h.station_names s n is) (deed_ok x d at)))
 
   words_named : (ws : List (List ℕ)) → Items (item_by h ws)
   words_named [] = tt
   words_named (word ∷ more) = by (is_comment word)
     where
-      by : (b : Bool) → Items (if b then Ok None else (ok_or (line_word word) UnknownWord >>= (λ which. said_of which more >>= (λ x. known.known h x >>= (λ i. Ok (Some i))))))
+      by : (b : Bool)
+          → Items (if b then Ok None
+          else (ok_or (line_word word) UnknownWord >>=
+          (λ which. said_of which more >>= (λ x. known.known h x >>= (λ i. Ok (Some i))))))
       by true = tt
       by false =
           then_items (ok_or (line_word word) UnknownWord) _ (λ which found. then_items (said_of which more) _ (λ x says.
@@ -141,7 +158,8 @@ module _ (h : Hierarchy) where
       let below : part % count < count = omega (arith, some) in
       between 1 count (drawn.pick part count) (omega arith) (omega (arith, below))
 
-  either_order : (b : Bool) (x y : Order) → has_order h x ≡ true → has_order h y ≡ true → has_order h (if b then x else y) ≡ true
+  either_order : (b : Bool) (x y : Order) → has_order h x ≡ true → has_order h y ≡ true
+      → has_order h (if b then x else y) ≡ true
   either_order true x y one other = one
   either_order false x y one other = other
 
@@ -154,7 +172,8 @@ module _ (h : Hierarchy) where
       (either_order (which == 5) _ _ refl
       (either_order (which == 6) _ _ refl refl)))))
 
-  either_item : (b : Bool) (x y : Item) → has_item h x ≡ true → has_item h y ≡ true → has_item h (if b then x else y) ≡ true
+  either_item : (b : Bool) (x y : Item) → has_item h x ≡ true → has_item h y ≡ true
+      → has_item h (if b then x else y) ≡ true
   either_item true x y one other = one
   either_item false x y one other = other
 
@@ -164,7 +183,9 @@ module _ (h : Hierarchy) where
       some : (n : ℕ) → (n == 0) ≡ false → 1 ≤ n
       some n is = grind (arith, nat_tests, is)
 
-      by : (b : Bool) → (device_count h == 0) ≡ b → has_deed h (if b then deed.Tick 1 else deed.Report (drawn.pick (word / 16) (device_count h)) (drawn.pick (word / 8192) (state_count h))) ≡ true
+      by : (b : Bool) → (device_count h == 0) ≡ b
+          → has_deed h (if b then deed.Tick 1 else deed.Report (drawn.pick (word / 16) (device_count h))
+          (drawn.pick (word / 8192) (state_count h))) ≡ true
       by true is = between 1 (station_count h) 1 (omega arith) tree.stations
       by false is = picked (word / 16) (device_count h) (some (device_count h) is)
 
@@ -178,5 +199,7 @@ module _ (h : Hierarchy) where
       (either_item (nat_lt which 11) _ _ (picked rest (station_count h) tree.stations)
       (either_item (which == 11) _ _ (report_drawn tree word)
       (either_item (nat_lt which 15) _ _
-      (and_from _ _ (picked rest (operator_count h) tree.operators) (order_drawn (word / 512 % 8) (drawn.pick (word / 4096) (domain_count h)) (drawn.pick (word / 524288) (action_count h)) (drawn.pick (word / 524288) (domain_count h))))
+      (and_from _ _ (picked rest (operator_count h) tree.operators)
+      (order_drawn (word / 512 % 8) (drawn.pick (word / 4096) (domain_count h))
+      (drawn.pick (word / 524288) (action_count h)) (drawn.pick (word / 524288) (domain_count h))))
       (picked rest (station_count h) tree.stations)))))

@@ -4,7 +4,8 @@ use Rattle.rand_core.specs.Pcg32Seed.{pcg32_seed}
 use Rattle.rand_pcg.specs.Lcg.{Lcg}
 use Rattle.rand_pcg.specs.Pcg.{pcg32, pcg32_of_seed}
 use Rattle.smi_tree.specs.Hierarchy.{Hierarchy}
-use Rattle.smi_tree.specs.Lookups.{state_count, action_count, station_count, operator_count, domain_count, device_count}
+use Rattle.smi_tree.specs.Lookups.{state_count, action_count, station_count, operator_count, domain_count}
+use Rattle.smi_tree.specs.Lookups.{device_count}
 use Rattle.smi_protocol.specs.declared.order.Order.{Order}
 use Rattle.smi_protocol.specs.declared.order.Order.TheVariants as order
 use Rattle.smi_item.specs.declared.item.Deed.{Deed}
@@ -29,7 +30,8 @@ order_by which domain action target =
 -- an order: which, of which domain, and with which action or target
 abbrev pub order_of : Hierarchy → ℕ → Order
 order_of h word =
-    order_by (word / 512 % 8) (pick (word / 4096) (domain_count h)) (pick (word / 524288) (action_count h)) (pick (word / 524288) (domain_count h))
+    order_by (word / 512 % 8) (pick (word / 4096) (domain_count h)) (pick (word / 524288) (action_count h))
+    (pick (word / 524288) (domain_count h))
 
 -- a device in a state; where there are no devices, a tick of the first station
 abbrev pub report_of : Hierarchy → ℕ → Deed

@@ -1,5 +1,6 @@
 -- What a line of a schedule lets happen.
-use Rattle.std.specs.Prelude.{ℕ, nat_lt, ok_or, List, [], ◌∷◌, length, Option, Some, None, Result, Ok, Err, if◌then◌else◌}
+use Rattle.std.specs.Prelude.{ℕ, nat_lt, ok_or, List, [], ◌∷◌, length, Option, Some, None, Result, Ok, Err}
+use Rattle.std.specs.Prelude.{if◌then◌else◌}
 use Rattle.smi_tree.specs.Fault.{◌>>=◌}
 use Rattle.smi_tree.specs.Text.{words}
 use Rattle.smi_tree.specs.File.{is_comment}

@@ -15,11 +15,13 @@ pub record Window : Type 0 where
 abbrev pub left : Window → Option (List ℕ) → Option (List ℕ)
 left w remaining = prepend_known w.rest remaining
 
--- how a text is cut: its first line is taken, and these bytes are left; or it has no line; or its first line is too long
+-- how a text is cut: its first line is taken, and these bytes are left; or it has no line; or its first line is too
+-- long
 abbrev pub CutsText : Cut → List ℕ → List ℕ → Option (List ℕ) → Type 0
 CutsText cut.Line text line None = ⊥
 CutsText cut.Line text line (Some later) = lines text ≡ line ∷ lines later
-CutsText cut.TooLong text line later = (first : List ℕ) × (more : List (List ℕ)) × (lines text ≡ first ∷ more) × (200 < length first)
+CutsText cut.TooLong text line later = (first : List ℕ) × (more : List (List ℕ)) × (lines text ≡ first ∷ more)
+    × (200 < length first)
 CutsText cut.End text line later = lines text ≡ []
 CutsText cut.ReadFault text line later = Unit {0}
 CutsText cut.Memory text line later = Unit {0}

@@ -1,5 +1,6 @@
 -- What the lines of a schedule let happen, up to the first faulty one.
-use Rattle.std.specs.Prelude.{ℕ, ◌≡◌, ◌+◌, nat_lt, List, [], ◌∷◌, ◌++◌, length, Option, Some, None, Result, Ok, Err, if◌then◌else◌}
+use Rattle.std.specs.Prelude.{ℕ, ◌≡◌, ◌+◌, nat_lt, List, [], ◌∷◌, ◌++◌, length, Option, Some, None, Result, Ok, Err}
+use Rattle.std.specs.Prelude.{if◌then◌else◌}
 use Rattle.std.specs.Option.{option_to_list}
 use Rattle.std.specs.Str.Lines.{lines}
 use Rattle.smi_tree.specs.Fault.{fault_number}
@@ -58,7 +59,8 @@ Reads view (Err Memory) reading = Unit {0}
 Reads view (Err (Line number code)) reading = reading ≡ Err (Line number code)
 
 -- a line was read after the items of the lines above it
-abbrev pub ReadsLine : {X : Type 0} → List Item → Result (Option Item) Fault → ℕ → Result X ScheduleFault → List Item → Type 0
+abbrev pub ReadsLine : {X : Type 0} → List Item → Result (Option Item) Fault → ℕ → Result X ScheduleFault → List Item
+    → Type 0
 ReadsLine old said number (Ok done) new = (item : Option Item) × (said ≡ Ok item) × (new ≡ old ++ option_to_list item)
 ReadsLine old said number (Err Memory) new = Unit {0}
 ReadsLine old said number (Err (Line place code)) new =

@@ -13,7 +13,7 @@ use smi_tree::{Fault, Name, Word, first_word, number_within, one_name, one_word,
 /// The greatest number that is written with ten digits.
 const MOST: u64 = 9_999_999_999;
 
-/// An order. Behind a domain stands an action, or another domain.
+/// An order. After a domain stands an action, or another domain.
 #[derive(Drop)]
 pub(crate) enum SaidOrder<'a> {
     Take(Name<'a>),

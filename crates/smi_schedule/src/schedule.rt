@@ -9,17 +9,20 @@ use crate::line::read_item;
 use smi_item::Item;
 use smi_tree::{Fault, Tree, first_line};
 use std::alloc::{AllocError, AllocFailed, Global};
+use thiserror::Error;
 
 /// The most bytes of a schedule that is read as a whole.
 const MOST_BYTES: usize = 256 * 1024;
 
 /// Why a schedule was not read.
-#[derive(Clone, Copy, Debug, PartialEq, Eq)]
+#[derive(Clone, Copy, Debug, PartialEq, Eq, Error)]
 pub enum ScheduleFault {
     /// The line of this number, counting all lines from 1, has the [fault](Fault::number) of the second. Line 0 is
     /// the schedule itself.
+    #[error("schedule line {0} fault {1}")]
     Line(u64, u16),
     /// Memory ran out.
+    #[error("out of memory")]
     Memory,
 }
 

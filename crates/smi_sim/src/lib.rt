@@ -1,7 +1,8 @@
 //! The simulator as a command runs it, over any reader and writers.
 //!
 //! [`sim`] runs a schedule that is read, [`sim_drawn`] one that is drawn. What they write is the text of the schedule's
-//! trace, which is safe at every moment (`stream` and `stream_drawn` of `smi_world`); what is amiss is told in one line.
+//! trace, which is safe at every moment (`stream` and `stream_drawn` of `smi_world`); what is amiss is told in one
+//! line.
 #![tactic(auto)]
 
 ghost use Rattle.std.specs.Prelude.{◌≡◌, ◌⊎◌, ℕ, IfSome, take};
@@ -26,7 +27,7 @@ use std::io::{Read, Write};
 ///
 /// It is 0 where the whole trace is written, and 1 where a line is faulty, which is told on `faults` as
 /// `schedule line L fault C`: then the trace of the lines before it is written. It is 3 where a read or a write failed,
-/// and 4 for want of memory. (docs/FORMATS.md, "Schedules" and "The text of a trace".)
+/// and 4 where memory ran out. (docs/FORMATS.md, "Schedules" and "The text of a trace".)
 pub fn sim<R: Read, W: Write, F: Write>(
     alloc: Global,
     tree: &Tree,
@@ -57,7 +58,7 @@ pub fn sim<R: Read, W: Write, F: Write>(
 }
 
 /// Runs the schedule of so many items that a seed draws, and writes the text of its trace while it is drawn. Answers
-/// the exit status: 0 where the whole trace is written, 3 where a write failed, and 4 for want of memory.
+/// the exit status: 0 where the whole trace is written, 3 where a write failed, and 4 where memory ran out.
 pub fn sim_drawn<W: Write, F: Write>(
     alloc: Global,
     tree: &Tree,
@@ -67,9 +68,11 @@ pub fn sim_drawn<W: Write, F: Write>(
     faults: &mut F,
 ) -> u8
     ensures ended { result ≡ 0 →
-        Appends (W.contents writer.old) (W.contents writer.new) (trace_text tree.now (trace_of tree.now (schedule_drawn tree.now seed steps))) }
+        Appends (W.contents writer.old) (W.contents writer.new)
+        (trace_text tree.now (trace_of tree.now (schedule_drawn tree.now seed steps))) }
     ensures prefix { (n : ℕ) ×
-        Appends (W.contents writer.old) (W.contents writer.new) (take n (trace_text tree.now (trace_of tree.now (schedule_drawn tree.now seed steps)))) }
+        Appends (W.contents writer.old) (W.contents writer.new)
+        (take n (trace_text tree.now (trace_of tree.now (schedule_drawn tree.now seed steps)))) }
     ensures status { (result ≡ 0) ⊎ (result ≡ 3) ⊎ (result ≡ 4) }
 {
     match stream_drawn(alloc, tree, seed, steps, writer) {

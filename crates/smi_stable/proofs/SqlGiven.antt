@@ -7,19 +7,25 @@ use Rattle.smi_stable.specs.SqlGivenBack.{IsGivenBack, MayBeMade}
 use Rattle.smi_stable.proofs.SqlKeeps.{clean_before, opened}
 use Rattle.smi_stable.proofs.SqlMakes.{creates, may_make}
 
-same-mode : (old new : State) → old.in_transaction ≡ false → IsUnchanged old new ⊎ IsRolledBack old new → new.in_transaction ≡ old.in_transaction
+same-mode : (old new : State) → old.in_transaction ≡ false → IsUnchanged old new ⊎ IsRolledBack old new
+    → new.in_transaction ≡ old.in_transaction
 same-mode old new auto (inl h) = h.0.mode
 same-mode old new auto (inr h) = h.autocommit ∙ sym auto
 
-same-now : (old new : State) → (IsTrue old.is_open → old.now ≡ old.committed) → IsUnchanged old new ⊎ IsRolledBack old new → IsTrue new.is_open → new.now ≡ old.now
+same-now : (old new : State) → (IsTrue old.is_open → old.now ≡ old.committed)
+    → IsUnchanged old new ⊎ IsRolledBack old new → IsTrue new.is_open → new.now ≡ old.now
 same-now old new settled (inl h) live = h.0.now_is
 same-now old new settled (inr h) live = (h.undone live).0 ∙ sym (settled (h.was_open live))
 
-left : (old new : State) → old.now.schema ≡ no_schema → HasCleanDisk new → Survives old new (CommitsBy create_text [] old) → (db : Trees) → new.may_leave db → old.may_leave db ⊎ MayBeMade old db
-left old new has clean s db may = elim (s.crash clean db may) [ inl before ↦ inl before | inr after ↦ inr (has, may_make old db has after) ]
+left : (old new : State) → old.now.schema ≡ no_schema → HasCleanDisk new
+    → Survives old new (CommitsBy create_text [] old) → (db : Trees) → new.may_leave db
+    → old.may_leave db ⊎ MayBeMade old db
+left old new has clean s db may = elim (s.crash clean db may)
+    [ inl before ↦ inl before | inr after ↦ inr (has, may_make old db has after) ]
 
 -- the table was not made
-pub not-made : (old new : State) → old.in_transaction ≡ false → (IsTrue old.is_open → old.now ≡ old.committed) → old.now.schema ≡ no_schema → HasCleanDisk new
+pub not-made : (old new : State) → old.in_transaction ≡ false → (IsTrue old.is_open → old.now ≡ old.committed)
+    → old.now.schema ≡ no_schema → HasCleanDisk new
     → IsUnchanged old new ⊎ IsRolledBack old new → Survives old new (CommitsBy create_text [] old) → IsGivenBack old new
 not-made old new auto settled has clean undone s = record {
   clean = clean_before old new _ s clean;

@@ -1,5 +1,6 @@
 -- What a save keeps of a connection.
-use Rattle.std.proofs.Common.{◌≡◌, ◌⊎◌, inl, inr, ℕ, pos, List, false, true≢false, if◌then◌else◌, Option, Some, Ok, Err, IsTrue, refl, sym, ap, subst, ◌∙◌, arith}
+use Rattle.std.proofs.Common.{◌≡◌, ◌⊎◌, inl, inr, ℕ, pos, List, false, true≢false, if◌then◌else◌, Option, Some, Ok}
+use Rattle.std.proofs.Common.{Err, IsTrue, refl, sym, ap, subst, ◌∙◌, arith}
 use Rattle.std.proofs.lemmas.Bool.{cases_Bool}
 use Rattle.sqlite.specs.Order.{Row}
 use Rattle.std.proofs.Common.{[], ◌∷◌}
@@ -9,9 +10,12 @@ use Rattle.sqlite.specs.Tree.{Trees}
 use Rattle.sqlite.specs.Effect.{Database}
 use Rattle.sqlite.specs.declared.error.Error.{Error}
 use Rattle.sqlite.specs.Command.{Command}
-use Rattle.sqlite.specs.Command.TheVariants.{Select, Insert, InsertOr, Update, Delete, CreateTable, CreateIndex, DropTable, DropIndex, Begin, Commit, Rollback, Savepoint as Save, Release, RollbackTo, Nothing, CreateView, DropView, Rows}
+use Rattle.sqlite.specs.Command.TheVariants.{Select, Insert, InsertOr, Update, Delete, CreateTable, CreateIndex}
+use Rattle.sqlite.specs.Command.TheVariants.{DropTable, DropIndex, Begin, Commit, Rollback, Savepoint as Save}
+use Rattle.sqlite.specs.Command.TheVariants.{Release, RollbackTo, Nothing, CreateView, DropView, Rows}
 use Rattle.sqlite_schema.specs.declared.command.Returning.{Returning}
-use Rattle.sqlite.specs.State.{State, HasCleanDisk, Runs, IsUnchanged, IsRolledBack, Survives, Executes, ExecutesIn, IsNotRun, CommitsBy, shows_rows}
+use Rattle.sqlite.specs.State.{State, HasCleanDisk, Runs, IsUnchanged, IsRolledBack, Survives, Executes, ExecutesIn}
+use Rattle.sqlite.specs.State.{IsNotRun, CommitsBy, shows_rows}
 use Rattle.smi_rows.specs.declared.key.Key.{Key}
 use Rattle.smi_stable.specs.SqlTable.{replace_text}
 use Rattle.smi_stable.specs.SqlRows.{IsKeyed}
@@ -21,7 +25,8 @@ use Rattle.smi_stable.proofs.SqlKeys.{key-agrees}
 use Rattle.smi_stable.proofs.SqlSaves.{Replaces, values, replaces, commits}
 use Rattle.smi_stable.proofs.SqlReplaced.{replaced, still_keyed}
 
-pub fails : (old new : State) (sql : List ℕ) (params : Row) (e : Error) → Executes sql params old new (Err e) → IsUnchanged old new ⊎ IsRolledBack old new
+pub fails : (old new : State) (sql : List ℕ) (params : Row) (e : Error) → Executes sql params old new (Err e)
+    → IsUnchanged old new ⊎ IsRolledBack old new
 unfolding ExecutesIn IsNotRun
 fails old new sql params e (inl (inl h)) = inl h.1
 fails old new sql params e (inl (inr h)) = inr h.3
@@ -43,8 +48,12 @@ same_rest old new r now committed = record {
   settled = committed ∙ r.settled ∙ sym now;
 }
 
-pub still : (old new : State) → old.in_transaction ≡ false → (IsTrue old.is_open → IsAtRest old) → IsUnchanged old new ⊎ IsRolledBack old new → StillAt old new
-still old new auto rest (inl h) = (h.0.mode ∙ auto, λ live. (same_rest old new (rest h.0.was_open) h.0.now_is h.0.committed_is, h.0.now_is))
+pub still : (old new : State) → old.in_transaction ≡ false → (IsTrue old.is_open → IsAtRest old)
+    → IsUnchanged old new ⊎ IsRolledBack old new → StillAt old new
+still old new auto rest (inl h) = (
+  h.0.mode ∙ auto,
+  λ live. (same_rest old new (rest h.0.was_open) h.0.now_is h.0.committed_is, h.0.now_is),
+)
 still old new auto rest (inr h) = (
   h.autocommit,
   λ live.
@@ -54,7 +63,8 @@ still old new auto rest (inr h) = (
       (same_rest old new r now u.1, now),
 )
 
-ran_open : (old new : State) (r : Option Returning) (command : Command) (text : List ℕ) (params : Row) (count : ℕ) → old.in_transaction ≡ false → Runs old new r command text params count → IsTrue old.is_open
+ran_open : (old new : State) (r : Option Returning) (command : Command) (text : List ℕ) (params : Row) (count : ℕ)
+    → old.in_transaction ≡ false → Runs old new r command text params count → IsTrue old.is_open
 ran_open old new r (Select q names) text params count auto h = absurd h
 ran_open old new r (Insert at from) text params count auto h = h.shown.was_open
 ran_open old new r (InsertOr at how from clauses) text params count auto h = h.shown.was_open
@@ -68,28 +78,35 @@ ran_open old new r Begin text params count auto h = h.1.was_open
 ran_open old new r Commit text params count auto h = h.1.was_open
 ran_open old new r Rollback text params count auto h = absurd (true≢false (sym h.0 ∙ auto))
 ran_open old new r (Save name) text params count auto h = h.0.0.was_open
-ran_open old new r (Release name) text params count auto h = elim h.2 [ inl it ↦ it.1.0.was_open | inr it ↦ it.1.0.was_open ]
+ran_open old new r (Release name) text params count auto h =
+    elim h.2 [ inl it ↦ it.1.0.was_open | inr it ↦ it.1.0.was_open ]
 ran_open old new r (RollbackTo name) text params count auto h = h.2.2.was_open
 ran_open old new r (Rows values width names) text params count auto h = h.0.0.was_open
 ran_open old new r Nothing text params count auto h = h.0.0.was_open
 ran_open old new r CreateView text params count auto h = h.shown.was_open
 ran_open old new r (DropView at) text params count auto h = h.shown.was_open
 
-pub was_open : (old new : State) (sql : List ℕ) (params : Row) (count : ℕ) → old.in_transaction ≡ false → Executes sql params old new (Ok count) → IsTrue old.is_open
+pub was_open : (old new : State) (sql : List ℕ) (params : Row) (count : ℕ) → old.in_transaction ≡ false
+    → Executes sql params old new (Ok count) → IsTrue old.is_open
 unfolding ExecutesIn
 was_open old new sql params count auto h = elim (cases_Bool (shows_rows false h.0)) [
   | inl shows ↦ absurd (let e = (rw shows at h.2).0 in cc)
   | inr runs ↦ ran_open old new _ _ _ _ count auto (rw runs at h.2)
 ]
 
-same_rows : (old new : Trees) (key : Key) (b : List ℕ) → IsKeyed (old 0) → Replaces (old 0) (new 0) (pos key.station) (pos key.domain) (pos key.operator) b → IsSame (rows_in new) (with_row key b (rows_in old))
+same_rows : (old new : Trees) (key : Key) (b : List ℕ) → IsKeyed (old 0)
+    → Replaces (old 0) (new 0) (pos key.station) (pos key.domain) (pos key.operator) b
+    → IsSame (rows_in new) (with_row key b (rows_in old))
 same_rows old new key b keyed h k =
-    replaced (old 0) (pos key.station) (pos key.domain) (pos key.operator) b keyed (new 0) h (pos k.station) (pos k.domain) (pos k.operator)
+    replaced (old 0) (pos key.station) (pos key.domain) (pos key.operator) b keyed (new 0) h (pos k.station)
+    (pos k.domain) (pos k.operator)
     ∙ ap (λ t. if t then Some b else rows_in old k) (key-agrees key k (Blob b ∷ []) (next_rowid (old 0)))
 
-pub saves : (old new : State) (key : Key) (b : List ℕ) (count : ℕ) → old.in_transaction ≡ false → (IsTrue old.is_open → IsAtRest old)
+pub saves : (old new : State) (key : Key) (b : List ℕ) (count : ℕ) → old.in_transaction ≡ false
+    → (IsTrue old.is_open → IsAtRest old)
     → Executes replace_text (values (pos key.station) (pos key.domain) (pos key.operator) b) old new (Ok count)
-    → (new.in_transaction ≡ false) × IsTrue new.is_open × IsAtRest new × IsSame (rows_of new) (with_row key b (rows_of old))
+    → (new.in_transaction ≡ false) × IsTrue new.is_open × IsAtRest new
+    × IsSame (rows_of new) (with_row key b (rows_of old))
 saves old new key b count auto rest h =
     let r = rest (was_open old new replace_text _ count auto h) in
     let it = replaces old new (pos key.station) (pos key.domain) (pos key.operator) b count r.schema h in
@@ -97,19 +114,29 @@ saves old new key b count auto rest h =
     let committed : new.committed ≡ new.now = shown.committed_is ∙ rw auto refl in (
       shown.mode ∙ auto,
       shown.is_open,
-      record { schema = it.1; keyed = still_keyed (old.now.trees 0) (new.now.trees 0) (pos key.station) (pos key.domain) (pos key.operator) b r.keyed it.2; settled = committed },
+      record {
+        schema = it.1;
+        keyed = still_keyed (old.now.trees 0) (new.now.trees 0) (pos key.station)
+            (pos key.domain) (pos key.operator) b r.keyed it.2;
+        settled = committed;
+      },
       same_rows old.now.trees new.now.trees key b r.keyed it.2,
     )
 
 -- a crash leaves the rows as before or as saved, where the last commit is all that it could leave before
-pub crashes : (old new : State) (key : Key) (b : List ℕ) → IsAtRest old → ((db : Trees) → old.may_leave db → db ≡ old.committed.trees) → HasCleanDisk new
-    → Survives old new (CommitsBy replace_text (values (pos key.station) (pos key.domain) (pos key.operator) b) old) → LeavesEither old new key b
+pub crashes : (old new : State) (key : Key) (b : List ℕ) → IsAtRest old
+    → ((db : Trees) → old.may_leave db → db ≡ old.committed.trees) → HasCleanDisk new
+    → Survives old new (CommitsBy replace_text (values (pos key.station) (pos key.domain) (pos key.operator) b) old)
+    → LeavesEither old new key b
 crashes old new key b r only clean s db may = elim (s.crash clean db may) [
   | inl before ↦ inl (λ k. ap (λ (t : Trees). rows_in t k) (only db before ∙ ap (λ (d : Database). d.trees) r.settled))
-  | inr after ↦ inr (same_rows old.now.trees db key b r.keyed (commits old (pos key.station) (pos key.domain) (pos key.operator) b db r.schema after))
+  | inr after ↦
+      inr (same_rows old.now.trees db key b r.keyed
+      (commits old (pos key.station) (pos key.domain) (pos key.operator) b db r.schema after))
 ]
 
-pub not_run : (old new : State) (sql : List ℕ) (params : Row) (e : Error) → IsNotRun old new sql params e → IsUnchanged old new ⊎ IsRolledBack old new
+pub not_run : (old new : State) (sql : List ℕ) (params : Row) (e : Error) → IsNotRun old new sql params e
+    → IsUnchanged old new ⊎ IsRolledBack old new
 unfolding IsNotRun
 not_run old new sql params e (inl h) = inl h.1
 not_run old new sql params e (inr h) = inr h.3

@@ -28,21 +28,29 @@ same_value : {B E : Type 0} {a b : B} → ◌≡◌ {A = Result B E} (Ok a) (Ok 
 same_value e = cc
 
 -- what the statement makes of a database without a table
-does_make : (limit : Option ℕ) (mode : Mode) (params : Row) (db : Database) (tally : Tally) (after : Database) → db.schema ≡ no_schema → Does limit mode params db create_text None CreateTable (Ok (tally, after)) → (after.schema ≡ stable_schema) × (after.trees 0 ≡ [])
+does_make : (limit : Option ℕ) (mode : Mode) (params : Row) (db : Database) (tally : Tally) (after : Database)
+    → db.schema ≡ no_schema → Does limit mode params db create_text None CreateTable (Ok (tally, after))
+    → (after.schema ≡ stable_schema) × (after.trees 0 ≡ [])
 does_make limit mode params db tally after has h =
     let all = went h in
     let first = went all.1 in
     let it = first.1 in
     let both : Ok it.table ≡ Ok stable_table = sym it.defined ∙ defined in
     let same : it.table ≡ stable_table = cc in
-    let schema : first.0.schema ≡ stable_schema = it.is ∙ ap (λ s. created s it.table) has ∙ ap (created no_schema) same ∙ made in
+    let schema : first.0.schema ≡ stable_schema = it.is ∙ ap (λ s. created s it.table) has
+    ∙ ap (created no_schema) same ∙ made in
     let plain : lacks_sequence first.0.schema ≡ false = ap lacks_sequence schema in
-    let now : after ≡ first.0 = ap (λ (p : Tally × Database). p.1) (same_value all.2) ∙ same_value (rw plain at first.2) in
-    (ap (λ (d : Database). d.schema) now ∙ schema, ap (λ (d : Database). d.trees 0) now ∙ subst (λ s. first.0.trees (next_tree s) ≡ []) has it.empty)
+    let now : after ≡ first.0 = ap (λ (p : Tally × Database). p.1) (same_value all.2)
+    ∙ same_value (rw plain at first.2) in (
+      ap (λ (d : Database). d.schema) now ∙ schema,
+      ap (λ (d : Database). d.trees 0) now ∙ subst (λ s. first.0.trees (next_tree s) ≡ []) has it.empty,
+    )
 
-pub creates : (old new : State) (count : ℕ) → old.now.schema ≡ no_schema → Executes create_text [] old new (Ok count) → Writes old new None CreateTable create_text [] count × (new.now.schema ≡ stable_schema) × (new.now.trees 0 ≡ [])
+pub creates : (old new : State) (count : ℕ) → old.now.schema ≡ no_schema → Executes create_text [] old new (Ok count)
+    → Writes old new None CreateTable create_text [] count × (new.now.schema ≡ stable_schema) × (new.now.trees 0 ≡ [])
 creates old new count has h =
-    let w = subst (λ t. Writes old new None CreateTable t [] count) create_text_is (runs_as create_text [] old new no_schema has CreateTable create_is create_plain count h) in
+    let w = subst (λ t. Writes old new None CreateTable t [] count) create_text_is
+    (runs_as create_text [] old new no_schema has CreateTable create_is create_plain count h) in
     let m = does_make old.step_limit (mode_of old) [] old.now w.tally new.now has w.changed in
     (w, m.0, m.1)
 
@@ -59,6 +67,7 @@ may_make old db has h =
     elim it [
       | inl other ↦ elim other.0 [ inl is ↦ absurd (let e = is in cc) | inr is ↦ absurd (let e = is.2 in cc) ]
       | inr w ↦
-          let done = subst (λ t. Does old.step_limit (mode_of old) params old.now t None CreateTable (Ok (w.1, w.2))) text w.3 in
+          let done = subst (λ t. Does old.step_limit (mode_of old) params old.now t None CreateTable (Ok (w.1, w.2)))
+          text w.3 in
           ap (λ (t : Trees). t 0) w.5 ∙ (does_make old.step_limit (mode_of old) params old.now w.1 w.2 has done).1
     ]

@@ -1,5 +1,6 @@
 -- A database without a table does not refuse the table of stable rows.
-use Rattle.std.proofs.Common.{◌≡◌, ◌⊎◌, inl, inr, ℕ, ◌+◌, ◌*◌, ◌^◌, ◌≤◌, List, [], ◌∷◌, length, codes, true, false, true≢false, Option, Some, None, Ok, Err, refl, sym, ap, subst, ◌∙◌, arith}
+use Rattle.std.proofs.Common.{◌≡◌, ◌⊎◌, inl, inr, ℕ, ◌+◌, ◌*◌, ◌^◌, ◌≤◌, List, [], ◌∷◌, length, codes, true, false}
+use Rattle.std.proofs.Common.{true≢false, Option, Some, None, Ok, Err, refl, sym, ap, subst, ◌∙◌, arith}
 use lib.Ieee.{is_nan, lt}
 use lib.Utf8.{encode}
 use Rattle.std.specs.Str.{IsUtf8, chars, is_utf8}
@@ -15,7 +16,8 @@ use Rattle.sqlite.specs.Effect.{Database}
 use Rattle.sqlite.specs.declared.error.Error.{Error}
 use Rattle.sqlite.specs.declared.run.Mode.{Mode}
 use Rattle.sqlite_catalog.specs.declared.error.Refusal.{Refusal}
-use Rattle.sqlite_catalog.specs.declared.error.Refusal.TheVariants.{Invalid, NameTaken, BadName, TooBig, BadKey, BadText, Violates}
+use Rattle.sqlite_catalog.specs.declared.error.Refusal.TheVariants.{Invalid, NameTaken, BadName, TooBig, BadKey}
+use Rattle.sqlite_catalog.specs.declared.error.Refusal.TheVariants.{BadText, Violates}
 use Rattle.sqlite_catalog.specs.Calls.{RefusesTable, IsLongTable, CreatesTable}
 use Rattle.sqlite_catalog.specs.Change.{is_reserved}
 use Rattle.sqlite_catalog.specs.Listing.{is_formed, is_fit}
@@ -52,7 +54,8 @@ fit = refl
 
 not_long : ¬ IsLongTable create_text
 not_long h =
-    let bound : 10 ^ 9 ≤ 2 * length stable_table.name + length create_text + 200 = subst (λ (t : Table). 10 ^ 9 ≤ 2 * length t.name + length create_text + 200) (the_table h.0 h.1) h.2 in
+    let bound : 10 ^ 9 ≤ 2 * length stable_table.name + length create_text
+    + 200 = subst (λ (t : Table). 10 ^ 9 ≤ 2 * length t.name + length create_text + 200) (the_table h.0 h.1) h.2 in
     absurd (omega (arith, bound))
 
 no_reals : table_reals stable_table ≡ 0
@@ -60,11 +63,13 @@ unfolding everything
 no_reals = refl
 
 abbrev IsTooBig : Table → Type 0
-IsTooBig t = (65536 ≤ next_tree no_schema + length t.uniques) ⊎ ((2 ^ 64 ≤ table_reals t) ⊎ ((key : List ℕ) × Has t.uniques key × (2 ^ 64 ≤ index_reals (table_reals t) key)))
+IsTooBig t = (65536 ≤ next_tree no_schema + length t.uniques)
+    ⊎ ((2 ^ 64 ≤ table_reals t) ⊎ ((key : List ℕ) × Has t.uniques key × (2 ^ 64 ≤ index_reals (table_reals t) key)))
 
 small_key : (key : List ℕ) → Has stable_table.uniques key → ¬ (2 ^ 64 ≤ index_reals (table_reals stable_table) key)
 small_key key (inl it) h =
-    let bound : 2 ^ 64 ≤ index_reals 0 (1 ∷ 2 ∷ 3 ∷ []) = subst (λ n. 2 ^ 64 ≤ index_reals n (1 ∷ 2 ∷ 3 ∷ [])) no_reals (subst (λ k. 2 ^ 64 ≤ index_reals (table_reals stable_table) k) it h) in
+    let bound : 2 ^ 64 ≤ index_reals 0 (1 ∷ 2 ∷ 3 ∷ []) = subst (λ n. 2 ^ 64 ≤ index_reals n (1 ∷ 2 ∷ 3 ∷ []))
+    no_reals (subst (λ k. 2 ^ 64 ≤ index_reals (table_reals stable_table) k) it h) in
     absurd (omega (arith, bound))
 small_key key (inr it) h = it
 
@@ -86,7 +91,10 @@ refused BadName h = elim h.2 [
 ]
 refused TooBig h = not_big h
 refused BadKey h = absurd (true≢false (sym formed ∙ ap is_formed (sym (the_table h.0 h.1)) ∙ h.2))
-refused BadText h = absurd (true≢false (sym fit ∙ ap (λ (t : Table). is_fit (Text (codes "table")) (Text t.name) (Text t.name) (Text create_text)) (sym (the_table h.0 h.1)) ∙ h.2))
+refused BadText h =
+    absurd (true≢false
+    (sym fit ∙ ap (λ (t : Table). is_fit (Text (codes "table")) (Text t.name) (Text t.name) (Text create_text))
+    (sym (the_table h.0 h.1)) ∙ h.2))
 refused (Violates rule) h = h
 
 not_made : (db : Database) (stop : Option Error) → db.schema ≡ no_schema → ¬ MakesTable create_text db (Err stop)
@@ -94,13 +102,16 @@ not_made db None has h = not_long h
 not_made db (Some e) has (inl h) = h.0 text_utf8
 not_made db (Some e) has (inr h) = refused h.0 (subst (λ s. RefusesTable s create_text h.0) has h.1)
 
-counted : (db after : Database) → db.schema ≡ no_schema → CreatesTable db.schema create_text db.trees after.schema after.trees → lacks_sequence after.schema ≡ false
+counted : (db after : Database) → db.schema ≡ no_schema
+    → CreatesTable db.schema create_text db.trees after.schema after.trees → lacks_sequence after.schema ≡ false
 counted db after has it =
-    let schema : after.schema ≡ stable_schema = it.is ∙ ap (λ s. created s it.table) has ∙ ap (created no_schema) (the_table it.table it.defined) ∙ made in
+    let schema : after.schema ≡ stable_schema = it.is ∙ ap (λ s. created s it.table) has
+    ∙ ap (created no_schema) (the_table it.table it.defined) ∙ made in
     ap lacks_sequence schema
 
 -- the table is made, unless the store fails
-pub does_not_refuse : (limit : Option ℕ) (mode : Mode) (params : Row) (db : Database) (stop : Option Error) → db.schema ≡ no_schema → ¬ Does limit mode params db create_text None CreateTable (Err stop)
+pub does_not_refuse : (limit : Option ℕ) (mode : Mode) (params : Row) (db : Database) (stop : Option Error)
+    → db.schema ≡ no_schema → ¬ Does limit mode params db create_text None CreateTable (Err stop)
 does_not_refuse limit mode params db stop has h = elim h [
   | inl it ↦ elim it.1 [
     | inl first ↦ not_made db first.0 has first.1

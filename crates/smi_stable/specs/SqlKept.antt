@@ -12,5 +12,6 @@ pub record Kept (S : Type 0) : Type 0 where
 
 abbrev pub kept_code : {S : Type 0} → Coded S → Coded (Kept S)
 kept_code {S} store =
-    code_by ((Held S × Held S) × (ℕ × ℕ)) (coded× (coded× (held_code store) (held_code store)) (coded× coded_ℕ coded_ℕ)) (λ k. ((k.held, k.begun), (k.saves, k.failures)))
+    code_by ((Held S × Held S) × (ℕ × ℕ)) (coded× (coded× (held_code store) (held_code store))
+    (coded× coded_ℕ coded_ℕ)) (λ k. ((k.held, k.begun), (k.saves, k.failures)))
     (λ p. record { held = p.0.0; begun = p.0.1; saves = p.1.0; failures = p.1.1 }) (λ _. refl)

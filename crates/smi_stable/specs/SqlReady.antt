@@ -18,7 +18,8 @@ rows_of s = rows_in s.now.trees
 
 -- the key is this one, as SQL compares numbers
 abbrev pub is_at : Key → Key → Bool
-is_at key k = has_key (pos k.station) (pos k.domain) (pos k.operator) (Null ∷ Int (pos key.station) ∷ Int (pos key.domain) ∷ Int (pos key.operator) ∷ [])
+is_at key k = has_key (pos k.station) (pos k.domain) (pos k.operator)
+    (Null ∷ Int (pos key.station) ∷ Int (pos key.domain) ∷ Int (pos key.operator) ∷ [])
 
 -- the connection is open on the table of stable rows, outside a transaction
 pub record IsAtRest (s : State) : Type 0 where
@@ -32,7 +33,8 @@ IsReady s = HasCleanDisk s → (s.in_transaction ≡ false) × (IsTrue s.is_open
 
 -- a crash leaves the rows as before or as saved
 abbrev pub LeavesEither : State → State → Key → List ℕ → Type 0
-LeavesEither old new key bytes = (db : Trees) → new.may_leave db → IsSame (rows_in db) (rows_of old) ⊎ IsSame (rows_in db) (with_row key bytes (rows_of old))
+LeavesEither old new key bytes = (db : Trees) → new.may_leave db
+    → IsSame (rows_in db) (rows_of old) ⊎ IsSame (rows_in db) (with_row key bytes (rows_of old))
 
 -- and nothing but the rows
 abbrev pub LeavesOnly : State → Type 0
@@ -50,7 +52,8 @@ IsSettled s = s.committed ≡ s.now
 abbrev pub IsAdopted : State → State → Type 0
 IsAdopted old new =
     (new.in_transaction ≡ false) × (new.now.schema ≡ stable_schema)
-    × (((old.now.schema ≡ stable_schema) × (new.now ≡ old.now)) ⊎ ((old.now.schema ≡ no_schema) × (new.now.trees 0 ≡ [])))
+    × (((old.now.schema ≡ stable_schema) × (new.now ≡ old.now))
+    ⊎ ((old.now.schema ≡ no_schema) × (new.now.trees 0 ≡ [])))
     × (IsTrue new.is_open → IsSettled new)
 
 -- the connection is open, and nothing waits to be committed

@@ -19,13 +19,19 @@ use sqlite::{Alter, Connection};
 
 /// The table of stable rows is there, and is made where there is none.
 fn with_table<S: Alter>(conn: Connection<S>) -> Result<Connection<S>, (StoreFault, Connection<S>)>
-    ensures adopted { IfOk result (λ c. HasCleanDisk (state S.Store c) → IsAdopted (state S.Store conn) (state S.Store c)) }
-    ensures outside { IfOk result (λ c. (conn.in_transaction ≡ false) × (HasCleanDisk (state S.Store c) → IsGivenBack (state S.Store conn) (state S.Store c))) }
+    ensures adopted { IfOk result (λ c. HasCleanDisk (state S.Store c)
+        → IsAdopted (state S.Store conn) (state S.Store c)) }
+    ensures outside { IfOk result (λ c. (conn.in_transaction ≡ false)
+        × (HasCleanDisk (state S.Store c) → IsGivenBack (state S.Store conn) (state S.Store c))) }
     ensures in_transaction { IsTrue conn.in_transaction → result ≡ Err (StoreFault.Unsure, conn) }
-    ensures other_tables { conn.schema ≢ stable_schema → conn.schema ≢ no_schema → result ≡ Err (StoreFault.Unsure, conn) }
-    ensures given_back { IfErr result (λ e. HasCleanDisk (state S.Store e.1) → IsGivenBack (state S.Store conn) (state S.Store e.1)) }
-    ensures live { IfOk result (λ c. HasCleanDisk (state S.Store c) → IsTrue (state S.Store conn).is_open → IsTrue (state S.Store c).is_open × ((state S.Store conn).faults ≤ (state S.Store c).faults)) }
-    ensures reason { IfErr result (λ e. HasCleanDisk (state S.Store e.1) → IsTrue (state S.Store conn).is_open → CanBeTaken (state S.Store conn) → HasReason (state S.Store conn) (state S.Store e.1) e.0) }
+    ensures other_tables { conn.schema ≢ stable_schema → conn.schema ≢ no_schema
+        → result ≡ Err (StoreFault.Unsure, conn) }
+    ensures given_back { IfErr result (λ e. HasCleanDisk (state S.Store e.1)
+        → IsGivenBack (state S.Store conn) (state S.Store e.1)) }
+    ensures live { IfOk result (λ c. HasCleanDisk (state S.Store c) → IsTrue (state S.Store conn).is_open
+        → IsTrue (state S.Store c).is_open × ((state S.Store conn).faults ≤ (state S.Store c).faults)) }
+    ensures reason { IfErr result (λ e. HasCleanDisk (state S.Store e.1) → IsTrue (state S.Store conn).is_open
+        → CanBeTaken (state S.Store conn) → HasReason (state S.Store conn) (state S.Store e.1) e.0) }
     ensures no_device { IfErr result (λ e. e.0 ≢ StoreFault.Device) }
 {
     let mut conn = conn;
@@ -59,13 +65,18 @@ impl<S: Alter> SqliteStable<S> {
     /// `Unsure` for all else, as a file with other tables, or a connection in a transaction. It holds
     /// what it held, as long as it is open; but where there was no table, it may have been made.
     pub fn adopt(connection: Connection<S>) -> Result<SqliteStable<S>, (StoreFault, Connection<S>)>
-        ensures adopted { IfOk result (λ s. HasCleanDisk (state S.Store s.held) → IsAdopted (state S.Store connection) (state S.Store s.held)) }
+        ensures adopted { IfOk result (λ s. HasCleanDisk (state S.Store s.held)
+            → IsAdopted (state S.Store connection) (state S.Store s.held)) }
         ensures open { IfOk result (λ s. HasCleanDisk (state S.Store s.held) → IsInUse (state S.Store s.held)) }
         ensures begun { IfOk result (λ s. (s.begun ≡ s.held) × (s.saves ≡ 0) × (s.failures ≡ 0)) }
         ensures in_transaction { IsTrue connection.in_transaction → result ≡ Err (StoreFault.Unsure, connection) }
-        ensures other_tables { connection.schema ≢ stable_schema → connection.schema ≢ no_schema → result ≡ Err (StoreFault.Unsure, connection) }
-        ensures given_back { IfErr result (λ e. HasCleanDisk (state S.Store e.1) → IsGivenBack (state S.Store connection) (state S.Store e.1)) }
-        ensures reason { IfErr result (λ e. HasCleanDisk (state S.Store e.1) → IsTrue (state S.Store connection).is_open → CanBeTaken (state S.Store connection) → HasReason (state S.Store connection) (state S.Store e.1) e.0) }
+        ensures other_tables { connection.schema ≢ stable_schema → connection.schema ≢ no_schema
+            → result ≡ Err (StoreFault.Unsure, connection) }
+        ensures given_back { IfErr result (λ e. HasCleanDisk (state S.Store e.1)
+            → IsGivenBack (state S.Store connection) (state S.Store e.1)) }
+        ensures reason { IfErr result (λ e. HasCleanDisk (state S.Store e.1)
+            → IsTrue (state S.Store connection).is_open → CanBeTaken (state S.Store connection)
+            → HasReason (state S.Store connection) (state S.Store e.1) e.0) }
         ensures no_device { IfErr result (λ e. e.0 ≢ StoreFault.Device) }
     {
         let mut conn = with_table(connection)?;

@@ -32,12 +32,20 @@ fn listed(rows: &Vec<sqlite::Row>) -> Result<Vec<SavedRow>, StoreFault>
 /// All rows, or a fault; a connection that is open is as before.
 fn load_rows<S: Alter>(conn: &mut Connection<S>) -> Result<Vec<SavedRow>, StoreFault>
     ensures ready { IsReady (state S.Store conn.old) → IsReady (state S.Store conn.new) }
-    ensures loaded { IsReady (state S.Store conn.old) → HasCleanDisk (state S.Store conn.new) → IsTrue (state S.Store conn.old).is_open → IfOk result (λ list. IsListing (rows_of (state S.Store conn.old)) list.items) }
-    ensures was_open { HasCleanDisk (state S.Store conn.new) → IfOk result (λ _. IsTrue (state S.Store conn.old).is_open) }
-    ensures open { IsReady (state S.Store conn.old) → HasCleanDisk (state S.Store conn.new) → IsTrue (state S.Store conn.old).is_open → IfSure result (IsTrue (state S.Store conn.new).is_open) }
-    ensures still { IsReady (state S.Store conn.old) → HasCleanDisk (state S.Store conn.new) → IsTrue (state S.Store conn.old).is_open → IsTrue (state S.Store conn.new).is_open → (state S.Store conn.new).now ≡ (state S.Store conn.old).now }
+    ensures loaded { IsReady (state S.Store conn.old) → HasCleanDisk (state S.Store conn.new)
+        → IsTrue (state S.Store conn.old).is_open → IfOk
+        result (λ list. IsListing (rows_of (state S.Store conn.old)) list.items) }
+    ensures was_open { HasCleanDisk (state S.Store conn.new)
+        → IfOk result (λ _. IsTrue (state S.Store conn.old).is_open) }
+    ensures open { IsReady (state S.Store conn.old) → HasCleanDisk (state S.Store conn.new)
+        → IsTrue (state S.Store conn.old).is_open → IfSure result (IsTrue (state S.Store conn.new).is_open) }
+    ensures still { IsReady (state S.Store conn.old) → HasCleanDisk (state S.Store conn.new)
+        → IsTrue (state S.Store conn.old).is_open → IsTrue (state S.Store conn.new).is_open
+        → (state S.Store conn.new).now ≡ (state S.Store conn.old).now }
     ensures clean { HasCleanDisk (state S.Store conn.new) → HasCleanDisk (state S.Store conn.old) }
-    ensures crash { IsReady (state S.Store conn.old) → HasCleanDisk (state S.Store conn.new) → IsTrue (state S.Store conn.old).is_open → (db : _) → (state S.Store conn.new).may_leave db → (state S.Store conn.old).may_leave db }
+    ensures crash { IsReady (state S.Store conn.old) → HasCleanDisk (state S.Store conn.new)
+        → IsTrue (state S.Store conn.old).is_open → (db : _) → (state S.Store conn.new).may_leave db
+        → (state S.Store conn.old).may_leave db }
 {
     match list_rows(conn) {
         Ok(rows) => listed(&rows),
@@ -64,7 +72,9 @@ impl<S: Alter> Stable for SqliteStable<S> {
 
     ghost saves = { λ s. s.saves };
 
-    ghost rests = { λ s honest live r may k. may.2 k ∙ ap (λ (t : Trees). rows_in t k) (S.Store.settled s.held.store may.0 live.0 may.1 ∙ ap (λ (d : Database). d.trees) live.1) };
+    ghost rests = { λ s honest live r may k. may.2 k
+        ∙ ap (λ (t : Trees). rows_in t k) (S.Store.settled s.held.store may.0 live.0 may.1
+        ∙ ap (λ (d : Database). d.trees) live.1) };
 
     fn save(&mut self, key: Key, bytes: &[u8]) -> Result<(), StoreFault> {
         self.saves.raise();

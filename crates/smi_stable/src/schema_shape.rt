@@ -1,7 +1,8 @@
 //! Whether the schema of a file is that of the stable rows.
 ghost use Rattle.std.specs.Prelude.{◌≡◌, ◌↔◌, [], ◌∷◌, IsTrue, None, false};
 ghost use Rattle.sqlite_value.specs.Keys.{plain};
-ghost use Rattle.smi_stable.specs.SqlTable.{stable_schema, stable_table, stable_columns, key_index, column, no_schema};
+ghost use Rattle.smi_stable.specs.SqlTable.{stable_schema, stable_table, stable_columns, key_index, column};
+ghost use Rattle.smi_stable.specs.SqlTable.{no_schema};
 
 use sqlite_items::Items;
 use sqlite_schema::code::Terms;
@@ -82,7 +83,8 @@ fn is_one_order(orders: &[Order]) -> bool
 }
 
 fn has_keys(it: &Table) -> bool
-    ensures { IsTrue result ↔ ((it.now.key ≡ None) × (it.now.primary ≡ 1 ∷ 2 ∷ 3 ∷ []) × (it.now.uniques ≡ (1 ∷ 2 ∷ 3 ∷ []) ∷ []) × (it.now.orders ≡ plain ∷ [])) }
+    ensures { IsTrue result ↔ ((it.now.key ≡ None) × (it.now.primary ≡ 1 ∷ 2 ∷ 3 ∷ [])
+        × (it.now.uniques ≡ (1 ∷ 2 ∷ 3 ∷ []) ∷ []) × (it.now.orders ≡ plain ∷ [])) }
 {
     it.key.is_none()
         && is_key(&it.primary)
@@ -91,7 +93,9 @@ fn has_keys(it: &Table) -> bool
 }
 
 fn is_plain(it: &Table) -> bool
-    ensures { IsTrue result ↔ ((it.now.checks ≡ []) × (it.now.references ≡ []) × (it.now.computed ≡ []) × (it.now.stamps.places ≡ []) × (it.now.stamps.terms ≡ []) × (it.now.stamps.formats ≡ []) × (it.now.is_counted ≡ false)) }
+    ensures { IsTrue result ↔ ((it.now.checks ≡ []) × (it.now.references ≡ []) × (it.now.computed ≡ [])
+        × (it.now.stamps.places ≡ []) × (it.now.stamps.terms ≡ []) × (it.now.stamps.formats ≡ [])
+        × (it.now.is_counted ≡ false)) }
 {
     is_bare(&it.checks)
         && it.references.is_empty()

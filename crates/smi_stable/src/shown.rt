@@ -50,7 +50,8 @@ fn saved_row(row: &Row) -> Result<SavedRow, StoreFault>
 
 /// The saved rows, each key with the bytes that the table has under it.
 pub(crate) fn saved_rows(rows: &Vec<Row>) -> Result<Vec<SavedRow>, StoreFault>
-    ensures { IfOk result (λ list. (k : Key) → found_in list.items k ≡ listed_at (pos k.station) (pos k.domain) (pos k.operator) rows.now.items) }
+    ensures { IfOk result (λ list. (k : Key) → found_in list.items k
+        ≡ listed_at (pos k.station) (pos k.domain) (pos k.operator) rows.now.items) }
 {
     let mut list = Vec::new(*rows.allocator());
     for row in rows {

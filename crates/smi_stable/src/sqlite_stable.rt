@@ -25,7 +25,12 @@ impl<S: Alter> Model for SqliteStable<S> {
     ghost use Rattle.smi_stable.specs.SqlReady.{IsReady};
     ghost use Rattle.smi_stable.specs.SqlRows.{IsKeyed};
 
-    ghost view = { λ s. record { held = s.conn; begun = s.begun.value; saves = s.saves.count; failures = s.failures.count } };
+    ghost view = { λ s. record {
+      held = s.conn;
+      begun = s.begun.value;
+      saves = s.saves.count;
+      failures = s.failures.count;
+    } };
 
     ghost invariant = { λ s. IsKeyed ((state S.Store s.begun.value).now.trees 0) → IsReady (state S.Store s.conn) };
 }

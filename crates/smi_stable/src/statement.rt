@@ -29,8 +29,10 @@ pub(crate) fn fault_of(error: Error) -> StoreFault
 }
 
 fn put<S: Alter>(conn: &mut Connection<S>, key: Key, bytes: &[u8]) -> Result<usize, Error>
-    ensures runs { HasCleanDisk (state S.Store conn.new) → Executes replace_text (key_values key bytes.now) (state S.Store conn.old) (state S.Store conn.new) result }
-    ensures survives { Survives (state S.Store conn.old) (state S.Store conn.new) (CommitsBy replace_text (key_values key bytes.now) (state S.Store conn.old)) }
+    ensures runs { HasCleanDisk (state S.Store conn.new)
+        → Executes replace_text (key_values key bytes.now) (state S.Store conn.old) (state S.Store conn.new) result }
+    ensures survives { Survives (state S.Store conn.old) (state S.Store conn.new)
+        (CommitsBy replace_text (key_values key bytes.now) (state S.Store conn.old)) }
 {
     conn.execute(
         SAVE,
@@ -50,9 +52,15 @@ pub(crate) fn save_row<S: Alter>(
     bytes: &[u8],
 ) -> Result<(), StoreFault>
     ensures ready { IsReady (state S.Store conn.old) → IsReady (state S.Store conn.new) }
-    ensures saved { IsReady (state S.Store conn.old) → HasCleanDisk (state S.Store conn.new) → OnOk result (IsTrue (state S.Store conn.new).is_open × IsSame (rows_of (state S.Store conn.new)) (with_row key bytes.now (rows_of (state S.Store conn.old)))) }
-    ensures still { IsReady (state S.Store conn.old) → HasCleanDisk (state S.Store conn.new) → IsTrue (state S.Store conn.new).is_open → OnErr result (IsSame (rows_of (state S.Store conn.new)) (rows_of (state S.Store conn.old))) }
-    ensures crash { IsReady (state S.Store conn.old) → HasCleanDisk (state S.Store conn.new) → IsTrue (state S.Store conn.old).is_open → LeavesEither (state S.Store conn.old) (state S.Store conn.new) key bytes.now }
+    ensures saved { IsReady (state S.Store conn.old) → HasCleanDisk (state S.Store conn.new)
+        → OnOk result (IsTrue (state S.Store conn.new).is_open
+        × IsSame (rows_of (state S.Store conn.new)) (with_row key bytes.now (rows_of (state S.Store conn.old)))) }
+    ensures still { IsReady (state S.Store conn.old) → HasCleanDisk (state S.Store conn.new)
+        → IsTrue (state S.Store conn.new).is_open → OnErr
+        result (IsSame (rows_of (state S.Store conn.new)) (rows_of (state S.Store conn.old))) }
+    ensures crash { IsReady (state S.Store conn.old) → HasCleanDisk (state S.Store conn.new)
+        → IsTrue (state S.Store conn.old).is_open → LeavesEither (state S.Store conn.old) (state S.Store conn.new)
+        key bytes.now }
     ensures clean { HasCleanDisk (state S.Store conn.new) → HasCleanDisk (state S.Store conn.old) }
 {
     match put(conn, key, bytes) {
@@ -63,8 +71,10 @@ pub(crate) fn save_row<S: Alter>(
 
 /// The table is made.
 pub(crate) fn make_table<S: Alter>(conn: &mut Connection<S>) -> Result<usize, Error>
-    ensures runs { HasCleanDisk (state S.Store conn.new) → Executes create_text [] (state S.Store conn.old) (state S.Store conn.new) result }
-    ensures survives { Survives (state S.Store conn.old) (state S.Store conn.new) (CommitsBy create_text [] (state S.Store conn.old)) }
+    ensures runs { HasCleanDisk (state S.Store conn.new)
+        → Executes create_text [] (state S.Store conn.old) (state S.Store conn.new) result }
+    ensures survives { Survives (state S.Store conn.old) (state S.Store conn.new)
+        (CommitsBy create_text [] (state S.Store conn.old)) }
 {
     conn.execute(MAKE, &[])
 }
@@ -73,11 +83,18 @@ pub(crate) fn make_table<S: Alter>(conn: &mut Connection<S>) -> Result<usize, Er
 pub(crate) fn test_open<S: Alter>(conn: &mut Connection<S>) -> Result<(), StoreFault>
     ensures ready { IsReady (state S.Store conn.old) → IsReady (state S.Store conn.new) }
     ensures clean { HasCleanDisk (state S.Store conn.new) → HasCleanDisk (state S.Store conn.old) }
-    ensures still { IsReady (state S.Store conn.old) → HasCleanDisk (state S.Store conn.new) → IsTrue (state S.Store conn.new).is_open → IsTrue (state S.Store conn.old).is_open × ((state S.Store conn.new).now ≡ (state S.Store conn.old).now) }
-    ensures unchanged { HasCleanDisk (state S.Store conn.new) → OnOk result (IsUnchanged (state S.Store conn.old) (state S.Store conn.new)) }
-    ensures undone { HasCleanDisk (state S.Store conn.new) → OnErr result (IsUnchanged (state S.Store conn.old) (state S.Store conn.new) ⊎ IsRolledBack (state S.Store conn.old) (state S.Store conn.new)) }
-    ensures crash { HasCleanDisk (state S.Store conn.new) → (db : _) → (state S.Store conn.new).may_leave db → (state S.Store conn.old).may_leave db }
-    ensures reason { HasCleanDisk (state S.Store conn.new) → IsTrue (state S.Store conn.old).is_open → conn.old.schema ≡ stable_schema → IfErr result (HasReason (state S.Store conn.old) (state S.Store conn.new)) }
+    ensures still { IsReady (state S.Store conn.old) → HasCleanDisk (state S.Store conn.new)
+        → IsTrue (state S.Store conn.new).is_open → IsTrue (state S.Store conn.old).is_open
+        × ((state S.Store conn.new).now ≡ (state S.Store conn.old).now) }
+    ensures unchanged { HasCleanDisk (state S.Store conn.new)
+        → OnOk result (IsUnchanged (state S.Store conn.old) (state S.Store conn.new)) }
+    ensures undone { HasCleanDisk (state S.Store conn.new)
+        → OnErr result (IsUnchanged (state S.Store conn.old) (state S.Store conn.new)
+        ⊎ IsRolledBack (state S.Store conn.old) (state S.Store conn.new)) }
+    ensures crash { HasCleanDisk (state S.Store conn.new) → (db : _) → (state S.Store conn.new).may_leave db
+        → (state S.Store conn.old).may_leave db }
+    ensures reason { HasCleanDisk (state S.Store conn.new) → IsTrue (state S.Store conn.old).is_open
+        → conn.old.schema ≡ stable_schema → IfErr result (HasReason (state S.Store conn.old) (state S.Store conn.new)) }
     ensures no_device { IfErr result (λ fault. fault ≢ StoreFault.Device) }
 {
     if let Err(error) = conn.prepare(SAVE) {
@@ -93,10 +110,18 @@ pub(crate) fn save_surely<S: Alter>(
     bytes: &[u8],
 ) -> Result<(), StoreFault>
     ensures ready { IsReady (state S.Store conn.old) → IsReady (state S.Store conn.new) }
-    ensures saved { IsReady (state S.Store conn.old) → HasCleanDisk (state S.Store conn.new) → OnOk result (IsTrue (state S.Store conn.new).is_open × IsSame (rows_of (state S.Store conn.new)) (with_row key bytes.now (rows_of (state S.Store conn.old)))) }
-    ensures kept { IsReady (state S.Store conn.old) → HasCleanDisk (state S.Store conn.new) → IfNotSaved result (IsTrue (state S.Store conn.new).is_open × IsSame (rows_of (state S.Store conn.new)) (rows_of (state S.Store conn.old))) }
-    ensures unsure { IsReady (state S.Store conn.old) → HasCleanDisk (state S.Store conn.new) → IsTrue (state S.Store conn.new).is_open → IfUnsure result (IsSame (rows_of (state S.Store conn.new)) (rows_of (state S.Store conn.old))) }
-    ensures crash { IsReady (state S.Store conn.old) → HasCleanDisk (state S.Store conn.new) → IsTrue (state S.Store conn.old).is_open → LeavesEither (state S.Store conn.old) (state S.Store conn.new) key bytes.now }
+    ensures saved { IsReady (state S.Store conn.old) → HasCleanDisk (state S.Store conn.new)
+        → OnOk result (IsTrue (state S.Store conn.new).is_open
+        × IsSame (rows_of (state S.Store conn.new)) (with_row key bytes.now (rows_of (state S.Store conn.old)))) }
+    ensures kept { IsReady (state S.Store conn.old) → HasCleanDisk (state S.Store conn.new)
+        → IfNotSaved result (IsTrue (state S.Store conn.new).is_open
+        × IsSame (rows_of (state S.Store conn.new)) (rows_of (state S.Store conn.old))) }
+    ensures unsure { IsReady (state S.Store conn.old) → HasCleanDisk (state S.Store conn.new)
+        → IsTrue (state S.Store conn.new).is_open → IfUnsure result
+        (IsSame (rows_of (state S.Store conn.new)) (rows_of (state S.Store conn.old))) }
+    ensures crash { IsReady (state S.Store conn.old) → HasCleanDisk (state S.Store conn.new)
+        → IsTrue (state S.Store conn.old).is_open → LeavesEither (state S.Store conn.old) (state S.Store conn.new)
+        key bytes.now }
     ensures clean { HasCleanDisk (state S.Store conn.new) → HasCleanDisk (state S.Store conn.old) }
 {
     match save_row(conn, key, bytes) {

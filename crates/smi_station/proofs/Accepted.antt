@@ -1,5 +1,6 @@
 -- What a datagram that a station takes can name.
-use Rattle.std.proofs.Common.{ℕ, ◌≡◌, ◌≤◌, ◌<◌, ◌+◌, Bool, true, false, Option, Some, None, refl, sym, ap, ◌∙◌, subst, arith}
+use Rattle.std.proofs.Common.{ℕ, ◌≡◌, ◌≤◌, ◌<◌, ◌+◌, Bool, true, false, Option, Some, None, refl, sym, ap, ◌∙◌, subst}
+use Rattle.std.proofs.Common.{arith}
 use Rattle.std.specs.Prelude.{◌&&◌, nat_le, IfSome}
 use Rattle.std.proofs.lemmas.Bool.{and_parts, leb-true}
 use Rattle.smi_grant.specs.declared.Command.{Command}
@@ -39,9 +40,13 @@ pub record Hands (h : Hierarchy) (d : ℕ) (who : Holder) : Type 0 where
   pub range : is_in_range who ≡ true
   pub holder : is_holder_of h d who ≡ true
 
-module _ (h : Hierarchy) (tree : IsTree h) (number : ℕ) (m : Message) (fits : is_body m.body ≡ true) (none : refusal_of_message h number m ≡ None) where
+module _ (h : Hierarchy) (tree : IsTree h) (number : ℕ) (m : Message) (fits : is_body m.body ≡ true)
+    (none : refusal_of_message h number m ≡ None) where
   there : (b : Body) → m.body ≡ b → (is_body b ≡ true) × (is_body_of h m.from number b ≡ true)
-  there b is = (subst (λ z. is_body z ≡ true) is fits, subst (λ z. is_body_of h m.from number z ≡ true) is (body_here h number m none))
+  there b is = (
+    subst (λ z. is_body z ≡ true) is fits,
+    subst (λ z. is_body_of h m.from number z ≡ true) is (body_here h number m none),
+  )
 
   pub from_there : IsBetween 1 (station_count h) m.from
   from_there = sender_here h number m none
@@ -55,7 +60,12 @@ module _ (h : Hierarchy) (tree : IsTree h) (number : ℕ) (m : Message) (fits : 
       let b = and_parts (is_domain d) _ a.0 in
       let p = party_holds who (and_parts (is_party who) _ b.1).0 in
       let k = and_parts (is_keeper h number d) _ a.1 in
-      record { domain = (kept_there h tree number d k.0).0; party = p.0; range = p.1; holder = (and_parts (is_holder_of h d who) _ k.1).0 }
+      record {
+        domain = (kept_there h tree number d k.0).0;
+        party = p.0;
+        range = p.1;
+        holder = (and_parts (is_holder_of h d who) _ k.1).0;
+      }
 
   pub dropped_there : (d : ℕ) (who : Holder) (e : ℕ) → m.body ≡ body.Drop d who e → Hands h d who
   dropped_there d who e is =
@@ -63,9 +73,15 @@ module _ (h : Hierarchy) (tree : IsTree h) (number : ℕ) (m : Message) (fits : 
       let b = and_parts (is_domain d) _ a.0 in
       let p = party_holds who (and_parts (is_party who) _ b.1).0 in
       let k = and_parts (is_keeper h number d) _ a.1 in
-      record { domain = (kept_there h tree number d k.0).0; party = p.0; range = p.1; holder = (and_parts (is_holder_of h d who) _ k.1).0 }
+      record {
+        domain = (kept_there h tree number d k.0).0;
+        party = p.0;
+        range = p.1;
+        holder = (and_parts (is_holder_of h d who) _ k.1).0;
+      }
 
-  pub run_there : (d : ℕ) (who : Holder) (e n : ℕ) (c : Command) → m.body ≡ body.Run d who e n c → Hands h d who × (n ≤ last_number) × IsCommand h c
+  pub run_there : (d : ℕ) (who : Holder) (e n : ℕ) (c : Command) → m.body ≡ body.Run d who e n c
+      → Hands h d who × (n ≤ last_number) × IsCommand h c
   run_there d who e n c is =
       let a = there (body.Run d who e n c) is in
       let b = and_parts (is_domain d) _ a.0 in
@@ -76,12 +92,18 @@ module _ (h : Hierarchy) (tree : IsTree h) (number : ℕ) (m : Message) (fits : 
       let i = and_parts (nat_le 1 n) (nat_le n last_number) r.0 in
       let k = and_parts (is_keeper h number d) _ a.1 in
       let s = and_parts (speaks_for h m.from d who) _ k.1 in (
-        record { domain = (kept_there h tree number d k.0).0; party = p.0; range = p.1; holder = (and_parts (is_holder_of h d who) _ s.0).0 },
+        record {
+          domain = (kept_there h tree number d k.0).0;
+          party = p.0;
+          range = p.1;
+          holder = (and_parts (is_holder_of h d who) _ s.0).0;
+        },
         leb-true n last_number i.1,
         record { range = r.1; known = s.1 },
       )
 
-  pub told_there : (d : ℕ) (r : Standing) → m.body ≡ body.Tell d r → IsBetween 1 (domain_count h) d × (is_record r ≡ true) × (is_outcome r.outcome ≡ true)
+  pub told_there : (d : ℕ) (r : Standing) → m.body ≡ body.Tell d r
+      → IsBetween 1 (domain_count h) d × (is_record r ≡ true) × (is_outcome r.outcome ≡ true)
   told_there d r is =
       let a = there (body.Tell d r) is in
       let b = and_parts (is_domain d) _ a.0 in
@@ -95,7 +117,8 @@ module _ (h : Hierarchy) (tree : IsTree h) (number : ℕ) (m : Message) (fits : 
   pub unwatched_there : (x echo : ℕ) → m.body ≡ body.Unwatch x echo → is_kept_by h number x ≡ true
   unwatched_there x echo is = (there (body.Unwatch x echo) is).1
 
-  pub state_there : (x echo : ℕ) (v : Version) (state : ℕ) → m.body ≡ body.State x echo v state → IsBetween 1 (object_count h) x
+  pub state_there : (x echo : ℕ) (v : Version) (state : ℕ) → m.body ≡ body.State x echo v state
+      → IsBetween 1 (object_count h) x
   state_there x echo v state is =
       let a = there (body.State x echo v state) is in
       let w = kept_within h tree m.from x (and_parts (is_kept_by h m.from x) _ a.1).0 in

@@ -1,5 +1,6 @@
 -- A step put together from what its parts hand out.
-use Rattle.std.proofs.Common.{ℕ, ◌≡◌, ◌≤◌, length, arith, Bool, true, false, List, [], ◌∷◌, ◌++◌, map, take, Option, Some, None, refl, sym, ap, subst, ◌∙◌, append_assoc, append-nil}
+use Rattle.std.proofs.Common.{ℕ, ◌≡◌, ◌≤◌, length, arith, Bool, true, false, List, [], ◌∷◌, ◌++◌, map, take, Option}
+use Rattle.std.proofs.Common.{Some, None, refl, sym, ap, subst, ◌∙◌, append_assoc, append-nil}
 use Rattle.std.specs.Prelude.{◌==◌, ◌&&◌, if◌then◌else◌, nat_lt, not}
 use Rattle.std.specs.Option.{option_or}
 use Rattle.std.specs.List.{flat_map}
@@ -25,7 +26,8 @@ use Rattle.smi_protocol.specs.GrantStep.{GrantStep, waits_for_children}
 use Rattle.smi_protocol.specs.Children.{own_code}
 use Rattle.smi_protocol.specs.Keeping.{answered, commanded, decided, ran, run_comes, take_comes}
 use Rattle.smi_protocol.specs.declared.entry.Entry.{Entry}
-use Rattle.smi_protocol.specs.Showing.{Member, domain_of_body, followed, is_spent, members_of, moved_by_body, moved_by_command, same_members, shown_to_all}
+use Rattle.smi_protocol.specs.Showing.{Member, domain_of_body, followed, is_spent, members_of, moved_by_body}
+use Rattle.smi_protocol.specs.Showing.{moved_by_command, same_members, shown_to_all}
 use Rattle.smi_protocol.specs.Step.{Out, body_noticed, conditions_by, nothing_out, put_together}
 use Rattle.smi_protocol.specs.Watching.{Notice, is_watched, noticed, showed_if, told_state, unnoticed}
 use Rattle.smi_view.specs.Accepting.{acceptance}
@@ -48,14 +50,39 @@ or_none None = refl
 or_none (Some x) = refl
 
 -- the parts of a step, handed out one after the other, are what the step hands out
-pub parts_together : (h : Hierarchy) (number : ℕ) (s : Station) (g : GrantStep) (n : Notice) (conditions : ℕ → Option Condition) (passed : List Shown) (sends : List Message)
+pub parts_together : (h : Hierarchy) (number : ℕ) (s : Station) (g : GrantStep) (n : Notice)
+    (conditions : ℕ → Option Condition) (passed : List Shown) (sends : List Message)
     → sends ≡ flat_map (shown_to_all h number n.display.watchers) passed
-    → record (with_notice (with_step nothing_out g) n) { datagrams = sent_after (with_notice (with_step nothing_out g) n).datagrams sends } ≡ (put_together h number s g n conditions passed).out
+    → record (with_notice (with_step nothing_out g) n) {
+      datagrams = sent_after
+          (with_notice (with_step nothing_out g) n).datagrams sends;
+    } ≡ (put_together h number s g n conditions passed).out
 parts_together h number s g n conditions passed sends is =
-    ap (λ (xs : List Message). record { datagrams = xs; answers = answered_after (answered_after [] g.answers) n.answers; issued = option_or g.issued None; shown = option_or n.showed None }) datagrams
-    ∙ ap (λ (xs : List Answer). record { datagrams = all; answers = xs; issued = option_or g.issued None; shown = option_or n.showed None }) answers
-    ∙ ap (λ (o : Option Mark). record { datagrams = all; answers = g.answers ++ n.answers; issued = o; shown = option_or n.showed None }) (or_none g.issued)
-    ∙ ap (λ (o : Option Shown). record { datagrams = all; answers = g.answers ++ n.answers; issued = g.issued; shown = o }) (or_none n.showed)
+    ap (λ (xs : List Message). record {
+      datagrams = xs;
+      answers = answered_after (answered_after [] g.answers) n.answers;
+      issued = option_or g.issued None;
+      shown =
+          option_or n.showed None;
+    }) datagrams
+    ∙ ap (λ (xs : List Answer). record {
+      datagrams = all;
+      answers = xs;
+      issued = option_or g.issued None;
+      shown = option_or n.showed None;
+    }) answers
+    ∙ ap (λ (o : Option Mark). record {
+      datagrams = all;
+      answers = g.answers ++ n.answers;
+      issued = o;
+      shown = option_or n.showed None;
+    }) (or_none g.issued)
+    ∙ ap (λ (o : Option Shown). record {
+      datagrams = all;
+      answers = g.answers ++ n.answers;
+      issued = g.issued;
+      shown = o;
+    }) (or_none n.showed)
   where
     shows : List Message
     shows = flat_map (shown_to_all h number n.display.watchers) passed
@@ -71,12 +98,15 @@ parts_together h number s g n conditions passed sends is =
         ∙ sent_first ((g.sends ++ n.sends) ++ shows)
 
     answers : answered_after (answered_after [] g.answers) n.answers ≡ g.answers ++ n.answers
-    answers = answered_first (answered_after [] g.answers) n.answers ∙ ap (λ (xs : List Answer). xs ++ n.answers) (answered_first [] g.answers)
+    answers = answered_first (answered_after [] g.answers) n.answers
+        ∙ ap (λ (xs : List Answer). xs ++ n.answers) (answered_first [] g.answers)
 
 -- the station that it makes
-pub station_together : (h : Hierarchy) (number : ℕ) (s : Station) (g : GrantStep) (n : Notice) (conditions : ℕ → Option Condition) (passed : List Shown) (grants : Grants) (display : Display) (stopped : Bool)
+pub station_together : (h : Hierarchy) (number : ℕ) (s : Station) (g : GrantStep) (n : Notice)
+    (conditions : ℕ → Option Condition) (passed : List Shown) (grants : Grants) (display : Display) (stopped : Bool)
     → grants ≡ g.grants → display ≡ record n.display { conditions = conditions } → stopped ≡ is_spent passed
-    → record { grants = grants; display = display; is_stopped = stopped } ≡ (put_together h number s g n conditions passed).station
+    → record { grants = grants; display = display; is_stopped = stopped }
+    ≡ (put_together h number s g n conditions passed).station
 station_together h number s g n conditions passed grants display stopped a b c =
     ap (λ (x : Grants). record { grants = x; display = display; is_stopped = stopped }) a
     ∙ ap (λ (x : Display). record { grants = g.grants; display = x; is_stopped = stopped }) b
@@ -96,16 +126,20 @@ listed_same [] [] = refl
 listed_same [] (y ∷ b) = refl
 listed_same (x ∷ a) [] = refl
 listed_same (x ∷ a) (y ∷ b) =
-    and_swapped (x.object == y.object) (same_numbers (listed_of a).objects (listed_of b).objects) (x.state == y.state) (same_numbers (listed_of a).states (listed_of b).states)
+    and_swapped (x.object == y.object) (same_numbers (listed_of a).objects (listed_of b).objects)
+    (x.state == y.state) (same_numbers (listed_of a).states (listed_of b).states)
     ∙ ap (λ z. x.object == y.object && (x.state == y.state && z)) (listed_same a b)
 
-pub listed_follows : (h : Hierarchy) (a b : List Member) (conditions : ℕ → Option Condition) (d : ℕ) → followed_by h (listed_of a) (listed_of b) conditions d ≡ followed h a b conditions d
-listed_follows h a b conditions d = ap (λ z. if z then conditions else evaluated h conditions d (listed_of b).states) (listed_same a b)
+pub listed_follows : (h : Hierarchy) (a b : List Member) (conditions : ℕ → Option Condition) (d : ℕ)
+    → followed_by h (listed_of a) (listed_of b) conditions d ≡ followed h a b conditions d
+listed_follows h a b conditions d = ap (λ z. if z then conditions else evaluated h conditions d (listed_of b).states)
+    (listed_same a b)
 
 -- Datagrams.
 
 module _ (h : Hierarchy) (number boot : ℕ) (s : Display) (from : ℕ) where
-  kept_if : (b : Bool) (m n : Notice) → m.display.conditions ≡ s.conditions → n.display.conditions ≡ s.conditions → (if b then m else n).display.conditions ≡ s.conditions
+  kept_if : (b : Bool) (m n : Notice) → m.display.conditions ≡ s.conditions → n.display.conditions ≡ s.conditions
+      → (if b then m else n).display.conditions ≡ s.conditions
   kept_if true m n a b = a
   kept_if false m n a b = b
 
@@ -124,23 +158,31 @@ module _ (h : Hierarchy) (number boot : ℕ) (s : Display) (from : ℕ) where
   notice_stays (body.Watch x echo) = kept_if (nat_lt echo (s.echoes from)) (unnoticed s) (noticed _ _ _) refl refl
   notice_stays (body.State x echo v state) =
       kept_if (not (echo == boot)) (unnoticed s) _ refl
-      (kept_if (is_watched h number s x) _ (noticed s _ []) (showed_stays (told_state x v state) (acceptance boot (s.shown x) echo v)) refl)
+      (kept_if (is_watched h number s x) _ (noticed s _ [])
+      (showed_stays (told_state x v state) (acceptance boot (s.shown x) echo v)) refl)
   notice_stays (body.Unwatch x echo) = refl
 
 -- What a station has at hand comes to what is defined.
 
-module _ (h : Hierarchy) (s : Station) (grants : Grants) (display : Display) (same : display.conditions ≡ s.display.conditions) where
-  stirred_by : (o action : Option ℕ) (moved : ℕ → Option Condition) → ((d : ℕ) → o ≡ Some d → acted_by h display.conditions d action ≡ moved) → (o ≡ None → display.conditions ≡ moved)
+module _ (h : Hierarchy) (s : Station) (grants : Grants) (display : Display)
+    (same : display.conditions ≡ s.display.conditions) where
+  stirred_by : (o action : Option ℕ) (moved : ℕ → Option Condition)
+      → ((d : ℕ) → o ≡ Some d → acted_by h display.conditions d action ≡ moved)
+      → (o ≡ None → display.conditions ≡ moved)
       → stirred h grants display (members_in h s.grants s.display o) action o ≡ conditions_by h s grants display moved o
   stirred_by None action moved some none = none refl
   stirred_by (Some d) action moved some none =
-      ap (λ (cs : ℕ → Option Condition). followed_by h (members_in h s.grants s.display (Some d)) (listed_of (members_of h grants cs display.shown d)) cs d) (some d refl)
-      ∙ listed_follows h (members_of h s.grants s.display.conditions s.display.shown d) (members_of h grants moved display.shown d) moved d
+      ap (λ (cs : ℕ → Option Condition). followed_by h (members_in h s.grants s.display (Some d))
+      (listed_of (members_of h grants cs display.shown d)) cs d) (some d refl)
+      ∙ listed_follows h (members_of h s.grants s.display.conditions s.display.shown d)
+      (members_of h grants moved display.shown d) moved d
 
-  acted_is : (d : ℕ) (c : Command) → acted_by h display.conditions d (action_by h d c) ≡ moved_by_command h s.display.conditions d c
+  acted_is : (d : ℕ) (c : Command) → acted_by h display.conditions d (action_by h d c)
+      ≡ moved_by_command h s.display.conditions d c
   acted_is d (Do a) = by (accepts h d a)
     where
-      by : (b : Bool) → acted_by h display.conditions d (if b then Some a else None) ≡ (if b then acted h s.display.conditions d a else s.display.conditions)
+      by : (b : Bool) → acted_by h display.conditions d (if b then Some a else None)
+          ≡ (if b then acted h s.display.conditions d a else s.display.conditions)
       by true = ap (λ (cs : ℕ → Option Condition). acted h cs d a) same
       by false = same
   acted_is d (Include t) = same
@@ -148,35 +190,48 @@ module _ (h : Hierarchy) (s : Station) (grants : Grants) (display : Display) (sa
   acted_is d (Manual t) = same
   acted_is d (Ignore t) = same
 
-  ran_is : (d : ℕ) (c : Command) (b : Bool) → acted_by h display.conditions d (if b then action_by h d c else None) ≡ (if b then moved_by_command h s.display.conditions d c else s.display.conditions)
+  ran_is : (d : ℕ) (c : Command) (b : Bool) → acted_by h display.conditions d (if b then action_by h d c else None)
+      ≡ (if b then moved_by_command h s.display.conditions d c else s.display.conditions)
   ran_is d c true = acted_is d c
   ran_is d c false = same
 
   -- the states of the objects after a datagram
-  pub body_stirs : (b : Body) → stirred h grants display (members_in h s.grants s.display (domain_of_body h b)) (action_of h s.grants b) (domain_of_body h b)
+  pub body_stirs : (b : Body) → stirred h grants display (members_in h s.grants s.display (domain_of_body h b))
+      (action_of h s.grants b) (domain_of_body h b)
       ≡ conditions_by h s grants display (moved_by_body h s.grants s.display.conditions b) (domain_of_body h b)
   body_stirs (body.Ask d) = same
   body_stirs (body.Take d who seen) = same
   body_stirs (body.Drop d who e) = same
-  body_stirs (body.Run d who e n c) = stirred_by (Some d) (action_of h s.grants (body.Run d who e n c)) (moved_by_body h s.grants s.display.conditions (body.Run d who e n c)) (λ x is. let here : d ≡ x = cc in subst (λ y. acted_by h display.conditions y (action_of h s.grants (body.Run d who e n c)) ≡ moved_by_body h s.grants s.display.conditions (body.Run d who e n c)) here (ran_is d c (admits (s.grants.records d) who e n))) (λ is. absurd cc)
+  body_stirs (body.Run d who e n c) = stirred_by (Some d) (action_of h s.grants (body.Run d who e n c))
+      (moved_by_body h s.grants s.display.conditions (body.Run d who e n c))
+      (λ x is. let here : d ≡ x = cc in
+      subst (λ y. acted_by h display.conditions y (action_of h s.grants (body.Run d who e n c))
+      ≡ moved_by_body h s.grants s.display.conditions (body.Run d who e n c)) here
+      (ran_is d c (admits (s.grants.records d) who e n))) (λ is. absurd cc)
   body_stirs (body.Tell d r) = stirred_by (parent_of h d) None s.display.conditions (λ x is. same) (λ is. same)
   body_stirs (body.Watch x echo) = same
-  body_stirs (body.State x echo v state) = stirred_by (parent_of h x) None s.display.conditions (λ x is. same) (λ is. same)
+  body_stirs (body.State x echo v state) = stirred_by (parent_of h x) None s.display.conditions (λ x is. same)
+      (λ is. same)
   body_stirs (body.Unwatch x echo) = same
 
 -- Keepers answer no operator.
 
 module _ (h : Hierarchy) (number : ℕ) (g : Grants) (from d : ℕ) where
-  decided_answers : (note : Entry) (v : Verdict) → length (with_step nothing_out (decided h number g from d note v)).answers ≤ 8
+  decided_answers : (note : Entry) (v : Verdict)
+      → length (with_step nothing_out (decided h number g from d note v)).answers ≤ 8
   decided_answers note (New r) = omega arith
   decided_answers note Same = omega arith
 
-  pub take_answers : (who : Holder) (seen : ℕ) → length (with_step nothing_out (take_comes h number g from d who seen)).answers ≤ 8
+  pub take_answers : (who : Holder) (seen : ℕ)
+      → length (with_step nothing_out (take_comes h number g from d who seen)).answers ≤ 8
   take_answers who seen = decided_answers _ (take_after (g.records d) who seen)
 
-  pub run_answers : (who : Holder) (e n : ℕ) (c : Command) → length (with_step nothing_out (run_comes h number g from d who e n c)).answers ≤ 8
+  pub run_answers : (who : Holder) (e n : ℕ) (c : Command)
+      → length (with_step nothing_out (run_comes h number g from d who e n c)).answers ≤ 8
   run_answers who e n c = by (admits (g.records d) who e n)
     where
-      by : (b : Bool) → length (with_step nothing_out (if b then ran h number g from d e n c (waits_for_children h (commanded h g d c) d) (own_code h g d c) else answered h number g from d)).answers ≤ 8
+      by : (b : Bool)
+          → length (with_step nothing_out (if b then ran h number g from d e n c
+          (waits_for_children h (commanded h g d c) d) (own_code h g d c) else answered h number g from d)).answers ≤ 8
       by true = omega arith
       by false = omega arith

@@ -15,18 +15,26 @@ use Rattle.smi_protocol.specs.Step.{after, answered_or}
 
 module _ (h : Hierarchy) (number : ℕ) (s : Station) (what : Happening) where
   -- one that is refused saves none
-  pub refused_saves_nothing : (code : ℕ) → refusal_of h number s.grants what ≡ Some code → false ≡ is_some (after h number s what).saved
+  pub refused_saves_nothing : (code : ℕ) → refusal_of h number s.grants what ≡ Some code
+      → false ≡ is_some (after h number s what).saved
   refused_saves_nothing code is = subst (λ o. false ≡ is_some (answered_or h number s what o).saved) (sym is) refl
 
   -- one that is taken saves one where its plan has one
-  pub taken_saves : (g : Grants) (c : Change) → s.grants ≡ g → refusal_of h number g what ≡ None → Plans h number g (grant_step h number g what) c → is_some (touched c) ≡ is_some (after h number s what).saved
+  pub taken_saves : (g : Grants) (c : Change) → s.grants ≡ g → refusal_of h number g what ≡ None
+      → Plans h number g (grant_step h number g what) c → is_some (touched c) ≡ is_some (after h number s what).saved
   taken_saves g c same is plans =
-      subst (λ o. is_some (touched c) ≡ is_some (answered_or h number s what o).saved) (sym (ap (λ z. refusal_of h number z what) same ∙ is))
-      (by (grant_step h number s.grants what).row (touched c) (ap (λ z. (grant_step h number z what).row) same ∙ plans.row))
+      subst (λ o. is_some (touched c) ≡ is_some (answered_or h number s what o).saved)
+      (sym (ap (λ z. refusal_of h number z what) same ∙ is))
+      (by (grant_step h number s.grants what).row (touched c)
+      (ap (λ z. (grant_step h number z what).row) same ∙ plans.row))
     where
-      by : (o p : Option _) → o ≡ p → is_some p ≡ is_some (option_map (saved_row h number (grant_step h number s.grants what).grants) o)
-      by o p same = subst (λ q. is_some q ≡ is_some (option_map (saved_row h number (grant_step h number s.grants what).grants) o)) same (each o)
+      by : (o p : Option _) → o ≡ p → is_some p ≡ is_some
+          (option_map (saved_row h number (grant_step h number s.grants what).grants) o)
+      by o p same =
+          subst (λ q. is_some q
+          ≡ is_some (option_map (saved_row h number (grant_step h number s.grants what).grants) o)) same (each o)
         where
-          each : (o : Option _) → is_some o ≡ is_some (option_map (saved_row h number (grant_step h number s.grants what).grants) o)
+          each : (o : Option _) → is_some o ≡ is_some
+              (option_map (saved_row h number (grant_step h number s.grants what).grants) o)
           each None = refl
           each (Some x) = refl

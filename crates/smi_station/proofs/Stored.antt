@@ -20,28 +20,38 @@ use Rattle.smi_load.proofs.Restarting.{event_stored, only_restarts, opens_stored
 use Rattle.smi_station.specs.Core.{Core, IsOf, IsStoredIn, Steps, begun, number_of, station_of, tree_of}
 
 -- a step
-pub step_stored : (X : Type 0) (before next : Core) (e : Event) (handed : Out) (r : Result Heard StepFault) (old new : Rows) → IsTree (tree_of before)
+pub step_stored : (X : Type 0) (before next : Core) (e : Event) (handed : Out) (r : Result Heard StepFault)
+    (old new : Rows) → IsTree (tree_of before)
     → Steps before next (after_event (tree_of before) (number_of before) (station_of before) e) handed r
-    → OnOk r (X × IsSame new (with_saved (after_event (tree_of before) (number_of before) (station_of before) e).saved old)) → IsStoredIn old before → OnOk r (IsStoredIn new next)
+    → OnOk r (X × IsSame new
+    (with_saved (after_event (tree_of before) (number_of before) (station_of before) e).saved old))
+    → IsStoredIn old before → OnOk r (IsStoredIn new next)
 step_stored X before next e handed (Err fault) old new tree steps saved stored = tt
 step_stored X before next e handed (Ok x) old new tree steps saved stored =
     subst (λ (h : Hierarchy). IsStored h (number_of next) (station_of next).grants new) (sym steps.tree)
     (subst (λ n. IsStored (tree_of before) n (station_of next).grants new) (sym steps.number)
     (subst (λ (s : Station). IsStored (tree_of before) (number_of before) s.grants new) (sym steps.station)
-    (subst (IsStored (tree_of before) (number_of before) (after_event (tree_of before) (number_of before) (station_of before) e).station.grants) (sym (fun_ext saved.1))
+    (subst (IsStored (tree_of before) (number_of before)
+    (after_event (tree_of before) (number_of before) (station_of before) e).station.grants) (sym (fun_ext saved.1))
     (event_stored (tree_of before) (number_of before) (station_of before) old e tree stored))))
 
 -- a start
-pub start_stored : (h : Hierarchy) (number : ℕ) (X : Type 0) (r : Result Core OpenFault) (old new : Rows) → Opens h number old (begun r) → IfOk r (IsOf h number) → OnOk r (X × IsSame new (after_start h number old)) → IfOk r (IsStoredIn new)
+pub start_stored : (h : Hierarchy) (number : ℕ) (X : Type 0) (r : Result Core OpenFault) (old new : Rows)
+    → Opens h number old (begun r) → IfOk r (IsOf h number) → OnOk r (X × IsSame new (after_start h number old))
+    → IfOk r (IsStoredIn new)
 start_stored h number X (Err fault) old new opens of saved = tt
 start_stored h number X (Ok core) old new opens of saved =
     subst (λ (x : Hierarchy). IsStored x (number_of core) (station_of core).grants new) (sym of.tree)
     (subst (λ n. IsStored h n (station_of core).grants new) (sym of.number)
-    (subst (IsStored h number (station_of core).grants) (sym (fun_ext saved.1)) (opens_stored h number old (station_of core) opens)))
+    (subst (IsStored h number (station_of core).grants) (sym (fun_ext saved.1))
+    (opens_stored h number old (station_of core) opens)))
 
 -- a restart is one of what the station kept
-pub start_restarts : (h : Hierarchy) (number : ℕ) (before : Core) (rows : Rows) (r : Result Core OpenFault) → h ≡ tree_of before → number ≡ number_of before → IsBetween 1 (station_count (tree_of before)) (number_of before)
-    → IsStoredIn rows before → Opens h number rows (begun r) → Restarts (tree_of before) (number_of before) (station_of before).grants (begun r)
+pub start_restarts : (h : Hierarchy) (number : ℕ) (before : Core) (rows : Rows) (r : Result Core OpenFault)
+    → h ≡ tree_of before → number ≡ number_of before → IsBetween 1 (station_count (tree_of before)) (number_of before)
+    → IsStoredIn rows before → Opens h number rows (begun r)
+    → Restarts (tree_of before) (number_of before) (station_of before).grants (begun r)
 start_restarts h number before rows r tree own there stored opens =
     only_restarts (tree_of before) (number_of before) (station_of before).grants rows there stored (begun r)
-    (subst (λ (x : Hierarchy). Opens x (number_of before) rows (begun r)) tree (subst (λ n. Opens h n rows (begun r)) own opens))
+    (subst (λ (x : Hierarchy). Opens x (number_of before) rows (begun r)) tree
+    (subst (λ n. Opens h n rows (begun r)) own opens))

@@ -48,7 +48,8 @@ stirred h g s before action (Some d) = stirred_in h g s before (acted_by h s.con
 
 -- whoever watches is sent what is shown anew
 abbrev pub shown_anew : Hierarchy → ℕ → ℕ → Display → (ℕ → Option Condition) → Option ℕ → List Message
-shown_anew h number boot s new domain = flat_map (shown_to_all h number s.watchers) (passed_in h boot s.conditions new domain)
+shown_anew h number boot s new domain = flat_map (shown_to_all h number s.watchers)
+    (passed_in h boot s.conditions new domain)
 
 -- a watch, which alone may want memory
 abbrev pub is_watch : Body → Bool

@@ -88,7 +88,8 @@ pub(crate) struct Reported {
 /// The report that an order holds, if it holds one.
 pub(crate) fn reported_in(order: &Order) -> Option<Reported>
     ensures report { IfSome result (λ reported. order.now ≡ Report reported.device reported.state) }
-    ensures other { (operator : ℕ) → result ≡ None → ordered_or_reported operator order.now ≡ Orders operator order.now }
+    ensures other { (operator : ℕ) → result ≡ None
+        → ordered_or_reported operator order.now ≡ Orders operator order.now }
 {
     match *order {
         Order::Report(device, state) => Some(Reported { device, state }),
@@ -142,7 +143,8 @@ impl<'a> Core<'a> {
     ghost use Rattle.smi_message.specs.Spelling.{reading};
     ghost use Rattle.smi_message.specs.declared.Body.TheVariants.{Watch};
     ghost use Rattle.smi_protocol.specs.Happening.{Comes, Orders, Reports, Ticks};
-    ghost use Rattle.smi_protocol.specs.Step.{accepted, after, after_event, after_reading, nothing_out, ordered_or_reported};
+    ghost use Rattle.smi_protocol.specs.Step.{accepted, after, after_event, after_reading, nothing_out};
+    ghost use Rattle.smi_protocol.specs.Step.{ordered_or_reported};
     ghost use Rattle.smi_protocol.specs.Refusals.{refusal_of_message};
     ghost use Rattle.smi_protocol.specs.declared.event.StepFault.TheVariants.{Memory, Stopped};
     ghost use Rattle.smi_station.specs.Core.{MaySendAll, Steps, number_of, station_of, tree_of};
@@ -155,12 +157,17 @@ impl<'a> Core<'a> {
         event: Event<'_>,
         out: &mut Out,
     ) -> Result<Heard, StepFault>
-        ensures step { self.old.is_stopped ≡ false → Steps self.old self.new (after_event (tree_of self.old) (number_of self.old) (station_of self.old) event.entry) out.new result }
-        ensures store { self.old.is_stopped ≡ false → Leaves S.is_honest S.is_open S.rows S.saves S.failures store.old store.new result (after_event (tree_of self.old) (number_of self.old) (station_of self.old) event.entry).saved }
+        ensures step { self.old.is_stopped ≡ false
+            → Steps self.old self.new (after_event (tree_of self.old) (number_of self.old) (station_of self.old)
+            event.entry) out.new result }
+        ensures store { self.old.is_stopped ≡ false
+            → Leaves S.is_honest S.is_open S.rows S.saves S.failures store.old store.new result
+            (after_event (tree_of self.old) (number_of self.old) (station_of self.old) event.entry).saved }
         ensures may_send { self.old.is_stopped ≡ false → OnOk result (MaySendAll self.new out.new.datagrams) }
         ensures kept { IfKept result (self.new ≡ self.old) }
         ensures stops { IfStopped result (self.new ≡ record self.old { is_stopped = true }) }
-        ensures stopped { self.old.is_stopped ≡ true → (result ≡ Err Stopped) × (out.new ≡ nothing_out) × (store.new ≡ store.old) }
+        ensures stopped { self.old.is_stopped ≡ true
+            → (result ≡ Err Stopped) × (out.new ≡ nothing_out) × (store.new ≡ store.old) }
     {
         out.clear();
         if self.is_stopped {
@@ -182,8 +189,10 @@ impl<'a> Core<'a> {
     ) -> Result<Heard, StepFault>
         requires runs { self.old.is_stopped ≡ false }
         requires empty { out.old ≡ nothing_out }
-        ensures step { Steps self.old self.new (after_event (tree_of self.old) (number_of self.old) (station_of self.old) event.entry) out.new result }
-        ensures store { Leaves S.is_honest S.is_open S.rows S.saves S.failures store.old store.new result (after_event (tree_of self.old) (number_of self.old) (station_of self.old) event.entry).saved }
+        ensures step { Steps self.old self.new (after_event (tree_of self.old) (number_of self.old)
+            (station_of self.old) event.entry) out.new result }
+        ensures store { Leaves S.is_honest S.is_open S.rows S.saves S.failures store.old store.new result
+            (after_event (tree_of self.old) (number_of self.old) (station_of self.old) event.entry).saved }
         ensures may_send { OnOk result (MaySendAll self.new out.new.datagrams) }
         ensures unchanged { OnErr result (self.new ≡ self.old) }
     {
@@ -205,8 +214,10 @@ impl<'a> Core<'a> {
     ) -> Result<Heard, StepFault>
         requires runs { self.old.is_stopped ≡ false }
         requires empty { out.old ≡ nothing_out }
-        ensures step { Steps self.old self.new (after_reading (tree_of self.old) (number_of self.old) (station_of self.old) (reading bytes.now)) out.new result }
-        ensures store { Leaves S.is_honest S.is_open S.rows S.saves S.failures store.old store.new result (after_reading (tree_of self.old) (number_of self.old) (station_of self.old) (reading bytes.now)).saved }
+        ensures step { Steps self.old self.new (after_reading (tree_of self.old) (number_of self.old)
+            (station_of self.old) (reading bytes.now)) out.new result }
+        ensures store { Leaves S.is_honest S.is_open S.rows S.saves S.failures store.old store.new result
+            (after_reading (tree_of self.old) (number_of self.old) (station_of self.old) (reading bytes.now)).saved }
         ensures unchanged { OnErr result (self.new ≡ self.old) }
     {
         match decode(bytes) {
@@ -224,8 +235,10 @@ impl<'a> Core<'a> {
     ) -> Result<Heard, StepFault>
         requires runs { self.old.is_stopped ≡ false }
         requires empty { out.old ≡ nothing_out }
-        ensures step { Steps self.old self.new (after (tree_of self.old) (number_of self.old) (station_of self.old) (Comes datagram.now)) out.new result }
-        ensures store { Leaves S.is_honest S.is_open S.rows S.saves S.failures store.old store.new result (after (tree_of self.old) (number_of self.old) (station_of self.old) (Comes datagram.now)).saved }
+        ensures step { Steps self.old self.new (after (tree_of self.old) (number_of self.old) (station_of self.old)
+            (Comes datagram.now)) out.new result }
+        ensures store { Leaves S.is_honest S.is_open S.rows S.saves S.failures store.old store.new result
+            (after (tree_of self.old) (number_of self.old) (station_of self.old) (Comes datagram.now)).saved }
         ensures unchanged { OnErr result (self.new ≡ self.old) }
     {
         match refusal_of_message(self.kept.tree(), self.kept.number(), datagram) {
@@ -244,8 +257,10 @@ impl<'a> Core<'a> {
         requires runs { self.old.is_stopped ≡ false }
         requires accepted { refusal_of_message (tree_of self.old) (number_of self.old) datagram.now ≡ None }
         requires empty { out.old ≡ nothing_out }
-        ensures step { Steps self.old self.new (accepted (tree_of self.old) (number_of self.old) (station_of self.old) (Comes datagram.now)) out.new result }
-        ensures store { Leaves S.is_honest S.is_open S.rows S.saves S.failures store.old store.new result (accepted (tree_of self.old) (number_of self.old) (station_of self.old) (Comes datagram.now)).saved }
+        ensures step { Steps self.old self.new (accepted (tree_of self.old) (number_of self.old)
+            (station_of self.old) (Comes datagram.now)) out.new result }
+        ensures store { Leaves S.is_honest S.is_open S.rows S.saves S.failures store.old store.new result
+            (accepted (tree_of self.old) (number_of self.old) (station_of self.old) (Comes datagram.now)).saved }
         ensures unchanged { OnErr result (self.new ≡ self.old) }
     {
         match watched_in(&datagram.body) {
@@ -272,7 +287,8 @@ impl<'a> Core<'a> {
         requires accepted { refusal_of_message (tree_of self.old) (number_of self.old) datagram.now ≡ None }
         requires body { datagram.now.body ≡ Watch watched.object watched.echo }
         requires empty { out.old ≡ nothing_out }
-        ensures step { Steps self.old self.new (accepted (tree_of self.old) (number_of self.old) (station_of self.old) (Comes datagram.now)) out.new result }
+        ensures step { Steps self.old self.new (accepted (tree_of self.old) (number_of self.old)
+            (station_of self.old) (Comes datagram.now)) out.new result }
         ensures unchanged { OnErr result (self.new ≡ self.old) }
         ensures fault { IfErr result (λ fault. fault ≡ Memory) }
     {
@@ -292,8 +308,11 @@ impl<'a> Core<'a> {
     ) -> Result<Heard, StepFault>
         requires runs { self.old.is_stopped ≡ false }
         requires empty { out.old ≡ nothing_out }
-        ensures step { Steps self.old self.new (after (tree_of self.old) (number_of self.old) (station_of self.old) (ordered_or_reported operator order.now)) out.new result }
-        ensures store { Leaves S.is_honest S.is_open S.rows S.saves S.failures store.old store.new result (after (tree_of self.old) (number_of self.old) (station_of self.old) (ordered_or_reported operator order.now)).saved }
+        ensures step { Steps self.old self.new (after (tree_of self.old) (number_of self.old) (station_of self.old)
+            (ordered_or_reported operator order.now)) out.new result }
+        ensures store { Leaves S.is_honest S.is_open S.rows S.saves S.failures store.old store.new result
+            (after (tree_of self.old) (number_of self.old) (station_of self.old)
+            (ordered_or_reported operator order.now)).saved }
         ensures unchanged { OnErr result (self.new ≡ self.old) }
     {
         match reported_in(order) {
@@ -312,8 +331,10 @@ impl<'a> Core<'a> {
     ) -> Result<Heard, StepFault>
         requires runs { self.old.is_stopped ≡ false }
         requires empty { out.old ≡ nothing_out }
-        ensures step { Steps self.old self.new (after (tree_of self.old) (number_of self.old) (station_of self.old) (Orders operator order.now)) out.new result }
-        ensures store { Leaves S.is_honest S.is_open S.rows S.saves S.failures store.old store.new result (after (tree_of self.old) (number_of self.old) (station_of self.old) (Orders operator order.now)).saved }
+        ensures step { Steps self.old self.new (after (tree_of self.old) (number_of self.old) (station_of self.old)
+            (Orders operator order.now)) out.new result }
+        ensures store { Leaves S.is_honest S.is_open S.rows S.saves S.failures store.old store.new result
+            (after (tree_of self.old) (number_of self.old) (station_of self.old) (Orders operator order.now)).saved }
         ensures unchanged { OnErr result (self.new ≡ self.old) }
     {
         match self.kept.refusal_of_order(operator, order) {
@@ -336,7 +357,8 @@ impl<'a> Core<'a> {
     fn report(&mut self, out: &mut Out, device: u16, state: u16) -> Result<Heard, StepFault>
         requires runs { self.old.is_stopped ≡ false }
         requires empty { out.old ≡ nothing_out }
-        ensures step { Steps self.old self.new (after (tree_of self.old) (number_of self.old) (station_of self.old) (Reports device state)) out.new result }
+        ensures step { Steps self.old self.new (after (tree_of self.old) (number_of self.old) (station_of self.old)
+            (Reports device state)) out.new result }
         ensures made { IsOk result }
     {
         if !is_report_here(self.kept.tree(), self.kept.number(), device, state) {
@@ -350,7 +372,8 @@ impl<'a> Core<'a> {
     fn tick(&mut self, out: &mut Out) -> Result<Heard, StepFault>
         requires runs { self.old.is_stopped ≡ false }
         requires empty { out.old ≡ nothing_out }
-        ensures step { Steps self.old self.new (after (tree_of self.old) (number_of self.old) (station_of self.old) Ticks) out.new result }
+        ensures step { Steps self.old self.new (after (tree_of self.old) (number_of self.old) (station_of self.old)
+            Ticks) out.new result }
         ensures made { IsOk result }
     {
         tick(&self.kept, &mut self.display, out);

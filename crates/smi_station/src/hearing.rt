@@ -37,10 +37,17 @@ pub(crate) fn hear<S: Stable>(
     requires accepted { refusal_of_message kept.old.tree kept.old.number datagram.now ≡ None }
     requires other { is_watch datagram.now.body ≡ false }
     requires empty { out.old ≡ nothing_out }
-    ensures station { OnOk result (station_with kept.new display.new is_stopped.new ≡ (accepted kept.old.tree kept.old.number (station_with kept.old display.old false) (Comes datagram.now)).station) }
-    ensures heard { IfOk result (λ heard. heard ≡ (accepted kept.old.tree kept.old.number (station_with kept.old display.old false) (Comes datagram.now)).heard) }
-    ensures out { OnOk result (out.new ≡ (accepted kept.old.tree kept.old.number (station_with kept.old display.old false) (Comes datagram.now)).out) }
-    ensures store { Leaves S.is_honest S.is_open S.rows S.saves S.failures store.old store.new result (accepted kept.old.tree kept.old.number (station_with kept.old display.old false) (Comes datagram.now)).saved }
+    ensures station { OnOk result (station_with kept.new display.new is_stopped.new
+        ≡ (accepted kept.old.tree kept.old.number (station_with kept.old display.old false)
+        (Comes datagram.now)).station) }
+    ensures heard { IfOk result (λ heard. heard
+        ≡ (accepted kept.old.tree kept.old.number (station_with kept.old display.old false)
+        (Comes datagram.now)).heard) }
+    ensures out { OnOk
+        result (out.new
+        ≡ (accepted kept.old.tree kept.old.number (station_with kept.old display.old false) (Comes datagram.now)).out) }
+    ensures store { Leaves S.is_honest S.is_open S.rows S.saves S.failures store.old store.new result
+        (accepted kept.old.tree kept.old.number (station_with kept.old display.old false) (Comes datagram.now)).saved }
     ensures halves { OnOk result (AreHalves kept.new display.new) }
     ensures same { OnOk result ((kept.new.tree ≡ kept.old.tree) × (kept.new.number ≡ kept.old.number)) }
     ensures room { OnOk result (is_stopped.new ≡ false → MayChange (display_of display.new)) }

@@ -14,7 +14,7 @@ use smi_out::Out;
 use smi_protocol::{Heard, StepFault};
 use smi_rows::Stable;
 
-/// A change is saved and then made. A fault leaves the grants as they were, and nothing is handed out.
+/// A change is saved and then made. A fault leaves the grants unchanged, and nothing is handed out.
 pub(crate) fn make<S: Stable>(
     kept: &mut Kept<'_>,
     store: &mut S,
@@ -22,10 +22,15 @@ pub(crate) fn make<S: Stable>(
     change: &Change,
 ) -> Result<Heard, StepFault>
     requires { IsChange kept.old.tree kept.old.number change.now }
-    ensures grants { (step : GrantStep) → Plans kept.old.tree kept.old.number (grants_of kept.old) step change.now → OnOk result (grants_of kept.new ≡ step.grants) }
-    ensures heard { (step : GrantStep) → Plans kept.old.tree kept.old.number (grants_of kept.old) step change.now → IfOk result (λ heard. heard ≡ heard_of (row_of kept.old.tree kept.old.number step)) }
-    ensures store { (step : GrantStep) → Plans kept.old.tree kept.old.number (grants_of kept.old) step change.now → Leaves S.is_honest S.is_open S.rows S.saves S.failures store.old store.new result (row_of kept.old.tree kept.old.number step) }
-    ensures same { OnOk result ((kept.new.tree ≡ kept.old.tree) × (kept.new.number ≡ kept.old.number) × (kept.new.boot ≡ kept.old.boot)) }
+    ensures grants { (step : GrantStep) → Plans kept.old.tree kept.old.number (grants_of kept.old) step change.now
+        → OnOk result (grants_of kept.new ≡ step.grants) }
+    ensures heard { (step : GrantStep) → Plans kept.old.tree kept.old.number (grants_of kept.old) step change.now
+        → IfOk result (λ heard. heard ≡ heard_of (row_of kept.old.tree kept.old.number step)) }
+    ensures store { (step : GrantStep) → Plans kept.old.tree kept.old.number (grants_of kept.old) step change.now
+        → Leaves S.is_honest S.is_open S.rows S.saves S.failures store.old store.new result
+        (row_of kept.old.tree kept.old.number step) }
+    ensures same { OnOk result ((kept.new.tree ≡ kept.old.tree) × (kept.new.number ≡ kept.old.number)
+        × (kept.new.boot ≡ kept.old.boot)) }
     ensures unchanged { OnErr result (kept.new ≡ kept.old) }
     ensures out { OnOk result (out.new ≡ out.old) }
     ensures cleared { OnErr result (out.new ≡ nothing_out) }

@@ -18,8 +18,12 @@ pub(crate) fn notice(display: &mut Displayed<'_>, out: &mut Out, datagram: &Data
     requires accepted { refusal_of_message display.old.tree display.old.number datagram.now ≡ None }
     requires other { is_watch datagram.now.body ≡ false }
     requires room { length out.old.answers ≤ 8 }
-    ensures display { display_of display.new ≡ (body_noticed display.old.tree display.old.number display.old.published.boot (display_of display.old) datagram.now.from datagram.now.body).display }
-    ensures sent { out.new ≡ with_notice out.old (body_noticed display.old.tree display.old.number display.old.published.boot (display_of display.old) datagram.now.from datagram.now.body) }
+    ensures display { display_of display.new
+        ≡ (body_noticed display.old.tree display.old.number display.old.published.boot (display_of display.old)
+        datagram.now.from datagram.now.body).display }
+    ensures sent { out.new ≡ with_notice out.old
+        (body_noticed display.old.tree display.old.number display.old.published.boot (display_of display.old)
+        datagram.now.from datagram.now.body) }
     ensures rest { KeepsTheRest display.old display.new }
 {
     let _tree = display.tree();

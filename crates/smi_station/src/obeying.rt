@@ -29,12 +29,22 @@ pub(crate) fn obey<S: Stable>(
 ) -> Result<Heard, StepFault>
     requires halves { AreHalves kept.old display.old }
     requires room { MayChange (display_of display.old) }
-    requires accepted { refusal_of kept.old.tree kept.old.number (grants_of kept.old) (Orders operator what.now) ≡ None }
+    requires accepted { refusal_of kept.old.tree kept.old.number (grants_of kept.old) (Orders operator what.now)
+        ≡ None }
     requires empty { out.old ≡ nothing_out }
-    ensures station { OnOk result (station_with kept.new display.new false ≡ (accepted kept.old.tree kept.old.number (station_with kept.old display.old false) (Orders operator what.now)).station) }
-    ensures heard { IfOk result (λ heard. heard ≡ (accepted kept.old.tree kept.old.number (station_with kept.old display.old false) (Orders operator what.now)).heard) }
-    ensures out { OnOk result (out.new ≡ (accepted kept.old.tree kept.old.number (station_with kept.old display.old false) (Orders operator what.now)).out) }
-    ensures store { Leaves S.is_honest S.is_open S.rows S.saves S.failures store.old store.new result (accepted kept.old.tree kept.old.number (station_with kept.old display.old false) (Orders operator what.now)).saved }
+    ensures station { OnOk result (station_with kept.new display.new false
+        ≡ (accepted kept.old.tree kept.old.number (station_with kept.old display.old false)
+        (Orders operator what.now)).station) }
+    ensures heard { IfOk result (λ heard. heard
+        ≡ (accepted kept.old.tree kept.old.number (station_with kept.old display.old false)
+        (Orders operator what.now)).heard) }
+    ensures out { OnOk
+        result (out.new
+        ≡ (accepted kept.old.tree kept.old.number (station_with kept.old display.old false)
+        (Orders operator what.now)).out) }
+    ensures store { Leaves S.is_honest S.is_open S.rows S.saves S.failures store.old store.new result
+        (accepted kept.old.tree kept.old.number (station_with kept.old display.old false)
+        (Orders operator what.now)).saved }
     ensures halves { OnOk result (AreHalves kept.new display.new) }
     ensures same { OnOk result ((kept.new.tree ≡ kept.old.tree) × (kept.new.number ≡ kept.old.number)) }
     ensures room { OnOk result (MayChange (display_of display.new)) }

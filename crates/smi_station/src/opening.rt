@@ -4,7 +4,8 @@ ghost use Rattle.std.specs.Prelude.{◌≡◌, ◌≤◌, ◌<◌, ◌+◌, ◌�
 ghost use Rattle.smi_rows.specs.Store.{Rows, IsSame};
 ghost use Rattle.smi_protocol.specs.Loading.{Opens};
 ghost use Rattle.smi_tree.specs.Lookups.{station_count};
-ghost use Rattle.smi_load.specs.Starting.{IfCertain, IfInDoubt, IfStoreFailed, IfUnchanged, IsToldAsMemory, after_start, beginning_with};
+ghost use Rattle.smi_load.specs.Starting.{IfCertain, IfInDoubt, IfStoreFailed, IfUnchanged, IsToldAsMemory};
+ghost use Rattle.smi_load.specs.Starting.{after_start, beginning_with};
 ghost use Rattle.smi_station.specs.Core.{IsOf, begun};
 
 use crate::halves::Core;
@@ -29,7 +30,8 @@ fn with_display<'a>(
     requires sound { IsSound tree.now (grants_of kept) }
     requires tree { kept.tree ≡ tree.now }
     requires number { kept.number ≡ number }
-    ensures station { IfOk result (λ core. station_of core ≡ record { grants = grants_of kept.entry; display = first_display tree.now number; is_stopped = false }) }
+    ensures station { IfOk result (λ core. station_of core
+        ≡ record { grants = grants_of kept.entry; display = first_display tree.now number; is_stopped = false }) }
     ensures kept { IfOk result (λ core. core.kept ≡ kept.entry) }
     ensures of { IfOk result (IsOf tree.now number) }
     ensures fault { IfErr result (λ fault. fault ≡ OpenFault.Memory) }
@@ -62,11 +64,15 @@ fn loaded<'a, S: Stable>(
     requires most { number ≤ station_count tree.now }
     ensures opens { S.is_honest store.new → Opens tree.now number (S.rows store.old) (begun result) }
     ensures of { IfOk result (IsOf tree.now number) }
-    ensures begins { S.is_honest store.new → IfOk result (λ core. Opens tree.now number (S.rows store.old) (beginning_with tree.now number (Ok core.kept))) }
+    ensures begins { S.is_honest store.new → IfOk
+        result (λ core. Opens tree.now number (S.rows store.old) (beginning_with tree.now number (Ok core.kept))) }
     ensures open { S.is_honest store.new → OnOk result (S.is_open store.old) }
-    ensures certain { S.is_honest store.new → S.is_open store.old → IfCertain result (S.is_open store.new × IsSame (S.rows store.new) (S.rows store.old)) }
-    ensures kept { S.is_honest store.new → S.is_open store.old → S.is_open store.new → IsSame (S.rows store.new) (S.rows store.old) }
-    ensures crash { S.is_honest store.new → S.is_open store.old → (r : Rows) → S.may_find store.new r → IsSame r (S.rows store.old) }
+    ensures certain { S.is_honest store.new → S.is_open store.old
+        → IfCertain result (S.is_open store.new × IsSame (S.rows store.new) (S.rows store.old)) }
+    ensures kept { S.is_honest store.new → S.is_open store.old → S.is_open store.new
+        → IsSame (S.rows store.new) (S.rows store.old) }
+    ensures crash { S.is_honest store.new → S.is_open store.old → (r : Rows) → S.may_find store.new r
+        → IsSame r (S.rows store.old) }
     ensures honest { S.is_honest store.new → S.is_honest store.old }
     ensures saves { S.saves store.new ≡ S.saves store.old }
     ensures failures { S.failures store.old ≤ S.failures store.new }
@@ -88,10 +94,15 @@ pub(crate) fn start<'a, S: Stable>(
 ) -> Result<Core<'a>, OpenFault>
     ensures opens { S.is_honest store.new → Opens tree.now number (S.rows store.old) (begun result) }
     ensures of { IfOk result (IsOf tree.now number) }
-    ensures saved { S.is_honest store.new → OnOk result (S.is_open store.new × IsSame (S.rows store.new) (after_start tree.now number (S.rows store.old))) }
-    ensures kept { S.is_honest store.new → S.is_open store.old → IfUnchanged result (S.is_open store.new × IsSame (S.rows store.new) (S.rows store.old)) }
-    ensures unsure { S.is_honest store.new → S.is_open store.old → S.is_open store.new → IfInDoubt result (IsSame (S.rows store.new) (S.rows store.old) ⊎ IsSame (S.rows store.new) (after_start tree.now number (S.rows store.old))) }
-    ensures crash { S.is_honest store.new → S.is_open store.old → (r : Rows) → S.may_find store.new r → IsSame r (S.rows store.old) ⊎ IsSame r (after_start tree.now number (S.rows store.old)) }
+    ensures saved { S.is_honest store.new → OnOk
+        result (S.is_open store.new × IsSame (S.rows store.new) (after_start tree.now number (S.rows store.old))) }
+    ensures kept { S.is_honest store.new → S.is_open store.old
+        → IfUnchanged result (S.is_open store.new × IsSame (S.rows store.new) (S.rows store.old)) }
+    ensures unsure { S.is_honest store.new → S.is_open store.old → S.is_open store.new
+        → IfInDoubt result (IsSame (S.rows store.new) (S.rows store.old)
+        ⊎ IsSame (S.rows store.new) (after_start tree.now number (S.rows store.old))) }
+    ensures crash { S.is_honest store.new → S.is_open store.old → (r : Rows) → S.may_find store.new r
+        → IsSame r (S.rows store.old) ⊎ IsSame r (after_start tree.now number (S.rows store.old)) }
     ensures honest { S.is_honest store.new → S.is_honest store.old }
     ensures saves { S.saves store.new ≤ S.saves store.old + 1 }
     ensures failures { S.failures store.old ≤ S.failures store.new }

@@ -20,8 +20,10 @@ pub(crate) fn plan(out: &mut Out, kept: &Kept<'_>, datagram: &Datagram) -> Chang
     requires sound { IsSound kept.now.tree (grants_of kept.now) }
     requires accepted { refusal_of_message kept.now.tree kept.now.number datagram.now ≡ None }
     requires empty { out.old ≡ nothing_out }
-    ensures plan { Plans kept.now.tree kept.now.number (grants_of kept.now) (datagram_comes kept.now.tree kept.now.number (grants_of kept.now) datagram.now.from datagram.now.body) result }
-    ensures sent { out.new ≡ with_step nothing_out (datagram_comes kept.now.tree kept.now.number (grants_of kept.now) datagram.now.from datagram.now.body) }
+    ensures plan { Plans kept.now.tree kept.now.number (grants_of kept.now)
+        (datagram_comes kept.now.tree kept.now.number (grants_of kept.now) datagram.now.from datagram.now.body) result }
+    ensures sent { out.new ≡ with_step nothing_out
+        (datagram_comes kept.now.tree kept.now.number (grants_of kept.now) datagram.now.from datagram.now.body) }
     ensures few { length out.new.answers ≤ 8 }
 {
     let _tree = kept.tree();

@@ -61,8 +61,12 @@ pub(crate) fn report(
     requires room { MayChange (display_of display.old) }
     requires here { is_report_here kept.now.tree kept.now.number device state ≡ true }
     requires empty { out.old ≡ nothing_out }
-    ensures station { station_with kept.now display.new result ≡ (accepted kept.now.tree kept.now.number (station_with kept.now display.old false) (Reports device state)).station }
-    ensures out { out.new ≡ (accepted kept.now.tree kept.now.number (station_with kept.now display.old false) (Reports device state)).out }
+    ensures station { station_with kept.now display.new result
+        ≡ (accepted kept.now.tree kept.now.number (station_with kept.now display.old false)
+        (Reports device state)).station }
+    ensures out { out.new
+        ≡ (accepted kept.now.tree kept.now.number (station_with kept.now display.old false)
+        (Reports device state)).out }
     ensures halves { AreHalves kept.now display.new }
     ensures room { result ≡ false → MayChange (display_of display.new) }
 {
@@ -79,8 +83,10 @@ pub(crate) fn tick(kept: &Kept<'_>, display: &mut Displayed<'_>, out: &mut Out)
     requires halves { AreHalves kept.now display.old }
     requires room { MayChange (display_of display.old) }
     requires empty { out.old ≡ nothing_out }
-    ensures station { station_with kept.now display.new false ≡ (accepted kept.now.tree kept.now.number (station_with kept.now display.old false) Ticks).station }
-    ensures out { out.new ≡ (accepted kept.now.tree kept.now.number (station_with kept.now display.old false) Ticks).out }
+    ensures station { station_with kept.now display.new false
+        ≡ (accepted kept.now.tree kept.now.number (station_with kept.now display.old false) Ticks).station }
+    ensures out { out.new
+        ≡ (accepted kept.now.tree kept.now.number (station_with kept.now display.old false) Ticks).out }
     ensures halves { AreHalves kept.now display.new }
     ensures room { MayChange (display_of display.new) }
 {

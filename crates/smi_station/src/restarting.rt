@@ -18,12 +18,14 @@ impl<'a> Core<'a> {
     /// The station starts again on its store.
     fn restart<S: Stable>(&mut self, alloc: Global, store: &mut S) -> Result<(), OpenFault>
         ensures anew { S.is_honest store.new → S.is_open store.old → IsStoredIn (S.rows store.old) self.old →
-            Restarts (tree_of self.old) (number_of self.old) (station_of self.old).grants (begun (restarted self.new result)) }
+            Restarts (tree_of self.old) (number_of self.old) (station_of self.old).grants
+            (begun (restarted self.new result)) }
         ensures of { OnOk result (IsOf (tree_of self.old) (number_of self.old) self.new) }
         ensures stored { S.is_honest store.new → OnOk result (IsStoredIn (S.rows store.new) self.new) }
         ensures unchanged { OnErr result (self.new ≡ self.old) }
         ensures open { S.is_honest store.new → OnOk result (S.is_open store.new) }
-        ensures kept { S.is_honest store.new → S.is_open store.old → IfUnchanged result (S.is_open store.new × IsSame (S.rows store.new) (S.rows store.old)) }
+        ensures kept { S.is_honest store.new → S.is_open store.old
+            → IfUnchanged result (S.is_open store.new × IsSame (S.rows store.new) (S.rows store.old)) }
         ensures honest { S.is_honest store.new → S.is_honest store.old }
         ensures saves { S.saves store.new ≤ S.saves store.old + 1 }
         ensures failures { S.failures store.old ≤ S.failures store.new }
@@ -55,13 +57,16 @@ impl<'a, S: Stable> Station<'a, S> {
     /// The faults are those of [`Station::open`]. After each the station is unchanged, and so are its rows, but that
     /// after an unsure save the boot may be one higher there.
     pub fn restart(&mut self, alloc: Global) -> Result<(), OpenFault>
-        ensures anew { S.is_honest self.new.store → S.is_open self.old.store → IsStoredIn (S.rows self.old.store) self.old.core →
-            Restarts (tree_of self.old.core) (number_of self.old.core) (station_of self.old.core).grants (begun (restarted self.new.core result)) }
+        ensures anew { S.is_honest self.new.store → S.is_open self.old.store
+            → IsStoredIn (S.rows self.old.store) self.old.core →
+            Restarts (tree_of self.old.core) (number_of self.old.core) (station_of self.old.core).grants
+            (begun (restarted self.new.core result)) }
         ensures of { OnOk result (IsOf (tree_of self.old.core) (number_of self.old.core) self.new.core) }
         ensures stored { S.is_honest self.new.store → OnOk result (IsStoredIn (S.rows self.new.store) self.new.core) }
         ensures unchanged { OnErr result (self.new.core ≡ self.old.core) }
         ensures open { S.is_honest self.new.store → OnOk result (S.is_open self.new.store) }
-        ensures kept { S.is_honest self.new.store → S.is_open self.old.store → IfUnchanged result (S.is_open self.new.store × IsSame (S.rows self.new.store) (S.rows self.old.store)) }
+        ensures kept { S.is_honest self.new.store → S.is_open self.old.store
+            → IfUnchanged result (S.is_open self.new.store × IsSame (S.rows self.new.store) (S.rows self.old.store)) }
         ensures honest { S.is_honest self.new.store → S.is_honest self.old.store }
         ensures saves { S.saves self.new.store ≤ S.saves self.old.store + 1 }
         ensures failures { S.failures self.old.store ≤ S.failures self.new.store }

@@ -34,7 +34,8 @@ fn has_row(change: &Change) -> bool
 /// Whether a step with this event would save a row.
 fn is_saved(kept: &Kept<'_>, scratch: &mut Out, event: Event<'_>) -> bool
     requires sound { IsSound kept.now.tree (grants_of kept.now) }
-    ensures { (s : Defined) → s.grants ≡ grants_of kept.now → result ≡ is_some (after_event kept.now.tree kept.now.number s event.entry).saved }
+    ensures { (s : Defined) → s.grants ≡ grants_of kept.now
+        → result ≡ is_some (after_event kept.now.tree kept.now.number s event.entry).saved }
 {
     scratch.clear();
     match event {
@@ -49,7 +50,8 @@ fn is_saved(kept: &Kept<'_>, scratch: &mut Out, event: Event<'_>) -> bool
 fn is_saved_for_bytes(kept: &Kept<'_>, scratch: &mut Out, bytes: &[u8]) -> bool
     requires sound { IsSound kept.now.tree (grants_of kept.now) }
     requires empty { scratch.old ≡ nothing_out }
-    ensures { (s : Defined) → s.grants ≡ grants_of kept.now → result ≡ is_some (after_reading kept.now.tree kept.now.number s (reading bytes.now)).saved }
+    ensures { (s : Defined) → s.grants ≡ grants_of kept.now
+        → result ≡ is_some (after_reading kept.now.tree kept.now.number s (reading bytes.now)).saved }
 {
     match decode(bytes) {
         Ok(datagram) => is_saved_for_datagram(kept, scratch, &datagram),
@@ -61,7 +63,8 @@ fn is_saved_for_bytes(kept: &Kept<'_>, scratch: &mut Out, bytes: &[u8]) -> bool
 fn is_saved_for_datagram(kept: &Kept<'_>, scratch: &mut Out, datagram: &Datagram) -> bool
     requires sound { IsSound kept.now.tree (grants_of kept.now) }
     requires empty { scratch.old ≡ nothing_out }
-    ensures { (s : Defined) → s.grants ≡ grants_of kept.now → result ≡ is_some (after kept.now.tree kept.now.number s (Comes datagram.now)).saved }
+    ensures { (s : Defined) → s.grants ≡ grants_of kept.now
+        → result ≡ is_some (after kept.now.tree kept.now.number s (Comes datagram.now)).saved }
 {
     match refusal_of_message(kept.tree(), kept.number(), datagram) {
         Some(_) => false,
@@ -73,7 +76,8 @@ fn is_saved_for_datagram(kept: &Kept<'_>, scratch: &mut Out, datagram: &Datagram
 fn is_saved_for_order(kept: &Kept<'_>, scratch: &mut Out, operator: u16, what: &Order) -> bool
     requires sound { IsSound kept.now.tree (grants_of kept.now) }
     requires empty { scratch.old ≡ nothing_out }
-    ensures { (s : Defined) → s.grants ≡ grants_of kept.now → result ≡ is_some (after kept.now.tree kept.now.number s (ordered_or_reported operator what.now)).saved }
+    ensures { (s : Defined) → s.grants ≡ grants_of kept.now
+        → result ≡ is_some (after kept.now.tree kept.now.number s (ordered_or_reported operator what.now)).saved }
 {
     match reported_in(what) {
         Some(_) => false,
@@ -85,7 +89,8 @@ fn is_saved_for_order(kept: &Kept<'_>, scratch: &mut Out, operator: u16, what: &
 fn is_saved_if_taken(kept: &Kept<'_>, scratch: &mut Out, operator: u16, what: &Order) -> bool
     requires sound { IsSound kept.now.tree (grants_of kept.now) }
     requires empty { scratch.old ≡ nothing_out }
-    ensures { (s : Defined) → s.grants ≡ grants_of kept.now → result ≡ is_some (after kept.now.tree kept.now.number s (Orders operator what.now)).saved }
+    ensures { (s : Defined) → s.grants ≡ grants_of kept.now
+        → result ≡ is_some (after kept.now.tree kept.now.number s (Orders operator what.now)).saved }
 {
     match kept.refusal_of_order(operator, what) {
         Some(_) => false,
@@ -101,7 +106,9 @@ impl<'a, S> Station<'a, S> {
     /// Whether a step with this event would save a row, were the station to run. Nothing changes but `scratch`, which
     /// is left with something or other.
     pub fn saves(&self, scratch: &mut Out, event: Event<'_>) -> bool
-        ensures { result ≡ is_some (after_event (tree_of self.now.core) (number_of self.now.core) (station_of self.now.core) event.entry).saved }
+        ensures { result
+            ≡ is_some (after_event (tree_of self.now.core) (number_of self.now.core) (station_of self.now.core)
+            event.entry).saved }
     {
         self.core.saves(scratch, event)
     }
@@ -114,7 +121,8 @@ impl<'a> Core<'a> {
 
     /// Whether a step with this event would save a row, were the station to run.
     fn saves(&self, scratch: &mut Out, event: Event<'_>) -> bool
-        ensures { result ≡ is_some (after_event (tree_of self.now) (number_of self.now) (station_of self.now) event.entry).saved }
+        ensures { result
+            ≡ is_some (after_event (tree_of self.now) (number_of self.now) (station_of self.now) event.entry).saved }
     {
         is_saved(&self.kept, scratch, event)
     }

@@ -142,11 +142,18 @@ impl<'a, S: Stable> Station<'a, S> {
         ensures of { IfOk (core_in result) (IsOf tree.now number) }
         // They then say all that the station keeps.
         ensures stored { S.is_honest (store_in result) → IfOk (core_in result) (IsStoredIn (S.rows (store_in result))) }
-        ensures saved { S.is_honest (store_in result) → OnOk result (S.is_open (store_in result) × IsSame (S.rows (store_in result)) (after_start tree.now number (S.rows store))) }
-        ensures kept { S.is_honest (store_in result) → S.is_open store → IfUnchanged (core_in result) (S.is_open (store_in result) × IsSame (S.rows (store_in result)) (S.rows store)) }
-        ensures unsure { S.is_honest (store_in result) → S.is_open store → S.is_open (store_in result) → IfInDoubt (core_in result) (IsSame (S.rows (store_in result)) (S.rows store) ⊎ IsSame (S.rows (store_in result)) (after_start tree.now number (S.rows store))) }
+        ensures saved { S.is_honest (store_in result)
+            → OnOk result (S.is_open (store_in result)
+            × IsSame (S.rows (store_in result)) (after_start tree.now number (S.rows store))) }
+        ensures kept { S.is_honest (store_in result) → S.is_open store
+            → IfUnchanged (core_in result) (S.is_open (store_in result)
+            × IsSame (S.rows (store_in result)) (S.rows store)) }
+        ensures unsure { S.is_honest (store_in result) → S.is_open store → S.is_open (store_in result)
+            → IfInDoubt (core_in result) (IsSame (S.rows (store_in result)) (S.rows store)
+            ⊎ IsSame (S.rows (store_in result)) (after_start tree.now number (S.rows store))) }
         // A stop at any moment leaves the boot as before or one higher.
-        ensures crash { S.is_honest (store_in result) → S.is_open store → (r : Rows) → S.may_find (store_in result) r → IsSame r (S.rows store) ⊎ IsSame r (after_start tree.now number (S.rows store)) }
+        ensures crash { S.is_honest (store_in result) → S.is_open store → (r : Rows) → S.may_find (store_in result) r
+            → IsSame r (S.rows store) ⊎ IsSame r (after_start tree.now number (S.rows store)) }
         ensures honest { S.is_honest (store_in result) → S.is_honest store }
         ensures saves { S.saves (store_in result) ≤ S.saves store + 1 }
         ensures failures { S.failures store ≤ S.failures (store_in result) }
@@ -169,15 +176,23 @@ impl<'a, S: Stable> Station<'a, S> {
     /// store answered `Unsure`: the station has then stopped, and its rows are as before or as after the step. After
     /// each of the three nothing is handed out.
     pub fn step(&mut self, event: Event<'_>, out: &mut Out) -> Result<Heard, StepFault>
-        ensures step { self.old.core.is_stopped ≡ false → Steps self.old.core self.new.core (after_event (tree_of self.old.core) (number_of self.old.core) (station_of self.old.core) event.entry) out.new result }
-        ensures store { self.old.core.is_stopped ≡ false → Leaves S.is_honest S.is_open S.rows S.saves S.failures self.old.store self.new.store result (after_event (tree_of self.old.core) (number_of self.old.core) (station_of self.old.core) event.entry).saved }
+        ensures step { self.old.core.is_stopped ≡ false
+            → Steps self.old.core self.new.core (after_event (tree_of self.old.core) (number_of self.old.core)
+            (station_of self.old.core) event.entry) out.new result }
+        ensures store { self.old.core.is_stopped ≡ false
+            → Leaves S.is_honest S.is_open S.rows S.saves S.failures self.old.store self.new.store result
+            (after_event (tree_of self.old.core) (number_of self.old.core) (station_of self.old.core)
+            event.entry).saved }
         // Rows that said all that the station kept do so after the step.
-        ensures stored { self.old.core.is_stopped ≡ false → S.is_honest self.new.store → S.is_open self.old.store → IsStoredIn (S.rows self.old.store) self.old.core → OnOk result (IsStoredIn (S.rows self.new.store) self.new.core) }
+        ensures stored { self.old.core.is_stopped ≡ false → S.is_honest self.new.store → S.is_open self.old.store
+            → IsStoredIn (S.rows self.old.store) self.old.core
+            → OnOk result (IsStoredIn (S.rows self.new.store) self.new.core) }
         // Each datagram is one that the station may send, now and at any time until its next step.
         ensures may_send { self.old.core.is_stopped ≡ false → OnOk result (MaySendAll self.new.core out.new.datagrams) }
         ensures kept { IfKept result (self.new.core ≡ self.old.core) }
         ensures stops { IfStopped result (self.new.core ≡ record self.old.core { is_stopped = true }) }
-        ensures stopped { self.old.core.is_stopped ≡ true → (result ≡ Err Stopped) × (out.new ≡ nothing_out) × (self.new.store ≡ self.old.store) }
+        ensures stopped { self.old.core.is_stopped ≡ true
+            → (result ≡ Err Stopped) × (out.new ≡ nothing_out) × (self.new.store ≡ self.old.store) }
     {
         let _tree = self.core.tree();
         self.core.step(&mut self.store, event, out)

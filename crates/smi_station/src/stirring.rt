@@ -106,7 +106,8 @@ pub(crate) fn find(display: &Displayed<'_>, kept: &Kept<'_>, datagram: &Datagram
     requires tree { kept.now.tree ≡ display.now.tree }
     requires accepted { refusal_of_message kept.now.tree kept.now.number datagram.now ≡ None }
     ensures domain { result.domain ≡ showing.domain_of_body display.now.tree datagram.now.body }
-    ensures before { result.before ≡ members_in display.now.tree (grants_of kept.now) (display_of display.now) (showing.domain_of_body display.now.tree datagram.now.body) }
+    ensures before { result.before ≡ members_in display.now.tree (grants_of kept.now) (display_of display.now)
+        (showing.domain_of_body display.now.tree datagram.now.body) }
     ensures action { result.action ≡ action_of display.now.tree (grants_of kept.now) datagram.now.body }
     ensures within { IfSome result.domain (IsBetween 1 (domain_count display.now.tree)) }
 {
@@ -122,8 +123,14 @@ pub(crate) fn find(display: &Displayed<'_>, kept: &Kept<'_>, datagram: &Datagram
 fn act(display: &mut Displayed<'_>, domain: u16, action: Option<u16>) -> Changes
     requires domain { IsBetween 1 (domain_count display.old.tree) domain }
     requires room { MayChange (display_of display.old) }
-    ensures display { display_of display.new ≡ record (display_of display.old) { conditions = acted_by display.old.tree (display_of display.old).conditions domain action } }
-    ensures changes { result ≡ changes_at display.old.published.boot (display_of display.old).conditions (acted_by display.old.tree (display_of display.old).conditions domain action) (device_objects display.old.tree domain) }
+    ensures display { display_of display.new ≡ record
+        (display_of display.old) {
+          conditions = acted_by display.old.tree (display_of display.old).conditions domain
+              action;
+        } }
+    ensures changes { result ≡ changes_at display.old.published.boot (display_of display.old).conditions
+        (acted_by display.old.tree (display_of display.old).conditions domain action)
+        (device_objects display.old.tree domain) }
     ensures few { length result < most_changes }
     ensures shown { AllByRecursion (IsShown display.old.tree) result }
     ensures rest { KeepsTheRest display.old display.new }
@@ -149,9 +156,20 @@ pub(crate) fn stir(
 ) -> bool
     requires domain { IfSome found.now.domain (IsBetween 1 (domain_count display.old.tree)) }
     requires room { MayChange (display_of display.old) }
-    ensures display { display_of display.new ≡ record (display_of display.old) { conditions = stirred display.old.tree (grants_of kept.now) (display_of display.old) found.now.before found.now.action found.now.domain } }
-    ensures sent { out.new ≡ record out.old { datagrams = sent_after out.old.datagrams (shown_anew display.old.tree display.old.number display.old.published.boot (display_of display.old) (display_of display.new).conditions found.now.domain) } }
-    ensures spent { result ≡ showing.is_spent (showing.passed_in display.old.tree display.old.published.boot (display_of display.old).conditions (display_of display.new).conditions found.now.domain) }
+    ensures display { display_of display.new ≡ record
+        (display_of display.old) {
+          conditions = stirred display.old.tree (grants_of kept.now)
+              (display_of display.old) found.now.before found.now.action found.now.domain;
+        } }
+    ensures sent { out.new
+        ≡ record out.old {
+          datagrams = sent_after out.old.datagrams
+              (shown_anew display.old.tree display.old.number display.old.published.boot (display_of display.old)
+              (display_of display.new).conditions found.now.domain);
+        } }
+    ensures spent { result
+        ≡ showing.is_spent (showing.passed_in display.old.tree display.old.published.boot
+        (display_of display.old).conditions (display_of display.new).conditions found.now.domain) }
     ensures room { result ≡ false → MayChange (display_of display.new) }
     ensures rest { KeepsTheRest display.old display.new }
 {
@@ -171,9 +189,20 @@ fn stir_domain(
 ) -> bool
     requires domain { IsBetween 1 (domain_count display.old.tree) domain }
     requires room { MayChange (display_of display.old) }
-    ensures display { display_of display.new ≡ record (display_of display.old) { conditions = stirred display.old.tree (grants_of kept.now) (display_of display.old) found.now.before found.now.action (Some domain) } }
-    ensures sent { out.new ≡ record out.old { datagrams = sent_after out.old.datagrams (shown_anew display.old.tree display.old.number display.old.published.boot (display_of display.old) (display_of display.new).conditions (Some domain)) } }
-    ensures spent { result ≡ showing.is_spent (showing.passed_in display.old.tree display.old.published.boot (display_of display.old).conditions (display_of display.new).conditions (Some domain)) }
+    ensures display { display_of display.new ≡ record
+        (display_of display.old) {
+          conditions = stirred display.old.tree (grants_of kept.now)
+              (display_of display.old) found.now.before found.now.action (Some domain);
+        } }
+    ensures sent { out.new
+        ≡ record out.old {
+          datagrams = sent_after out.old.datagrams
+              (shown_anew display.old.tree display.old.number display.old.published.boot (display_of display.old)
+              (display_of display.new).conditions (Some domain));
+        } }
+    ensures spent { result
+        ≡ showing.is_spent (showing.passed_in display.old.tree display.old.published.boot
+        (display_of display.old).conditions (display_of display.new).conditions (Some domain)) }
     ensures room { result ≡ false → MayChange (display_of display.new) }
     ensures rest { KeepsTheRest display.old display.new }
 {

@@ -178,7 +178,7 @@ fn is_as_told(out: &Out, row: &Play) -> bool {
         ) == *wanted)
 }
 
-/// What is sent goes behind all that was sent before.
+/// What is sent goes after all that was sent before.
 fn keep(sent: &mut Vec<[u8; 44]>, out: &Out) -> Result<(), AllocError> {
     for datagram in out.datagrams() {
         sent.push(encode(datagram))?;

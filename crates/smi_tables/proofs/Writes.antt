@@ -1,5 +1,6 @@
 -- What a write at a number makes of a table.
-use Rattle.std.proofs.Common.{◌≡◌, ℕ, ◌-◌, ◌<◌, ◌≤◌, ◌≢◌, Bool, true, false, List, length, get_or, get_or-set_same, get_or-set_other, refl, sym, ap, Option, Some, None, arith}
+use Rattle.std.proofs.Common.{◌≡◌, ℕ, ◌-◌, ◌<◌, ◌≤◌, ◌≢◌, Bool, true, false, List, length, get_or, get_or-set_same}
+use Rattle.std.proofs.Common.{get_or-set_other, refl, sym, ap, Option, Some, None, arith}
 use Rattle.std.proofs.Math.ListN.{set}
 use Rattle.std.specs.Prelude.{◌==◌, if◌then◌else◌, slice_get}
 use Rattle.std.specs.Option.{option_map_or}
@@ -18,7 +19,8 @@ pub entry_set : {X : Type 0} (xs : List X) (n m : ℕ) (v d : X) → 1 ≤ n →
 entry_set xs n m v d least most = by_place (m == n) (m == 0) refl refl
   where
     by_place : (here zeroth : Bool) → (m == n) ≡ here → (m == 0) ≡ zeroth
-        → (if zeroth then d else get_or (set xs (n - 1) v) (m - 1) d) ≡ (if here then v else (if zeroth then d else get_or xs (m - 1) d))
+        → (if zeroth then d else get_or (set xs (n - 1) v) (m - 1) d)
+        ≡ (if here then v else (if zeroth then d else get_or xs (m - 1) d))
     by_place true true h z =
         let a : m ≡ n = eqb-true m n h in
         let b : m ≡ 0 = eqb-true m 0 z in
@@ -53,11 +55,13 @@ put_twice table n v w = fun_ext (λ m. by m (m == n))
     by m false = refl
 
 -- what is at a number of a list has its place there
-pub in_list : {X : Type 0} (test : X → Bool) (xs : List X) (n : ℕ) → (o : Option X) → entry xs n ≡ o → option_map_or test o false ≡ true → IsBetween 1 (length xs) n
+pub in_list : {X : Type 0} (test : X → Bool) (xs : List X) (n : ℕ) → (o : Option X) → entry xs n ≡ o
+    → option_map_or test o false ≡ true → IsBetween 1 (length xs) n
 in_list test xs n None is h = absurd (false≢true h)
 in_list test xs n (Some x) is h = by_zero (n == 0) refl is
   where
-    by_zero : (zeroth : Bool) → (n == 0) ≡ zeroth → (if zeroth then None else slice_get xs (n - 1)) ≡ Some x → IsBetween 1 (length xs) n
+    by_zero : (zeroth : Bool) → (n == 0) ≡ zeroth → (if zeroth then None else slice_get xs (n - 1)) ≡ Some x
+        → IsBetween 1 (length xs) n
     by_zero true z e = absurd cc
     by_zero false z e =
         let inside : n - 1 < length xs = slice_get_within xs (n - 1) x e in
@@ -65,7 +69,8 @@ in_list test xs n (Some x) is h = by_zero (n == 0) refl is
         record { least = positive; most = omega (arith, inside, positive) }
 
 -- the place of a number
-pub entry_read : {X : Type 0} (xs : List X) (n : ℕ) (x d : X) → 1 ≤ n → n ≤ length xs → x ≡ get_or xs (n - 1) x → x ≡ entry_or xs n d
+pub entry_read : {X : Type 0} (xs : List X) (n : ℕ) (x d : X) → 1 ≤ n → n ≤ length xs → x ≡ get_or xs (n - 1) x
+    → x ≡ entry_or xs n d
 entry_read xs n x d least most read =
     let positive : (n == 0) ≡ false = grind (arith, nat_tests) in
     rw positive (get_or_read xs (n - 1) x (omega (arith, least, most)) read d)

@@ -19,11 +19,13 @@ use Rattle.smi_tools.specs.Keeper.{is_operator, after, outcome_of, run_after, wh
 
 -- ---- what each datagram leaves can be told
 
-either : (b : Bool) (x y : Standing) → is_tellable x ≡ true → is_tellable y ≡ true → is_tellable (if b then x else y) ≡ true
+either : (b : Bool) (x y : Standing) → is_tellable x ≡ true → is_tellable y ≡ true
+    → is_tellable (if b then x else y) ≡ true
 either true x y h k = h
 either false x y h k = k
 
-taken : (b : Bool) (r s : Standing) → is_tellable r ≡ true → is_tellable s ≡ true → is_tellable (after (if b then New s else Same) r) ≡ true
+taken : (b : Bool) (r s : Standing) → is_tellable r ≡ true → is_tellable s ≡ true
+    → is_tellable (after (if b then New s else Same) r) ≡ true
 taken true r s h k = k
 taken false r s h k = h
 
@@ -43,17 +45,20 @@ where_some d h r s e = known (d == 1 && is_operator h) r s e where
 along : (r s : Standing) → r ≡ s → is_tellable r ≡ true → is_tellable s ≡ true
 along r s e h = ap is_tellable (sym e) ∙ h
 
-pub said_tellable : (r : Standing) (b : Body) (s : Standing) → is_tellable r ≡ true → is_body b ≡ true → said_after r b ≡ Ok s → is_tellable s ≡ true
+pub said_tellable : (r : Standing) (b : Body) (s : Standing) → is_tellable r ≡ true → is_body b ≡ true
+    → said_after r b ≡ Ok s → is_tellable s ≡ true
 unfolding said_after
 said_tellable r (body.Ask d) s h i e = asked (d == 1) r s h e where
-  asked : (b : Bool) (x y : Standing) → is_tellable x ≡ true → (if b then Ok x else Err refusal.Unknown) ≡ Ok y → is_tellable y ≡ true
+  asked : (b : Bool) (x y : Standing) → is_tellable x ≡ true → (if b then Ok x else Err refusal.Unknown) ≡ Ok y
+      → is_tellable y ≡ true
   asked true x y h e = let i : x ≡ y = cc in along x y i h
   asked false x y h e = absurd cc
 said_tellable r (body.Take d h seen) s g i e =
     let party = (and_parts (is_party h) (nat_le seen last_epoch) (and_parts (is_domain d) _ i).1).0 in
     let in_range = (and_parts (odd_of h == 1) (is_in_range h) party).1 in
     along (after (take_after r h seen) r) s (where_some d h (after (take_after r h seen) r) s e)
-    (taken (is_free r.holder && (r.epoch == seen && nat_lt seen last_epoch)) r (handed r h) g (and_from (is_in_range h) true in_range refl))
+    (taken (is_free r.holder && (r.epoch == seen && nat_lt seen last_epoch)) r (handed r h) g
+    (and_from (is_in_range h) true in_range refl))
 said_tellable r (body.Drop d h e) s g i k =
     along (after (drop_after r h e) r) s (where_some d h (after (drop_after r h e) r) s k)
     (taken (same_holder r.holder h && (r.epoch == e && is_settled r.phase)) r (handed r Free) g refl)

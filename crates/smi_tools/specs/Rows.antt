@@ -17,7 +17,8 @@ hex_text bytes = flat_map hex bytes
 -- a row: station, domain and operator, and the bytes in hexadecimal
 abbrev pub row_text : Saved → List ℕ
 row_text row =
-    decimal row.key.station ++ 32 ∷ decimal row.key.domain ++ 32 ∷ decimal row.key.operator ++ 32 ∷ hex_text row.bytes ++ 10 ∷ []
+    decimal row.key.station ++ 32 ∷ decimal row.key.domain ++ 32 ∷ decimal row.key.operator ++ 32
+    ∷ hex_text row.bytes ++ 10 ∷ []
 
 abbrev pub rows_text : List Saved → List ℕ
 rows_text rows = flat_map row_text rows

@@ -1,6 +1,7 @@
 //! A keeper over a reader and a writer.
 
-ghost use Rattle.std.specs.Prelude.{◌≡◌, ◌≤◌, ◌<◌, ◌+◌, ◌*◌, ◌++◌, List, ℕ, OnOk, IfSome, None, Some, Err, take, drop, length};
+ghost use Rattle.std.specs.Prelude.{◌≡◌, ◌≤◌, ◌<◌, ◌+◌, ◌*◌, ◌++◌, List, ℕ, OnOk, IfSome, None, Some, Err, take};
+ghost use Rattle.std.specs.Prelude.{drop, length};
 ghost use Rattle.std.specs.Io.KnownBytes.{Appends};
 ghost use Rattle.smi_grant.specs.Record.{fresh};
 ghost use Rattle.smi_message.specs.declared.refusal.Refusal.{Refusal};
@@ -43,13 +44,14 @@ struct Progress {
     refusal: Option<Refusal>,
 }
 
-/// Answers each 44 bytes in turn, up to the first refusal; fewer bytes behind them stay for later.
+/// Answers each 44 bytes in turn, up to the first refusal; fewer bytes after them stay for later.
 fn answer_each(keeper: &mut Keeper, bytes: &[u8], told: &mut [u8; BLOCK]) -> Progress
     requires room { length bytes.now ≤ 65536 }
     ensures within { result.count * 44 ≤ length bytes.now }
     // Whatever is read later: these answers come first, and the others are as after them.
     ensures answered { (later : List ℕ) → answers keeper.old (pieces (bytes.now ++ later))
-        ≡ take (result.count * 44) told.new ++ answers keeper.new (pieces (drop (result.count * 44) bytes.now ++ later)) }
+        ≡ take (result.count * 44) told.new ++ answers keeper.new
+        (pieces (drop (result.count * 44) bytes.now ++ later)) }
     ensures ending { (later : List ℕ) (k : ℕ) → ending k keeper.old (pieces (bytes.now ++ later))
         ≡ ending (k + result.count) keeper.new (pieces (drop (result.count * 44) bytes.now ++ later)) }
     ensures whole { result.refusal ≡ None → length bytes.now < result.count * 44 + 44 }
@@ -88,7 +90,7 @@ fn answer_all<R: Read, W: Write>(reader: &mut R, writer: &mut W) -> Answered
     let mut keeper = Keeper::new();
     let mut block = [0; BLOCK];
     let mut told = [0; BLOCK];
-    // How many bytes at the front of the block are not answered yet.
+    // How many bytes at the beginning of the block are not answered yet.
     let mut rest = 0;
     let mut count: u64 = 0;
     'reads: for _ in 0..MOST_READS {

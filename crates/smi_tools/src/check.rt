@@ -12,7 +12,7 @@ use std::io::Write;
 /// fault and the fault's number on `faults`, and answers the exit status.
 ///
 /// It is 0 where the file is one and the line is written, 1 where the file is refused, 3 where the
-/// line could not be written, and 4 for want of memory. (docs/FORMATS.md, "The tree file".)
+/// line could not be written, and 4 where memory ran out. (docs/FORMATS.md, "The tree file".)
 pub fn check<W: Write, F: Write>(alloc: Global, bytes: &[u8], writer: &mut W, faults: &mut F) -> u8
     ensures accepted { result ≡ 0 → IsOk (tree_of bytes.now) }
     ensures refused { result ≡ 1 → IsErr (tree_of bytes.now) }

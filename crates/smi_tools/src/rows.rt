@@ -66,7 +66,8 @@ fn write_rows<W: Write>(writer: &mut W, rows: &[SavedRow]) -> io::Result<()>
 /// its key and its bytes in hexadecimal, with one space between. (docs/FORMATS.md, "Stable rows".)
 pub fn rows<S: Stable, W: Write>(stable: &mut S, writer: &mut W) -> Listed
     ensures done { result ≡ Listed.Done → S.is_honest stable.new → S.is_open stable.old →
-        (list : List Saved) × IsListing (S.rows stable.old) list × Appends (W.contents writer.old) (W.contents writer.new) (rows_text list) }
+        (list : List Saved) × IsListing (S.rows stable.old) list
+        × Appends (W.contents writer.old) (W.contents writer.new) (rows_text list) }
     ensures failed { result ≡ Listed.StoreFault → S.failures stable.old < S.failures stable.new }
 {
     let list = match stable.load() {

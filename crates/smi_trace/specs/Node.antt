@@ -8,7 +8,8 @@ use Rattle.smi_trace.specs.Words.{answer_words, object_word, order_words}
 
 -- a report, and how it ended
 abbrev pub report_text : Hierarchy → Told → List ℕ
-report_text h told = line_of (with_words (codes "told") (order_words h told.order)) (answer_words h told.code told.asked)
+report_text h told = line_of (with_words (codes "told") (order_words h told.order))
+    (answer_words h told.code told.asked)
 
 -- what a board shows of an object
 abbrev pub board_text : Hierarchy → ℕ → Option Shown → List ℕ

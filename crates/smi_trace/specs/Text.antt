@@ -10,7 +10,9 @@ use Rattle.smi_protocol.specs.declared.entry.Entry.TheVariants as entry
 use Rattle.smi_item.specs.declared.item.Line.{Line}
 use Rattle.smi_item.specs.declared.item.Line.TheVariants as line
 use Rattle.smi_tree.specs.Hierarchy.{Hierarchy}
-use Rattle.smi_trace.specs.Words.{station_word, operator_word, domain_word, object_word, state_word, holder_word, version_word, mode_word, command_words, order_words, answer_words, kind_word, subject_word}
+use Rattle.smi_trace.specs.Words.{station_word, operator_word, domain_word, object_word, state_word, holder_word}
+use Rattle.smi_trace.specs.Words.{version_word, mode_word, command_words, order_words, answer_words, kind_word}
+use Rattle.smi_trace.specs.Words.{subject_word}
 
 -- a text with further words, each after a blank
 abbrev pub with_words : List ℕ → List (List ℕ) → List ℕ
@@ -27,7 +29,8 @@ shown_words h shown = object_word h shown.object ∷ version_word shown.version 
 
 -- an operator, the order, and how it ended
 abbrev pub told_text : Hierarchy → ℕ → Told → List ℕ
-told_text h o told = line_of (with_words (codes "told") (operator_word h o ∷ order_words h told.order)) (answer_words h told.code told.asked)
+told_text h o told = line_of (with_words (codes "told") (operator_word h o ∷ order_words h told.order))
+    (answer_words h told.code told.asked)
 
 -- what an entry reads
 abbrev pub entry_text : Hierarchy → Entry → List ℕ
@@ -49,7 +52,8 @@ entry_text h (entry.Told o told) = told_text h o told
 -- a datagram with its number, its kind, who sent it to whom, and what it is about
 abbrev pub sent_text : Hierarchy → ℕ → Message → List ℕ
 sent_text h number m =
-    line_of (codes "sent") (decimal number ∷ kind_word m.body ∷ station_word h m.from ∷ station_word h m.to ∷ subject_word h m.body ∷ [])
+    line_of (codes "sent") (decimal number ∷ kind_word m.body ∷ station_word h m.from ∷ station_word h m.to
+    ∷ subject_word h m.body ∷ [])
 
 -- what a line reads
 abbrev pub line_text : Hierarchy → Line → List ℕ

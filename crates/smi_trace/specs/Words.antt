@@ -86,7 +86,8 @@ order_words h (order.Report d s) = codes "report" ∷ device_word h d ∷ state_
 
 -- a record: who holds the domain, its epoch, the last command's number, and how that stands
 abbrev pub record_words : Hierarchy → Standing → List (List ℕ)
-record_words h r = holder_word h r.holder ∷ decimal r.epoch ∷ decimal r.last ∷ phase_word r.phase ∷ decimal r.outcome ∷ []
+record_words h r = holder_word h r.holder ∷ decimal r.epoch ∷ decimal r.last ∷ phase_word r.phase ∷ decimal r.outcome
+    ∷ []
 
 -- the code of an order, or the record that was asked for
 abbrev pub answer_words : Hierarchy → ℕ → Option Standing → List (List ℕ)

@@ -7,7 +7,8 @@ use Rattle.std.specs.declared.hash.FoldHasher.{FoldHasher}
 use Rattle.std.specs.declared.hash.BuildHasherDefault.{BuildHasherDefault}
 use Rattle.smi_tree.specs.ActionIndex.{IsActionIndex}
 
-list_any-more : (p : ℕ → Bool) (rows : List ℕ) (action : ℕ) → list_any p (rows ++ action ∷ []) ≡ cond (p action) true (list_any p rows)
+list_any-more : (p : ℕ → Bool) (rows : List ℕ) (action : ℕ)
+    → list_any p (rows ++ action ∷ []) ≡ cond (p action) true (list_any p rows)
 list_any-more p [] action = go (p action)
   where
     go : (b : Bool) → (b || false) ≡ cond b true false
@@ -24,8 +25,11 @@ list_any-more p (row ∷ rows) action = go (p row) (p action) (list_any-more p r
         true-either false = refl
     go false c later = later
 
-pub IsActionIndex-push : (rows : List ℕ) (action : ℕ) (old new : HashSet ℕ (BuildHasherDefault FoldHasher)) → IsActionIndex rows old →
-    ((q : ℕ) → contains nat_eq new q ≡ cond (nat_eq action q) true (contains nat_eq old q)) → IsActionIndex (rows ++ action ∷ []) new
+pub IsActionIndex-push : (rows : List ℕ) (action : ℕ) (old new : HashSet ℕ (BuildHasherDefault FoldHasher))
+    → IsActionIndex rows old →
+    ((q : ℕ) → contains nat_eq new q ≡ cond (nat_eq action q) true (contains nat_eq old q))
+    → IsActionIndex (rows ++ action ∷ []) new
 IsActionIndex-push rows action old new h updates = record {
-  found = λ q. updates q ∙ ap (cond (nat_eq action q) true) (h.found q) ∙ sym (list_any-more (λ other. other == q) rows action);
+  found = λ q. updates q ∙ ap (cond (nat_eq action q) true) (h.found q)
+      ∙ sym (list_any-more (λ other. other == q) rows action);
 }

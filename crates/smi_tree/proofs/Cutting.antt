@@ -1,5 +1,6 @@
 -- A text as its front, up to the first mark, and what follows.
-use Rattle.std.proofs.Common.{◌≡◌, ℕ, suc, ◌+◌, ◌<◌, ◌≤◌, Bool, true, false, not, List, [], ◌∷◌, length, filter, take, drop, get_or, refl, take_all, sym, ◌∙◌, ap, ◌⊎◌, inl, inr, arith}
+use Rattle.std.proofs.Common.{◌≡◌, ℕ, suc, ◌+◌, ◌<◌, ◌≤◌, Bool, true, false, not, List, [], ◌∷◌, length, filter, take}
+use Rattle.std.proofs.Common.{drop, get_or, refl, take_all, sym, ◌∙◌, ap, ◌⊎◌, inl, inr, arith}
 use Rattle.std.proofs.lemmas.Bool.Decides.{nat_tests}
 use Rattle.std.proofs.lemmas.List.{at_drop_more, at_drop_all}
 use Rattle.std.specs.List.{slice_split, position_or_len}
@@ -11,7 +12,7 @@ pub either : (b : Bool) → (b ≡ true) ⊎ (b ≡ false)
 either true = inl refl
 either false = inr refl
 
--- what `slice_split` gives behind the first part
+-- what `slice_split` gives after the first part
 abbrev pub later_parts : (ℕ → Bool) → List ℕ → List (List ℕ)
 later_parts p [] = []
 later_parts p (b ∷ bs) = slice_split p bs
@@ -35,11 +36,11 @@ slice_split-front p (b ∷ bs) = elim (either (p b)) [
 abbrev pub words_by : (ℕ → Bool) → List ℕ → List (List ℕ)
 words_by p bs = filter (λ word. not (is_empty word)) (slice_split p bs)
 
--- a blank at the front is in no word
+-- a blank at the beginning is in no word
 pub words_by-blank : (p : ℕ → Bool) (b : ℕ) (bs : List ℕ) → p b ≡ true → words_by p (b ∷ bs) ≡ words_by p bs
 words_by-blank p b bs blank = rw blank refl
 
--- the blank behind a word is in no word
+-- the blank after a word is in no word
 pub words_by-later : (p : ℕ → Bool) (bs : List ℕ) →
     filter (λ word. not (is_empty word)) (later_parts p (drop (position_or_len p bs) bs))
     ≡ words_by p (drop (position_or_len p bs) bs)
@@ -51,7 +52,8 @@ words_by-later p (b ∷ bs) = elim (either (p b)) [
 
 -- a line that begins within a word has the rest of that word first
 pub words_by-word : (p : ℕ → Bool) (b : ℕ) (bs : List ℕ) → p b ≡ false →
-    words_by p (b ∷ bs) ≡ take (position_or_len p (b ∷ bs)) (b ∷ bs) ∷ words_by p (drop (position_or_len p (b ∷ bs)) (b ∷ bs))
+    words_by p (b ∷ bs) ≡ take (position_or_len p (b ∷ bs)) (b ∷ bs)
+    ∷ words_by p (drop (position_or_len p (b ∷ bs)) (b ∷ bs))
 words_by-word p b bs on =
     let later = words_by-later p (b ∷ bs) in
     rw (slice_split-front p (b ∷ bs)) (rw (sym later) (rw on (rw take-one_more refl)))
@@ -62,7 +64,7 @@ pub words-skip : (line : List ℕ) (i : ℕ) → i < length line → cuts Blank 
 words-skip line i within blank =
     sym (at_drop_more words line i 0 within ∙ words_by-blank (cuts Blank) (get_or line i 0) (drop (i + 1) line) blank)
 
--- the first word of a text, and the words behind it
+-- the first word of a text, and the words after it
 abbrev first_and_later : List ℕ → List (List ℕ)
 first_and_later bs = take (position_or_len (cuts Blank) bs) bs ∷ words (drop (position_or_len (cuts Blank) bs) bs)
 

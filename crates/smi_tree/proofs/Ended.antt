@@ -6,11 +6,13 @@ use Rattle.smi_tree.specs.declared.fault.Fault.TheVariants as faults
 use Rattle.smi_tree.specs.declared.fault.TreeFault.{TreeFault}
 use Rattle.smi_tree.specs.declared.fault.TreeFault.TheVariants.{Line, Memory}
 
-pub Reads-ended : (fault : TreeFault) (reading : Result Hierarchy TreeFault) → Reads (Err fault) reading → Reads (Err fault) (ended reading)
+pub Reads-ended : (fault : TreeFault) (reading : Result Hierarchy TreeFault) → Reads (Err fault) reading
+    → Reads (Err fault) (ended reading)
 Reads-ended Memory reading h = tt
 Reads-ended (Line number code) reading h = ap ended h
 
-pub ended-complete : (h : Hierarchy) (reading : Result Hierarchy TreeFault) → reading ≡ Ok h → is_complete h ≡ true → ended reading ≡ Ok h
+pub ended-complete : (h : Hierarchy) (reading : Result Hierarchy TreeFault) → reading ≡ Ok h → is_complete h ≡ true
+    → ended reading ≡ Ok h
 ended-complete h reading is all = ap ended is ∙ rw all refl
 
 pub ended-incomplete : (h : Hierarchy) (reading : Result Hierarchy TreeFault) → reading ≡ Ok h → is_complete h ≡ false →

@@ -1,5 +1,6 @@
 -- What is read of a file, told line by line.
-use Rattle.std.proofs.Common.{◌≡◌, ℕ, ◌+◌, ◌<◌, ◌≤◌, Bool, true, false, cond, List, [], ◌∷◌, ◌++◌, length, Result, Ok, Err, refl, ap, ◌∙◌, sym, subst, ◌⊎◌, inl, inr, ◌↔◌, arith}
+use Rattle.std.proofs.Common.{◌≡◌, ℕ, ◌+◌, ◌<◌, ◌≤◌, Bool, true, false, cond, List, [], ◌∷◌, ◌++◌, length, Result, Ok}
+use Rattle.std.proofs.Common.{Err, refl, ap, ◌∙◌, sym, subst, ◌⊎◌, inl, inr, ◌↔◌, arith}
 use Rattle.std.proofs.lemmas.Bool.Decides.{nat_tests}
 use Rattle.std.specs.Prelude.{nat_lt}
 use Rattle.std.specs.Str.Lines.{lines}
@@ -17,7 +18,8 @@ unfolding with_lines
 made-of [] number h end is = cc
 made-of (line ∷ more) number h end is = go (with_line h line) refl is (λ next. made-of more (number + 1) next end)
   where
-    go : (r : Result Hierarchy Fault) → with_line h line ≡ r → go_on number (λ next. with_lines (number + 1) next more) r ≡ Ok end →
+    go : (r : Result Hierarchy Fault) → with_line h line ≡ r
+        → go_on number (λ next. with_lines (number + 1) next more) r ≡ Ok end →
         ((next : Hierarchy) → with_lines (number + 1) next more ≡ Ok end → Makes next more end) →
         (next : Hierarchy) × (with_line h line ≡ Ok next) × Makes next more end
     go (Ok next) stands is later = (next, stands, later next is)
@@ -40,13 +42,17 @@ record FaultFrom (number : ℕ) (h : Hierarchy) (ls : List (List ℕ)) (n code :
   pub stand : Makes h above made
   pub faulty : with_line made line ≡ Err fault
 
-fault-of : (ls : List (List ℕ)) (number : ℕ) (h : Hierarchy) (n code : ℕ) → with_lines number h ls ≡ Err (Line n code) → FaultFrom number h ls n code
+fault-of : (ls : List (List ℕ)) (number : ℕ) (h : Hierarchy) (n code : ℕ)
+    → with_lines number h ls ≡ Err (Line n code) → FaultFrom number h ls n code
 unfolding with_lines
 fault-of [] number h n code is = cc
-fault-of (line ∷ more) number h n code is = go (with_line h line) refl is (λ next. fault-of more (number + 1) next n code)
+fault-of (line ∷ more) number h n code is =
+    go (with_line h line) refl is (λ next. fault-of more (number + 1) next n code)
   where
-    go : (r : Result Hierarchy Fault) → with_line h line ≡ r → go_on number (λ next. with_lines (number + 1) next more) r ≡ Err (Line n code) →
-        ((next : Hierarchy) → with_lines (number + 1) next more ≡ Err (Line n code) → FaultFrom (number + 1) next more n code) →
+    go : (r : Result Hierarchy Fault) → with_line h line ≡ r
+        → go_on number (λ next. with_lines (number + 1) next more) r ≡ Err (Line n code) →
+        ((next : Hierarchy) → with_lines (number + 1) next more ≡ Err (Line n code)
+        → FaultFrom (number + 1) next more n code) →
         FaultFrom number h (line ∷ more) n code
     go (Ok next) stands is later =
         let f = later next is in
@@ -92,11 +98,13 @@ whole : (bytes : List ℕ) (h made : Hierarchy) (c : Bool) → nat_lt 262144 (le
     cond c (Ok made) (Err (at_line 0 Incomplete)) ≡ Ok h → IsTreeFile bytes h
 whole bytes h made true short read full is =
     let same : made ≡ h = cc in
-    subst (IsTreeFile bytes) same (record { short = short-of bytes short; made = made-of (lines bytes) 1 undeclared made read; complete = full })
+    subst (IsTreeFile bytes) same
+    (record { short = short-of bytes short; made = made-of (lines bytes) 1 undeclared made read; complete = full })
 whole bytes h made false short read full is = cc
 
 file : (bytes : List ℕ) (h : Hierarchy) (b : Bool) (r : Result Hierarchy TreeFault) → nat_lt 262144 (length bytes) ≡ b →
-    with_lines 1 undeclared (lines bytes) ≡ r → cond b (Err (at_line 0 FileTooLong)) (ended r) ≡ Ok h → IsTreeFile bytes h
+    with_lines 1 undeclared (lines bytes) ≡ r → cond b (Err (at_line 0 FileTooLong)) (ended r) ≡ Ok h
+    → IsTreeFile bytes h
 file bytes h true r long read is = cc
 file bytes h false (Err fault) short read is = cc
 file bytes h false (Ok made) short read is = whole bytes h made (is_complete made) short read refl is
@@ -113,8 +121,10 @@ unended : (bytes : List ℕ) (number code : ℕ) (made : Hierarchy) (c : Bool) �
 unended bytes number code made true some is = cc
 unended bytes number code made false some is = let none : 0 ≡ number = cc in absurd (omega (arith, none, some))
 
-faulty : (bytes : List ℕ) (number code : ℕ) (b : Bool) (r : Result Hierarchy TreeFault) → 1 ≤ number → nat_lt 262144 (length bytes) ≡ b →
-    with_lines 1 undeclared (lines bytes) ≡ r → cond b (Err (at_line 0 FileTooLong)) (ended r) ≡ Err (Line number code) →
+faulty : (bytes : List ℕ) (number code : ℕ) (b : Bool) (r : Result Hierarchy TreeFault) → 1 ≤ number
+    → nat_lt 262144 (length bytes) ≡ b →
+    with_lines 1 undeclared (lines bytes) ≡ r → cond b (Err (at_line 0 FileTooLong)) (ended r)
+    ≡ Err (Line number code) →
     HasFaultyLine bytes number code
 faulty bytes number code true r some long read is = let none : 0 ≡ number = cc in absurd (omega (arith, none, some))
 faulty bytes number code false (Ok made) some short read is = unended bytes number code made (is_complete made) some is
@@ -136,9 +146,11 @@ faulty bytes number code false (Err fault) some short read is =
       };
     }
 
-pub faulty-line : (bytes : List ℕ) (number code : ℕ) → 1 ≤ number → tree_of bytes ≡ Err (Line number code) → HasFaultyLine bytes number code
+pub faulty-line : (bytes : List ℕ) (number code : ℕ) → 1 ≤ number → tree_of bytes ≡ Err (Line number code)
+    → HasFaultyLine bytes number code
 unfolding tree_of
-faulty-line bytes number code some is = faulty bytes number code (nat_lt 262144 (length bytes)) (with_lines 1 undeclared (lines bytes)) some refl refl is
+faulty-line bytes number code some is = faulty bytes number code (nat_lt 262144 (length bytes))
+    (with_lines 1 undeclared (lines bytes)) some refl refl is
 
 -- a fault that has no line
 abbrev Whole : List ℕ → ℕ → Type 0
@@ -150,10 +162,19 @@ missing : (bytes : List ℕ) (code : ℕ) (made : Hierarchy) (c : Bool) → nat_
 missing bytes code made true short read full is = cc
 missing bytes code made false short read full is =
     let e : 12 ≡ code = cc in
-    inr (sym e, record { short = short-of bytes short; made = made; stand = made-of (lines bytes) 1 undeclared made read; missing = full })
+    inr (
+      sym e,
+      record {
+        short = short-of bytes short;
+        made = made;
+        stand = made-of (lines bytes) 1 undeclared made read;
+        missing = full;
+      },
+    )
 
 lineless : (bytes : List ℕ) (code : ℕ) (b : Bool) (r : Result Hierarchy TreeFault) → nat_lt 262144 (length bytes) ≡ b →
-    with_lines 1 undeclared (lines bytes) ≡ r → cond b (Err (at_line 0 FileTooLong)) (ended r) ≡ Err (Line 0 code) → Whole bytes code
+    with_lines 1 undeclared (lines bytes) ≡ r → cond b (Err (at_line 0 FileTooLong)) (ended r) ≡ Err (Line 0 code)
+    → Whole bytes code
 lineless bytes code true r long read is = let e : 11 ≡ code = cc in inl (sym e, long-of bytes long)
 lineless bytes code false (Ok made) short read is = missing bytes code made (is_complete made) short read refl is
 lineless bytes code false (Err fault) short read is =
@@ -162,4 +183,5 @@ lineless bytes code false (Err fault) short read is =
 
 pub whole-fault : (bytes : List ℕ) (code : ℕ) → tree_of bytes ≡ Err (Line 0 code) → Whole bytes code
 unfolding tree_of
-whole-fault bytes code is = lineless bytes code (nat_lt 262144 (length bytes)) (with_lines 1 undeclared (lines bytes)) refl refl is
+whole-fault bytes code is = lineless bytes code (nat_lt 262144 (length bytes))
+    (with_lines 1 undeclared (lines bytes)) refl refl is

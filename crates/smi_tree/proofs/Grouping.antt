@@ -5,7 +5,8 @@ use Rattle.std.specs.Global.{Vec}
 use Rattle.smi_tree.specs.Lookups.{numbers_from}
 
 -- each group has the numbers of the rows so far: with those of the rows that are left, they are those of all
-pub record SoFar {X : Type 0} (belongs : ℕ → X → Bool) (owners : ℕ) (rows : List X) (so_far : ℕ) (groups : List (Vec ℕ)) : Type 0 where
+pub record SoFar {X : Type 0} (belongs : ℕ → X → Bool) (owners : ℕ) (rows : List X) (so_far : ℕ)
+    (groups : List (Vec ℕ)) : Type 0 where
   pub all : length groups ≡ owners
   pub each :
       (place : ℕ) (other : Vec ℕ) → place < owners →

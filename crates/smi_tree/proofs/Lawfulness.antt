@@ -1,5 +1,6 @@
 -- What each declaration keeps.
-use Rattle.std.proofs.Common.{◌≡◌, ℕ, suc, zero, ◌+◌, ◌-◌, ◌<◌, ◌≤◌, Bool, true, false, cond, List, [], ◌∷◌, ◌++◌, length, Option, Some, None, Result, Ok, Err, refl, ap, ◌∙◌, sym, ◌⊎◌, inl, inr, arith}
+use Rattle.std.proofs.Common.{◌≡◌, ℕ, suc, zero, ◌+◌, ◌-◌, ◌<◌, ◌≤◌, Bool, true, false, cond, List, [], ◌∷◌, ◌++◌}
+use Rattle.std.proofs.Common.{length, Option, Some, None, Result, Ok, Err, refl, ap, ◌∙◌, sym, ◌⊎◌, inl, inr, arith}
 use Rattle.std.proofs.lemmas.Bool.Decides.{nat_tests}
 use Rattle.std.specs.Prelude.{◌==◌, option_map, slice_get, ok_or}
 use Rattle.std.specs.List.{AllByRecursion, position_from}
@@ -10,7 +11,8 @@ use Rattle.smi_tree.specs.Fault.{◌>>=◌}
 use Rattle.smi_tree.specs.Name.{number_of}
 use Rattle.smi_tree.specs.ClassTable.{ClassTable}
 use Rattle.smi_tree.specs.Hierarchy.{entry}
-use Rattle.smi_tree.specs.Lawful.{IsBetween, kind_in, AreOperators, IsRule, IsClass, AreClasses, IsMove, AreDomains, AreDevices}
+use Rattle.smi_tree.specs.Lawful.{IsBetween, kind_in, AreOperators, IsRule, IsClass, AreClasses, IsMove, AreDomains}
+use Rattle.smi_tree.specs.Lawful.{AreDevices}
 use Rattle.smi_tree.specs.Additions.{known}
 use Rattle.smi_tree.specs.declared.fault.Fault.{Fault}
 use Rattle.smi_tree.specs.declared.fault.Fault.TheVariants as faults
@@ -36,7 +38,8 @@ pub Always-unless : {Y : Type 0} (P : Y → Type 0) (b : Bool) (fault : Fault) (
 Always-unless P true fault r h = tt
 Always-unless P false fault r h = h refl
 
-pub Always-or : {X : Type 0} (P : X → Type 0) (b : Bool) (x : X) (r : Result X Fault) → P x → Always P r → Always P (cond b (Ok x) r)
+pub Always-or : {X : Type 0} (P : X → Type 0) (b : Bool) (x : X) (r : Result X Fault) → P x → Always P r
+    → Always P (cond b (Ok x) r)
 Always-or P true x r now later = now
 Always-or P false x r now later = later
 
@@ -75,10 +78,11 @@ no-entry {X} (suc k) row is = let none : slice_get {X = X} [] k ≡ Some row = s
 pub entry-push : {X : Type 0} (rows : List X) (row other : X) (n : ℕ) → entry (rows ++ row ∷ []) n ≡ Some other →
     (entry rows n ≡ Some other) ⊎ ((n ≡ length rows + 1) × (other ≡ row))
 entry-push rows row other zero h = cc
-entry-push rows row other (suc k) h = elim (slice_get-push rows row other k (sym (entry-suc (rows ++ row ∷ []) k) ∙ h)) [
-  | inl old ↦ inl (entry-suc rows k ∙ old)
-  | inr new ↦ inr (omega (arith, new.0), new.1)
-]
+entry-push rows row other (suc k) h =
+    elim (slice_get-push rows row other k (sym (entry-suc (rows ++ row ∷ []) k) ∙ h)) [
+      | inl old ↦ inl (entry-suc rows k ∙ old)
+      | inr new ↦ inr (omega (arith, new.0), new.1)
+    ]
 
 pub entry-old : {X : Type 0} (rows : List X) (row other : X) (n : ℕ) → entry rows n ≡ Some other →
     entry (rows ++ row ∷ []) n ≡ Some other
@@ -86,23 +90,29 @@ entry-old rows row other zero h = cc
 entry-old rows row other (suc k) h =
     entry-suc (rows ++ row ∷ []) k ∙ slice_get-old rows row other k (sym (entry-suc rows k) ∙ h)
 
-pub within-entry : {X : Type 0} (rows : List X) (other : X) (n : ℕ) → entry rows n ≡ Some other → IsBetween 1 (length rows) n
+pub within-entry : {X : Type 0} (rows : List X) (other : X) (n : ℕ) → entry rows n ≡ Some other
+    → IsBetween 1 (length rows) n
 within-entry rows other zero h = cc
 within-entry rows other (suc k) h =
     let within = slice_get_within rows k other (sym (entry-suc rows k) ∙ h) in
     record { least = omega arith; most = omega (arith, within) }
 
-position_from-between : (p : List ℕ → Bool) (from found : ℕ) (names : List (List ℕ)) → position_from p from names ≡ Some found →
+position_from-between : (p : List ℕ → Bool) (from found : ℕ) (names : List (List ℕ))
+    → position_from p from names ≡ Some found →
     (from ≤ found) × (found < from + length names)
 position_from-between p from found [] h = cc
 position_from-between p from found (name ∷ names) h = elim (either (p name)) [
-  | inl fits ↦ (let same : from ≡ found = (let e : Some from ≡ Some found = sym (ap (λ (b : Bool). cond b (Some from) (position_from p (from + 1) names)) fits) ∙ h in cc) in
+  | inl fits ↦
+      (let same : from ≡ found = (let e : Some from
+      ≡ Some found = sym (ap (λ (b : Bool). cond b (Some from) (position_from p (from + 1) names)) fits) ∙ h in cc) in
       (omega (arith, same), omega (arith, same)))
-  | inr on ↦ (let later = position_from-between p (from + 1) found names (sym (ap (λ (b : Bool). cond b (Some from) (position_from p (from + 1) names)) on) ∙ h) in
+  | inr on ↦ (let later = position_from-between p (from + 1) found names
+      (sym (ap (λ (b : Bool). cond b (Some from) (position_from p (from + 1) names)) on) ∙ h) in
       (omega (arith, later.0), omega (arith, later.1)))
 ]
 
-pub number_of-between : (names : List (List ℕ)) (name : List ℕ) (n : ℕ) → number_of names name ≡ Some n → IsBetween 1 (length names) n
+pub number_of-between : (names : List (List ℕ)) (name : List ℕ) (n : ℕ) → number_of names name ≡ Some n
+    → IsBetween 1 (length names) n
 number_of-between names name n h =
     let found = position_from-between (bytes_eq name) 1 n names h in
     record { least = found.0; most = omega (arith, found.1) }
@@ -111,7 +121,8 @@ known_number : (r : Option ℕ) (n : ℕ) → ok_or r faults.UnknownName ≡ Ok 
 known_number (Some m) n h = let e : m ≡ n = cc in ap Some e
 known_number None n h = cc
 
-pub known-between : (names : List (List ℕ)) (name : List ℕ) (n : ℕ) → known names name ≡ Ok n → IsBetween 1 (length names) n
+pub known-between : (names : List (List ℕ)) (name : List ℕ) (n : ℕ) → known names name ≡ Ok n
+    → IsBetween 1 (length names) n
 known-between names name n h = number_of-between names name n (known_number (number_of names name) n h)
 
 -- limits that grow
@@ -146,14 +157,19 @@ operators-more stations more names homes grown h = record {
   of_station = h.of_station;
 }
 
-pub all-more : (low high more : ℕ) (ns : List ℕ) → high ≤ more → AllByRecursion (IsBetween low high) ns → AllByRecursion (IsBetween low more) ns
+pub all-more : (low high more : ℕ) (ns : List ℕ) → high ≤ more → AllByRecursion (IsBetween low high) ns
+    → AllByRecursion (IsBetween low more) ns
 all-more low high more [] grown h = h
 all-more low high more (n ∷ ns) grown h = (between-more low high more n grown h.0, all-more low high more ns grown h.1)
 
-pub rules-more : (states more : ℕ) (rules : List Rule) → states ≤ more → AllByRecursion (IsRule states) rules → AllByRecursion (IsRule more) rules
+pub rules-more : (states more : ℕ) (rules : List Rule) → states ≤ more → AllByRecursion (IsRule states) rules
+    → AllByRecursion (IsRule more) rules
 rules-more states more [] grown h = h
 rules-more states more (rule ∷ rules) grown h = (
-  record { state = between-more 1 states more rule.state grown h.0.state; target = between-more 1 states more rule.target grown h.0.target },
+  record {
+    state = between-more 1 states more rule.state grown h.0.state;
+    target = between-more 1 states more rule.target grown h.0.target;
+  },
   rules-more states more rules grown h.1,
 )
 
@@ -166,7 +182,8 @@ class-more states more actions others table grown taller h = record {
   most = h.most;
 }
 
-pub classes-more : (states more actions others : ℕ) (names : List (List ℕ)) (classes : List ClassTable) → states ≤ more → actions ≤ others →
+pub classes-more : (states more actions others : ℕ) (names : List (List ℕ)) (classes : List ClassTable)
+    → states ≤ more → actions ≤ others →
     AreClasses states actions names classes → AreClasses more others names classes
 classes-more states more actions others names classes grown taller h = record {
   most = h.most;
@@ -174,7 +191,8 @@ classes-more states more actions others names classes grown taller h = record {
   each = λ class table is. class-more states more actions others table grown taller (h.each class table is);
 }
 
-pub move-more : (states more actions others : ℕ) (classes later : List ClassTable) (row : Move) → states ≤ more → actions ≤ others →
+pub move-more : (states more actions others : ℕ) (classes later : List ClassTable) (row : Move) → states ≤ more
+    → actions ≤ others →
     Keeps classes later → IsMove states actions classes row → IsMove more others later row
 move-more states more actions others classes later row grown taller kept h = record {
   class = kept.kinds row.class kind.Device h.class;
@@ -183,7 +201,8 @@ move-more states more actions others classes later row grown taller kept h = rec
   to = between-more 1 states more row.to grown h.to;
 }
 
-pub domains-more : (stations more : ℕ) (classes later : List ClassTable) (names : List (List ℕ)) (domains : List Domain) → stations ≤ more →
+pub domains-more : (stations more : ℕ) (classes later : List ClassTable) (names : List (List ℕ))
+    (domains : List Domain) → stations ≤ more →
     Keeps classes later → AreDomains stations classes names domains → AreDomains more later names domains
 domains-more stations more classes later names domains grown kept h = record {
   most = h.most;
@@ -197,7 +216,8 @@ domains-more stations more classes later names domains grown kept h = record {
   depth = h.depth;
 }
 
-pub devices-more : (domains more : ℕ) (classes later : List ClassTable) (names : List (List ℕ)) (devices : List Device) → domains ≤ more →
+pub devices-more : (domains more : ℕ) (classes later : List ClassTable) (names : List (List ℕ))
+    (devices : List Device) → domains ≤ more →
     Keeps classes later → AreDevices domains classes names devices → AreDevices more later names devices
 devices-more domains more classes later names devices grown kept h = record {
   most = h.most;

@@ -1,5 +1,7 @@
 -- No declaration lets a name stand twice.
-use Rattle.std.proofs.Common.{◌≡◌, ℕ, ◌+◌, ◌<◌, ◌^◌, Result, IfOk, OnErr, Bool, true, false, cond, List, [], ◌∷◌, ◌++◌, length, Option, Some, None, Ok, Err, refl, ap, ◌∙◌, sym, subst, ◌⊎◌, inl, inr, arith}
+use Rattle.std.proofs.Common.{◌≡◌, ℕ, ◌+◌, ◌<◌, ◌^◌, Result, IfOk, OnErr, Bool, true, false, cond, List, [], ◌∷◌}
+use Rattle.std.proofs.Common.{◌++◌, length, Option, Some, None, Ok, Err, refl, ap, ◌∙◌, sym, subst, ◌⊎◌, inl, inr}
+use Rattle.std.proofs.Common.{arith}
 use Rattle.std.specs.Prelude.{◌||◌, ◌&&◌, ◌==◌, nat_lt, count_by, is_some, ok_or}
 use Rattle.std.specs.Option.{option_or}
 use Rattle.std.specs.List.{list_any}
@@ -9,14 +11,17 @@ use Rattle.smi_tree.proofs.Cutting.{either}
 use Rattle.smi_tree.proofs.NumberLemmas.{position_from-more, absent-new}
 use Rattle.indexmap.specs.IndexSet.{insert_key}
 use Rattle.std.proofs.lemmas.List.{length-append}
-use Rattle.smi_tree.proofs.Lawfulness.{Always, Always-then, Always-unless, Always-where, Always-or, entry-push, no-entry}
+use Rattle.smi_tree.proofs.Lawfulness.{Always, Always-then, Always-unless, Always-where, Always-or, entry-push}
+use Rattle.smi_tree.proofs.Lawfulness.{no-entry}
 use Rattle.smi_tree.specs.Text.{words}
 use Rattle.smi_tree.specs.Name.{number_of, is_declared, added}
 use Rattle.smi_tree.specs.ClassTable.{is_kind}
 use Rattle.smi_tree.specs.Hierarchy.{Hierarchy, undeclared, move_in, is_device_of}
 use Rattle.smi_tree.specs.Named.{AreOnce, AreApart, IsNamed}
 use Rattle.smi_tree.specs.Declaration.{declaration_of, keyword_of}
-use Rattle.smi_tree.specs.Additions.{known, known_class, known_parent, is_taken, has_room, with_state, with_action, with_station, with_operator, with_class, with_move, with_accepted, with_rule, with_domain, with_device, with_declaration, with_words_of}
+use Rattle.smi_tree.specs.Additions.{known, known_class, known_parent, is_taken, has_room, with_state, with_action}
+use Rattle.smi_tree.specs.Additions.{with_station, with_operator, with_class, with_move, with_accepted, with_rule}
+use Rattle.smi_tree.specs.Additions.{with_domain, with_device, with_declaration, with_words_of}
 use Rattle.smi_tree.specs.File.{is_comment, is_out_of_place, with_words, with_line}
 use Rattle.smi_tree.specs.declared.number.Address.{Address}
 use Rattle.smi_tree.specs.declared.fault.Fault.TheVariants as faults
@@ -32,21 +37,25 @@ none-of (Some n) h = cc
 none-of None h = refl
 
 -- one more name that is not there yet
-pub once-push : (names : List (List ℕ)) (new : List ℕ) → AreOnce names → is_declared names new ≡ false → AreOnce (names ++ new ∷ [])
+pub once-push : (names : List (List ℕ)) (new : List ℕ) → AreOnce names → is_declared names new ≡ false
+    → AreOnce (names ++ new ∷ [])
 once-push names new once fresh = λ number name at. elim (entry-push names new name number at) [
   | inl old ↦ position_from-more (bytes_eq name) 1 names new
-      ∙ ap (λ (found : Option ℕ). option_or found (cond (bytes_eq name new) (Some (1 + length names)) None)) (once number name old)
+      ∙ ap (λ (found : Option ℕ). option_or found (cond (bytes_eq name new) (Some (1 + length names)) None))
+      (once number name old)
   | inr last ↦ (let P : List ℕ → Type 0 = λ n. number_of (names ++ new ∷ []) n ≡ Some number in
       let here : bytes_eq new new ≡ true = (bytes_eq-Decides new new).1 refl in
       subst P (sym last.1) (position_from-more (bytes_eq new) 1 names new
-      ∙ ap (λ (found : Option ℕ). option_or found (cond (bytes_eq new new) (Some (1 + length names)) None)) (none-of (number_of names new) fresh)
+      ∙ ap (λ (found : Option ℕ). option_or found (cond (bytes_eq new new) (Some (1 + length names)) None))
+      (none-of (number_of names new) fresh)
       ∙ ap (λ (b : Bool). cond b (Some (1 + length names)) None) here
       ∙ ap Some (omega (arith, last.0))))
 ]
 
 -- names after an insertion that may have failed
 pub once-inserted : {E : Type 0} (r : Result Bool E) (old names : List (List ℕ)) (new : List ℕ) →
-    IfOk r (λ _. names ≡ insert_key bytes_eq old new) → OnErr r (names ≡ old) → number_of old new ≡ None → length old + 1 < 2 ^ 16 → AreOnce old →
+    IfOk r (λ _. names ≡ insert_key bytes_eq old new) → OnErr r (names ≡ old) → number_of old new ≡ None
+    → length old + 1 < 2 ^ 16 → AreOnce old →
     (length names < 2 ^ 16) × AreOnce names
 once-inserted (Ok b) old names new is err absent few once =
     let grown : names ≡ old ++ new ∷ [] = is ∙ absent-new old new absent in
@@ -62,7 +71,8 @@ declared-push names new name there = go (number_of names name) (bytes_eq name ne
     (ap is_some (sym (position_from-more (bytes_eq name) 1 names new)) ∙ there)
   where
     go : (found : Option ℕ) (b : Bool) → number_of names name ≡ found → bytes_eq name new ≡ b →
-        is_some (option_or found (cond b (Some (1 + length names)) None)) ≡ true → (is_declared names name ≡ true) ⊎ (name ≡ new)
+        is_some (option_or found (cond b (Some (1 + length names)) None)) ≡ true
+        → (is_declared names name ≡ true) ⊎ (name ≡ new)
     go (Some n) b is same h = inl (ap is_some is)
     go None true is same h = inr ((bytes_eq-Decides name new).0 same)
     go None false is same h = cc
@@ -79,7 +89,8 @@ apart-right : (names others : List (List ℕ)) (new : List ℕ) → AreApart nam
 apart-right names others new apart fresh = λ name there. elim (either (is_declared (others ++ new ∷ []) name)) [
   | inl held ↦ elim (declared-push others new name held) [
     | inl old ↦ absurd (let never = apart name there in cc)
-    | inr same ↦ absurd (let P : List ℕ → Type 0 = λ n. is_declared names n ≡ false in let never = subst P (sym same) fresh in cc)
+    | inr same ↦ absurd (let P : List ℕ → Type 0 = λ n. is_declared names n ≡ false in
+        let never = subst P (sym same) fresh in cc)
   ]
   | inr other ↦ other
 ]
@@ -92,17 +103,20 @@ or-right : (a b : Bool) → (a || b) ≡ false → b ≡ false
 or-right true b h = cc
 or-right false b h = h
 
-once-added : (limit : ℕ) (old names : List (List ℕ)) (name : List ℕ) → AreOnce old → added limit old name ≡ Ok names → AreOnce names
+once-added : (limit : ℕ) (old names : List (List ℕ)) (name : List ℕ) → AreOnce old → added limit old name ≡ Ok names
+    → AreOnce names
 once-added limit old names name once h = go (is_declared old name) (nat_lt (length old) limit) refl h
   where
-    go : (b c : Bool) → is_declared old name ≡ b → cond b (Err faults.Twice) (cond c (Ok (old ++ name ∷ [])) (Err faults.OverLimit)) ≡ Ok names → AreOnce names
+    go : (b c : Bool) → is_declared old name ≡ b
+        → cond b (Err faults.Twice) (cond c (Ok (old ++ name ∷ [])) (Err faults.OverLimit)) ≡ Ok names → AreOnce names
     go true c is h = cc
     go false false is h = cc
     go false true is h = let same : old ++ name ∷ [] ≡ names = cc in subst AreOnce same (once-push old name once is)
 
 named-state : (h : Hierarchy) (name : List ℕ) → IsNamed h → Always IsNamed (with_state h name)
 unfolding with_state
-named-state h name old = Always-then IsNamed (added 64 h.state_names name) (λ names. Ok (record h { state_names = names })) (λ names is.
+named-state h name old = Always-then IsNamed (added 64 h.state_names name)
+    (λ names. Ok (record h { state_names = names })) (λ names is.
     record {
       states_once = once-added 64 h.state_names names name old.states_once is;
       actions_once = old.actions_once;
@@ -118,7 +132,8 @@ named-state h name old = Always-then IsNamed (added 64 h.state_names name) (λ n
 
 named-action : (h : Hierarchy) (name : List ℕ) → IsNamed h → Always IsNamed (with_action h name)
 unfolding with_action
-named-action h name old = Always-then IsNamed (added 64 h.action_names name) (λ names. Ok (record h { action_names = names })) (λ names is.
+named-action h name old = Always-then IsNamed (added 64 h.action_names name)
+    (λ names. Ok (record h { action_names = names })) (λ names is.
     record {
       states_once = old.states_once;
       actions_once = once-added 64 h.action_names names name old.actions_once is;
@@ -132,9 +147,11 @@ named-action h name old = Always-then IsNamed (added 64 h.action_names name) (λ
       domains_and_devices = old.domains_and_devices;
     })
 
-named-station : (h : Hierarchy) (name : List ℕ) (address : Address) → IsNamed h → Always IsNamed (with_station h name address)
+named-station : (h : Hierarchy) (name : List ℕ) (address : Address) → IsNamed h
+    → Always IsNamed (with_station h name address)
 unfolding with_station
-named-station h name address old = Always-then IsNamed (added 128 h.station_names name) (λ names. Ok (record h { station_names = names; addresses = h.addresses ++ address ∷ [] })) (λ names is.
+named-station h name address old = Always-then IsNamed (added 128 h.station_names name)
+    (λ names. Ok (record h { station_names = names; addresses = h.addresses ++ address ∷ [] })) (λ names is.
     record {
       states_once = old.states_once;
       actions_once = old.actions_once;
@@ -148,7 +165,8 @@ named-station h name address old = Always-then IsNamed (added 128 h.station_name
       domains_and_devices = old.domains_and_devices;
     })
 
-named-class : (h : Hierarchy) (which : ClassKind) (name first : List ℕ) → IsNamed h → Always IsNamed (with_class h which name first)
+named-class : (h : Hierarchy) (which : ClassKind) (name first : List ℕ) → IsNamed h
+    → Always IsNamed (with_class h which name first)
 unfolding with_class
 named-class h which name first old = Always-then IsNamed (known h.state_names first) _ (λ state is.
     Always-then IsNamed (added 32 h.class_names name) _ (λ names more.
@@ -169,7 +187,8 @@ named-operator : (h : Hierarchy) (name station : List ℕ) → IsNamed h → Alw
 unfolding with_operator
 named-operator h name station old = Always-then IsNamed (known h.station_names station) _ (λ home is.
     Always-unless IsNamed (is_taken h name) faults.Twice _ (λ fresh.
-    Always-where IsNamed (nat_lt (length h.operator_names) 32 && nat_lt (count_by (λ other. other == home) h.homes) 8) faults.OverLimit _ (λ room.
+    Always-where IsNamed (nat_lt (length h.operator_names) 32
+    && nat_lt (count_by (λ other. other == home) h.homes) 8) faults.OverLimit _ (λ room.
     let no_operator = or-left (is_declared h.operator_names name) _ fresh in
     let others = or-right (is_declared h.operator_names name) _ fresh in
     let no_domain = or-left (is_declared h.domain_names name) _ others in
@@ -187,7 +206,8 @@ named-operator h name station old = Always-then IsNamed (known h.station_names s
       domains_and_devices = old.domains_and_devices;
     })))
 
-named-move : (h : Hierarchy) (class from action to : List ℕ) → IsNamed h → Always IsNamed (with_move h class from action to)
+named-move : (h : Hierarchy) (class from action to : List ℕ) → IsNamed h
+    → Always IsNamed (with_move h class from action to)
 unfolding with_move
 named-move h class from action to old = Always-then IsNamed (known_class h class) _ (λ found is.
     Always-then IsNamed (known h.state_names from) _ (λ before from_is.
@@ -203,7 +223,8 @@ named-accepted h class action old = Always-then IsNamed (known_class h class) _ 
     Always-unless IsNamed (list_any (λ other. other == accepted) found.1.accepted) faults.Twice _ (λ fresh.
     Always-where IsNamed (is_kind found.1.kind kind.Unit) faults.OtherKind _ (λ of. old))))
 
-named-rule : (h : Hierarchy) (which : Quantifier) (class state target : List ℕ) → IsNamed h → Always IsNamed (with_rule h which class state target)
+named-rule : (h : Hierarchy) (which : Quantifier) (class state target : List ℕ) → IsNamed h
+    → Always IsNamed (with_rule h which class state target)
 unfolding with_rule
 named-rule h which class state target old = Always-then IsNamed (known_class h class) _ (λ found is.
     Always-then IsNamed (known h.state_names state) _ (λ of of_is.
@@ -211,7 +232,8 @@ named-rule h which class state target old = Always-then IsNamed (known_class h c
     Always-where IsNamed (is_kind found.1.kind kind.Unit) faults.OtherKind _ (λ of.
     Always-where IsNamed (nat_lt (length found.1.rules) 32) faults.OverLimit _ (λ room. old)))))
 
-named-domain : (h : Hierarchy) (name station class : List ℕ) (parent : Option (List ℕ)) → IsNamed h → Always IsNamed (with_domain h name station class parent)
+named-domain : (h : Hierarchy) (name station class : List ℕ) (parent : Option (List ℕ)) → IsNamed h
+    → Always IsNamed (with_domain h name station class parent)
 unfolding with_domain
 named-domain h name station class parent old = Always-then IsNamed (known h.station_names station) _ (λ keeper is.
     Always-then IsNamed (known_class h class) _ (λ found of.
@@ -236,13 +258,15 @@ named-domain h name station class parent old = Always-then IsNamed (known h.stat
       domains_and_devices = apart-left h.domain_names h.device_names name old.domains_and_devices no_device;
     }))))))
 
-named-device : (h : Hierarchy) (name domain class : List ℕ) → IsNamed h → Always IsNamed (with_device h name domain class)
+named-device : (h : Hierarchy) (name domain class : List ℕ) → IsNamed h
+    → Always IsNamed (with_device h name domain class)
 unfolding with_device
 named-device h name domain class old = Always-then IsNamed (known h.domain_names domain) _ (λ place is.
     Always-then IsNamed (known_class h class) _ (λ found of.
     Always-unless IsNamed (is_taken h name) faults.Twice _ (λ fresh.
     Always-where IsNamed (is_kind found.1.kind kind.Device) faults.OtherKind _ (λ of.
-    Always-where IsNamed (nat_lt (length h.device_names) 512 && nat_lt (count_by (is_device_of place) h.devices) 16) faults.OverLimit _ (λ room.
+    Always-where IsNamed (nat_lt (length h.device_names) 512 && nat_lt (count_by (is_device_of place) h.devices) 16)
+    faults.OverLimit _ (λ room.
     let no_operator = or-left (is_declared h.operator_names name) _ fresh in
     let others = or-right (is_declared h.operator_names name) _ fresh in
     let no_domain = or-left (is_declared h.domain_names name) _ others in
@@ -274,7 +298,8 @@ named-declaration h (declares.Domain name station class parent) old = named-doma
 named-declaration h (declares.Device name domain class) old = named-device h name domain class old
 
 named-words : (h : Hierarchy) (k : Keyword) (ws : List (List ℕ)) → IsNamed h → Always IsNamed (with_words_of h k ws)
-named-words h k ws old = Always-then IsNamed (declaration_of k ws) (with_declaration h) (λ d is. named-declaration h d old)
+named-words h k ws old = Always-then IsNamed (declaration_of k ws) (with_declaration h)
+    (λ d is. named-declaration h d old)
 
 named-line-words : (h : Hierarchy) (ws : List (List ℕ)) → IsNamed h → Always IsNamed (with_words h ws)
 unfolding with_words
@@ -285,7 +310,8 @@ named-line-words h (word ∷ more) old = Always-or IsNamed (is_comment word) h _
 
 pub named-line : (h : Hierarchy) (line : List ℕ) → IsNamed h → Always IsNamed (with_line h line)
 unfolding with_line
-named-line h line old = Always-unless IsNamed (nat_lt 200 (length line)) faults.LineTooLong _ (λ short. named-line-words h (words line) old)
+named-line h line old = Always-unless IsNamed (nat_lt 200 (length line)) faults.LineTooLong _
+    (λ short. named-line-words h (words line) old)
 
 pub named-undeclared : IsNamed undeclared
 named-undeclared = record {

@@ -1,6 +1,7 @@
 -- What each declaration adds to the hierarchy of the lines above it, or its first fault: an unknown name first, then a
 -- second declaration, then a class of the other kind, and a limit last.
-use Rattle.std.specs.Prelude.{ℕ, ◌-◌, ◌==◌, ◌&&◌, ◌||◌, nat_lt, Bool, true, List, [], ◌∷◌, ◌++◌, length, count_by, is_some, slice_set, ok_or, Option, Some, None, Result, Ok, Err, if◌then◌else◌}
+use Rattle.std.specs.Prelude.{ℕ, ◌-◌, ◌==◌, ◌&&◌, ◌||◌, nat_lt, Bool, true, List, [], ◌∷◌, ◌++◌, length, count_by}
+use Rattle.std.specs.Prelude.{is_some, slice_set, ok_or, Option, Some, None, Result, Ok, Err, if◌then◌else◌}
 use Rattle.std.specs.List.{list_any}
 use Rattle.smi_tree.specs.Fault.{◌>>=◌}
 use Rattle.smi_tree.specs.Declaration.{declaration_of}
@@ -81,7 +82,10 @@ with_accepted h class action = do
   accepted ← known h.action_names action
   if list_any (λ other. other == accepted) found.1.accepted then Err Twice
       else (if is_kind found.1.kind kind.Unit
-      then Ok (record h { classes = slice_set h.classes (found.0 - 1) (record found.1 { accepted = found.1.accepted ++ accepted ∷ [] }) })
+      then Ok (record h {
+        classes = slice_set h.classes (found.0 - 1)
+            (record found.1 { accepted = found.1.accepted ++ accepted ∷ [] });
+      })
       else Err OtherKind)
 
 -- at most 32 rules of a class
@@ -92,7 +96,10 @@ with_rule h which class state target = do
   to ← known h.state_names target
   if is_kind found.1.kind kind.Unit
       then (if nat_lt (length found.1.rules) 32
-      then Ok (record h { classes = slice_set h.classes (found.0 - 1) (record found.1 { rules = found.1.rules ++ record { quantifier = which; state = of; target = to } ∷ [] }) })
+      then Ok (record h {
+        classes = slice_set h.classes (found.0 - 1)
+            (record found.1 { rules = found.1.rules ++ record { quantifier = which; state = of; target = to } ∷ [] });
+      })
       else Err OverLimit)
       else Err OtherKind
 
@@ -117,7 +124,10 @@ with_domain h name station class parent = do
   if is_taken h name then Err Twice
       else (if is_kind found.1.kind kind.Unit
       then (if nat_lt (length h.domain_names) 128 && has_room h above
-      then Ok (record h { domain_names = h.domain_names ++ name ∷ []; domains = h.domains ++ record { station = keeper; class = found.0; parent = above } ∷ [] })
+      then Ok (record h {
+        domain_names = h.domain_names ++ name ∷ [];
+        domains = h.domains ++ record { station = keeper; class = found.0; parent = above } ∷ [];
+      })
       else Err OverLimit)
       else Err OtherKind)
 
@@ -129,7 +139,10 @@ with_device h name domain class = do
   if is_taken h name then Err Twice
       else (if is_kind found.1.kind kind.Device
       then (if nat_lt (length h.device_names) 512 && nat_lt (count_by (is_device_of place) h.devices) 16
-      then Ok (record h { device_names = h.device_names ++ name ∷ []; devices = h.devices ++ record { domain = place; class = found.0 } ∷ [] })
+      then Ok (record h {
+        device_names = h.device_names ++ name ∷ [];
+        devices = h.devices ++ record { domain = place; class = found.0 } ∷ [];
+      })
       else Err OverLimit)
       else Err OtherKind)
 
@@ -147,7 +160,7 @@ with_declaration h (declares.Rule which class state target) = with_rule h which 
 with_declaration h (declares.Domain name station class parent) = with_domain h name station class parent
 with_declaration h (declares.Device name domain class) = with_device h name domain class
 
--- the hierarchy with what the words behind a keyword declare
+-- the hierarchy with what the words after a keyword declare
 abbrev pub with_words_of : Hierarchy → Keyword → List (List ℕ) → Result Hierarchy Fault
 with_words_of h keyword words = do
   declaration ← declaration_of keyword words

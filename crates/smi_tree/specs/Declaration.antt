@@ -15,7 +15,7 @@ use Rattle.smi_tree.specs.declared.declaration.Quantifier.TheVariants as quantif
 use Rattle.smi_tree.specs.declared.declaration.Declaration.{Declaration}
 use Rattle.smi_tree.specs.declared.declaration.Declaration.TheVariants as declares
 
--- the words behind the first, as many as a line wants
+-- the words after the first, as many as a line wants
 abbrev pub one : List (List ℕ) → Result (List ℕ) Fault
 one [] = Err WordCount
 one (word ∷ []) = Ok word
@@ -128,7 +128,7 @@ rule_line which words = do
   names ← three_names words
   Ok (declares.Rule which names.0 names.1 names.2)
 
--- what the words behind a keyword declare
+-- what the words after a keyword declare
 abbrev pub declaration_of : Keyword → List (List ℕ) → Result Declaration Fault
 declaration_of keyword.Tree words = tree_line words
 declaration_of keyword.State words = do

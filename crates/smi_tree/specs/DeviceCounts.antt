@@ -10,7 +10,8 @@ count_at counts domain = slice_index_or counts domain 0
 
 -- one more is counted for a domain, and all else stands as it did
 abbrev pub IsCountedUp : List ℕ → ℕ → List ℕ → Type 0
-IsCountedUp old domain new = (other : ℕ) → count_at new other ≡ (if domain == other then count_at old other + 1 else count_at old other)
+IsCountedUp old domain new = (other : ℕ) → count_at new other
+    ≡ (if domain == other then count_at old other + 1 else count_at old other)
 
 -- for each domain as many are counted as lie in it
 pub record AreCounts (rows : List Device) (counts : List ℕ) : Type 0 where

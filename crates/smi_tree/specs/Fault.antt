@@ -1,7 +1,9 @@
 -- What may be wrong with a line, and steps of which each may find a fault.
 use Rattle.std.specs.Prelude.{ℕ, ◌≡◌, Result, Ok, Err}
 use Rattle.smi_tree.specs.declared.fault.Fault.{Fault}
-use Rattle.smi_tree.specs.declared.fault.Fault.TheVariants.{UnknownWord, WordCount, Malformed, Twice, UnknownName, OverLimit, TreeLine, BadAddress, OtherKind, LineTooLong, FileTooLong, Incomplete}
+use Rattle.smi_tree.specs.declared.fault.Fault.TheVariants.{UnknownWord, WordCount, Malformed, Twice, UnknownName}
+use Rattle.smi_tree.specs.declared.fault.Fault.TheVariants.{OverLimit, TreeLine, BadAddress, OtherKind, LineTooLong}
+use Rattle.smi_tree.specs.declared.fault.Fault.TheVariants.{FileTooLong, Incomplete}
 use Rattle.smi_tree.specs.declared.fault.Refusal.{Refusal}
 use Rattle.smi_tree.specs.declared.fault.Refusal.TheVariants.{Memory, Faulty}
 

@@ -1,5 +1,6 @@
 -- What the lines of a tree file make, or the first faulty one.
-use Rattle.std.specs.Prelude.{ℕ, ◌≡◌, ◌+◌, ◌==◌, ◌&&◌, nat_lt, not, Bool, true, false, List, [], ◌∷◌, length, ok_or, codes, Result, Ok, Err, if◌then◌else◌}
+use Rattle.std.specs.Prelude.{ℕ, ◌≡◌, ◌+◌, ◌==◌, ◌&&◌, nat_lt, not, Bool, true, false, List, [], ◌∷◌, length, ok_or}
+use Rattle.std.specs.Prelude.{codes, Result, Ok, Err, if◌then◌else◌}
 use Rattle.std.specs.Str.{bytes_eq}
 use Rattle.std.specs.Str.Lines.{lines}
 use Rattle.smi_tree.specs.Text.{words}
@@ -8,7 +9,8 @@ use Rattle.smi_tree.specs.Declaration.{keyword_of}
 use Rattle.smi_tree.specs.Hierarchy.{Hierarchy, undeclared}
 use Rattle.smi_tree.specs.Additions.{with_words_of}
 use Rattle.smi_tree.specs.declared.fault.Fault.{Fault}
-use Rattle.smi_tree.specs.declared.fault.Fault.TheVariants.{UnknownWord, TreeLine, LineTooLong, FileTooLong, Incomplete}
+use Rattle.smi_tree.specs.declared.fault.Fault.TheVariants.{UnknownWord, TreeLine, LineTooLong, FileTooLong}
+use Rattle.smi_tree.specs.declared.fault.Fault.TheVariants.{Incomplete}
 use Rattle.smi_tree.specs.declared.fault.Refusal.{Refusal}
 use Rattle.smi_tree.specs.declared.fault.Refusal.TheVariants as refusal
 use Rattle.smi_tree.specs.declared.fault.TreeFault.{TreeFault}
@@ -53,7 +55,7 @@ abbrev pub refused_at : ℕ → Refusal → TreeFault
 refused_at number (refusal.Faulty fault) = at_line number fault
 refused_at number refusal.Memory = Memory
 
--- what is made of a line's result and of the lines behind it
+-- what is made of a line's result and of the lines after it
 abbrev pub go_on : ℕ → (Hierarchy → Result Hierarchy TreeFault) → Result Hierarchy Fault → Result Hierarchy TreeFault
 go_on number next (Ok h) = next h
 go_on number next (Err fault) = Err (at_line number fault)
@@ -70,7 +72,8 @@ has_one (x ∷ xs) = true
 -- there is a station, an operator, a state, an action and a domain
 abbrev pub is_complete : Hierarchy → Bool
 is_complete h =
-    has_one h.station_names && (has_one h.operator_names && (has_one h.state_names && (has_one h.action_names && has_one h.domain_names)))
+    has_one h.station_names && (has_one h.operator_names
+    && (has_one h.state_names && (has_one h.action_names && has_one h.domain_names)))
 
 -- the end of the file
 abbrev pub ended : Result Hierarchy TreeFault → Result Hierarchy TreeFault

@@ -54,7 +54,8 @@ pub record IsDomain (stations : ℕ) (classes : List ClassTable) (domain : ℕ) 
   pub parent : (above : ℕ) → row.parent ≡ Some above → (1 ≤ above) × (above < domain)
 
 -- at most 128 domains, none with more than 16 children, none deeper than 8
-pub record AreDomains (stations : ℕ) (classes : List ClassTable) (names : List (List ℕ)) (domains : List Domain) : Type 0 where
+pub record AreDomains (stations : ℕ) (classes : List ClassTable) (names : List (List ℕ)) (domains : List Domain)
+    : Type 0 where
   pub most : length names ≤ 128
   pub rows : length domains ≡ length names
   pub each : (domain : ℕ) (row : Domain) → entry domains domain ≡ Some row → IsDomain stations classes domain row
@@ -66,7 +67,8 @@ pub record IsDevice (domains : ℕ) (classes : List ClassTable) (row : Device) :
   pub class : kind_in classes row.class ≡ Some kind.Device
 
 -- at most 512 devices, none of the domains with more than 16
-pub record AreDevices (domains : ℕ) (classes : List ClassTable) (names : List (List ℕ)) (devices : List Device) : Type 0 where
+pub record AreDevices (domains : ℕ) (classes : List ClassTable) (names : List (List ℕ)) (devices : List Device)
+    : Type 0 where
   pub most : length names ≤ 512
   pub rows : length devices ≡ length names
   pub each : (device : ℕ) (row : Device) → entry devices device ≡ Some row → IsDevice domains classes row

@@ -1,5 +1,6 @@
 -- What a hierarchy says of a number: of a domain, a device, an operator, a station, an object.
-use Rattle.std.specs.Prelude.{ℕ, suc, zero, ◌+◌, ◌-◌, ◌==◌, nat_le, Bool, false, List, [], ◌∷◌, length, Option, Some, None, option_and_then, option_map, if◌then◌else◌}
+use Rattle.std.specs.Prelude.{ℕ, suc, zero, ◌+◌, ◌-◌, ◌==◌, nat_le, Bool, false, List, [], ◌∷◌, length, Option, Some}
+use Rattle.std.specs.Prelude.{None, option_and_then, option_map, if◌then◌else◌}
 use Rattle.std.specs.Option.{option_map_or, option_or}
 use Rattle.std.specs.List.{list_any}
 use Rattle.smi_tree.specs.Name.{number_of}
@@ -61,15 +62,17 @@ is_below h target domain = list_any (λ above. above == domain) (ancestors 8 h.d
 unfoldable pub towards : ℕ → List Domain → ℕ → ℕ → Option ℕ
 towards zero domains domain target = None
 towards (suc more) domains domain target =
-    option_and_then (λ parent. if parent == domain then Some target else towards more domains domain parent) (parent_in domains target)
+    option_and_then (λ parent. if parent == domain then Some target else towards more domains domain parent)
+    (parent_in domains target)
 
 -- the child of a domain that a target is below or is, where it is below the domain
 abbrev pub child_towards : Hierarchy → ℕ → ℕ → Option ℕ
 child_towards h domain target = towards 8 h.domains domain target
 
--- an object is a unit, numbered as its domain, or a device, numbered behind all domains
+-- an object is a unit, numbered as its domain, or a device, numbered after all domains
 abbrev pub object_named : Hierarchy → List ℕ → Option ℕ
-object_named h name = option_or (number_of h.domain_names name) (option_map (λ device. domain_count h + device) (number_of h.device_names name))
+object_named h name = option_or (number_of h.domain_names name)
+    (option_map (λ device. domain_count h + device) (number_of h.device_names name))
 
 abbrev pub object_name : Hierarchy → ℕ → Option (List ℕ)
 object_name h object =

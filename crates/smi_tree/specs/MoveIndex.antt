@@ -16,17 +16,20 @@ move_at moves class state action = move_from (slice_index_or moves class []) sta
 
 -- a row has been put under its numbers, and all else stands as it did
 abbrev pub IsPutBy : List (Option Move) → Move → List (Option Move) → Type 0
-IsPutBy old row new = (action : ℕ) → move_by new action ≡ (if row.action == action then Some row else move_by old action)
+IsPutBy old row new = (action : ℕ) → move_by new action
+    ≡ (if row.action == action then Some row else move_by old action)
 
 abbrev pub IsPutFrom : List (List (Option Move)) → Move → List (List (Option Move)) → Type 0
 IsPutFrom old row new =
     (state action : ℕ) →
-    move_from new state action ≡ (if row.from == state && row.action == action then Some row else move_from old state action)
+    move_from new state action ≡ (if row.from == state && row.action == action then Some row
+    else move_from old state action)
 
 abbrev pub IsPutAt : List (List (List (Option Move))) → Move → List (List (List (Option Move))) → Type 0
 IsPutAt old row new =
     (class state action : ℕ) →
-    move_at new class state action ≡ (if is_move_at class state action row then Some row else move_at old class state action)
+    move_at new class state action ≡ (if is_move_at class state action row then Some row
+    else move_at old class state action)
 
 -- under each class, state and action stands the row that the moves have for them
 pub record IsMoveIndex (rows : List Move) (index : List (List (List (Option Move)))) : Type 0 where

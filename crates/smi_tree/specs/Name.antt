@@ -1,5 +1,6 @@
 -- Names, and their numbers in a list of names.
-use Rattle.std.specs.Prelude.{ℕ, ◌==◌, ◌||◌, ◌&&◌, nat_le, Bool, false, List, [], ◌∷◌, length, Option, Some, None, if◌then◌else◌, is_some, Result, Ok, Err, nat_lt, ◌++◌}
+use Rattle.std.specs.Prelude.{ℕ, ◌==◌, ◌||◌, ◌&&◌, nat_le, Bool, false, List, [], ◌∷◌, length, Option, Some, None}
+use Rattle.std.specs.Prelude.{if◌then◌else◌, is_some, Result, Ok, Err, nat_lt, ◌++◌}
 use Rattle.std.specs.List.{list_all, position_from}
 use Rattle.std.specs.Str.{bytes_eq}
 use Rattle.smi_tree.specs.declared.fault.Fault.{Fault}

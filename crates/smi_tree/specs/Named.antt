@@ -25,4 +25,5 @@ pub record HaveNames (states actions stations classes operators domains devices 
 
 -- no name stands twice; operators, domains and devices share one set of names
 abbrev pub IsNamed : Hierarchy → Type 0
-IsNamed h = HaveNames h.state_names h.action_names h.station_names h.class_names h.operator_names h.domain_names h.device_names
+IsNamed h = HaveNames h.state_names h.action_names h.station_names h.class_names h.operator_names h.domain_names
+    h.device_names

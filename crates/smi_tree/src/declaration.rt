@@ -306,7 +306,7 @@ impl<'a> Declaration<'a> {
     ghost use Rattle.smi_tree.specs.Text.{words};
     ghost use Rattle.smi_tree.specs.Declaration.{declaration_of};
 
-    /// What the words behind a keyword declare.
+    /// What the words after a keyword declare.
     ///
     /// The count of words is tested first, and then each word from left to right.
     pub(crate) fn read(keyword: Keyword, text: &'a [u8]) -> Result<Declaration<'a>, Fault>

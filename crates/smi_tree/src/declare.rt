@@ -137,7 +137,7 @@ impl Tables {
       with_words_of,
     };
 
-    /// Adds what the words behind a keyword declare.
+    /// Adds what the words after a keyword declare.
     pub(crate) fn read_words(
         &mut self,
         alloc: Global,

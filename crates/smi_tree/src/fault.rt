@@ -4,33 +4,46 @@ ghost use Rattle.std.specs.Prelude.{◌≡◌};
 ghost use Rattle.smi_tree.specs.declared.fault.Refusal.TheVariants.{Memory, Faulty};
 
 use std::alloc::{AllocError, AllocFailed};
+use thiserror::Error;
 
 /// What is wrong with a line, or with the file.
-#[derive(Clone, Copy, Debug, PartialEq, Eq)]
+#[derive(Clone, Copy, Debug, PartialEq, Eq, Error)]
 pub enum Fault {
     /// The first word of the line is none that a line may begin with.
+    #[error("1: an unknown first word")]
     UnknownWord,
     /// The line has too few words, or too many.
+    #[error("2: too few words, or too many")]
     WordCount,
     /// A name or a number is not well formed, or a number is out of its range.
+    #[error("3: a name or a number is not well formed")]
     Malformed,
     /// A name is declared twice, or a move or an accepted action of a class is.
+    #[error("4: declared twice")]
     Twice,
     /// A name is not declared above as what the line wants there.
+    #[error("5: a name that is not declared above")]
     UnknownName,
     /// There is no room for one more.
+    #[error("6: no room for one more")]
     OverLimit,
     /// The first line is no `tree` line, or a later one is.
+    #[error("7: the first line, and no other, is a tree line")]
     TreeLine,
     /// The address of a station is not well formed.
+    #[error("8: an address is not well formed")]
     BadAddress,
     /// A device class where a unit class belongs, or the other way round.
+    #[error("9: a class of the other kind")]
     OtherKind,
     /// The line has more than 200 bytes.
+    #[error("10: a line of more than 200 bytes")]
     LineTooLong,
     /// The file has more than 256 KiB.
+    #[error("11: more than 256 KiB")]
     FileTooLong,
     /// A station, operator, state, action or domain is wanting.
+    #[error("12: a station, operator, state, action or domain is missing")]
     Incomplete,
 }
 
@@ -91,12 +104,14 @@ impl<T: Drop> From<AllocFailed<T>> for Refusal {
 }
 
 /// Why a tree file was not read.
-#[derive(Clone, Copy, Debug, PartialEq, Eq)]
+#[derive(Clone, Copy, Debug, PartialEq, Eq, Error)]
 pub enum TreeFault {
     /// The line of this number, counting all lines from 1, has the [fault](Fault::number) of the second. Line 0 is
     /// the file itself.
+    #[error("tree line {0} fault {1}")]
     Line(u64, u16),
     /// Memory ran out.
+    #[error("out of memory")]
     Memory,
 }
 

@@ -13,7 +13,8 @@ pub fn tree_files_are_accepted()
 
 /// A fault with a line is that of the first line that does not stand over the lines above it.
 pub fn the_first_faulty_line_is_told()
-    ensures { (bytes : List ℕ) (number code : ℕ) → 1 ≤ number → tree_of bytes ≡ Err (Line number code) → HasFaultyLine bytes number code }
+    ensures { (bytes : List ℕ) (number code : ℕ) → 1 ≤ number → tree_of bytes ≡ Err (Line number code)
+        → HasFaultyLine bytes number code }
 {}
 
 /// A fault of the whole file is that it is too long, or that every line stands and yet it is no tree.

@@ -60,7 +60,8 @@ ghost use Rattle.smi_tree.specs.MoveIndex.{move_by, move_from, move_at, IsPutBy,
 /// The row stands under its action.
 fn put_by(by_action: &mut Vec<Option<Move>>, row: Move) -> Result<(), AllocError>
     ensures ok { OnOk result (IsPutBy by_action.old.items row by_action.new.items) }
-    ensures err { OnErr result ((action : ℕ) → move_by by_action.new.items action ≡ move_by by_action.old.items action) }
+    ensures err { OnErr result ((action : ℕ) → move_by by_action.new.items action
+        ≡ move_by by_action.old.items action) }
 {
     let place = usize::from(row.action);
     while by_action.len() <= place {
@@ -73,7 +74,8 @@ fn put_by(by_action: &mut Vec<Option<Move>>, row: Move) -> Result<(), AllocError
 /// The row stands under its state and its action.
 fn put_from(by_state: &mut Vec<StateMoves>, row: Move) -> Result<(), AllocError>
     ensures ok { OnOk result (IsPutFrom by_state.old.items row by_state.new.items) }
-    ensures err { OnErr result ((state action : ℕ) → move_from by_state.new.items state action ≡ move_from by_state.old.items state action) }
+    ensures err { OnErr result ((state action : ℕ)
+        → move_from by_state.new.items state action ≡ move_from by_state.old.items state action) }
 {
     let alloc = *by_state.allocator();
     let place = usize::from(row.from);
@@ -86,7 +88,8 @@ fn put_from(by_state: &mut Vec<StateMoves>, row: Move) -> Result<(), AllocError>
 /// The row stands under its class, its state and its action.
 fn put_at(by_class: &mut Vec<ClassMoves>, row: Move) -> Result<(), AllocError>
     ensures ok { OnOk result (IsPutAt by_class.old.items row by_class.new.items) }
-    ensures err { OnErr result ((class state action : ℕ) → move_at by_class.new.items class state action ≡ move_at by_class.old.items class state action) }
+    ensures err { OnErr result ((class state action : ℕ)
+        → move_at by_class.new.items class state action ≡ move_at by_class.old.items class state action) }
 {
     let alloc = *by_class.allocator();
     let place = usize::from(row.class);
@@ -148,7 +151,8 @@ impl ClassMoves {
 
     fn put(&mut self, row: Move) -> Result<(), AllocError>
         ensures ok { OnOk result (IsPutFrom self.old row self.new) }
-        ensures err { OnErr result ((state action : ℕ) → move_from self.new state action ≡ move_from self.old state action) }
+        ensures err { OnErr result ((state action : ℕ)
+            → move_from self.new state action ≡ move_from self.old state action) }
     {
         put_from(&mut self.by_state, row)
     }

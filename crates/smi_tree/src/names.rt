@@ -30,7 +30,8 @@ impl Model for Names {
 }
 
 impl Names {
-    ghost use Rattle.std.specs.Prelude.{ℕ, ◌≡◌, ◌≢◌, ◌+◌, ◌<◌, ◌≤◌, ◌^◌, [], ◌∷◌, ◌++◌, length, IfSome, IsTrue, IsFalse, OnOk, None};
+    ghost use Rattle.std.specs.Prelude.{ℕ, ◌≡◌, ◌≢◌, ◌+◌, ◌<◌, ◌≤◌, ◌^◌, [], ◌∷◌, ◌++◌, length, IfSome, IsTrue};
+    ghost use Rattle.std.specs.Prelude.{IsFalse, OnOk, None};
     ghost use Rattle.smi_tree.specs.Lawful.{IsBetween};
     ghost use Rattle.smi_tree.specs.Fault.{Becomes};
     ghost use Rattle.smi_tree.specs.Name.{number_of, added};

@@ -14,7 +14,7 @@ const MOST_BYTES: usize = 256 * 1024;
 /// A hierarchy of domains, as a tree file declares it.
 ///
 /// Stations, operators, states, actions, domains and devices are numbered from 1 by their lines. An object is a unit,
-/// numbered as its domain, or a device, numbered behind all domains. Every tree is lawful: it has a number from 1 and
+/// numbered as its domain, or a device, numbered after all domains. Every tree is lawful: it has a number from 1 and
 /// at least one station, operator, state, action and domain, it keeps every limit of docs/FORMATS.md ("The tree
 /// file"), and each number in it is one that is there.
 #[derive(Debug, Drop)]
@@ -79,7 +79,7 @@ impl Tree {
 
     /// The tree that a file declares, or the first of its faulty lines with its first fault.
     ///
-    /// Want of memory is answered where a growth was refused, and nowhere else.
+    /// Out of memory is answered where an allocation was refused, and nowhere else.
     #[tactic(auto, unfolding(crate::specs::File::tree_of))]
     pub fn read(alloc: Global, bytes: &[u8]) -> Result<Tree, TreeFault>
         ensures exact { Reads result (tree_of bytes.now) }

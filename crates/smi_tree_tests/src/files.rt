@@ -22,7 +22,7 @@ fn fault_of(alloc: Global, bytes: &[u8]) -> Result<(u64, u16), TreeFault> {
     }
 }
 
-/// The fault of one more line behind those of `BEGUN`.
+/// The fault of one more line after those of `BEGUN`.
 fn fault_behind(alloc: Global, line: &[u8]) -> Result<(u64, u16), TreeFault> {
     let mut bytes = Vec::from_slice(alloc, BEGUN)?;
     bytes.extend_from_slice(line)?;

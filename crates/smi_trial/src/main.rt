@@ -1,10 +1,10 @@
-//! Small runs of the layers: what a refused growth leaves, what they do at their limits, and how fast
+//! Small runs of the layers: what a refused allocation leaves, what they do at their limits, and how fast
 //! they are.
 //!
-//! `smi_trial refused LAYER` makes and changes the objects of a layer, and sees after each growth that
-//! was refused that its object is as it was and that the same call then does what it does otherwise. It
-//! prints `whole` where no growth was refused, `kept` where all was as it should be after one that was,
-//! and `changed` else. The growths are refused from outside (tests/refuse.c).
+//! `smi_trial refused LAYER` makes and changes the objects of a layer, and sees after each allocation that
+//! was refused that its object is unchanged and that the same call then does what it does otherwise. It
+//! prints `whole` where no allocation was refused, `kept` where all was as it should be after one that was,
+//! and `changed` else. The allocations are refused from outside (tests/refuse.c).
 //!
 //! `smi_trial limits LAYER` and `smi_trial limits LAYER TREE` use a layer at its limits, with ample memory,
 //! the second over the tree file at every limit that tests/trees.py writes. They print `whole` where all

@@ -1,7 +1,7 @@
-/// What a run saw of refused growths.
+/// What a run saw of refused allocations.
 #[derive(Clone, Copy, Debug, PartialEq, Eq)]
 pub(crate) enum Outcome {
-    /// No growth was refused.
+    /// No allocation was refused.
     Whole,
     /// One was, and all was as it should be.
     Kept,

@@ -1,4 +1,4 @@
-//! What a refused growth leaves of each layer's objects.
+//! What a refused allocation leaves of each layer's objects.
 
 ghost use Rattle.std.specs.Prelude.{◌≡◌, ◌≤◌, ◌<◌, length, IfSome};
 
@@ -250,7 +250,7 @@ fn seats(alloc: Global) -> Outcome {
     }
 }
 
-/// A board at the second try where the first was refused a growth.
+/// A board at the second try where the first was refused an allocation.
 fn board<R: Wait>(rt: &R, alloc: Global) -> Outcome {
     if let Some(outcome) = over_board::<Brand, R>(rt, alloc, Blank::new()) {
         return outcome;
@@ -261,7 +261,7 @@ fn board<R: Wait>(rt: &R, alloc: Global) -> Outcome {
     }
 }
 
-/// What is seen of a board that is opened; none where it was refused a growth.
+/// What is seen of a board that is opened; none where it was refused an allocation.
 fn over_board<J: BoardId, R: Wait>(rt: &R, alloc: Global, blank: Blank) -> Option<Outcome>
     requires { blank.seen.book ≡ J.book }
 {

@@ -1,4 +1,4 @@
-//! What a refused growth leaves of the reading and writing of rows.
+//! What a refused allocation leaves of the reading and writing of rows.
 
 use crate::outcome::Outcome;
 use smi_stable::{Key, Row, RowFault, write_boot};

@@ -1,6 +1,6 @@
-//! What a refused growth leaves of a store's rows.
+//! What a refused allocation leaves of a store's rows.
 //!
-//! A save that was refused its growth leaves all rows as they were, and the same save then succeeds. One
+//! A save that was refused its allocation leaves all rows unchanged, and the same save then succeeds. One
 //! over SQL may be unsure, but only where its disk failed: an open then finds the row as before or as saved.
 
 use crate::limits::are_in;
@@ -79,7 +79,7 @@ fn saved_all<S: Stable>(store: &mut S) -> Result<Outcome, Unsure> {
     Ok(outcome)
 }
 
-/// A save, and the same again where it was refused its growth.
+/// A save, and the same again where it was refused its allocation.
 fn save<S: Stable>(store: &mut S, saved: Saved) -> Result<Outcome, Unsure> {
     let Ok((before, listed)) = rows_of(store) else {
         return Ok(Outcome::Changed);
@@ -96,7 +96,7 @@ fn save<S: Stable>(store: &mut S, saved: Saved) -> Result<Outcome, Unsure> {
     }
 }
 
-/// All rows, at the second try where the first was refused its growth.
+/// All rows, at the second try where the first was refused its allocation.
 fn rows_of<S: Stable>(store: &mut S) -> Result<(Vec<SavedRow>, Outcome), StoreFault> {
     match store.load() {
         Ok(rows) => Ok((rows, Outcome::Whole)),
@@ -178,7 +178,7 @@ fn back(files: Disks) -> Disks {
     files
 }
 
-/// A store over empty files, at the second try where the first was refused a growth.
+/// A store over empty files, at the second try where the first was refused an allocation.
 fn opened(alloc: Global) -> Option<(Store, Outcome)> {
     let (files, made) = blank(alloc)?;
     match open(alloc, files) {

@@ -1,5 +1,6 @@
 -- The map has the last row of each object.
-use Rattle.std.specs.Prelude.{ℕ, ◌≡◌, ◌==◌, nat_lt, if◌then◌else◌, List, [], ◌∷◌, fold, Option, Some, None, Bool, true, false, refl}
+use Rattle.std.specs.Prelude.{ℕ, ◌≡◌, ◌==◌, nat_lt, if◌then◌else◌, List, [], ◌∷◌, fold, Option, Some, None, Bool}
+use Rattle.std.specs.Prelude.{true, false, refl}
 use Rattle.std.specs.Option.{option_or}
 use Rattle.std.specs.declared.cmp.Ordering.{Ordering}
 use Rattle.std.specs.declared.cmp.Ordering.TheVariants.{Less, Equal, Greater}
@@ -39,7 +40,8 @@ twice : {X : Type 0} (b : Bool) (p q r : Option X) → cond b p r ≡ (if b then
 twice true p q r = refl
 twice false p q r = refl
 
-apart : {X : Type 0} (a b : Bool) (p q r : Option X) → (a ≡ true → b ≡ true → ⊥) → cond a p (if b then q else r) ≡ (if b then q else cond a p r)
+apart : {X : Type 0} (a b : Bool) (p q r : Option X) → (a ≡ true → b ≡ true → ⊥)
+    → cond a p (if b then q else r) ≡ (if b then q else cond a p r)
 apart true true p q r h = absurd (h refl refl)
 apart true false p q r h = refl
 apart false b p q r h = refl
@@ -49,8 +51,10 @@ lookup_insert : {X : Type 0} (es : List (ℕ × X)) (k : ℕ) (v : X) (x : ℕ)
 lookup_insert [] k v x = refl
 lookup_insert {X} (e ∷ es) k v x = by_order (nat_cmp k e.0) refl (lookup_insert es k v x)
   where
-    by_order : (o : Ordering) → nat_cmp k e.0 ≡ o → lookup (at x) (insert_entry nat_cmp es k v) ≡ (if at x k then Some v else lookup (at x) es)
-        → lookup (at x) (match_ordering o ((k, v) ∷ e ∷ es) ((e.0, v) ∷ es) (e ∷ insert_entry nat_cmp es k v)) ≡ (if at x k then Some v else lookup (at x) (e ∷ es))
+    by_order : (o : Ordering) → nat_cmp k e.0 ≡ o
+        → lookup (at x) (insert_entry nat_cmp es k v) ≡ (if at x k then Some v else lookup (at x) es)
+        → lookup (at x) (match_ordering o ((k, v) ∷ e ∷ es) ((e.0, v) ∷ es) (e ∷ insert_entry nat_cmp es k v))
+        ≡ (if at x k then Some v else lookup (at x) (e ∷ es))
     by_order Less is rest = refl
     by_order Equal is rest =
         let same : e.0 ≡ k = sym (eqb-true k e.0 (equal_is (nat_lt k e.0) (k == e.0) is)) in
@@ -70,7 +74,9 @@ later (Some s) b r p = refl
 later None true r p = refl
 later None false r p = refl
 
-last_from : (es : List (ℕ × Shown)) (rows : List Shown) (x : ℕ) → lookup (at x) (fold (λ (entries : List (ℕ × Shown)) (row : Shown). insert_entry nat_cmp entries row.object row) es rows) ≡ option_or (last_row x rows) (lookup (at x) es)
+last_from : (es : List (ℕ × Shown)) (rows : List Shown) (x : ℕ)
+    → lookup (at x) (fold (λ (entries : List (ℕ × Shown)) (row : Shown). insert_entry nat_cmp entries row.object row)
+    es rows) ≡ option_or (last_row x rows) (lookup (at x) es)
 last_from es [] x = refl
 last_from es (r ∷ rows) x =
     let tests : at x r.object ≡ (r.object == x) = at_is x r.object ∙ grind (arith, nat_tests) in

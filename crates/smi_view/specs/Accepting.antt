@@ -1,5 +1,6 @@
 -- Which told states a station takes for what an object shows.
-use Rattle.std.specs.Prelude.{ℕ, ◌-◌, ◌==◌, ◌&&◌, ◌||◌, nat_lt, Bool, true, if◌then◌else◌, List, slice_get, Option, Some, None, option_and_then}
+use Rattle.std.specs.Prelude.{ℕ, ◌-◌, ◌==◌, ◌&&◌, ◌||◌, nat_lt, Bool, true, if◌then◌else◌, List, slice_get, Option}
+use Rattle.std.specs.Prelude.{Some, None, option_and_then}
 use Rattle.std.specs.Option.{option_map_or}
 use Rattle.smi_grant.specs.declared.state.Version.{Version}
 use Rattle.smi_grant.specs.declared.state.Shown.{Shown}

@@ -20,7 +20,11 @@ page_of x = record { entries = x.last.entries; rows = x.mark.seen.log; name = na
 
 -- what an entry makes of a page
 abbrev pub turned : Page → Entry → Page
-turned p e = record { entries = insert_entry nat_cmp p.entries e.row.object e.row; rows = e.mark.seen.log; name = name_of e.mark.seen.book }
+turned p e = record {
+  entries = insert_entry nat_cmp p.entries e.row.object e.row;
+  rows = e.mark.seen.log;
+  name = name_of e.mark.seen.book;
+}
 
 -- the page of a board with these rows
 abbrev pub page : Name → List Shown → Page
@@ -31,7 +35,8 @@ abbrev pub Knows : Sheet → Option Name → Type 0
 Knows x v = (n : Name) → v ≡ Some n → n ≡ name_of x.mark.seen.book
 
 abbrev pub Keeps : Sheet → List (Option Name) → Type 0
-Keeps x views = (x.last.entries ≡ entries_of x.mark.seen.log) × ((seat : ℕ) (v : Option Name) → get_elem? views seat ≡ some v → Knows x v)
+Keeps x views = (x.last.entries ≡ entries_of x.mark.seen.log)
+    × ((seat : ℕ) (v : Option Name) → get_elem? views seat ≡ some v → Knows x v)
 
 abbrev pub Finds : Option Name → Sheet → Sheet → Option Name → Type 0
 Finds v x y w = (w ≡ Some (name_of y.mark.seen.book)) × (y.last.entries ≡ entries_of y.mark.seen.log) × Knows y v

@@ -1,6 +1,7 @@
 //! The end of a board that a station's thread writes.
 
-ghost use Rattle.std.specs.Prelude.{◌≡◌, ◌<◌, ◌^◌, [], ◌∷◌, ◌++◌, drop, fold, length, All, Some, IfOk, OnOk, OnErr, MatchResult};
+ghost use Rattle.std.specs.Prelude.{◌≡◌, ◌<◌, ◌^◌, [], ◌∷◌, ◌++◌, drop, fold, length, All, Some, IfOk, OnOk, OnErr};
+ghost use Rattle.std.specs.Prelude.{MatchResult};
 ghost use Rattle.left_right.specs.Sides.{view};
 ghost use Rattle.smi_view.specs.declared.page.Page.{Page};
 ghost use Rattle.smi_view.specs.Entries.{entries_of};
@@ -46,15 +47,23 @@ impl<J: BoardId> Model for Board<J> {
 
     ghost Value = { BoardShows };
 
-    ghost view = { λ b. record { publications = b.writer.desk.shown.value.mark.seen.log; pending = drop (length b.writer.desk.shown.value.mark.seen.log) b.rows } };
+    ghost view = { λ b. record {
+      publications = b.writer.desk.shown.value.mark.seen.log;
+      pending = drop (length b.writer.desk.shown.value.mark.seen.log) b.rows;
+    } };
 
-    ghost invariant = { λ b. (fold turned (page_of b.writer.desk.shown.value) (drop b.writer.behind b.writer.log.items ++ b.waiting.items) ≡ page (name_of J.book) b.rows) × (b.writer.desk.shown.value.mark.seen.book ≡ J.book) × (b.writer.desk.shown.value.mark.seen.log ++ drop (length b.writer.desk.shown.value.mark.seen.log) b.rows ≡ b.rows) × (known_at b.writer.desk.place ≡ Some (name_of J.book)) × (b.none ≡ []) };
+    ghost invariant = { λ b. (fold turned (page_of b.writer.desk.shown.value)
+        (drop b.writer.behind b.writer.log.items ++ b.waiting.items) ≡ page (name_of J.book) b.rows)
+        × (b.writer.desk.shown.value.mark.seen.book ≡ J.book)
+        × (b.writer.desk.shown.value.mark.seen.log ++ drop (length b.writer.desk.shown.value.mark.seen.log) b.rows
+        ≡ b.rows) × (known_at b.writer.desk.place ≡ Some (name_of J.book)) × (b.none ≡ []) };
 }
 
 /// What waits is handed to the writer, the oldest first.
 fn hand_over(writer: &mut BoardWriter, waiting: &mut VecDeque<Entry>) -> Result<(), AllocError>
     ensures desk { writer.new.desk ≡ writer.old.desk }
-    ensures entries { drop writer.new.behind writer.new.log.items ++ waiting.new.items ≡ drop writer.old.behind writer.old.log.items ++ waiting.old.items }
+    ensures entries { drop writer.new.behind writer.new.log.items ++ waiting.new.items
+        ≡ drop writer.old.behind writer.old.log.items ++ waiting.old.items }
     ensures all { OnOk result (waiting.new.items ≡ []) }
 {
     while let Some(entry) = waiting.pop_front() {
@@ -67,22 +76,36 @@ fn hand_over(writer: &mut BoardWriter, waiting: &mut VecDeque<Entry>) -> Result<
 }
 
 fn publish<R: Wait>(rt: &R, writer: BoardWriter) -> (BoardWriter, Result<(), AllocError>)
-    requires entries { let next : Page = fold turned (page_of writer.desk.shown.value) (drop writer.behind writer.log.items) in next.entries ≡ entries_of next.rows }
-    requires name { let next : Page = fold turned (page_of writer.desk.shown.value) (drop writer.behind writer.log.items) in next.name ≡ name_of writer.desk.shown.value.mark.seen.book }
-    ensures values { MatchResult result.1 (λ _. (page_of result.0.desk.shown.value ≡ fold turned (page_of writer.desk.shown.value) (drop writer.behind writer.log.items)) × (drop result.0.behind result.0.log.items ≡ [])) (λ _. (result.0.desk.shown.value ≡ writer.desk.shown.value) × (drop result.0.behind result.0.log.items ≡ drop writer.behind writer.log.items)) }
-    ensures name { MatchResult result.1 (λ _. view result.0.desk.place ≡ Some (name_of result.0.desk.shown.value.mark.seen.book)) (λ _. view result.0.desk.place ≡ view writer.desk.place) }
+    requires entries { let next : Page = fold turned (page_of writer.desk.shown.value)
+        (drop writer.behind writer.log.items) in next.entries ≡ entries_of next.rows }
+    requires name { let next : Page = fold turned (page_of writer.desk.shown.value)
+        (drop writer.behind writer.log.items) in next.name ≡ name_of writer.desk.shown.value.mark.seen.book }
+    ensures values { MatchResult result.1 (λ _.
+        (page_of result.0.desk.shown.value ≡ fold turned (page_of writer.desk.shown.value)
+        (drop writer.behind writer.log.items)) × (drop result.0.behind result.0.log.items ≡ []))
+        (λ _. (result.0.desk.shown.value ≡ writer.desk.shown.value)
+        × (drop result.0.behind result.0.log.items ≡ drop writer.behind writer.log.items)) }
+    ensures name { MatchResult result.1 (λ _. view result.0.desk.place
+        ≡ Some (name_of result.0.desk.shown.value.mark.seen.book))
+        (λ _. view result.0.desk.place ≡ view writer.desk.place) }
 {
     writer.publish_as::<Finds, R>(rt)
 }
 
 fn publish_in<R: Wait>(rt: &R, writer: &mut BoardWriter) -> Result<(), AllocError>
-    requires entries { let next : Page = fold turned (page_of writer.old.desk.shown.value) (drop writer.old.behind writer.old.log.items) in next.entries ≡ entries_of next.rows }
-    requires name { let next : Page = fold turned (page_of writer.old.desk.shown.value) (drop writer.old.behind writer.old.log.items) in next.name ≡ name_of writer.old.desk.shown.value.mark.seen.book }
-    ensures page { OnOk result (page_of writer.new.desk.shown.value ≡ fold turned (page_of writer.old.desk.shown.value) (drop writer.old.behind writer.old.log.items)) }
+    requires entries { let next : Page = fold turned (page_of writer.old.desk.shown.value)
+        (drop writer.old.behind writer.old.log.items) in next.entries ≡ entries_of next.rows }
+    requires name { let next : Page = fold turned (page_of writer.old.desk.shown.value)
+        (drop writer.old.behind writer.old.log.items) in
+        next.name ≡ name_of writer.old.desk.shown.value.mark.seen.book }
+    ensures page { OnOk result (page_of writer.new.desk.shown.value
+        ≡ fold turned (page_of writer.old.desk.shown.value) (drop writer.old.behind writer.old.log.items)) }
     ensures emptied { OnOk result (drop writer.new.behind writer.new.log.items ≡ []) }
-    ensures name { OnOk result (view writer.new.desk.place ≡ Some (name_of writer.new.desk.shown.value.mark.seen.book)) }
+    ensures name { OnOk result (view writer.new.desk.place
+        ≡ Some (name_of writer.new.desk.shown.value.mark.seen.book)) }
     ensures unpublished { OnErr result (writer.new.desk.shown.value ≡ writer.old.desk.shown.value) }
-    ensures kept { OnErr result (drop writer.new.behind writer.new.log.items ≡ drop writer.old.behind writer.old.log.items) }
+    ensures kept { OnErr result (drop writer.new.behind writer.new.log.items
+        ≡ drop writer.old.behind writer.old.log.items) }
     ensures same { OnErr result (view writer.new.desk.place ≡ view writer.old.desk.place) }
 {
     replace_with(writer, rt, |writer, rt| publish(rt, writer))
@@ -91,7 +114,7 @@ fn publish_in<R: Wait>(rt: &R, writer: &mut BoardWriter) -> Result<(), AllocErro
 impl<J: BoardId> Board<J> {
     /// The row of an object is pending, after those that are.
     ///
-    /// Its error is want of memory, and changes nothing.
+    /// It fails only where memory ran out, and changes nothing.
     pub fn put(&mut self, shown: Shown) -> Result<(), AllocError>
         ensures publications { self.new.publications ≡ self.old.publications }
         ensures ok { OnOk result (self.new.pending ≡ self.old.pending ++ shown ∷ []) }
@@ -112,7 +135,7 @@ impl<J: BoardId> Board<J> {
 
     /// What is pending is published, all at once.
     ///
-    /// Its error is want of memory, and changes nothing. It waits for the readings of an earlier
+    /// It fails only where memory ran out, and changes nothing. It waits for the readings of an earlier
     /// publication to end.
     pub fn publish<R: Wait>(&mut self, rt: &R) -> Result<(), AllocError>
         ensures published { OnOk result (self.new.publications ≡ self.old.publications ++ self.old.pending) }
@@ -136,7 +159,7 @@ impl<J: BoardId> Board<J> {
 
     /// A glance that has seen nothing and was told nothing.
     ///
-    /// Its error is want of memory, or that as many glances are out as the board has room for.
+    /// It fails only where memory ran out, or that as many glances are out as the board has room for.
     fn glance(&mut self) -> Result<Glance<J>, AllocError>
         ensures board { self.new ≡ self.old }
         ensures new { IfOk result HasSeenNothing }
@@ -184,7 +207,7 @@ impl<J: BoardId> Board<J> {
 /// A board with no publications and nothing pending, and so many glances of it, one for each reading
 /// thread, which have seen nothing and were told nothing.
 ///
-/// Its error is want of memory.
+/// It fails only where memory ran out.
 pub fn open_board<J: BoardId, R: Wait>(
     rt: &R,
     alloc: Global,

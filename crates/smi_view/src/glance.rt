@@ -14,11 +14,13 @@ use core::mem::replace_with;
 use left_right::reader::Reader;
 use smi_grant::Shown;
 use std::marker::Model;
+use thiserror::Error;
 
 pub(crate) type BoardReader = Reader<Sheet, Option<Name>, OneHistory>;
 
 /// The board gave no reading: it is closed, or its copy could not be held.
-#[derive(Clone, Copy, Debug, PartialEq, Eq)]
+#[derive(Clone, Copy, Debug, PartialEq, Eq, Error)]
+#[error("the board is closed, or gives no reading now")]
 pub struct NoReading;
 
 /// What a board had published when this was told, for a glance of that board to learn. It is one number,

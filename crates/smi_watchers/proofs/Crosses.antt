@@ -20,11 +20,18 @@ place_send : IsSend Place.the_row
 place_send = search sendable
 
 links_field_send : IsSend (Links.the_field).row
-links_field_send = struct_send (Declared.shape Links.the_type) (Option.the_field_send Place.the_row place_send, (Option.the_field_send Place.the_row place_send, tt))
+links_field_send = struct_send (Declared.shape Links.the_type)
+    (Option.the_field_send Place.the_row place_send, (Option.the_field_send Place.the_row place_send, tt))
 
 cell_send : IsSend Whole.the_row
 cell_send = recorded_send (Whole.the_field).row _ _ (Whole.the_type).to_one
-    (struct_send (Declared.shape Whole.the_type) (plain_send _ _ _ _ _, (plain_send _ _ _ _ _, (plain_send _ _ _ _ _, (links_field_send, (links_field_send, tt))))))
+    (struct_send (Declared.shape Whole.the_type) (
+      plain_send _ _ _ _ _,
+      (
+        plain_send _ _ _ _ _,
+        (plain_send _ _ _ _ _, (links_field_send, (links_field_send, tt))),
+      ),
+    ))
 
 cells_keyless : (hs : List (Ptr × Cell)) → Keyless (cells_own hs)
 cells_keyless [] = tt
@@ -33,4 +40,5 @@ cells_keyless (h ∷ hs) = ((lies Whole.the_row cell_send h.0 h.1, frees.frees _
 pub cells_send : IsSend Cells.the_row
 cells_send =
     let O = Cells.the_type in let all : AllSend (fields O) = tt in
-    owning_send O all (λ d. cells_keyless d.held) (λ k. quiet (to O) (exits_of k (fields O)) ((struct_send (shape O) all).leaving k))
+    owning_send O all (λ d. cells_keyless d.held)
+    (λ k. quiet (to O) (exits_of k (fields O)) ((struct_send (shape O) all).leaving k))

@@ -1,5 +1,6 @@
 -- Lists with no cell.
-use Rattle.std.proofs.Common.{◌≡◌, ℕ, ◌<◌, ◌^◌, arith, inl, inr, List, [], length, get_or, replicate, Some, None, sym, ap, ◌∙◌, subst, map}
+use Rattle.std.proofs.Common.{◌≡◌, ℕ, ◌<◌, ◌^◌, arith, inl, inr, List, [], length, get_or, replicate, Some, None, sym}
+use Rattle.std.proofs.Common.{ap, ◌∙◌, subst, map}
 use Rattle.std.proofs.lemmas.Option.{unwrap_or-slice_get}
 use Rattle.std.proofs.lemmas.List.{get_or-replicate, length-replicate, get_or-map, get_or_past, ext_get_or}
 use Rattle.smi_watchers.specs.declared.cell.Cell.{Cell}
@@ -27,21 +28,26 @@ nobody_here = []
 no_list : (k i : ℕ) → get_or (replicate k nobody_here) i [] ≡ []
 no_list k i = elim (below i k) as (λ _. get_or (replicate k nobody_here) i [] ≡ []) [
   | inl lt ↦ get_or-replicate k i [] [] lt
-  | inr ge ↦ get_or_past (replicate k nobody_here) i [] (let all = length-replicate k nobody_here in omega (arith, all, ge))
+  | inr ge ↦ get_or_past (replicate k nobody_here) i []
+      (let all = length-replicate k nobody_here in omega (arith, all, ge))
 ]
 
 module _ (n : Net) (none : n.held ≡ []) where
   nobody : (p : Place) (c : Cell) → found p.at n.held ≡ Some c → ⊥
   nobody p c e = let clash : None ≡ Some c = ap (found p.at) (sym none) ∙ e in cc
 
-  alone : (axis : Axis) (k i : ℕ) → heads axis n ≡ replicate k no_links → i < length (heads axis n) → neighbours axis i n None ≡ no_links
+  alone : (axis : Axis) (k i : ℕ) → heads axis n ≡ replicate k no_links → i < length (heads axis n)
+      → neighbours axis i n None ≡ no_links
   alone axis k i free lt =
       let ilt : i < k = subst (λ m. i < m) (ap length free ∙ length-replicate k no_links) lt in
       ap (λ hs. get_or hs i no_links) free ∙ get_or-replicate k i no_links no_links ilt
 
   empty_axis : (axis : Axis) (k : ℕ) → heads axis n ≡ replicate k no_links → IsAxis axis (λ _. []) n
   empty_axis axis k free = record {
-    path = λ i lt. (ap (λ (l : Links). l.after) (alone axis k i free lt), ap (λ (l : Links). l.before) (alone axis k i free lt));
+    path = λ i lt. (
+      ap (λ (l : Links). l.after) (alone axis k i free lt),
+      ap (λ (l : Links). l.before) (alone axis k i free lt),
+    );
     apart = λ i. tt;
     belongs = λ i p m. absurd m;
   }
@@ -52,7 +58,8 @@ module _ (n : Net) (none : n.held ≡ []) where
   module _ (k : ℕ) (objects : n.objects ≡ replicate k no_links) where
     -- nobody watches
     pub empty_lists : lists_of n ≡ replicate k []
-    empty_lists = ext_get_or [] (lists_of n) (replicate k []) (many n ∙ ap length objects ∙ length-replicate k no_links ∙ sym (length-replicate k nobody_here)) (λ i lt.
+    empty_lists = ext_get_or [] (lists_of n) (replicate k [])
+        (many n ∙ ap length objects ∙ length-replicate k no_links ∙ sym (length-replicate k nobody_here)) (λ i lt.
         let ilt : i < length n.objects = subst (λ m. i < m) (many n) lt in
         get_or-map (λ (head : Links). watchers_from n head.after) n.objects i no_links [] ilt
         ∙ ap (λ (l : Links). watchers_from n l.after) (alone Object k i objects ilt)
@@ -61,8 +68,19 @@ module _ (n : Net) (none : n.held ≡ []) where
 
     pub kept_empty : k < 2 ^ 16 → n.stations ≡ replicate 129 no_links → IsKept n
     kept_empty few stations = record {
-      whole = ((λ _. []), (λ _. []), record { objects = empty_axis Object k objects; stations = empty_axis Station 129 stations; in_row = empty_in Object; in_column = empty_in Station });
-      audiences = λ i. subst IsAudience (sym (unwrap_or-slice_get (lists_of n) i [] ∙ ap (λ ls. get_or ls i []) empty_lists ∙ no_list k i)) no_audience;
+      whole = (
+        (λ _. []),
+        (λ _. []),
+        record {
+          objects = empty_axis Object k objects;
+          stations = empty_axis Station 129 stations;
+          in_row = empty_in Object;
+          in_column = empty_in Station;
+        },
+      );
+      audiences = λ i. subst IsAudience
+          (sym (unwrap_or-slice_get (lists_of n) i [] ∙ ap (λ ls. get_or ls i []) empty_lists
+          ∙ no_list k i)) no_audience;
       objects = let all = ap length objects ∙ length-replicate k no_links in omega (arith, few, all);
       stations = ap length stations ∙ length-replicate 129 no_links;
     }

@@ -1,5 +1,7 @@
 -- What a watch and the end of a watch make of the list of one object.
-use Rattle.std.proofs.Common.{◌≡◌, ◌≢◌, ℕ, zero, suc, ◌+◌, ◌<◌, Bool, true, false, not, List, [], ◌∷◌, ◌++◌, length, get_or, filter, find, map, cond, refl, sym, ap, ◌∙◌, subst, arith, length-append, Option, Some, None, unwrap_or}
+use Rattle.std.proofs.Common.{◌≡◌, ◌≢◌, ℕ, zero, suc, ◌+◌, ◌<◌, Bool, true, false, not, List, [], ◌∷◌, ◌++◌, length}
+use Rattle.std.proofs.Common.{get_or, filter, find, map, cond, refl, sym, ap, ◌∙◌, subst, arith, length-append}
+use Rattle.std.proofs.Common.{Option, Some, None, unwrap_or}
 use Rattle.std.specs.Prelude.{position, AllPairs, count_by, nat_le, nat_eq, ◌&&◌}
 use Rattle.std.specs.List.{position_from}
 use Rattle.std.proofs.lemmas.Bool.Decides.{nat_tests}
@@ -11,7 +13,8 @@ use Rattle.std.proofs.lemmas.List.{get_or-map, length-map}
 use Rattle.std.proofs.lemmas.Iterator.Adapters.{position_from-zero}
 use Rattle.smi_watchers.specs.declared.watcher.Watcher.{Watcher}
 use Rattle.smi_watchers.specs.declared.answer.WatchAnswer.TheVariants.{Added}
-use Rattle.smi_watchers.specs.Watching.{is_of, watcher, renewed_by, watch_in, unwatch_in, others_of, answer_in, answer_at, most_watchers, AreApart, IsAudience}
+use Rattle.smi_watchers.specs.Watching.{is_of, watcher, renewed_by, watch_in, unwatch_in, others_of, answer_in}
+use Rattle.smi_watchers.specs.Watching.{answer_at, most_watchers, AreApart, IsAudience}
 
 -- no watcher of a list is the station's
 abbrev pub NoneOf : ℕ → List Watcher → Type 0
@@ -37,7 +40,8 @@ watch_behind s e (w ∷ ws) h = rw h.0 (ap (λ vs. w ∷ vs) (watch_behind s e w
 pub count_none : (s : ℕ) (ws : List Watcher) → NoneOf s ws → count_by (is_of s) ws ≡ 0
 count_none s [] h = refl
 count_none s (w ∷ ws) h =
-    let all = sum_by-cons (λ v. cond (is_of s v) 1 0) w ws in let own = ap (λ b. cond {A = ℕ} b 1 0) h.0 in let rest = count_none s ws h.1 in omega (arith, all, own, rest)
+    let all = sum_by-cons (λ v. cond (is_of s v) 1 0) w ws in let own = ap (λ b. cond {A = ℕ} b 1 0) h.0 in
+    let rest = count_none s ws h.1 in omega (arith, all, own, rest)
 
 none_from : (s i : ℕ) (ws : List Watcher) → NoneOf s ws → position_from (is_of s) i ws ≡ None
 none_from s i [] h = refl
@@ -69,7 +73,8 @@ left_none s (w ∷ ws) =
 
 -- In an audience no station stands twice.
 
-none_at : (s : ℕ) (ws : List Watcher) → ((j : ℕ) (d : Watcher) → j < length ws → s ≢ (get_or ws j d).station) → NoneOf s ws
+none_at : (s : ℕ) (ws : List Watcher) → ((j : ℕ) (d : Watcher) → j < length ws → s ≢ (get_or ws j d).station)
+    → NoneOf s ws
 none_at s [] h = tt
 none_at s (w ∷ ws) h =
     let first : s ≢ w.station = h 0 w (omega arith) in
@@ -85,7 +90,7 @@ none_mid : (s : ℕ) (A B : List Watcher) (v : Watcher) → NoneOf s (A ++ v ∷
 none_mid s [] B v h = h.0
 none_mid s (a ∷ A) B v h = none_mid s A B v h.1
 
--- the others stand before and behind
+-- the others stand before and after
 pub before_none : (A B : List Watcher) (v : Watcher) → AllPairs AreApart (A ++ v ∷ B) → NoneOf v.station A
 before_none [] B v a = tt
 before_none (w ∷ A) B v a =
@@ -99,26 +104,31 @@ behind_none (w ∷ A) B v a = behind_none A B v (once_tail w (A ++ v ∷ B) a)
 is_own : (v : Watcher) → is_of v.station v ≡ true
 is_own v = grind (arith, nat_tests)
 
-pub others_split : (A B : List Watcher) (v : Watcher) → AllPairs AreApart (A ++ v ∷ B) → others_of v.station (A ++ v ∷ B) ≡ A ++ B
+pub others_split : (A B : List Watcher) (v : Watcher) → AllPairs AreApart (A ++ v ∷ B)
+    → others_of v.station (A ++ v ∷ B) ≡ A ++ B
 others_split A B v a =
     filter-append (λ w. not (is_of v.station w)) A (v ∷ B)
     ∙ ap (λ vs. vs ++ others_of v.station (v ∷ B)) (others_none v.station A (before_none A B v a))
     ∙ ap (λ b. A ++ cond (not b) (v ∷ others_of v.station B) (others_of v.station B)) (is_own v)
     ∙ ap (λ vs. A ++ vs) (others_none v.station B (behind_none A B v a))
 
-watch_split_at : (e : ℕ) (A B : List Watcher) (v : Watcher) → NoneOf v.station A → watch_in (A ++ v ∷ B) v.station e ≡ A ++ renewed_by e v ∷ B
+watch_split_at : (e : ℕ) (A B : List Watcher) (v : Watcher) → NoneOf v.station A
+    → watch_in (A ++ v ∷ B) v.station e ≡ A ++ renewed_by e v ∷ B
 watch_split_at e [] B v h = rw (is_own v) refl
 watch_split_at e (a ∷ A) B v h = rw h.0 (ap (λ vs. a ∷ vs) (watch_split_at e A B v h.1))
 
-pub watch_split : (e : ℕ) (A B : List Watcher) (v : Watcher) → AllPairs AreApart (A ++ v ∷ B) → watch_in (A ++ v ∷ B) v.station e ≡ A ++ renewed_by e v ∷ B
+pub watch_split : (e : ℕ) (A B : List Watcher) (v : Watcher) → AllPairs AreApart (A ++ v ∷ B)
+    → watch_in (A ++ v ∷ B) v.station e ≡ A ++ renewed_by e v ∷ B
 watch_split e A B v a = watch_split_at e A B v (before_none A B v a)
 
 -- the one watcher of a station is all that it has to leave
-pub count_found : (s : ℕ) (ws : List Watcher) (v : Watcher) → AllPairs AreApart ws → find (is_of s) ws ≡ Some v → count_by (is_of s) ws ≡ 1
+pub count_found : (s : ℕ) (ws : List Watcher) (v : Watcher) → AllPairs AreApart ws → find (is_of s) ws ≡ Some v
+    → count_by (is_of s) ws ≡ 1
 count_found s [] v a found = cc
 count_found s (w ∷ ws) v a found =
     sum_by-cons (λ x. cond (is_of s x) 1 0) w ws ∙
-    (elim (is_of s w) as (λ b. is_of s w ≡ b → cond b (Some w) (find (is_of s) ws) ≡ Some v → cond b 1 0 + count_by (is_of s) ws ≡ 1) [
+    (elim (is_of s w) as (λ b. is_of s w ≡ b → cond b (Some w) (find (is_of s) ws) ≡ Some v
+    → cond b 1 0 + count_by (is_of s) ws ≡ 1) [
       | true ↦ λ e f. let same : w.station ≡ s = grind (arith, nat_tests) in
           ap (λ k. 1 + k) (count_none s ws (subst (λ k. NoneOf k ws) same (once_head w ws a)))
       | false ↦ λ e f. let rest = count_found s ws v (once_tail w ws a) f in omega (arith, rest)
@@ -129,23 +139,28 @@ pub unwatch_found : (s e : ℕ) (ws : List Watcher) (v : Watcher) → AllPairs A
 unwatch_found s e [] v a found = cc
 unwatch_found s e (w ∷ ws) v a found =
     (elim (is_of s w) as (λ b. is_of s w ≡ b → cond b (Some w) (find (is_of s) ws) ≡ Some v
-    → cond (not (b && nat_le w.echo e)) (w ∷ unwatch_in ws s e) (unwatch_in ws s e) ≡ cond (nat_le v.echo e) (cond (not b) (w ∷ others_of s ws) (others_of s ws)) (w ∷ ws)) [
+    → cond (not (b && nat_le w.echo e)) (w ∷ unwatch_in ws s e) (unwatch_in ws s e)
+    ≡ cond (nat_le v.echo e) (cond (not b) (w ∷ others_of s ws) (others_of s ws)) (w ∷ ws)) [
       | true ↦ λ is f.
           let same : w.station ≡ s = grind (arith, nat_tests) in
           let none : NoneOf s ws = subst (λ k. NoneOf k ws) same (once_head w ws a) in
           let one : w ≡ v = ap (λ o. unwrap_or o w) f in
           rw (unwatch_none s e ws none, others_none s ws none)
           (subst (λ (x : Watcher). cond (not (nat_le w.echo e)) (w ∷ ws) ws ≡ cond (nat_le x.echo e) ws (w ∷ ws)) one
-          (elim (nat_le w.echo e) as (λ b. cond (not b) (w ∷ ws) ws ≡ cond b ws (w ∷ ws)) [ true ↦ refl | false ↦ refl ]))
+          (elim (nat_le w.echo e) as (λ b. cond (not b) (w ∷ ws) ws ≡ cond b ws (w ∷ ws))
+          [ true ↦ refl | false ↦ refl ]))
       | false ↦ λ is f. rw (unwatch_found s e ws v (once_tail w ws a) f)
-          (elim (nat_le v.echo e) as (λ b. w ∷ cond b (others_of s ws) ws ≡ cond b (w ∷ others_of s ws) (w ∷ ws)) [ true ↦ refl | false ↦ refl ])
+          (elim (nat_le v.echo e) as (λ b. w ∷ cond b (others_of s ws) ws ≡ cond b (w ∷ others_of s ws) (w ∷ ws))
+          [ true ↦ refl | false ↦ refl ])
     ]) refl found
 
 -- some watcher is of the station: there is room without it
-pub others_fewer : (s : ℕ) (ws : List Watcher) (v : Watcher) → find (is_of s) ws ≡ Some v → length (others_of s ws) < length ws
+pub others_fewer : (s : ℕ) (ws : List Watcher) (v : Watcher) → find (is_of s) ws ≡ Some v
+    → length (others_of s ws) < length ws
 others_fewer s [] v found = cc
 others_fewer s (w ∷ ws) v found =
-    (elim (is_of s w) as (λ b. cond b (Some w) (find (is_of s) ws) ≡ Some v → length (cond (not b) (w ∷ others_of s ws) (others_of s ws)) < suc (length ws)) [
+    (elim (is_of s w) as (λ b. cond b (Some w) (find (is_of s) ws) ≡ Some v
+    → length (cond (not b) (w ∷ others_of s ws) (others_of s ws)) < suc (length ws)) [
       | true ↦ λ f. omega (arith, length-filter (λ x. not (is_of s x)) ws, count_by-le-length (λ x. not (is_of s x)) ws)
       | false ↦ λ f. omega (arith, others_fewer s ws v f)
     ]) found
@@ -161,31 +176,37 @@ IsAudience-filter p ws a = record {
   once = AllPairs-filter AreApart p ws a.once;
 }
 
-none_each : (s : ℕ) (ws : List Watcher) → NoneOf s ws → (k : ℕ) (d : Watcher) → k < length ws → (get_or ws k d).station ≢ s
+none_each : (s : ℕ) (ws : List Watcher) → NoneOf s ws → (k : ℕ) (d : Watcher) → k < length ws
+    → (get_or ws k d).station ≢ s
 none_each s [] h k d lt = λ _. omega (arith, lt)
 none_each s (w ∷ ws) h zero d lt = let other = h.0 in grind (arith, nat_tests)
 none_each s (w ∷ ws) h (suc k) d lt = none_each s ws h.1 k d (omega (arith, lt))
 
-pub IsAudience-append : (ws : List Watcher) (v : Watcher) → IsAudience ws → NoneOf v.station ws → length ws < most_watchers → IsAudience (ws ++ v ∷ [])
+pub IsAudience-append : (ws : List Watcher) (v : Watcher) → IsAudience ws → NoneOf v.station ws
+    → length ws < most_watchers → IsAudience (ws ++ v ∷ [])
 IsAudience-append ws v a none room = record {
   few = omega (arith, room, length-append ws (v ∷ []));
   once = all_pairs_push AreApart ws v a.once (none_each v.station ws none);
 }
 
 -- the same stations in the same order are an audience too
-station_at : (ws : List Watcher) (i : ℕ) (d : Watcher) → i < length ws → (get_or ws i d).station ≡ get_or (map (λ (w : Watcher). w.station) ws) i 0
+station_at : (ws : List Watcher) (i : ℕ) (d : Watcher) → i < length ws
+    → (get_or ws i d).station ≡ get_or (map (λ (w : Watcher). w.station) ws) i 0
 station_at ws i d lt = sym (get_or-map (λ (w : Watcher). w.station) ws i d 0 lt)
 
-pub IsAudience-same : (vs ws : List Watcher) → map (λ (w : Watcher). w.station) vs ≡ map (λ (w : Watcher). w.station) ws → IsAudience ws → IsAudience vs
+pub IsAudience-same : (vs ws : List Watcher)
+    → map (λ (w : Watcher). w.station) vs ≡ map (λ (w : Watcher). w.station) ws → IsAudience ws → IsAudience vs
 IsAudience-same vs ws e a =
-    let many : length vs ≡ length ws = sym (length-map vs (λ (w : Watcher). w.station)) ∙ ap length e ∙ length-map ws (λ (w : Watcher). w.station) in
+    let many : length vs ≡ length ws = sym (length-map vs (λ (w : Watcher). w.station)) ∙ ap length e
+    ∙ length-map ws (λ (w : Watcher). w.station) in
     record {
       few = omega (arith, a.few, many);
       once = λ i j d less lt same.
           let ilt : i < length vs = omega (arith, less, lt) in
           let iwt : i < length ws = omega (arith, ilt, many) in
           let jwt : j < length ws = omega (arith, lt, many) in
-          a.once i j d less jwt (station_at ws i d iwt ∙ ap (λ l. get_or l i 0) (sym e) ∙ sym (station_at vs i d ilt) ∙ same
+          a.once i j d less jwt (station_at ws i d iwt ∙ ap (λ l. get_or l i 0) (sym e) ∙ sym (station_at vs i d ilt)
+          ∙ same
           ∙ station_at vs j d lt ∙ ap (λ l. get_or l j 0) e ∙ sym (station_at ws j d jwt));
     }
 
@@ -193,7 +214,8 @@ find_split_at : (A B : List Watcher) (v : Watcher) → NoneOf v.station A → fi
 find_split_at [] B v h = rw (is_own v) refl
 find_split_at (a ∷ A) B v h = rw h.0 (find_split_at A B v h.1)
 
-pub find_split : (A B : List Watcher) (v : Watcher) → AllPairs AreApart (A ++ v ∷ B) → find (is_of v.station) (A ++ v ∷ B) ≡ Some v
+pub find_split : (A B : List Watcher) (v : Watcher) → AllPairs AreApart (A ++ v ∷ B)
+    → find (is_of v.station) (A ++ v ∷ B) ≡ Some v
 find_split A B v a = find_split_at A B v (before_none A B v a)
 
 -- whether a number is so many

@@ -33,23 +33,30 @@ but_other k v f m e = ap (λ y. if y then v else f m) e
 
 module _ (next prev : Node → Node) where
   -- a change at nodes that the path does not read
-  pub path_past : (k v l w a : Node) (ps : List Place) → is_node k a ≡ false → Fresh k ps → is_node l None ≡ false → Fresh l ps
+  pub path_past : (k v l w a : Node) (ps : List Place) → is_node k a ≡ false → Fresh k ps → is_node l None ≡ false
+      → Fresh l ps
       → Path next prev a ps → Path (but k v next) (but l w prev) a ps
   path_past k v l w a [] ka fk ln fl h = (but_other k v next a ka ∙ h.0, but_other l w prev None ln ∙ h.1)
-  path_past k v l w a (p ∷ ps) ka fk ln fl h =
-      (but_other k v next a ka ∙ h.0, but_other l w prev (Some p) fl.0 ∙ h.1, path_past k v l w (Some p) ps fk.0 fk.1 ln fl.1 h.2)
+  path_past k v l w a (p ∷ ps) ka fk ln fl h = (
+    but_other k v next a ka ∙ h.0,
+    but_other l w prev (Some p) fl.0 ∙ h.1,
+    path_past k v l w (Some p) ps fk.0 fk.1 ln fl.1 h.2,
+  )
 
   -- the nodes beside a place
-  pub beside : (a : Node) (xs : List Place) (p : Place) (ys : List Place) → Path next prev a (xs ++ p ∷ ys) → (prev (Some p) ≡ last_of a xs) × (next (Some p) ≡ first_of ys)
+  pub beside : (a : Node) (xs : List Place) (p : Place) (ys : List Place) → Path next prev a (xs ++ p ∷ ys)
+      → (prev (Some p) ≡ last_of a xs) × (next (Some p) ≡ first_of ys)
   beside a [] p [] h = (h.1, h.2.0)
   beside a [] p (y ∷ ys) h = (h.1, h.2.0)
   beside a (x ∷ xs) p ys h = beside (Some x) xs p ys h.2
 
-  fresh_last : (a : Node) (x : Place) (xs : List Place) (p : Place) (ys : List Place) → Fresh a (x ∷ (xs ++ p ∷ ys)) → is_node (last_of (Some x) xs) a ≡ false
+  fresh_last : (a : Node) (x : Place) (xs : List Place) (p : Place) (ys : List Place) → Fresh a (x ∷ (xs ++ p ∷ ys))
+      → is_node (last_of (Some x) xs) a ≡ false
   fresh_last a x [] p ys f = node_sym (Some x) a ∙ f.0
   fresh_last a x (z ∷ xs) p ys f = fresh_last a z xs p ys f.1
 
-  fresh_first : (x p : Place) (xs ys : List Place) → Fresh (Some x) (xs ++ p ∷ ys) → is_node (first_of ys) (Some x) ≡ false
+  fresh_first : (x p : Place) (xs ys : List Place) → Fresh (Some x) (xs ++ p ∷ ys)
+      → is_node (first_of ys) (Some x) ≡ false
   fresh_first x p [] [] f = refl
   fresh_first x p [] (y ∷ ys) f = node_sym (Some y) (Some x) ∙ f.1.0
   fresh_first x p (z ∷ xs) ys f = fresh_first x p xs ys f.1
@@ -63,7 +70,8 @@ module _ (next prev : Node → Node) where
   fresh_end a x (z ∷ xs) f = fresh_end a z xs f.1
 
   -- without the place
-  pub path_without : (a : Node) (xs : List Place) (p : Place) (ys : List Place) → Apart a (xs ++ p ∷ ys) → Path next prev a (xs ++ p ∷ ys)
+  pub path_without : (a : Node) (xs : List Place) (p : Place) (ys : List Place) → Apart a (xs ++ p ∷ ys)
+      → Path next prev a (xs ++ p ∷ ys)
       → Path (but (last_of a xs) (first_of ys) next) (but (first_of ys) (last_of a xs) prev) a (xs ++ ys)
   path_without a [] p [] d h = (but_same a None next, but_same None a prev)
   path_without a [] p (y ∷ ys) d h = (
@@ -79,8 +87,10 @@ module _ (next prev : Node → Node) where
       )
 
   -- with one more place at the end
-  pub path_with : (a : Node) (ps : List Place) (p : Place) → Apart a ps → Fresh (Some p) ps → is_node a (Some p) ≡ false → Path next prev a ps
-      → Path (but (last_of a ps) (Some p) (but (Some p) None next)) (but None (Some p) (but (Some p) (last_of a ps) prev)) a (ps ++ p ∷ [])
+  pub path_with : (a : Node) (ps : List Place) (p : Place) → Apart a ps → Fresh (Some p) ps
+      → is_node a (Some p) ≡ false → Path next prev a ps
+      → Path (but (last_of a ps) (Some p) (but (Some p) None next))
+      (but None (Some p) (but (Some p) (last_of a ps) prev)) a (ps ++ p ∷ [])
   path_with a [] p d f e h =
       let next' = but (Some p) None next in let prev' = but (Some p) a prev in (
         but_same a (Some p) next',
@@ -89,7 +99,8 @@ module _ (next prev : Node → Node) where
       )
   path_with a (x ∷ ps) p d f e h =
       let l = last_of (Some x) ps in let next' = but (Some p) None next in let prev' = but (Some p) l prev in (
-        but_other l (Some p) next' a (fresh_end a x ps d.0) ∙ but_other (Some p) None next a (node_sym (Some p) a ∙ e) ∙ h.0,
+        but_other l (Some p) next' a (fresh_end a x ps d.0)
+            ∙ but_other (Some p) None next a (node_sym (Some p) a ∙ e) ∙ h.0,
         but_other None (Some p) prev' (Some x) refl ∙ but_other (Some p) l prev (Some x) f.0 ∙ h.1,
         path_with (Some x) ps p d.1 f.1 (node_sym (Some x) (Some p) ∙ f.0) h.2,
       )

@@ -34,7 +34,8 @@ pub record IsAxis (axis : Axis) (qs : ℕ → List Place) (n : Net) : Type 0 whe
 
 -- each cell stands in its list
 abbrev pub AllIn : Axis → (ℕ → List Place) → Net → Type 0
-AllIn axis qs n = (p : Place) (c : Cell) → found p.at n.held ≡ Some c → (list_of axis c < length (heads axis n)) × In p (qs (list_of axis c))
+AllIn axis qs n = (p : Place) (c : Cell) → found p.at n.held ≡ Some c
+    → (list_of axis c < length (heads axis n)) × In p (qs (list_of axis c))
 
 pub record IsMesh (rows columns : ℕ → List Place) (n : Net) : Type 0 where
   pub objects : IsAxis Object rows n

@@ -1,5 +1,6 @@
 -- The cells and the heads of their lists: what linking makes of them.
-use Rattle.std.specs.Prelude.{ℕ, ◌<◌, nat_lt, if◌then◌else◌, List, ◌∷◌, length, slice_set, Option, Some, None, unwrap_or, IsSome}
+use Rattle.std.specs.Prelude.{ℕ, ◌<◌, nat_lt, if◌then◌else◌, List, ◌∷◌, length, slice_set, Option, Some, None}
+use Rattle.std.specs.Prelude.{unwrap_or, IsSome}
 use Rattle.std.specs.List.{slice_index_or}
 use denote.RawPtr.{Ptr}
 use Rattle.smi_watchers.specs.declared.cell.Cell.{Cell}
@@ -52,7 +53,8 @@ neighbours axis list n (Some p) = links_in axis (cell_at n p)
 
 abbrev pub with_links : Axis → ℕ → Option Place → Links → Net → Net
 with_links axis list None links n = with_heads axis (slice_set (heads axis n) list links) n
-with_links axis list (Some p) links n = record n { held = (p.at, relinked axis links (cell_at n p)) ∷ without p.at n.held }
+with_links axis list (Some p) links n = record
+    n { held = (p.at, relinked axis links (cell_at n p)) ∷ without p.at n.held }
 
 -- along an axis, what a list's ring has after and before a node
 abbrev pub next : Axis → ℕ → Net → Option Place → Option Place
@@ -69,19 +71,24 @@ with_prev axis list k v n = with_links axis list k (record (neighbours axis list
 
 -- the place and what stands beside it are there
 abbrev pub IsLinked : Axis → ℕ → Place → Net → Type 0
-IsLinked axis list p n = IsNode axis list (Some p) n × IsNode axis list (prev axis list n (Some p)) n × IsNode axis list (next axis list n (Some p)) n
+IsLinked axis list p n = IsNode axis list (Some p) n × IsNode axis list (prev axis list n (Some p)) n
+    × IsNode axis list (next axis list n (Some p)) n
 
 -- its neighbours are joined
 abbrev pub unlinked : Axis → ℕ → Place → Net → Net
-unlinked axis list p n = with_prev axis list (next axis list n (Some p)) (prev axis list n (Some p)) (with_next axis list (prev axis list n (Some p)) (next axis list n (Some p)) n)
+unlinked axis list p n = with_prev axis list (next axis list n (Some p)) (prev axis list n (Some p))
+    (with_next axis list (prev axis list n (Some p)) (next axis list n (Some p)) n)
 
 -- the place and the list's last node are there
 abbrev pub MayLink : Axis → ℕ → Place → Net → Type 0
-MayLink axis list p n = IsNode axis list None n × IsNode axis list (Some p) n × IsNode axis list (prev axis list n None) n
+MayLink axis list p n = IsNode axis list None n × IsNode axis list (Some p) n
+    × IsNode axis list (prev axis list n None) n
 
 -- the place comes between the last and the head
 abbrev pub linked : Axis → ℕ → Place → Net → Net
-linked axis list p n = with_prev axis list None (Some p) (with_next axis list (prev axis list n None) (Some p) (with_links axis list (Some p) (record { before = prev axis list n None; after = None }) n))
+linked axis list p n = with_prev axis list None (Some p)
+    (with_next axis list (prev axis list n None) (Some p)
+    (with_links axis list (Some p) (record { before = prev axis list n None; after = None }) n))
 
 abbrev pub with_cell : Place → Cell → Net → Net
 with_cell p c n = record n { held = (p.at, c) ∷ n.held }

@@ -1,5 +1,6 @@
 -- The cells that come one after another in an object's list.
-use Rattle.std.specs.Prelude.{◌≡◌, ℕ, zero, suc, Bool, ◌==◌, List, [], ◌∷◌, length, map, find, Option, Some, None, IsSome, option_map}
+use Rattle.std.specs.Prelude.{◌≡◌, ℕ, zero, suc, Bool, ◌==◌, List, [], ◌∷◌, length, map, find, Option, Some, None}
+use Rattle.std.specs.Prelude.{IsSome, option_map}
 use Rattle.smi_watchers.specs.declared.cell.Cell.{Cell}
 use Rattle.smi_watchers.specs.declared.cell.Place.{Place}
 use Rattle.smi_watchers.specs.declared.lists.Axis.TheVariants.{Object}

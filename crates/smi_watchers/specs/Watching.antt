@@ -1,5 +1,7 @@
 -- Who watches what: for each object, in the order of their numbers, a list of stations with their boots.
-use Rattle.std.specs.Prelude.{ℕ, ◌≡◌, ◌≢◌, ◌≤◌, ◌-◌, ◌==◌, ◌&&◌, nat_lt, nat_le, max, not, Bool, if◌then◌else◌, List, [], ◌∷◌, length, AllPairs, filter, find, map, slice_get, slice_set, count_by, sum_by, Option, Some, None, unwrap_or}
+use Rattle.std.specs.Prelude.{ℕ, ◌≡◌, ◌≢◌, ◌≤◌, ◌-◌, ◌==◌, ◌&&◌, nat_lt, nat_le, max, not, Bool, if◌then◌else◌, List}
+use Rattle.std.specs.Prelude.{[], ◌∷◌, length, AllPairs, filter, find, map, slice_get, slice_set, count_by, sum_by}
+use Rattle.std.specs.Prelude.{Option, Some, None, unwrap_or}
 use Rattle.std.specs.List.{slice_index_or}
 use Rattle.smi_watchers.specs.declared.watcher.Watcher.{Watcher}
 use Rattle.smi_watchers.specs.declared.answer.WatchAnswer.{WatchAnswer}
@@ -25,7 +27,7 @@ others_of station ws = filter (λ w. not (is_of station w)) ws
 abbrev pub renewed_by : ℕ → Watcher → Watcher
 renewed_by echo w = watcher w.station (max w.echo echo)
 
--- a station that watches already gets the newer echo in its place, another one is added behind all
+-- a station that watches already gets the newer echo in its place, another one is added after all
 abbrev pub watch_in : List Watcher → ℕ → ℕ → List Watcher
 watch_in [] station echo = watcher station echo ∷ []
 watch_in (w ∷ ws) station echo = if is_of station w then renewed_by echo w ∷ ws else w ∷ watch_in ws station echo

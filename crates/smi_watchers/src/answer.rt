@@ -1,3 +1,5 @@
+use thiserror::Error;
+
 /// What a watch found of its station in the list of the object (docs/PROTOCOL.md, "Watching").
 #[derive(Clone, Copy, Debug, PartialEq, Eq)]
 pub enum WatchAnswer {
@@ -12,11 +14,13 @@ pub enum WatchAnswer {
 }
 
 /// Why an object could not be watched.
-#[derive(Clone, Copy, Debug, PartialEq, Eq)]
+#[derive(Clone, Copy, Debug, PartialEq, Eq, Error)]
 pub enum WatchFault {
     /// 64 other stations watch the object.
+    #[error("1: 64 other stations watch the object")]
     Full = 1,
     /// The memory for one more watcher was refused.
+    #[error("2: out of memory")]
     Memory,
 }
 

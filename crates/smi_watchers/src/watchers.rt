@@ -88,7 +88,7 @@ impl Watchers {
 
     /// Objects 1 to `objects`, which nobody watches.
     ///
-    /// Its error is want of memory.
+    /// It fails only where memory ran out.
     pub fn new(alloc: Global, objects: u16) -> Result<Watchers, AllocError>
         ensures lists { IfOk result (λ watchers. watchers.lists ≡ replicate objects []) }
         ensures visits { IfOk result (λ watchers. watchers.visits ≡ 0) }
@@ -208,7 +208,7 @@ impl Watchers {
 
     /// A station, 1 to 128, leaves every list; how many entries it had.
     ///
-    /// It takes cells from the front of the station's own list alone, and counts its looks at a front
+    /// It takes cells from the beginning of the station's own list alone, and counts its looks at a front
     /// cell anew: [`Watchers::visits`] tells how many they were.
     pub fn leave(&mut self, station: u16) -> usize
         requires station_least { 1 ≤ station }
@@ -222,11 +222,14 @@ impl Watchers {
         self.visits as usize
     }
 
-    /// The cells of a station are taken from the front of its list until none is left; each look at
+    /// The cells of a station are taken from the beginning of its list until none is left; each look at
     /// one is counted.
     fn clear(&mut self, station: u16)
         requires { station < 129 }
-        ensures { self.new ≡ record { lists = left_by station self.old.lists; visits = entries_of station self.old.lists } }
+        ensures { self.new ≡ record {
+          lists = left_by station self.old.lists;
+          visits = entries_of station self.old.lists;
+        } }
     {
         self.visits = 0;
         while let Some(place) = self.lists.first(Axis::Station, usize::from(station)) {
@@ -236,7 +239,7 @@ impl Watchers {
     }
 
     /// How many front cells the last [`Watchers::leave`] or [`Watchers::renew`] looked at, 0 before
-    /// the first. A `renew` that was refused for want of memory looked at none and left the number.
+    /// the first. A `renew` that was refused because memory ran out looked at none and left the number.
     pub fn visits(&self) -> u32
         ensures { result ≡ self.now.visits }
     {

@@ -20,10 +20,12 @@ use Rattle.smi_station.proofs.Accepted.{dropped_there, run_there, taken_there}
 pub message_is : (m : Message) → IsMessage m → is_message m ≡ true
 message_is m i =
     and_from _ _
-    (and_from _ _ (between 1 128 m.from i.from.0 i.from.1) (and_from _ _ (between 1 128 m.to i.to.0 i.to.1) (between 1 65535 m.tree i.tree.0 i.tree.1)))
+    (and_from _ _ (between 1 128 m.from i.from.0 i.from.1)
+    (and_from _ _ (between 1 128 m.to i.to.0 i.to.1) (between 1 65535 m.tree i.tree.0 i.tree.1)))
     i.body
 
-pub asked : (h : Hierarchy) → IsTree h → (number : ℕ) (m : Message) → is_body m.body ≡ true → refusal_of_message h number m ≡ None → IsAsked h m.body
+pub asked : (h : Hierarchy) → IsTree h → (number : ℕ) (m : Message) → is_body m.body ≡ true
+    → refusal_of_message h number m ≡ None → IsAsked h m.body
 asked h tree number m fits none = by m.body refl
   where
     by : (b : Body) → m.body ≡ b → IsAsked h b
@@ -39,7 +41,9 @@ asked h tree number m fits none = by m.body refl
     by (body.Unwatch x echo) is = tt
 
 -- a step that is taken leaves by its save what its grants' step leaves
-pub taken_kept : (h : Hierarchy) (number : ℕ) (s : Station) (g : Grants) (what : Happening) → s.grants ≡ g → refusal_of h number g what ≡ None → (grant_step h number g what).entries ≡ (after h number s what).kept
+pub taken_kept : (h : Hierarchy) (number : ℕ) (s : Station) (g : Grants) (what : Happening) → s.grants ≡ g
+    → refusal_of h number g what ≡ None → (grant_step h number g what).entries ≡ (after h number s what).kept
 taken_kept h number s g what same none =
     ap (λ (z : Grants). (grant_step h number z what).entries) (sym same)
-    ∙ sym (ap (λ (o : Option ℕ). (answered_or h number s what o).kept) (ap (λ (z : Grants). refusal_of h number z what) same ∙ none))
+    ∙ sym (ap (λ (o : Option ℕ). (answered_or h number s what o).kept)
+    (ap (λ (z : Grants). refusal_of h number z what) same ∙ none))

@@ -19,16 +19,22 @@ use Rattle.smi_world.proofs.Acts.{or_true, same_step, saved_halts, saved_kept}
 
 module _ (h : Hierarchy) (number : ℕ) (s : Station) (p : Post) (is : IsPost h number p s) where
   -- the order is told so, and nothing else is left
-  pub device_makes : (l : Left) (what : Happening) → l.kept ≡ [] → l.started ≡ None → l.passed ≡ [] → l.out.shown ≡ None → told_entries l.out.answers ≡ not_stored what → l.out.datagrams ≡ []
+  pub device_makes : (l : Left) (what : Happening) → l.kept ≡ [] → l.started ≡ None → l.passed ≡ []
+      → l.out.shown ≡ None → told_entries l.out.answers ≡ not_stored what → l.out.datagrams ≡ []
       → Makes h number p l (failed_act h number plan.Device what s)
-  device_makes l what kept started passed shown told sends = record { post = is; entries = rw (kept, started, passed, shown) told; sends = sends }
+  device_makes l what kept started passed shown told sends =
+      record { post = is; entries = rw (kept, started, passed, shown) told; sends = sends }
 
   -- it stops
-  pub before_makes : (next : Post) (l : Left) (what : Happening) → next.station ≡ p.station → next.is_out ≡ true → l.kept ≡ [] → l.started ≡ None → l.passed ≡ [] → l.out ≡ nothing_out
+  pub before_makes : (next : Post) (l : Left) (what : Happening) → next.station ≡ p.station → next.is_out ≡ true
+      → l.kept ≡ [] → l.started ≡ None → l.passed ≡ [] → l.out ≡ nothing_out
       → Makes h number next l (failed_act h number plan.Before what s)
   before_makes next l what same out kept started passed handed = record {
     post = record {
-      of_tree = record { tree = ap (λ x. tree_of x.core) same ∙ is.of_tree.tree; number = ap (λ x. number_of x.core) same ∙ is.of_tree.number };
+      of_tree = record {
+        tree = ap (λ x. tree_of x.core) same ∙ is.of_tree.tree;
+        number = ap (λ x. number_of x.core) same ∙ is.of_tree.number;
+      };
       grants = ap (λ x. (station_of x.core).grants) same ∙ is.grants;
       stopped = or_true next.station.core.is_stopped next.is_out out;
       display = λ running. absurd cc;
@@ -39,37 +45,61 @@ module _ (h : Hierarchy) (number : ℕ) (s : Station) (p : Post) (is : IsPost h 
   }
 
   -- it stops, and what it has saved is left
-  pub after_makes : (next : Post) (made l : Left) (what : Happening) → (p.station.core.is_stopped || p.is_out) ≡ false → next.is_out ≡ true
-      → station_of next.station.core ≡ (after (tree_of p.station.core) (number_of p.station.core) (station_of p.station.core) what).station
+  pub after_makes : (next : Post) (made l : Left) (what : Happening)
+      → (p.station.core.is_stopped || p.is_out) ≡ false → next.is_out ≡ true
+      → station_of next.station.core
+      ≡ (after (tree_of p.station.core) (number_of p.station.core) (station_of p.station.core) what).station
       → IsOf (tree_of p.station.core) (number_of p.station.core) next.station.core
-      → Leaves (tree_of p.station.core) made (after (tree_of p.station.core) (number_of p.station.core) (station_of p.station.core) what)
+      → Leaves (tree_of p.station.core) made (after (tree_of p.station.core) (number_of p.station.core)
+      (station_of p.station.core) what)
       → IsStoredIn (found_in next.station.store.list) next.station.core
       → l.kept ≡ made.kept → l.started ≡ None → l.passed ≡ [] → l.out ≡ nothing_out
       → Makes h number next l (failed_act h number plan.After what s)
   after_makes next made l what runs out station of leaves stored kept started passed handed = record {
     post = saved_halts h number s p is next what runs out station of stored;
-    entries = rw (kept, started, passed, handed) (append-nil (made.kept ++ []) ∙ append-nil made.kept ∙ saved_kept h number s p is made what runs leaves);
+    entries = rw (kept, started, passed, handed)
+        (append-nil (made.kept ++ []) ∙ append-nil made.kept ∙ saved_kept h number s p is made what runs leaves);
     sends = ap (λ (z : Out). z.datagrams) handed;
   }
 
   -- What comes to one that has stopped is not made.
-  pub stopped_fails : (how : Plan) (l : Left) (what : Happening) → (p.station.core.is_stopped || p.is_out) ≡ true → Makes h number p l (idle s) → Makes h number p l (fail_act h number how what s)
+  pub stopped_fails : (how : Plan) (l : Left) (what : Happening) → (p.station.core.is_stopped || p.is_out) ≡ true
+      → Makes h number p l (idle s) → Makes h number p l (fail_act h number how what s)
   stopped_fails how l what stopped makes =
-      subst (λ b. Makes h number p l (if b then idle s else (if is_some (after h number s what).saved then failed_act h number how what s else step_of (after h number s what)))) (sym (is.stopped ∙ stopped)) makes
+      subst (λ b. Makes h number p l (if b then idle s
+      else (if is_some (after h number s what).saved then failed_act h number how what s
+      else step_of (after h number s what)))) (sym (is.stopped ∙ stopped)) makes
 
   -- One that runs and would save a row fails to.
-  pub saving_fails : {X Y : Type 0} (r : Result X Y) (how : Plan) (next : Post) (l : Left) (what : Happening) → (p.station.core.is_stopped || p.is_out) ≡ false
-      → is_some (after (tree_of p.station.core) (number_of p.station.core) (station_of p.station.core) what).saved ≡ true
-      → OnOk r (Makes h number next l (failed_act h number how what s)) → OnOk r (Makes h number next l (fail_act h number how what s))
+  pub saving_fails : {X Y : Type 0} (r : Result X Y) (how : Plan) (next : Post) (l : Left) (what : Happening)
+      → (p.station.core.is_stopped || p.is_out) ≡ false
+      → is_some (after (tree_of p.station.core) (number_of p.station.core) (station_of p.station.core) what).saved
+      ≡ true
+      → OnOk r (Makes h number next l (failed_act h number how what s))
+      → OnOk r (Makes h number next l (fail_act h number how what s))
   saving_fails r how next l what runs saves makes =
-      subst (λ b. OnOk r (Makes h number next l (if b then idle s else (if is_some (after h number s what).saved then failed_act h number how what s else step_of (after h number s what))))) (sym (is.stopped ∙ runs))
-      (subst (λ b. OnOk r (Makes h number next l (if b then failed_act h number how what s else step_of (after h number s what)))) (sym saves ∙ ap (λ (o : Outcome). is_some o.saved) (same_step h number s p is what runs)) makes)
+      subst (λ b. OnOk
+      r (Makes h number next l (if b then idle s
+      else (if is_some (after h number s what).saved then failed_act h number how what s
+      else step_of (after h number s what))))) (sym (is.stopped ∙ runs))
+      (subst (λ b. OnOk r (Makes h number next l
+      (if b then failed_act h number how what s else step_of (after h number s what))))
+      (sym saves ∙ ap (λ (o : Outcome). is_some o.saved) (same_step h number s p is what runs)) makes)
 
   -- One that saves nothing makes its step.
-  pub nothing_fails : {X Y : Type 0} (r : Result X Y) (how : Plan) (next : Post) (l : Left) (what : Happening) → (p.station.core.is_stopped || p.is_out) ≡ false
-      → is_some (after (tree_of p.station.core) (number_of p.station.core) (station_of p.station.core) what).saved ≡ false
-      → OnOk r (Makes h number next l (step_act h number what s)) → OnOk r (Makes h number next l (fail_act h number how what s))
+  pub nothing_fails : {X Y : Type 0} (r : Result X Y) (how : Plan) (next : Post) (l : Left) (what : Happening)
+      → (p.station.core.is_stopped || p.is_out) ≡ false
+      → is_some (after (tree_of p.station.core) (number_of p.station.core) (station_of p.station.core) what).saved
+      ≡ false
+      → OnOk r (Makes h number next l (step_act h number what s))
+      → OnOk r (Makes h number next l (fail_act h number how what s))
   nothing_fails r how next l what runs saves makes =
-      subst (λ b. OnOk r (Makes h number next l (if b then idle s else (if is_some (after h number s what).saved then failed_act h number how what s else step_of (after h number s what))))) (sym (is.stopped ∙ runs))
-      (subst (λ b. OnOk r (Makes h number next l (if b then failed_act h number how what s else step_of (after h number s what)))) (sym saves ∙ ap (λ (o : Outcome). is_some o.saved) (same_step h number s p is what runs))
-      (subst (λ b. OnOk r (Makes h number next l (if b then idle s else step_of (after h number s what)))) (is.stopped ∙ runs) makes))
+      subst (λ b. OnOk
+      r (Makes h number next l (if b then idle s
+      else (if is_some (after h number s what).saved then failed_act h number how what s
+      else step_of (after h number s what))))) (sym (is.stopped ∙ runs))
+      (subst (λ b. OnOk r (Makes h number next l
+      (if b then failed_act h number how what s else step_of (after h number s what))))
+      (sym saves ∙ ap (λ (o : Outcome). is_some o.saved) (same_step h number s p is what runs))
+      (subst (λ b. OnOk r (Makes h number next l (if b then idle s else step_of (after h number s what))))
+      (is.stopped ∙ runs) makes))

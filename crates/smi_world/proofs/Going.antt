@@ -1,5 +1,6 @@
 -- A stream of schedule lines, as far as it has come.
-use Rattle.std.proofs.Common.{ℕ, ◌≡◌, ◌+◌, ◌<◌, true, List, [], ◌∷◌, ◌++◌, length, take, Option, Some, None, Result, Ok, Err, IfSome, append-nil, append_assoc, refl, sym, ap, ◌∙◌, subst, arith}
+use Rattle.std.proofs.Common.{ℕ, ◌≡◌, ◌+◌, ◌<◌, true, List, [], ◌∷◌, ◌++◌, length, take, Option, Some, None, Result}
+use Rattle.std.proofs.Common.{Ok, Err, IfSome, append-nil, append_assoc, refl, sym, ap, ◌∙◌, subst, arith}
 use Rattle.std.specs.Prelude.{if◌then◌else◌, is_ok, nat_lt}
 use Rattle.std.specs.Str.Lines.{lines}
 use Rattle.std.specs.Io.KnownBytes.{Appends, prepend_known}
@@ -36,13 +37,15 @@ pub text_both : (h : Hierarchy) (xs ys : List Line) → trace_text h (xs ++ ys) 
 text_both h xs ys = flat_map-append (line_text h) xs ys
 
 -- These lines were made from the first world on, and left this; this text is left to be read.
-pub record Gone (h : Hierarchy) (w : World) (input : Bytes) (number : ℕ) (x : Held) (before now : Option Bytes) (later : Bytes) : Type 0 where
+pub record Gone (h : Hierarchy) (w : World) (input : Bytes) (number : ℕ) (x : Held) (before now : Option Bytes)
+    (later : Bytes) : Type 0 where
   pub made : List Bytes
   pub world : World
   pub done : List Line
   pub is : IsAt x world
   pub text : lines input ≡ made ++ lines later
-  pub splits : (more : List Bytes) → trace_from h w (items_before_fault h (made ++ more)) ≡ done ++ trace_from h world (items_before_fault h more)
+  pub splits : (more : List Bytes) → trace_from h w (items_before_fault h (made ++ more)) ≡ done
+      ++ trace_from h world (items_before_fault h more)
   pub written : Appends before now (trace_text h done)
   pub ending : first_fault 1 h (lines input) ≡ first_fault number h (lines later)
 
@@ -52,10 +55,21 @@ still None = tt
 still (Some xs) = sym (append-nil xs)
 
 -- at the beginning nothing is made
-pub nothing_gone : (h : Hierarchy) (w : World) (input : Bytes) (x : Held) (c : Option Bytes) → IsAt x w → Gone h w input 1 x c c input
-nothing_gone h w input x c is = record { made = []; world = w; done = []; is = is; text = refl; splits = λ more. refl; written = still c; ending = refl }
+pub nothing_gone : (h : Hierarchy) (w : World) (input : Bytes) (x : Held) (c : Option Bytes) → IsAt x w
+    → Gone h w input 1 x c c input
+nothing_gone h w input x c is = record {
+  made = [];
+  world = w;
+  done = [];
+  is = is;
+  text = refl;
+  splits = λ more. refl;
+  written = still c;
+  ending = refl;
+}
 
-before_line : (h : Hierarchy) (line : Bytes) (more : List Bytes) → items_before_fault h (line ∷ more) ≡ items_on (item_in h line) (items_before_fault h more)
+before_line : (h : Hierarchy) (line : Bytes) (more : List Bytes)
+    → items_before_fault h (line ∷ more) ≡ items_on (item_in h line) (items_before_fault h more)
 unfolding items_before_fault
 before_line h line more = refl
 
@@ -63,7 +77,8 @@ before_none : (h : Hierarchy) → items_before_fault h [] ≡ []
 unfolding items_before_fault
 before_none h = refl
 
-fault_line : (h : Hierarchy) (number : ℕ) (line : Bytes) (more : List Bytes) → first_fault number h (line ∷ more) ≡ fault_or number (item_in h line) (first_fault (number + 1) h more)
+fault_line : (h : Hierarchy) (number : ℕ) (line : Bytes) (more : List Bytes)
+    → first_fault number h (line ∷ more) ≡ fault_or number (item_in h line) (first_fault (number + 1) h more)
 unfolding first_fault
 fault_line h number line more = refl
 
@@ -71,79 +86,105 @@ fault_none : (h : Hierarchy) (number : ℕ) → first_fault number h [] ≡ None
 unfolding first_fault
 fault_none h number = refl
 
-long_line : (h : Hierarchy) (line : Bytes) → item_in h line ≡ (if nat_lt 200 (length line) then Err LineTooLong else schedule_line.item_by h (words line))
+long_line : (h : Hierarchy) (line : Bytes)
+    → item_in h line ≡ (if nat_lt 200 (length line) then Err LineTooLong else schedule_line.item_by h (words line))
 unfolding item_in
 long_line h line = refl
 
 -- what a line leaves, before what those after it leave
-one_line : (h : Hierarchy) (v : World) (r : Result (Option Item) Fault) (items : List Item) → is_ok r ≡ true → trace_from h v (items_on r items) ≡ lines_after h v r ++ trace_from h (world_after h v r) items
+one_line : (h : Hierarchy) (v : World) (r : Result (Option Item) Fault) (items : List Item) → is_ok r ≡ true
+    → trace_from h v (items_on r items) ≡ lines_after h v r ++ trace_from h (world_after h v r) items
 one_line h v (Ok None) items ok = refl
 one_line h v (Ok (Some x)) items ok = refl
 one_line h v (Err fault) items ok = absurd cc
 
-stands : (number : ℕ) (h : Hierarchy) (r : Result (Option Item) Fault) (more : List Bytes) → is_ok r ≡ true → fault_or number r (first_fault (number + 1) h more) ≡ first_fault (number + 1) h more
+stands : (number : ℕ) (h : Hierarchy) (r : Result (Option Item) Fault) (more : List Bytes) → is_ok r ≡ true
+    → fault_or number r (first_fault (number + 1) h more) ≡ first_fault (number + 1) h more
 stands number h (Ok x) more ok = refl
 stands number h (Err fault) more ok = absurd cc
 
-module _ (h : Hierarchy) (w : World) (input : Bytes) (number : ℕ) (x : Held) (before now : Option Bytes) (later : Bytes) (gone : Gone h w input number x before now later) where
+module _ (h : Hierarchy) (w : World) (input : Bytes) (number : ℕ) (x : Held) (before now : Option Bytes)
+    (later : Bytes) (gone : Gone h w input number x before now later) where
   abbrev v : World
   v = gone.world
 
-  all_there : trace_from h w (items_before_fault h (lines input)) ≡ gone.done ++ trace_from h v (items_before_fault h (lines later))
+  all_there : trace_from h w (items_before_fault h (lines input)) ≡ gone.done
+      ++ trace_from h v (items_before_fault h (lines later))
   all_there = ap (λ (ls : List Bytes). trace_from h w (items_before_fault h ls)) gone.text ∙ gone.splits (lines later)
 
   -- one line more
-  pub gone_on : (line : Bytes) (rest : Bytes) (y : Held) (next : Option Bytes) → lines later ≡ line ∷ lines rest → is_ok (item_in h line) ≡ true
-      → IsAt y (world_after h v (item_in h line)) → Appends now next (trace_text h (lines_after h v (item_in h line))) → Gone h w input (number + 1) y before next rest
+  pub gone_on : (line : Bytes) (rest : Bytes) (y : Held) (next : Option Bytes) → lines later ≡ line ∷ lines rest
+      → is_ok (item_in h line) ≡ true
+      → IsAt y (world_after h v (item_in h line))
+      → Appends now next (trace_text h (lines_after h v (item_in h line)))
+      → Gone h w input (number + 1) y before next rest
   gone_on line rest y next cuts ok at wrote = record {
     made = gone.made ++ line ∷ [];
     world = world_after h v (item_in h line);
     done = gone.done ++ lines_after h v (item_in h line);
     is = at;
-    text = gone.text ∙ ap (λ (ls : List Bytes). gone.made ++ ls) cuts ∙ sym (append_assoc gone.made (line ∷ []) (lines rest));
+    text = gone.text ∙ ap (λ (ls : List Bytes). gone.made ++ ls) cuts
+        ∙ sym (append_assoc gone.made (line ∷ []) (lines rest));
     splits = λ more.
         ap (λ (ls : List Bytes). trace_from h w (items_before_fault h ls)) (append_assoc gone.made (line ∷ []) more)
         ∙ gone.splits (line ∷ more)
-        ∙ ap (λ (ls : List Line). gone.done ++ ls) (ap (λ (xs : List Item). trace_from h v xs) (before_line h line more) ∙ one_line h v (item_in h line) (items_before_fault h more) ok)
-        ∙ sym (append_assoc gone.done (lines_after h v (item_in h line)) (trace_from h (world_after h v (item_in h line)) (items_before_fault h more)));
+        ∙ ap (λ (ls : List Line). gone.done ++ ls)
+        (ap (λ (xs : List Item). trace_from h v xs) (before_line h line more)
+        ∙ one_line h v (item_in h line) (items_before_fault h more) ok)
+        ∙ sym (append_assoc gone.done (lines_after h v (item_in h line))
+        (trace_from h (world_after h v (item_in h line)) (items_before_fault h more)));
     written =
         subst (Appends before next) (sym (text_both h gone.done (lines_after h v (item_in h line))))
-        (Appends-trans before now next (trace_text h gone.done) (trace_text h (lines_after h v (item_in h line))) gone.written wrote);
-    ending = gone.ending ∙ ap (λ (ls : List Bytes). first_fault number h ls) cuts ∙ fault_line h number line (lines rest) ∙ stands number h (item_in h line) (lines rest) ok;
+        (Appends-trans before now next (trace_text h gone.done) (trace_text h (lines_after h v (item_in h line)))
+        gone.written wrote);
+    ending = gone.ending ∙ ap (λ (ls : List Bytes). first_fault number h ls) cuts
+        ∙ fault_line h number line (lines rest) ∙ stands number h (item_in h line) (lines rest) ok;
   }
 
   -- all is written where no further line leaves anything
-  all_written : trace_from h v (items_before_fault h (lines later)) ≡ [] → Appends before now (trace_text h (trace_from h w (items_before_fault h (lines input))))
+  all_written : trace_from h v (items_before_fault h (lines later)) ≡ []
+      → Appends before now (trace_text h (trace_from h w (items_before_fault h (lines input))))
   all_written nothing =
-      subst (λ (ls : List Line). Appends before now (trace_text h ls)) (sym (all_there ∙ ap (λ (ls : List Line). gone.done ++ ls) nothing ∙ append-nil gone.done)) gone.written
+      subst (λ (ls : List Line). Appends before now (trace_text h ls))
+      (sym (all_there ∙ ap (λ (ls : List Line). gone.done ++ ls) nothing ∙ append-nil gone.done)) gone.written
 
   -- what a stream comes to
   abbrev pub Comes : Streamed → Type 0
-  Comes how = (how ≡ ending_of h (lines input)) × Appends before now (trace_text h (trace_from h w (items_before_fault h (lines input))))
+  Comes how = (how ≡ ending_of h (lines input))
+      × Appends before now (trace_text h (trace_from h w (items_before_fault h (lines input))))
 
   -- there are no more lines
   pub gone_all : lines later ≡ [] → Comes streamed.Ended
   gone_all none = (
     sym (ap ended_by (gone.ending ∙ ap (λ (ls : List Bytes). first_fault number h ls) none ∙ fault_none h number)),
-    all_written (ap (λ (ls : List Bytes). trace_from h v (items_before_fault h ls)) none ∙ ap (λ (xs : List Item). trace_from h v xs) (before_none h)),
+    all_written (ap (λ (ls : List Bytes). trace_from h v (items_before_fault h ls)) none
+        ∙ ap (λ (xs : List Item). trace_from h v xs) (before_none h)),
   )
 
   -- the next line has a fault
-  pub gone_faulty : (line : Bytes) (more : List Bytes) (fault : Fault) → lines later ≡ line ∷ more → item_in h line ≡ Err fault → Comes (streamed.Faulty number (fault_number fault))
+  pub gone_faulty : (line : Bytes) (more : List Bytes) (fault : Fault) → lines later ≡ line ∷ more
+      → item_in h line ≡ Err fault → Comes (streamed.Faulty number (fault_number fault))
   gone_faulty line more fault cuts is = (
-    sym (ap ended_by (gone.ending ∙ ap (λ (ls : List Bytes). first_fault number h ls) cuts ∙ fault_line h number line more ∙ ap (λ r. fault_or number r (first_fault (number + 1) h more)) is)),
-    all_written (ap (λ (ls : List Bytes). trace_from h v (items_before_fault h ls)) cuts ∙ ap (λ (xs : List Item). trace_from h v xs) (before_line h line more) ∙ ap (λ r. trace_from h v (items_on r (items_before_fault h more))) is),
+    sym (ap ended_by (gone.ending ∙ ap (λ (ls : List Bytes). first_fault number h ls) cuts
+        ∙ fault_line h number line more ∙ ap (λ r. fault_or number r (first_fault (number + 1) h more)) is)),
+    all_written (ap (λ (ls : List Bytes). trace_from h v (items_before_fault h ls)) cuts
+        ∙ ap (λ (xs : List Item). trace_from h v xs) (before_line h line more)
+        ∙ ap (λ r. trace_from h v (items_on r (items_before_fault h more))) is),
   )
 
   -- the next line is too long
-  pub gone_long : (line : Bytes) (more : List Bytes) (code : ℕ) → code ≡ fault_number LineTooLong → lines later ≡ line ∷ more → 200 < length line → Comes (streamed.Faulty number code)
-  gone_long line more code is cuts long = subst (λ (n : ℕ). Comes (streamed.Faulty number n)) (sym is) (gone_faulty line more LineTooLong cuts (long_line h line ∙ ap (λ b. if b then Err LineTooLong else schedule_line.item_by h (words line)) long_is))
+  pub gone_long : (line : Bytes) (more : List Bytes) (code : ℕ) → code ≡ fault_number LineTooLong
+      → lines later ≡ line ∷ more → 200 < length line → Comes (streamed.Faulty number code)
+  gone_long line more code is cuts long = subst (λ (n : ℕ). Comes (streamed.Faulty number n)) (sym is)
+      (gone_faulty line more LineTooLong cuts (long_line h line
+      ∙ ap (λ b. if b then Err LineTooLong else schedule_line.item_by h (words line)) long_is))
     where
       long_is : nat_lt 200 (length line) ≡ true
       long_is = grind (arith, nat_tests, long)
 
   -- a fault of the line as it was told
-  pub gone_told : (line : Bytes) (more : List Bytes) (how : Streamed) → lines later ≡ line ∷ more → IsFault number (item_in h line) how → Comes how
+  pub gone_told : (line : Bytes) (more : List Bytes) (how : Streamed) → lines later ≡ line ∷ more
+      → IsFault number (item_in h line) how → Comes how
   gone_told line more how cuts told = by (item_in h line) refl told
     where
       by : (r : Result (Option Item) Fault) → item_in h line ≡ r → IsFault number r how → Comes how
@@ -151,8 +192,13 @@ module _ (h : Hierarchy) (w : World) (input : Bytes) (number : ℕ) (x : Held) (
       by (Err fault) is told = subst Comes (sym told) (gone_faulty line more fault cuts is)
 
   -- what is written is that of the lines that were made
-  pub gone_whole : (k : ℕ) × Appends before now (trace_text h (trace_from h w (items_before_fault h (take k (lines input)))))
-  gone_whole = (length gone.made, subst (λ (ls : List Bytes). Appends before now (trace_text h (trace_from h w (items_before_fault h ls)))) (sym these) of_these)
+  pub gone_whole : (k : ℕ) × Appends before now
+      (trace_text h (trace_from h w (items_before_fault h (take k (lines input)))))
+  gone_whole = (
+    length gone.made,
+    subst (λ (ls : List Bytes). Appends before now (trace_text h (trace_from h w (items_before_fault h ls))))
+        (sym these) of_these,
+  )
     where
       these : take (length gone.made) (lines input) ≡ gone.made
       these = ap (take (length gone.made)) gone.text ∙ take_at gone.made (lines later) (length gone.made) refl
@@ -160,11 +206,15 @@ module _ (h : Hierarchy) (w : World) (input : Bytes) (number : ℕ) (x : Held) (
       of_these : Appends before now (trace_text h (trace_from h w (items_before_fault h gone.made)))
       of_these =
           subst (λ (ls : List Line). Appends before now (trace_text h ls))
-          (sym (ap (λ (ls : List Bytes). trace_from h w (items_before_fault h ls)) (sym (append-nil gone.made)) ∙ gone.splits [] ∙ ap (λ (xs : List Item). gone.done ++ trace_from h v xs) (before_none h) ∙ append-nil gone.done)) gone.written
+          (sym (ap (λ (ls : List Bytes). trace_from h w (items_before_fault h ls)) (sym (append-nil gone.made))
+          ∙ gone.splits [] ∙ ap (λ (xs : List Item). gone.done ++ trace_from h v xs) (before_none h)
+          ∙ append-nil gone.done)) gone.written
 
   -- and a prefix
-  pub gone_front : (n : ℕ) × Appends before now (take n (trace_text h (trace_from h w (items_before_fault h (lines input)))))
-  gone_front = prefix_more before now now (trace_text h gone.done) [] rest (trace_text h (trace_from h w (items_before_fault h (lines input)))) 0 whole gone.written (still now)
+  pub gone_front : (n : ℕ) × Appends before now
+      (take n (trace_text h (trace_from h w (items_before_fault h (lines input)))))
+  gone_front = prefix_more before now now (trace_text h gone.done) [] rest
+      (trace_text h (trace_from h w (items_before_fault h (lines input)))) 0 whole gone.written (still now)
     where
       rest : Bytes
       rest = trace_text h (trace_from h v (items_before_fault h (lines later)))
@@ -173,26 +223,36 @@ module _ (h : Hierarchy) (w : World) (input : Bytes) (number : ℕ) (x : Held) (
       whole = ap (trace_text h) all_there ∙ text_both h gone.done (trace_from h v (items_before_fault h (lines later)))
 
   -- also where a prefix of what the next line leaves is written
-  pub gone_next : (line rest : Bytes) (next : Option Bytes) → lines later ≡ line ∷ lines rest → (k : ℕ) → Appends now next (take k (trace_text h (lines_after h v (item_in h line))))
+  pub gone_next : (line rest : Bytes) (next : Option Bytes) → lines later ≡ line ∷ lines rest → (k : ℕ)
+      → Appends now next (take k (trace_text h (lines_after h v (item_in h line))))
       → (n : ℕ) × Appends before next (take n (trace_text h (trace_from h w (items_before_fault h (lines input)))))
   gone_next line rest next cuts k wrote = by (item_in h line) refl
     where
       leaves : Result (Option Item) Fault → List Line
       leaves r = trace_from h v (items_on r (items_before_fault h (lines rest)))
 
-      whole : trace_text h (trace_from h w (items_before_fault h (lines input))) ≡ trace_text h gone.done ++ trace_text h (leaves (item_in h line))
-      whole = ap (trace_text h) (all_there ∙ ap (λ (ls : List Bytes). gone.done ++ trace_from h v (items_before_fault h ls)) cuts ∙ ap (λ (xs : List Item). gone.done ++ trace_from h v xs) (before_line h line (lines rest))) ∙ text_both h gone.done (leaves (item_in h line))
+      whole : trace_text h (trace_from h w (items_before_fault h (lines input))) ≡ trace_text h gone.done
+          ++ trace_text h (leaves (item_in h line))
+      whole = ap (trace_text h)
+          (all_there ∙ ap (λ (ls : List Bytes). gone.done ++ trace_from h v (items_before_fault h ls)) cuts
+          ∙ ap (λ (xs : List Item). gone.done ++ trace_from h v xs) (before_line h line (lines rest)))
+          ∙ text_both h gone.done (leaves (item_in h line))
 
-      by : (r : Result (Option Item) Fault) → item_in h line ≡ r → (n : ℕ) × Appends before next (take n (trace_text h (trace_from h w (items_before_fault h (lines input)))))
+      by : (r : Result (Option Item) Fault) → item_in h line ≡ r
+          → (n : ℕ) × Appends before next (take n (trace_text h (trace_from h w (items_before_fault h (lines input)))))
       by (Ok z) is =
           let r = item_in h line in
           let later_text = trace_text h (trace_from h (world_after h v r) (items_before_fault h (lines rest))) in
           prefix_more before now next (trace_text h gone.done) (trace_text h (lines_after h v r)) later_text _ k
-          (whole ∙ ap (λ (t : Bytes). trace_text h gone.done ++ t) (ap (trace_text h) (one_line h v r (items_before_fault h (lines rest)) (ap is_ok is)) ∙ text_both h (lines_after h v r) (trace_from h (world_after h v r) (items_before_fault h (lines rest)))))
+          (whole ∙ ap (λ (t : Bytes). trace_text h gone.done ++ t)
+          (ap (trace_text h) (one_line h v r (items_before_fault h (lines rest)) (ap is_ok is))
+          ∙ text_both h (lines_after h v r) (trace_from h (world_after h v r) (items_before_fault h (lines rest)))))
           gone.written wrote
       by (Err fault) is =
           prefix_more before now next (trace_text h gone.done) (trace_text h (lines_after h v (item_in h line))) [] _ k
-          (whole ∙ ap (λ (r : Result (Option Item) Fault). trace_text h gone.done ++ trace_text h (leaves r)) is ∙ ap (λ (r : Result (Option Item) Fault). trace_text h gone.done ++ (trace_text h (lines_after h v r) ++ [])) (sym is))
+          (whole ∙ ap (λ (r : Result (Option Item) Fault). trace_text h gone.done ++ trace_text h (leaves r)) is
+          ∙ ap (λ (r : Result (Option Item) Fault). trace_text h gone.done
+          ++ (trace_text h (lines_after h v r) ++ [])) (sym is))
           gone.written wrote
 
 -- What is true of a text that is known, of what follows from it.
@@ -205,36 +265,51 @@ pub anyway : (A B : Type 0) → B → A → B
 anyway A B is other = is
 
 -- These lines were made, and that much of the text is left to be cut, where it is known.
-pub record Going (h : Hierarchy) (w : World) (input : Bytes) (number : ℕ) (x : Held) (before now text : Option Bytes) : Type 0 where
+pub record Going (h : Hierarchy) (w : World) (input : Bytes) (number : ℕ) (x : Held) (before now text : Option Bytes)
+    : Type 0 where
   pub later : Bytes
   pub left : text ≡ Some later
   pub gone : Gone h w input number x before now later
 
 -- at the beginning all is left
-pub all_going : (h : Hierarchy) (w : World) (o : Option Bytes) (window : Window) (x : Held) (c : Option Bytes) → window.rest ≡ [] → IsAt x w → IfSome o (λ input. Going h w input 1 x c c (left window o))
+pub all_going : (h : Hierarchy) (w : World) (o : Option Bytes) (window : Window) (x : Held) (c : Option Bytes)
+    → window.rest ≡ [] → IsAt x w → IfSome o (λ input. Going h w input 1 x c c (left window o))
 all_going h w None window x c none is = tt
-all_going h w (Some input) window x c none is = record { later = input; left = ap (λ (r : Bytes). prepend_known r (Some input)) none; gone = nothing_gone h w input x c is }
+all_going h w (Some input) window x c none is =
+    record {
+      later = input;
+      left = ap (λ (r : Bytes). prepend_known r (Some input)) none;
+      gone = nothing_gone h w input x c is;
+    }
 
-module _ (h : Hierarchy) (w : World) (input : Bytes) (number : ℕ) (x : Held) (before now text : Option Bytes) (going : Going h w input number x before now text) where
+module _ (h : Hierarchy) (w : World) (input : Bytes) (number : ℕ) (x : Held) (before now text : Option Bytes)
+    (going : Going h w input number x before now text) where
   abbrev pub Ends : Streamed → Option Bytes → Type 0
-  Ends how next = (how ≡ ending_of h (lines input)) × Appends before next (trace_text h (trace_from h w (items_before_fault h (lines input))))
+  Ends how next = (how ≡ ending_of h (lines input))
+      × Appends before next (trace_text h (trace_from h w (items_before_fault h (lines input))))
 
-  cut_so : (how : Cut) (line : Bytes) (after : Option Bytes) → Cuts how text line after → CutsText how going.later line after
+  cut_so : (how : Cut) (line : Bytes) (after : Option Bytes) → Cuts how text line after
+      → CutsText how going.later line after
   cut_so how line after cuts = subst (λ (t : Option Bytes). Cuts how t line after) going.left cuts
 
-  pub ends_long : (line : Bytes) (after : Option Bytes) (code : ℕ) → code ≡ fault_number LineTooLong → Cuts cut.TooLong text line after → Ends (streamed.Faulty number code) now
+  pub ends_long : (line : Bytes) (after : Option Bytes) (code : ℕ) → code ≡ fault_number LineTooLong
+      → Cuts cut.TooLong text line after → Ends (streamed.Faulty number code) now
   ends_long line after code is cuts = by (cut_so cut.TooLong line after cuts)
     where
       by : CutsText cut.TooLong going.later line after → Ends (streamed.Faulty number code) now
-      by (first, more, splits, long) = gone_long h w input number x before now going.later going.gone first more code is splits long
+      by (first, more, splits, long) = gone_long h w input number x before now going.later going.gone first more code
+          is splits long
 
   pub ends_all : (line : Bytes) (after : Option Bytes) → Cuts cut.End text line after → Ends streamed.Ended now
-  ends_all line after cuts = gone_all h w input number x before now going.later going.gone (cut_so cut.End line after cuts)
+  ends_all line after cuts = gone_all h w input number x before now going.later going.gone
+      (cut_so cut.End line after cuts)
 
-  pub wrote_whole : (k : ℕ) × Appends before now (trace_text h (trace_from h w (items_before_fault h (take k (lines input)))))
+  pub wrote_whole : (k : ℕ) × Appends before now
+      (trace_text h (trace_from h w (items_before_fault h (take k (lines input)))))
   wrote_whole = gone_whole h w input number x before now going.later going.gone
 
-  pub wrote_front : (n : ℕ) × Appends before now (take n (trace_text h (trace_from h w (items_before_fault h (lines input)))))
+  pub wrote_front : (n : ℕ) × Appends before now
+      (take n (trace_text h (trace_from h w (items_before_fault h (lines input)))))
   wrote_front = gone_front h w input number x before now going.later going.gone
 
   -- the line that was cut, in the words of who made it
@@ -243,17 +318,20 @@ module _ (h : Hierarchy) (w : World) (input : Bytes) (number : ℕ) (x : Held) (
 
   -- it is faulty
   pub ends_told :
-      (t : Hierarchy) (line own : Bytes) (after next : Option Bytes) (how : Streamed) (Done Still : Type 0) → t ≡ h → line ≡ own → Cuts cut.Line text own after
+      (t : Hierarchy) (line own : Bytes) (after next : Option Bytes) (how : Streamed) (Done Still : Type 0) → t ≡ h
+      → line ≡ own → Cuts cut.Line text own after
       → (Done → Still × IsFault number (item_in t line) how) → (Still → next ≡ now) → Done → Ends how next
   ends_told t line own after next how Done Still tree read cuts told still done =
       subst (λ (c : Option Bytes). Ends how c) (sym (still (told done).0)) (by after (cut_so cut.Line own after cuts))
     where
       told_here : IsFault number (item_in h own) how
-      told_here = subst (λ (r : Result (Option Item) Fault). IsFault number r how) (same_item t line own tree read) (told done).1
+      told_here = subst (λ (r : Result (Option Item) Fault). IsFault number r how) (same_item t line own tree read)
+          (told done).1
 
       by : (rest : Option Bytes) → CutsText cut.Line going.later own rest → Ends how now
       by None none = absurd none
-      by (Some rest) splits = gone_told h w input number x before now going.later going.gone own (lines rest) how splits told_here
+      by (Some rest) splits = gone_told h w input number x before now going.later going.gone own (lines rest) how
+          splits told_here
 
   -- a prefix of what it leaves is written
   pub wrote_next :
@@ -268,15 +346,19 @@ module _ (h : Hierarchy) (w : World) (input : Bytes) (number : ℕ) (x : Held) (
       here : (k : ℕ) × Appends now next (take k (trace_text h (lines_after h v (item_in h own))))
       here =
           subst (λ (l : Bytes). (k : ℕ) × Appends now next (take k (trace_text h (lines_after h v (item_in h l))))) read
-          (subst (λ (a : Hierarchy). (k : ℕ) × Appends now next (take k (trace_text a (lines_after a v (item_in a line))))) tree (wrote v going.gone.is))
+          (subst (λ (a : Hierarchy). (k : ℕ) × Appends now next
+          (take k (trace_text a (lines_after a v (item_in a line))))) tree (wrote v going.gone.is))
 
-      by : (rest : Option Bytes) → CutsText cut.Line going.later own rest → (n : ℕ) × Appends before next (take n (trace_text h (trace_from h w (items_before_fault h (lines input)))))
+      by : (rest : Option Bytes) → CutsText cut.Line going.later own rest
+          → (n : ℕ) × Appends before next (take n (trace_text h (trace_from h w (items_before_fault h (lines input)))))
       by None none = absurd none
-      by (Some rest) splits = gone_next h w input number x before now going.later going.gone own rest next splits here.0 here.1
+      by (Some rest) splits = gone_next h w input number x before now going.later going.gone own rest next splits
+          here.0 here.1
 
   -- it is made, and all that it leaves is written
   pub goes_on :
-      (t : Hierarchy) (line own : Bytes) (after next : Option Bytes) (y : Held) → t ≡ h → line ≡ own → Cuts cut.Line text own after → is_ok (item_in t line) ≡ true
+      (t : Hierarchy) (line own : Bytes) (after next : Option Bytes) (y : Held) → t ≡ h → line ≡ own
+      → Cuts cut.Line text own after → is_ok (item_in t line) ≡ true
       → ((v : World) → IsAt x v → IsAt y (world_after t v (item_in t line)))
       → ((v : World) → IsAt x v → Appends now next (trace_text t (lines_after t v (item_in t line))))
       → Going h w input (number + 1) y before next after
@@ -296,8 +378,15 @@ module _ (h : Hierarchy) (w : World) (input : Bytes) (number : ℕ) (x : Held) (
       wrote_here : Appends now next (trace_text h (lines_after h v (item_in h own)))
       wrote_here =
           subst (λ (l : Bytes). Appends now next (trace_text h (lines_after h v (item_in h l)))) read
-          (subst (λ (a : Hierarchy). Appends now next (trace_text a (lines_after a v (item_in a line)))) tree (wrote v going.gone.is))
+          (subst (λ (a : Hierarchy). Appends now next (trace_text a (lines_after a v (item_in a line)))) tree
+          (wrote v going.gone.is))
 
-      by : (rest : Option Bytes) → CutsText cut.Line going.later own rest → Going h w input (number + 1) y before next rest
+      by : (rest : Option Bytes) → CutsText cut.Line going.later own rest
+          → Going h w input (number + 1) y before next rest
       by None none = absurd none
-      by (Some rest) splits = record { later = rest; left = refl; gone = gone_on h w input number x before now going.later going.gone own rest y next splits ok_here at_here wrote_here }
+      by (Some rest) splits = record {
+        later = rest;
+        left = refl;
+        gone = gone_on h w input number x before now going.later going.gone own rest y next splits ok_here at_here
+            wrote_here;
+      }

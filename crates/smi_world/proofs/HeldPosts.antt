@@ -1,5 +1,6 @@
--- The stations of a world as they are kept: one of them changes, and one more stands behind them.
-use Rattle.std.proofs.Common.{ℕ, zero, suc, ◌≡◌, ◌≢◌, ◌<◌, ◌+◌, Bool, true, false, List, [], ◌∷◌, ◌++◌, length, slice_index_or, slice_set, inl, inr, refl, sym, subst, arith}
+-- The stations of a world as they are kept: one of them changes, and one more stands after them.
+use Rattle.std.proofs.Common.{ℕ, zero, suc, ◌≡◌, ◌≢◌, ◌<◌, ◌+◌, Bool, true, false, List, [], ◌∷◌, ◌++◌, length}
+use Rattle.std.proofs.Common.{slice_index_or, slice_set, inl, inr, refl, sym, subst, arith}
 use Rattle.std.specs.Prelude.{◌⊎◌, ◌==◌, if◌then◌else◌}
 use Rattle.std.proofs.lemmas.Bool.{eqb-true}
 use Rattle.smi_tree.specs.Hierarchy.{Hierarchy}
@@ -21,13 +22,15 @@ use Rattle.smi_world.specs.Posts.{ArePosts, IsPost, Makes}
 
 module _ (h : Hierarchy) where
   -- the station at a place
-  pub post_at : (k i : ℕ) (posts : List Post) (stations : ℕ → Station) (d : Post) → i < length posts → ArePosts h k posts stations → IsPost h (k + i) (slice_index_or posts i d) (stations (k + i))
+  pub post_at : (k i : ℕ) (posts : List Post) (stations : ℕ → Station) (d : Post) → i < length posts
+      → ArePosts h k posts stations → IsPost h (k + i) (slice_index_or posts i d) (stations (k + i))
   post_at k i [] stations d within are = let wrong : ⊥ = omega (arith, within) in absurd wrong
   post_at k zero (p ∷ posts) stations d within are =
       let same : k ≡ k + 0 = omega arith in subst (λ n. IsPost h n p (stations n)) same are.0
   post_at k (suc i) (p ∷ posts) stations d within are =
       let same : suc k + i ≡ k + suc i = omega arith in
-      subst (λ n. IsPost h n (slice_index_or posts i d) (stations n)) same (post_at (suc k) i posts stations d (omega (arith, within)) are.1)
+      subst (λ n. IsPost h n (slice_index_or posts i d) (stations n)) same
+      (post_at (suc k) i posts stations d (omega (arith, within)) are.1)
 
   -- a station before these has changed
   other : (stations : ℕ → Station) (n m : ℕ) (s : Station) → m ≢ n → stations m ≡ put stations n s m
@@ -37,7 +40,8 @@ module _ (h : Hierarchy) where
       by true is = absurd (differs (eqb-true m n is))
       by false is = refl
 
-  others : (k n : ℕ) (posts : List Post) (stations : ℕ → Station) (s : Station) → n < k → ArePosts h k posts stations → ArePosts h k posts (put stations n s)
+  others : (k n : ℕ) (posts : List Post) (stations : ℕ → Station) (s : Station) → n < k → ArePosts h k posts stations
+      → ArePosts h k posts (put stations n s)
   others k n [] stations s below are = tt
   others k n (p ∷ posts) stations s below are = (
     subst (IsPost h k p) (other stations n k s (λ same. let wrong : ⊥ = omega (arith, below, same) in wrong)) are.0,
@@ -45,7 +49,8 @@ module _ (h : Hierarchy) where
   )
 
   -- one of them is another now
-  pub post_put : (k i : ℕ) (posts : List Post) (stations : ℕ → Station) (p : Post) (s : Station) → i < length posts → ArePosts h k posts stations → IsPost h (k + i) p s → ArePosts h k (slice_set posts i p) (put stations (k + i) s)
+  pub post_put : (k i : ℕ) (posts : List Post) (stations : ℕ → Station) (p : Post) (s : Station) → i < length posts
+      → ArePosts h k posts stations → IsPost h (k + i) p s → ArePosts h k (slice_set posts i p) (put stations (k + i) s)
   post_put k i [] stations p s within are is = let wrong : ⊥ = omega (arith, within) in absurd wrong
   post_put k zero (q ∷ posts) stations p s within are is =
       let same : k + 0 ≡ k = omega arith in
@@ -61,28 +66,36 @@ module _ (h : Hierarchy) where
       )
 
   -- one more
-  pub post_more : (k : ℕ) (posts : List Post) (stations : ℕ → Station) (p : Post) → ArePosts h k posts stations → IsPost h (k + length posts) p (stations (k + length posts)) → ArePosts h k (posts ++ p ∷ []) stations
-  post_more k [] stations p are is = let same : k + 0 ≡ k = omega arith in (subst (λ n. IsPost h n p (stations n)) same is, tt)
+  pub post_more : (k : ℕ) (posts : List Post) (stations : ℕ → Station) (p : Post) → ArePosts h k posts stations
+      → IsPost h (k + length posts) p (stations (k + length posts)) → ArePosts h k (posts ++ p ∷ []) stations
+  post_more k [] stations p are is = let same : k + 0 ≡ k = omega arith in
+      (subst (λ n. IsPost h n p (stations n)) same is, tt)
   post_more k (q ∷ posts) stations p are is =
       let same : k + length (q ∷ posts) ≡ suc k + length posts = omega arith in
       (are.0, post_more (suc k) posts stations p are.1 (subst (λ n. IsPost h n p (stations n)) same is))
 
 -- What one of them has made is what the item makes of the world.
-module _ (h : Hierarchy) (w : World) (posts : List Post) (number i : ℕ) (at : number ≡ 1 + i) (within : i < length posts) (are : ArePosts h 1 posts w.stations) where
+module _ (h : Hierarchy) (w : World) (posts : List Post) (number i : ℕ) (at : number ≡ 1 + i)
+    (within : i < length posts) (are : ArePosts h 1 posts w.stations) where
   -- the station of this number stands there
   pub there : (d : Post) → IsPost h number (slice_index_or posts i d) (w.stations number)
-  there d = subst (λ n. IsPost h n (slice_index_or posts i d) (w.stations n)) (sym at) (post_at h 1 i posts w.stations d within are)
+  there d = subst (λ n. IsPost h n (slice_index_or posts i d) (w.stations n)) (sym at)
+      (post_at h 1 i posts w.stations d within are)
 
   moved : (p : Post) (s : Station) → IsPost h number p s → ArePosts h 1 (slice_set posts i p) (put w.stations number s)
-  moved p s is = subst (λ n. ArePosts h 1 (slice_set posts i p) (put w.stations n s)) (sym at) (post_put h 1 i posts w.stations p s within are (subst (λ n. IsPost h n p s) at is))
+  moved p s is = subst (λ n. ArePosts h 1 (slice_set posts i p) (put w.stations n s)) (sym at)
+      (post_put h 1 i posts w.stations p s within are (subst (λ n. IsPost h n p s) at is))
 
-  pub turned_at : (p : Post) (l : Left) (a : Act) → Makes h number p l a → Turned h (slice_set posts i p) l (turn_at w number a)
+  pub turned_at : (p : Post) (l : Left) (a : Act) → Makes h number p l a
+      → Turned h (slice_set posts i p) l (turn_at w number a)
   turned_at p l a makes = record { are = moved p a.station makes.post; entries = makes.entries; sends = makes.sends }
 
   pub stays_at : (p : Post) → IsPost h number p (w.stations number) → ArePosts h 1 (slice_set posts i p) w.stations
-  stays_at p is = subst (ArePosts h 1 (slice_set posts i p)) (put_same w.stations number) (moved p (w.stations number) is)
+  stays_at p is = subst (ArePosts h 1 (slice_set posts i p)) (put_same w.stations number)
+      (moved p (w.stations number) is)
 
-  pub halts_at : (p : Post) (doing : Doing) (x : Item) → IsStopOf h w x number doing → (IsPost h number p (w.stations number) ⊎ IsHalted h number p doing (w.stations number))
+  pub halts_at : (p : Post) (doing : Doing) (x : Item) → IsStopOf h w x number doing
+      → (IsPost h number p (w.stations number) ⊎ IsHalted h number p doing (w.stations number))
       → ArePosts h 1 (slice_set posts i p) w.stations ⊎ Halted h (slice_set posts i p) w x
   halts_at p doing x stop (inl is) = inl (stays_at p is)
   halts_at p (doing.StopAfter what) x stop (inr halted) = inr (record {

@@ -12,8 +12,10 @@ use Rattle.smi_station.specs.Readers.{current_of}
 use Rattle.smi_world.specs.Passing.{anew, if_changed, passed_since}
 
 -- the last of several
-pub with_last : {X Y : Type 0} (f : X → Option Y) (xs : List X) (x : X) (ys : List Y) → ys ≡ filter_map f xs → ys ++ if_any (f x) ≡ filter_map f (xs ++ x ∷ [])
-with_last f xs x ys same = ap (λ zs. zs ++ if_any (f x)) same ∙ ap (λ zs. filter_map f xs ++ zs) (by (f x) refl) ∙ sym (filter_map-append f xs (x ∷ []))
+pub with_last : {X Y : Type 0} (f : X → Option Y) (xs : List X) (x : X) (ys : List Y) → ys ≡ filter_map f xs
+    → ys ++ if_any (f x) ≡ filter_map f (xs ++ x ∷ [])
+with_last f xs x ys same = ap (λ zs. zs ++ if_any (f x)) same ∙ ap (λ zs. filter_map f xs ++ zs) (by (f x) refl)
+    ∙ sym (filter_map-append f xs (x ∷ []))
   where
     by : (o : Option _) → f x ≡ o → if_any o ≡ filter_map f (x ∷ [])
     by None is = rw is refl
@@ -24,7 +26,9 @@ module _ (s new : Station) (boot : new.grants.boot ≡ s.grants.boot) where
   Sees x a = shown s.grants.boot x a
 
   -- what an object shows now, that has shown this
-  value : (x : ℕ) (a : Condition) (ob : Option Condition) → option_and_then (if_changed (Sees x a)) (option_map (Sees x) ob) ≡ (if differs (Some a) ob then option_map (Sees x) ob else None)
+  value : (x : ℕ) (a : Condition) (ob : Option Condition)
+      → option_and_then (if_changed (Sees x a)) (option_map (Sees x) ob)
+      ≡ (if differs (Some a) ob then option_map (Sees x) ob else None)
   value x a None = refl
   value x a (Some b) = by (a.state == b.state)
     where
@@ -32,19 +36,25 @@ module _ (s new : Station) (boot : new.grants.boot ≡ s.grants.boot) where
       by true = refl
       by false = refl
 
-  anew_at : (x : ℕ) (a : Condition) (ob : Option Condition) → new.display.conditions x ≡ ob → anew new (Sees x a) ≡ (if differs (Some a) ob then option_map (Sees x) ob else None)
+  anew_at : (x : ℕ) (a : Condition) (ob : Option Condition) → new.display.conditions x ≡ ob
+      → anew new (Sees x a) ≡ (if differs (Some a) ob then option_map (Sees x) ob else None)
   anew_at x a ob is =
       ap (λ n. option_and_then (if_changed (Sees x a)) (option_map (shown n x) (new.display.conditions x))) boot
       ∙ ap (λ o. option_and_then (if_changed (Sees x a)) (option_map (Sees x) o)) is
       ∙ value x a ob
 
-  one : (x : ℕ) (oa ob : Option Condition) → new.display.conditions x ≡ ob → (xs ys : List Shown) → filter_map (anew new) xs ≡ ys
-      → filter_map (anew new) (cons_option (option_map (Sees x) oa) xs) ≡ cons_option (if differs oa ob then option_map (Sees x) ob else None) ys
+  one : (x : ℕ) (oa ob : Option Condition) → new.display.conditions x ≡ ob → (xs ys : List Shown)
+      → filter_map (anew new) xs ≡ ys
+      → filter_map (anew new) (cons_option (option_map (Sees x) oa) xs)
+      ≡ cons_option (if differs oa ob then option_map (Sees x) ob else None) ys
   one x None ob is xs ys same = same
-  one x (Some a) ob is xs ys same = ap (λ o. cons_option o (filter_map (anew new) xs)) (anew_at x a ob is) ∙ ap (cons_option (if differs (Some a) ob then option_map (Sees x) ob else None)) same
+  one x (Some a) ob is xs ys same = ap (λ o. cons_option o (filter_map (anew new) xs)) (anew_at x a ob is)
+      ∙ ap (cons_option (if differs (Some a) ob then option_map (Sees x) ob else None)) same
 
   -- those that have changed, told by what was shown before, are those that have changed
-  pub passed_anew : (objects : List ℕ) → passed_since new (filter_map (current_of s) objects) ≡ changes_at s.grants.boot s.display.conditions new.display.conditions objects
+  pub passed_anew : (objects : List ℕ) → passed_since new (filter_map (current_of s) objects)
+      ≡ changes_at s.grants.boot s.display.conditions new.display.conditions objects
   passed_anew [] = refl
   passed_anew (x ∷ objects) =
-      one x (s.display.conditions x) (new.display.conditions x) refl (filter_map (current_of s) objects) (changes_at s.grants.boot s.display.conditions new.display.conditions objects) (passed_anew objects)
+      one x (s.display.conditions x) (new.display.conditions x) refl (filter_map (current_of s) objects)
+      (changes_at s.grants.boot s.display.conditions new.display.conditions objects) (passed_anew objects)

@@ -1,5 +1,6 @@
 -- A world stays one that can be reached, whatever item is made of it.
-use Rattle.std.proofs.Common.{ℕ, ◌≡◌, Bool, true, false, List, [], ◌++◌, Some, None, Option, Result, Ok, Err, length, inl, inr, append-nil, refl, sym, ap, ◌∙◌, subst}
+use Rattle.std.proofs.Common.{ℕ, ◌≡◌, Bool, true, false, List, [], ◌++◌, Some, None, Option, Result, Ok, Err, length}
+use Rattle.std.proofs.Common.{inl, inr, append-nil, refl, sym, ap, ◌∙◌, subst}
 use Rattle.std.specs.Prelude.{◌==◌, ◌⊎◌, is_ok, is_some, if◌then◌else◌, OnErr, OnOk}
 use Rattle.smi_message.specs.Message.{Message, last_boot}
 use Rattle.smi_tree.specs.Hierarchy.{Hierarchy}
@@ -15,7 +16,8 @@ use Rattle.smi_protocol.specs.declared.entry.Entry.{Entry}
 use Rattle.smi_item.specs.declared.item.Item.{Item}
 use Rattle.smi_item.specs.declared.item.Item.TheVariants as item
 use Rattle.smi_item.specs.declared.item.Moment.TheVariants as moment
-use Rattle.smi_law.specs.Schedule.{Arrival, World, Turn, arrival_of, changed, done_by, failed, failing, first_world, is_at, nothing, opening_of, restarted, stepped, stopped_behind, turn}
+use Rattle.smi_law.specs.Schedule.{Arrival, World, Turn, arrival_of, changed, done_by, failed, failing, first_world}
+use Rattle.smi_law.specs.Schedule.{is_at, nothing, opening_of, restarted, stepped, stopped_behind, turn}
 use Rattle.smi_law.specs.World.{MayCome, Reaches, goes_on, noted, opens, stops, with_station}
 use Rattle.smi_law.proofs.Bridge.{Arrives, arrives, turned}
 use Rattle.smi_world.specs.Left.{Left}
@@ -35,14 +37,17 @@ module _ (h : Hierarchy) (w : World) where
   done_sends None = none_sent
   done_sends (Some x) = by (w.stations x.station).is_stopped
     where
-      by : (b : Bool) → Sends w (if b then nothing w else stepped w x.station (after h x.station (w.stations x.station) x.what))
+      by : (b : Bool)
+          → Sends w (if b then nothing w else stepped w x.station (after h x.station (w.stations x.station) x.what))
       by true = none_sent
       by false = refl
 
   restart_sends : (n : ℕ) (kept : List Entry) (s : Station) → Sends w (restarted h w n kept s)
   restart_sends n kept s = by (s.grants.boot == last_boot)
     where
-      by : (b : Bool) → Sends w (if b then changed w n (record s { is_stopped = true }) kept [] else changed w n (opened h n s.grants) (kept ++ opening_entries h n (opened h n s.grants)) [])
+      by : (b : Bool)
+          → Sends w (if b then changed w n (record s { is_stopped = true }) kept []
+          else changed w n (opened h n s.grants) (kept ++ opening_entries h n (opened h n s.grants)) [])
       by true = refl
       by false = refl
 
@@ -50,7 +55,9 @@ module _ (h : Hierarchy) (w : World) where
   stop_sends n None = restart_sends n [] (w.stations n)
   stop_sends n (Some x) = by (is_at w n (Some x))
     where
-      by : (b : Bool) → Sends w (if b then restarted h w n (after h n (w.stations n) x.what).kept (saved_only h n (w.stations n) x.what) else restarted h w n [] (w.stations n))
+      by : (b : Bool)
+          → Sends w (if b then restarted h w n (after h n (w.stations n) x.what).kept
+          (saved_only h n (w.stations n) x.what) else restarted h w n [] (w.stations n))
       by true = restart_sends n (after h n (w.stations n) x.what).kept (saved_only h n (w.stations n) x.what)
       by false = restart_sends n [] (w.stations n)
 
@@ -67,7 +74,9 @@ module _ (h : Hierarchy) (w : World) where
       saves true = failed_sends n x.what how
       saves false = done_sends (Some x)
 
-      by : (b : Bool) → Sends w (if b then (if is_some (after h n (w.stations n) x.what).saved then failed h w n x.what how else done_by h w (Some x)) else nothing w)
+      by : (b : Bool)
+          → Sends w (if b then (if is_some (after h n (w.stations n) x.what).saved then failed h w n x.what how
+          else done_by h w (Some x)) else nothing w)
       by true = saves (is_some (after h n (w.stations n) x.what).saved)
       by false = none_sent
 
@@ -79,14 +88,17 @@ module _ (h : Hierarchy) (w : World) where
   turn_sends (item.Fail n how what) = fail_sends n (arrival_of h w what) how
 
   -- what was made, with what was sent
-  pub made_is : {X Y : Type 0} (r : Result X Y) (before posts : List Post) (sent new : List Message) (l : Left) (x : Item) → IsAt (held h before sent) w → length posts ≡ length before → l.before ≡ length sent
-      → Turned h posts l (turn h w x) → new ≡ (if is_ok r then sent ++ l.out.datagrams else sent) → OnOk r (IsMade (held h posts new) l w (turn h w x))
+  pub made_is : {X Y : Type 0} (r : Result X Y) (before posts : List Post) (sent new : List Message) (l : Left)
+      (x : Item) → IsAt (held h before sent) w → length posts ≡ length before → l.before ≡ length sent
+      → Turned h posts l (turn h w x) → new ≡ (if is_ok r then sent ++ l.out.datagrams else sent)
+      → OnOk r (IsMade (held h posts new) l w (turn h w x))
   made_is (Err fault) before posts sent new l x at count numbered made grown = tt
   made_is (Ok u) before posts sent new l x at count numbered made grown = record {
     is = record {
       count = count ∙ at.count;
       posts = made.are;
-      sent = grown ∙ ap (λ (ms : List Message). ms ++ l.out.datagrams) at.sent ∙ ap (λ (ms : List Message). w.sent ++ ms) made.sends ∙ sym (turn_sends x);
+      sent = grown ∙ ap (λ (ms : List Message). ms ++ l.out.datagrams) at.sent
+          ∙ ap (λ (ms : List Message). w.sent ++ ms) made.sends ∙ sym (turn_sends x);
     };
     entries = made.entries;
     sends = made.sends;
@@ -94,7 +106,8 @@ module _ (h : Hierarchy) (w : World) where
   }
 
 -- all stations have started once
-pub first_reached : (h : Hierarchy) (posts : List Post) (sent : List Message) → length posts ≡ station_count h → ArePosts h 1 posts (first_opened h) → sent ≡ [] → IsReached (held h posts sent)
+pub first_reached : (h : Hierarchy) (posts : List Post) (sent : List Message) → length posts ≡ station_count h
+    → ArePosts h 1 posts (first_opened h) → sent ≡ [] → IsReached (held h posts sent)
 first_reached h posts sent count are none = record {
   past = noted (opening_of h) [];
   world = first_world h;
@@ -106,22 +119,28 @@ module _ (h : Hierarchy) (tree : IsTree h) (past : List Entry) (w : World) (run 
   may_come : (x : Option Arrival) (a : Arrival) → Arrives w x → x ≡ Some a → MayCome w a.what
   may_come x a comes is = subst (Arrives w) is comes
 
-  halted_reached : (posts : List Post) (sent : List Message) (x : Item) → length posts ≡ station_count h → Halted h posts w x → sent ≡ w.sent → IsReached (held h posts sent)
+  halted_reached : (posts : List Post) (sent : List Message) (x : Item) → length posts ≡ station_count h
+      → Halted h posts w x → sent ≡ w.sent → IsReached (held h posts sent)
   halted_reached posts sent x count halted same = record {
     past = noted (after h halted.number (w.stations halted.number) halted.what).kept past;
     world = with_station w halted.number (saved_only h halted.number (w.stations halted.number) halted.what);
     is = record { count = count; posts = halted.are; sent = same };
-    reached = goes_on run (stops halted.number halted.what halted.runs (may_come (arrival_of h w halted.deed) _ (arrives h w halted.deed) halted.comes));
+    reached = goes_on run (stops halted.number halted.what halted.runs
+        (may_come (arrival_of h w halted.deed) _ (arrives h w halted.deed) halted.comes));
   }
 
   -- what an item was made of, or was not, is a world that can be reached
-  pub still_reached : {X Y : Type 0} (r : Result X Y) (before posts : List Post) (old sent : List Message) (l : Left) (x : Item) → IsAt (held h before old) w → length posts ≡ length before
-      → OnOk r (IsMade (held h posts sent) l w (turn h w x)) → OnErr r (IsAt (held h posts sent) w ⊎ Halted h posts w x × (sent ≡ old)) → IsReached (held h posts sent)
+  pub still_reached : {X Y : Type 0} (r : Result X Y) (before posts : List Post) (old sent : List Message) (l : Left)
+      (x : Item) → IsAt (held h before old) w → length posts ≡ length before
+      → OnOk r (IsMade (held h posts sent) l w (turn h w x))
+      → OnErr r (IsAt (held h posts sent) w ⊎ Halted h posts w x × (sent ≡ old)) → IsReached (held h posts sent)
   still_reached (Ok u) before posts old sent l x at count made unmade = record {
     past = noted (turn h w x).entries past;
     world = (turn h w x).world;
     is = made.is;
     reached = turned h tree past w run x;
   }
-  still_reached (Err e) before posts old sent l x at count made (inl same) = record { past = past; world = w; is = same; reached = run }
-  still_reached (Err e) before posts old sent l x at count made (inr halted) = halted_reached posts sent x (count ∙ at.count) halted.0 (halted.1 ∙ at.sent)
+  still_reached (Err e) before posts old sent l x at count made (inl same) =
+      record { past = past; world = w; is = same; reached = run }
+  still_reached (Err e) before posts old sent l x at count made (inr halted) =
+      halted_reached posts sent x (count ∙ at.count) halted.0 (halted.1 ∙ at.sent)

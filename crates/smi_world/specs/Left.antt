@@ -47,7 +47,14 @@ lines_left h l = map line.Entry (entries_left h l) ++ sent_lines (l.before + 1) 
 
 -- nothing is left
 abbrev pub nothing_left : ℕ → ℕ → Left
-nothing_left number before = record { station = number; kept = []; started = None; passed = []; out = nothing_out; before = before }
+nothing_left number before = record {
+  station = number;
+  kept = [];
+  started = None;
+  passed = [];
+  out = nothing_out;
+  before = before;
+}
 
 -- the numbers of what one step sends are numbers of 64 bits
 abbrev pub most_before : ℕ

@@ -38,7 +38,8 @@ stopped_at h w number moment.After o = stopped_behind h w number o
 
 -- After a stop that could not start again, the station stays stopped with what it has saved.
 abbrev pub IsHalted : Hierarchy → ℕ → Post → Doing → Station → Type 0
-IsHalted h number p (doing.StopAfter what) s = (s.is_stopped ≡ false) × IsPost h number p (saved_only h number s (happening what))
+IsHalted h number p (doing.StopAfter what) s =
+    (s.is_stopped ≡ false) × IsPost h number p (saved_only h number s (happening what))
 IsHalted h number p (doing.Come what) s = ⊥
 IsHalted h number p doing.Start s = ⊥
 IsHalted h number p (doing.Fail how what) s = ⊥
@@ -52,7 +53,8 @@ StopsFor number when o (doing.Fail how what) = Unit {0}
 
 -- the item asks for a stop after the save, where the task is that
 abbrev pub IsStopOf : Hierarchy → World → Item → ℕ → Doing → Type 0
-IsStopOf h w x number (doing.StopAfter what) = (d : Deed) × (x ≡ item.Stop number moment.After d) × (arrival_of h w d ≡ Some (arrival (happening what) number))
+IsStopOf h w x number (doing.StopAfter what) =
+    (d : Deed) × (x ≡ item.Stop number moment.After d) × (arrival_of h w d ≡ Some (arrival (happening what) number))
 IsStopOf h w x number (doing.Come what) = Unit {0}
 IsStopOf h w x number doing.Start = Unit {0}
 IsStopOf h w x number (doing.Fail how what) = Unit {0}

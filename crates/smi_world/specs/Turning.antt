@@ -52,7 +52,8 @@ failed_act h number plan.After what s = act (saved_only h number s what) (after 
 abbrev pub fail_act : Hierarchy → ℕ → Plan → Happening → Station → Act
 fail_act h number how what s =
     if s.is_stopped then idle s
-    else (if is_some (after h number s what).saved then failed_act h number how what s else step_of (after h number s what))
+    else (if is_some (after h number s what).saved then failed_act h number how what s
+    else step_of (after h number s what))
 
 -- the world in which a station has made this
 abbrev pub turn_at : World → ℕ → Act → Turn

@@ -26,8 +26,10 @@ pub(crate) fn is_stopped(post: &Post<'_>) -> bool
 
 /// Something comes to the station.
 pub(crate) fn arrive(post: &mut Post<'_>, what: &Coming, left: &mut Left) -> Result<(), AllocError>
-    ensures makes { (h : Hierarchy) (number : ℕ) (s : Defined) → IsPost h number post.old s → OnOk result (Makes h number post.new left.new (step_act h number (happening what.now) s)) }
-    ensures same { (h : Hierarchy) (number : ℕ) (s : Defined) → IsPost h number post.old s → OnErr result (IsPost h number post.new s) }
+    ensures makes { (h : Hierarchy) (number : ℕ) (s : Defined) → IsPost h number post.old s
+        → OnOk result (Makes h number post.new left.new (step_act h number (happening what.now) s)) }
+    ensures same { (h : Hierarchy) (number : ℕ) (s : Defined) → IsPost h number post.old s
+        → OnErr result (IsPost h number post.new s) }
     ensures before { left.new.before ≡ left.old.before }
 {
     if is_stopped(post) {
@@ -39,8 +41,10 @@ pub(crate) fn arrive(post: &mut Post<'_>, what: &Coming, left: &mut Left) -> Res
 
 /// The station starts again, after its save has left what it has; where its boots are spent, it stops.
 fn start_again(alloc: Global, post: &mut Post<'_>, left: &mut Left) -> Result<(), AllocError>
-    ensures makes { (h : Hierarchy) (number : ℕ) (s : Defined) → IsPost h number post.old s → OnOk result (Makes h number post.new left.new (restart_act h number left.old.kept s)) }
-    ensures same { (h : Hierarchy) (number : ℕ) (s : Defined) → IsPost h number post.old s → OnErr result (IsPost h number post.new s) }
+    ensures makes { (h : Hierarchy) (number : ℕ) (s : Defined) → IsPost h number post.old s
+        → OnOk result (Makes h number post.new left.new (restart_act h number left.old.kept s)) }
+    ensures same { (h : Hierarchy) (number : ℕ) (s : Defined) → IsPost h number post.old s
+        → OnErr result (IsPost h number post.new s) }
     ensures before { left.new.before ≡ left.old.before }
 {
     left.station = post.station.grants().number();
@@ -63,8 +67,10 @@ fn start_again(alloc: Global, post: &mut Post<'_>, left: &mut Left) -> Result<()
 
 /// The station starts again.
 pub(crate) fn restart(alloc: Global, post: &mut Post<'_>, left: &mut Left) -> Result<(), AllocError>
-    ensures makes { (h : Hierarchy) (number : ℕ) (s : Defined) → IsPost h number post.old s → OnOk result (Makes h number post.new left.new (restart_act h number [] s)) }
-    ensures same { (h : Hierarchy) (number : ℕ) (s : Defined) → IsPost h number post.old s → OnErr result (IsPost h number post.new s) }
+    ensures makes { (h : Hierarchy) (number : ℕ) (s : Defined) → IsPost h number post.old s
+        → OnOk result (Makes h number post.new left.new (restart_act h number [] s)) }
+    ensures same { (h : Hierarchy) (number : ℕ) (s : Defined) → IsPost h number post.old s
+        → OnErr result (IsPost h number post.new s) }
     ensures before { left.new.before ≡ left.old.before }
 {
     left.kept = Entries::new();
@@ -80,8 +86,11 @@ pub(crate) fn stop_after(
     what: &Coming,
     left: &mut Left,
 ) -> Result<(), AllocError>
-    ensures makes { (h : Hierarchy) (number : ℕ) (s : Defined) → IsPost h number post.old s → OnOk result (Makes h number post.new left.new (stop_act h number (happening what.now) s)) }
-    ensures halts { (h : Hierarchy) (number : ℕ) (s : Defined) → IsPost h number post.old s → OnErr result (IsPost h number post.new s ⊎ (s.is_stopped ≡ false) × IsPost h number post.new (saved_only h number s (happening what.now))) }
+    ensures makes { (h : Hierarchy) (number : ℕ) (s : Defined) → IsPost h number post.old s
+        → OnOk result (Makes h number post.new left.new (stop_act h number (happening what.now) s)) }
+    ensures halts { (h : Hierarchy) (number : ℕ) (s : Defined) → IsPost h number post.old s
+        → OnErr result (IsPost h number post.new s ⊎ (s.is_stopped ≡ false)
+        × IsPost h number post.new (saved_only h number s (happening what.now))) }
     ensures before { left.new.before ≡ left.old.before }
 {
     if is_stopped(post) {

@@ -96,7 +96,8 @@ use smi_out::object_home;
 
 /// An order comes to the operator's station, and a report in it to the device's.
 fn order_of(tree: &Tree, operator: u16, order: &Order) -> Option<Arrival>
-    ensures arrival { option_map arrival_in result ≡ schedule.arrival_at tree.now (ordered_or_reported operator order.now) }
+    ensures arrival { option_map arrival_in result
+        ≡ schedule.arrival_at tree.now (ordered_or_reported operator order.now) }
     ensures within { IfSome result (λ a. IsBetween 1 (station_count tree.now) a.station) }
 {
     if let Order::Report(device, state) = *order {
@@ -116,7 +117,8 @@ ghost use Rattle.smi_protocol.specs.Step.{ordered_or_reported};
 /// What a deed brings to which station, if it brings anything.
 pub(crate) fn arrival_of(tree: &Tree, sent: &[Datagram], deed: &Deed) -> Option<Arrival>
     requires { has_deed tree.now deed.now ≡ true }
-    ensures arrival { (w : World) → w.sent ≡ sent.now → option_map arrival_in result ≡ schedule.arrival_of tree.now w deed.now }
+    ensures arrival { (w : World) → w.sent ≡ sent.now
+        → option_map arrival_in result ≡ schedule.arrival_of tree.now w deed.now }
     ensures within { IfSome result (λ a. IsBetween 1 (station_count tree.now) a.station) }
 {
     match deed {

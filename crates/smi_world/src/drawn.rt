@@ -25,9 +25,12 @@ fn stream_items<W: Write>(
     writer: &mut W,
 ) -> Result<(), Unwritten>
     ensures all { (w : Defined) → IsAt world.old w → OnOk result
-        (Appends (W.contents writer.old) (W.contents writer.new) (trace_text world.old.tree (trace_from world.old.tree w (items_drawn world.old.tree steps drawer.old)))) }
+        (Appends (W.contents writer.old) (W.contents writer.new)
+        (trace_text world.old.tree (trace_from world.old.tree w (items_drawn world.old.tree steps drawer.old)))) }
     ensures prefix { (w : Defined) → IsAt world.old w → (n : ℕ) ×
-        Appends (W.contents writer.old) (W.contents writer.new) (take n (trace_text world.old.tree (trace_from world.old.tree w (items_drawn world.old.tree steps drawer.old)))) }
+        Appends (W.contents writer.old) (W.contents writer.new)
+        (take n (trace_text world.old.tree (trace_from world.old.tree w
+        (items_drawn world.old.tree steps drawer.old)))) }
 {
     let tree = world.tree();
     let _stations = tree.station_count();
@@ -49,8 +52,10 @@ fn stream_seed<W: Write>(
     steps: u64,
     writer: &mut W,
 ) -> Result<(), Unwritten>
-    ensures all { OnOk result (Appends (W.contents writer.old) (W.contents writer.new) (trace_text tree.now (trace_of tree.now (schedule_drawn tree.now seed steps)))) }
-    ensures prefix { (n : ℕ) × Appends (W.contents writer.old) (W.contents writer.new) (take n (trace_text tree.now (trace_of tree.now (schedule_drawn tree.now seed steps)))) }
+    ensures all { OnOk result (Appends (W.contents writer.old) (W.contents writer.new)
+        (trace_text tree.now (trace_of tree.now (schedule_drawn tree.now seed steps)))) }
+    ensures prefix { (n : ℕ) × Appends (W.contents writer.old) (W.contents writer.new)
+        (take n (trace_text tree.now (trace_of tree.now (schedule_drawn tree.now seed steps)))) }
 {
     let mut desk = new_desk(alloc);
     match write_opening(tree, &mut desk, writer) {
@@ -80,8 +85,10 @@ pub fn stream_drawn<W: Write>(
     steps: u64,
     writer: &mut W,
 ) -> Result<(), Unwritten>
-    ensures all { OnOk result (Appends (W.contents writer.old) (W.contents writer.new) (trace_text tree.now (trace_of tree.now (schedule_drawn tree.now seed steps)))) }
-    ensures prefix { (n : ℕ) × Appends (W.contents writer.old) (W.contents writer.new) (take n (trace_text tree.now (trace_of tree.now (schedule_drawn tree.now seed steps)))) }
+    ensures all { OnOk result (Appends (W.contents writer.old) (W.contents writer.new)
+        (trace_text tree.now (trace_of tree.now (schedule_drawn tree.now seed steps)))) }
+    ensures prefix { (n : ℕ) × Appends (W.contents writer.old) (W.contents writer.new)
+        (take n (trace_text tree.now (trace_of tree.now (schedule_drawn tree.now seed steps)))) }
 {
     let streamed = stream_seed(alloc, tree, seed, steps, writer);
     match writer.flush() {

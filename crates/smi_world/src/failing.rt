@@ -53,7 +53,8 @@ use smi_protocol::Order;
 
 /// The row is as before: the order is answered so.
 fn fail_at_device(post: &Post<'_>, what: &Coming, left: &mut Left)
-    ensures makes { (h : Hierarchy) (number : ℕ) (s : Defined) → IsPost h number post.now s → Makes h number post.now left.new (failed_act h number Device (happening what.now) s) }
+    ensures makes { (h : Hierarchy) (number : ℕ) (s : Defined) → IsPost h number post.now s
+        → Makes h number post.now left.new (failed_act h number Device (happening what.now) s) }
     ensures before { left.new.before ≡ left.old.before }
 {
     left.clear();
@@ -64,7 +65,8 @@ ghost use Rattle.smi_rows.specs.declared.Plan.TheVariants.{After, Before, Device
 
 /// Nobody knows whether the row was saved, and it was not: the station stops.
 fn fail_before(post: &mut Post<'_>, what: &Coming, left: &mut Left)
-    ensures makes { (h : Hierarchy) (number : ℕ) (s : Defined) → IsPost h number post.old s → Makes h number post.new left.new (failed_act h number Before (happening what.now) s) }
+    ensures makes { (h : Hierarchy) (number : ℕ) (s : Defined) → IsPost h number post.old s
+        → Makes h number post.new left.new (failed_act h number Before (happening what.now) s) }
     ensures before { left.new.before ≡ left.old.before }
 {
     left.clear();
@@ -74,8 +76,10 @@ fn fail_before(post: &mut Post<'_>, what: &Coming, left: &mut Left)
 /// Nobody knows whether the row was saved, and it was: the station stops, and what the save leaves is left.
 fn fail_after(post: &mut Post<'_>, what: &Coming, left: &mut Left) -> Result<(), AllocError>
     requires runs { (post.old.station.core.is_stopped || post.old.is_out) ≡ false }
-    ensures makes { (h : Hierarchy) (number : ℕ) (s : Defined) → IsPost h number post.old s → OnOk result (Makes h number post.new left.new (failed_act h number After (happening what.now) s)) }
-    ensures same { (h : Hierarchy) (number : ℕ) (s : Defined) → IsPost h number post.old s → OnErr result (IsPost h number post.new s) }
+    ensures makes { (h : Hierarchy) (number : ℕ) (s : Defined) → IsPost h number post.old s
+        → OnOk result (Makes h number post.new left.new (failed_act h number After (happening what.now) s)) }
+    ensures same { (h : Hierarchy) (number : ℕ) (s : Defined) → IsPost h number post.old s
+        → OnErr result (IsPost h number post.new s) }
     ensures before { left.new.before ≡ left.old.before }
 {
     make(&mut post.station, what, left)?;
@@ -96,8 +100,10 @@ fn fail_save(
     left: &mut Left,
 ) -> Result<(), AllocError>
     requires runs { (post.old.station.core.is_stopped || post.old.is_out) ≡ false }
-    ensures makes { (h : Hierarchy) (number : ℕ) (s : Defined) → IsPost h number post.old s → OnOk result (Makes h number post.new left.new (failed_act h number how (happening what.now) s)) }
-    ensures same { (h : Hierarchy) (number : ℕ) (s : Defined) → IsPost h number post.old s → OnErr result (IsPost h number post.new s) }
+    ensures makes { (h : Hierarchy) (number : ℕ) (s : Defined) → IsPost h number post.old s
+        → OnOk result (Makes h number post.new left.new (failed_act h number how (happening what.now) s)) }
+    ensures same { (h : Hierarchy) (number : ℕ) (s : Defined) → IsPost h number post.old s
+        → OnErr result (IsPost h number post.new s) }
     ensures before { left.new.before ≡ left.old.before }
 {
     match how {
@@ -120,8 +126,10 @@ pub(crate) fn fail(
     what: &Coming,
     left: &mut Left,
 ) -> Result<(), AllocError>
-    ensures makes { (h : Hierarchy) (number : ℕ) (s : Defined) → IsPost h number post.old s → OnOk result (Makes h number post.new left.new (fail_act h number how (happening what.now) s)) }
-    ensures same { (h : Hierarchy) (number : ℕ) (s : Defined) → IsPost h number post.old s → OnErr result (IsPost h number post.new s) }
+    ensures makes { (h : Hierarchy) (number : ℕ) (s : Defined) → IsPost h number post.old s
+        → OnOk result (Makes h number post.new left.new (fail_act h number how (happening what.now) s)) }
+    ensures same { (h : Hierarchy) (number : ℕ) (s : Defined) → IsPost h number post.old s
+        → OnErr result (IsPost h number post.new s) }
     ensures before { left.new.before ≡ left.old.before }
 {
     if is_stopped(post) {

@@ -32,7 +32,14 @@ impl Model for Left {
 
     ghost Value = { left.Left };
 
-    ghost view = { λ l. record { station = l.station; kept = l.kept; started = l.started; passed = l.passed; out = l.out; before = l.before } };
+    ghost view = { λ l. record {
+      station = l.station;
+      kept = l.kept;
+      started = l.started;
+      passed = l.passed;
+      out = l.out;
+      before = l.before;
+    } };
 
     ghost invariant = { λ l. l.before ≤ left.most_before };
 }
@@ -132,7 +139,8 @@ pub(crate) fn push_start(
     station: u16,
     boot: u32,
 ) -> Result<(), AllocError>
-    ensures { OnOk result (lines.new.items ≡ lines.old.items ++ map line.Entry (start_entries tree.now station (Some boot))) }
+    ensures { OnOk result (lines.new.items ≡ lines.old.items
+        ++ map line.Entry (start_entries tree.now station (Some boot))) }
 {
     lines.push(Line::Entry(Entry::Booted { station, boot }))?;
     let count = tree.object_count();
@@ -195,7 +203,8 @@ impl Left {
 
     /// One line more for each datagram that is sent, by its number.
     fn push_sent(&self, lines: &mut Vec<Line>) -> Result<(), AllocError>
-        ensures { OnOk result (lines.new.items ≡ lines.old.items ++ sent_lines (self.now.before + 1) self.now.out.datagrams) }
+        ensures { OnOk result (lines.new.items ≡ lines.old.items
+            ++ sent_lines (self.now.before + 1) self.now.out.datagrams) }
     {
         let mut number = self.before;
         for datagram in self.out.datagrams() {

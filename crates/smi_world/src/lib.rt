@@ -5,8 +5,8 @@
 //! moment.
 //!
 //! An item concerns one station. Something comes to it (`coming`), and it makes its step, starts again, or stops after
-//! its save (`acting`, `failing`); what is left of that is a [`Left`]. Which station that is, and whether the item names
-//! what the tree has, is told by `task` and `naming`.
+//! its save (`acting`, `failing`); what is left of that is a [`Left`]. Which station that is, and whether the item
+//! names what the tree has, is told by `task` and `naming`.
 #![tactic(auto)]
 
 mod acting;

@@ -30,7 +30,8 @@ pub(crate) struct Foreseen {
 
 /// Why an order is refused, if it is.
 fn refusal_of_order(kept: &Kept<'_>, operator: u16, order: &Order) -> Option<u16>
-    ensures { result ≡ refusals.refusal_of kept.now.tree kept.now.number (grants_of kept.now) (ordered_or_reported operator order.now) }
+    ensures { result ≡ refusals.refusal_of kept.now.tree kept.now.number (grants_of kept.now)
+        (ordered_or_reported operator order.now) }
 {
     match *order {
         Order::Report(device, state) => refusal_of_report(kept, device, state),
@@ -86,7 +87,8 @@ fn foresee_datagram(kept: &Kept<'_>, datagram: &Datagram) -> Foreseen
     requires taken { refusals.refusal_of_message kept.now.tree kept.now.number datagram.now ≡ None }
     ensures domain { result.domain ≡ showing.domain_of_body kept.now.tree datagram.now.body }
     ensures within { IfSome result.domain (IsBetween 1 (domain_count kept.now.tree)) }
-    ensures kept { result.kept ≡ (grant_step kept.now.tree kept.now.number (grants_of kept.now) (Comes datagram.now)).entries }
+    ensures kept { result.kept
+        ≡ (grant_step kept.now.tree kept.now.number (grants_of kept.now) (Comes datagram.now)).entries }
 {
     let (tree, _from) = (kept.tree(), datagram.from);
     Foreseen {
@@ -97,10 +99,12 @@ fn foresee_datagram(kept: &Kept<'_>, datagram: &Datagram) -> Foreseen
 
 /// What a report that is taken will do.
 fn foresee_report(kept: &Kept<'_>, device: u16, state: u16) -> Foreseen
-    requires taken { refusals.refusal_of kept.now.tree kept.now.number (grants_of kept.now) (Reports device state) ≡ None }
+    requires taken { refusals.refusal_of kept.now.tree kept.now.number (grants_of kept.now) (Reports device state)
+        ≡ None }
     ensures domain { result.domain ≡ showing.domain_of_happening kept.now.tree (Reports device state) }
     ensures within { IfSome result.domain (IsBetween 1 (domain_count kept.now.tree)) }
-    ensures kept { result.kept ≡ (grant_step kept.now.tree kept.now.number (grants_of kept.now) (Reports device state)).entries }
+    ensures kept { result.kept
+        ≡ (grant_step kept.now.tree kept.now.number (grants_of kept.now) (Reports device state)).entries }
 {
     let tree = kept.tree();
     Foreseen {
@@ -111,10 +115,14 @@ fn foresee_report(kept: &Kept<'_>, device: u16, state: u16) -> Foreseen
 
 /// What an order that is taken will do.
 fn foresee_order(kept: &Kept<'_>, operator: u16, order: &Order) -> Foreseen
-    requires taken { refusals.refusal_of kept.now.tree kept.now.number (grants_of kept.now) (ordered_or_reported operator order.now) ≡ None }
-    ensures domain { result.domain ≡ showing.domain_of_happening kept.now.tree (ordered_or_reported operator order.now) }
+    requires taken { refusals.refusal_of kept.now.tree kept.now.number (grants_of kept.now)
+        (ordered_or_reported operator order.now) ≡ None }
+    ensures domain { result.domain ≡ showing.domain_of_happening kept.now.tree
+        (ordered_or_reported operator order.now) }
     ensures within { IfSome result.domain (IsBetween 1 (domain_count kept.now.tree)) }
-    ensures kept { result.kept ≡ (grant_step kept.now.tree kept.now.number (grants_of kept.now) (ordered_or_reported operator order.now)).entries }
+    ensures kept { result.kept
+        ≡ (grant_step kept.now.tree kept.now.number (grants_of kept.now)
+        (ordered_or_reported operator order.now)).entries }
 {
     match *order {
         Order::Report(device, state) => foresee_report(kept, device, state),
@@ -127,10 +135,12 @@ fn foresee_order(kept: &Kept<'_>, operator: u16, order: &Order) -> Foreseen
 
 /// What a step will do that is not refused.
 fn foresee_taken(kept: &Kept<'_>, what: &Coming) -> Foreseen
-    requires taken { refusals.refusal_of kept.now.tree kept.now.number (grants_of kept.now) (happening what.now) ≡ None }
+    requires taken { refusals.refusal_of kept.now.tree kept.now.number (grants_of kept.now) (happening what.now)
+        ≡ None }
     ensures domain { result.domain ≡ showing.domain_of_happening kept.now.tree (happening what.now) }
     ensures within { IfSome result.domain (IsBetween 1 (domain_count kept.now.tree)) }
-    ensures kept { result.kept ≡ (grant_step kept.now.tree kept.now.number (grants_of kept.now) (happening what.now)).entries }
+    ensures kept { result.kept
+        ≡ (grant_step kept.now.tree kept.now.number (grants_of kept.now) (happening what.now)).entries }
 {
     match what {
         Coming::Datagram(datagram) => foresee_datagram(kept, datagram),
@@ -145,9 +155,12 @@ fn foresee_taken(kept: &Kept<'_>, what: &Coming) -> Foreseen
 
 /// What a step will do of the station that keeps these grants.
 pub(crate) fn foresee(kept: &Kept<'_>, what: &Coming) -> Foreseen
-    ensures domain { result.domain ≡ unless_refused (refusals.refusal_of kept.now.tree kept.now.number (grants_of kept.now) (happening what.now)) (showing.domain_of_happening kept.now.tree (happening what.now)) }
+    ensures domain { result.domain ≡ unless_refused
+        (refusals.refusal_of kept.now.tree kept.now.number (grants_of kept.now) (happening what.now))
+        (showing.domain_of_happening kept.now.tree (happening what.now)) }
     ensures within { IfSome result.domain (IsBetween 1 (domain_count kept.now.tree)) }
-    ensures kept { (s : Station) → s.grants ≡ grants_of kept.now → result.kept ≡ (after kept.now.tree kept.now.number s (happening what.now)).kept }
+    ensures kept { (s : Station) → s.grants ≡ grants_of kept.now
+        → result.kept ≡ (after kept.now.tree kept.now.number s (happening what.now)).kept }
 {
     match refusal_of(kept, what) {
         Some(_) => Foreseen {

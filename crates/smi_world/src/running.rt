@@ -12,17 +12,20 @@ use crate::world::{ActFault, World};
 use smi_item::{Item, Line};
 use smi_tree::Tree;
 use std::alloc::{AllocError, Global};
+use thiserror::Error;
 
 /// The lines of a trace, in their order.
 pub type Trace = Vec<Line>;
 
 /// Why a schedule was not run to its end.
-#[derive(Clone, Copy, Debug, PartialEq, Eq)]
+#[derive(Clone, Copy, Debug, PartialEq, Eq, Error)]
 pub enum WorldFault {
     /// The item of this number, from 1, is the first to name a station, operator or device that the tree does not
     /// have.
+    #[error("item {0} names what the tree does not have")]
     NoSuch(u64),
     /// Out of memory.
+    #[error("out of memory")]
     Memory,
 }
 
@@ -34,8 +37,10 @@ pub(crate) fn act_into(
     left: &mut Left,
     lines: &mut Vec<Line>,
 ) -> Result<(), ActFault>
-    ensures lines { (w : Defined) → IsAt world.old w → OnOk result (lines.new.items ≡ lines.old.items ++ lines_of w (turn world.old.tree w item.now)) }
-    ensures next { (w : Defined) → IsAt world.old w → OnOk result (IsAt world.new (turn world.old.tree w item.now).world) }
+    ensures lines { (w : Defined) → IsAt world.old w
+        → OnOk result (lines.new.items ≡ lines.old.items ++ lines_of w (turn world.old.tree w item.now)) }
+    ensures next { (w : Defined) → IsAt world.old w
+        → OnOk result (IsAt world.new (turn world.old.tree w item.now).world) }
     ensures named { OnOk result (has_item world.old.tree item.now ≡ true) }
     ensures unnamed { result ≡ Err NoSuch → has_item world.old.tree item.now ≡ false }
     ensures tree { world.new.tree ≡ world.old.tree }
@@ -61,7 +66,8 @@ fn run_on(
     left: &mut Left,
     lines: &mut Vec<Line>,
 ) -> Result<(), WorldFault>
-    ensures lines { (w : Defined) → IsAt world.old w → OnOk result (lines.new.items ≡ lines.old.items ++ trace_from world.old.tree w items.now) }
+    ensures lines { (w : Defined) → IsAt world.old w
+        → OnOk result (lines.new.items ≡ lines.old.items ++ trace_from world.old.tree w items.now) }
     ensures named { OnOk result (Named world.old.tree items.now) }
     ensures no_such { IfNoSuch result (FirstUnnamed world.old.tree items.now) }
 {

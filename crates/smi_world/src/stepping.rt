@@ -25,9 +25,12 @@ fn step(
     out: &mut Out,
 ) -> Result<(), AllocError>
     requires runs { station.old.core.is_stopped ≡ false }
-    ensures steps { OnOk result (Steps station.old.core station.new.core (after_event (tree_of station.old.core) (number_of station.old.core) (station_of station.old.core) event.entry) out.new) }
+    ensures steps { OnOk result (Steps station.old.core station.new.core
+        (after_event (tree_of station.old.core) (number_of station.old.core) (station_of station.old.core)
+        event.entry) out.new) }
     ensures same { OnErr result (station.new.core ≡ station.old.core) }
-    ensures stored { IsStoredIn (found_in station.old.store.list) station.old.core → IsStoredIn (found_in station.new.store.list) station.new.core }
+    ensures stored { IsStoredIn (found_in station.old.store.list) station.old.core
+        → IsStoredIn (found_in station.new.store.list) station.new.core }
 {
     match station.step(event, out) {
         Ok(_) => Ok(()),
@@ -42,9 +45,12 @@ fn step_with(
     out: &mut Out,
 ) -> Result<(), AllocError>
     requires runs { station.old.core.is_stopped ≡ false }
-    ensures steps { OnOk result (Steps station.old.core station.new.core (after (tree_of station.old.core) (number_of station.old.core) (station_of station.old.core) (happening what.now)) out.new) }
+    ensures steps { OnOk result (Steps station.old.core station.new.core
+        (after (tree_of station.old.core) (number_of station.old.core) (station_of station.old.core)
+        (happening what.now)) out.new) }
     ensures same { OnErr result (station.new.core ≡ station.old.core) }
-    ensures stored { IsStoredIn (found_in station.old.store.list) station.old.core → IsStoredIn (found_in station.new.store.list) station.new.core }
+    ensures stored { IsStoredIn (found_in station.old.store.list) station.old.core
+        → IsStoredIn (found_in station.new.store.list) station.new.core }
 {
     match what {
         Coming::Datagram(datagram) => {
@@ -65,12 +71,17 @@ pub(crate) fn make(
     left: &mut Left,
 ) -> Result<(), AllocError>
     requires runs { station.old.core.is_stopped ≡ false }
-    ensures station { OnOk result (station_of station.new.core ≡ (after (tree_of station.old.core) (number_of station.old.core) (station_of station.old.core) (happening what.now)).station) }
+    ensures station { OnOk result (station_of station.new.core
+        ≡ (after (tree_of station.old.core) (number_of station.old.core) (station_of station.old.core)
+        (happening what.now)).station) }
     ensures of { OnOk result (IsOf (tree_of station.old.core) (number_of station.old.core) station.new.core) }
-    ensures leaves { OnOk result (Leaves (tree_of station.old.core) left.new (after (tree_of station.old.core) (number_of station.old.core) (station_of station.old.core) (happening what.now))) }
+    ensures leaves { OnOk result (Leaves (tree_of station.old.core) left.new
+        (after (tree_of station.old.core) (number_of station.old.core) (station_of station.old.core)
+        (happening what.now))) }
     ensures before { left.new.before ≡ left.old.before }
     ensures same { OnErr result (station.new.core ≡ station.old.core) }
-    ensures stored { IsStoredIn (found_in station.old.store.list) station.old.core → IsStoredIn (found_in station.new.store.list) station.new.core }
+    ensures stored { IsStoredIn (found_in station.old.store.list) station.old.core
+        → IsStoredIn (found_in station.new.store.list) station.new.core }
 {
     let foreseen = foresee(station.grants(), what);
     let old = shown_in(station, foreseen.domain);
@@ -90,7 +101,9 @@ pub(crate) fn would_save(
     what: &Coming,
     scratch: &mut Out,
 ) -> bool
-    ensures { result ≡ is_some (after (tree_of station.now.core) (number_of station.now.core) (station_of station.now.core) (happening what.now)).saved }
+    ensures { result
+        ≡ is_some (after (tree_of station.now.core) (number_of station.now.core) (station_of station.now.core)
+        (happening what.now)).saved }
 {
     match what {
         Coming::Datagram(datagram) => {

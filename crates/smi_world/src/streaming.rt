@@ -51,11 +51,14 @@ pub(crate) fn write_item<W: Write>(
     writer: &mut W,
 ) -> Result<(), Unwritten>
     requires { has_item world.old.tree item.now ≡ true }
-    ensures next { (w : Defined) → IsAt world.old w → OnOk result (IsAt world.new (turn world.old.tree w item.now).world) }
+    ensures next { (w : Defined) → IsAt world.old w
+        → OnOk result (IsAt world.new (turn world.old.tree w item.now).world) }
     ensures all { (w : Defined) → IsAt world.old w → OnOk result
-        (Appends (W.contents writer.old) (W.contents writer.new) (trace_text world.old.tree (lines_of w (turn world.old.tree w item.now)))) }
+        (Appends (W.contents writer.old) (W.contents writer.new)
+        (trace_text world.old.tree (lines_of w (turn world.old.tree w item.now)))) }
     ensures prefix { (w : Defined) → IsAt world.old w → (n : ℕ) ×
-        Appends (W.contents writer.old) (W.contents writer.new) (take n (trace_text world.old.tree (lines_of w (turn world.old.tree w item.now)))) }
+        Appends (W.contents writer.old) (W.contents writer.new)
+        (take n (trace_text world.old.tree (lines_of w (turn world.old.tree w item.now)))) }
     ensures tree { world.new.tree ≡ world.old.tree }
 {
     desk.lines.clear();
@@ -71,8 +74,10 @@ pub(crate) fn write_opening<W: Write>(
     desk: &mut Desk,
     writer: &mut W,
 ) -> Result<(), Unwritten>
-    ensures all { OnOk result (Appends (W.contents writer.old) (W.contents writer.new) (trace_text tree.now (opening_lines tree.now))) }
-    ensures prefix { (n : ℕ) × Appends (W.contents writer.old) (W.contents writer.new) (take n (trace_text tree.now (opening_lines tree.now))) }
+    ensures all { OnOk result (Appends (W.contents writer.old) (W.contents writer.new)
+        (trace_text tree.now (opening_lines tree.now))) }
+    ensures prefix { (n : ℕ) × Appends (W.contents writer.old) (W.contents writer.new)
+        (take n (trace_text tree.now (opening_lines tree.now))) }
 {
     desk.lines.clear();
     match push_opening(&mut desk.lines, tree) {
@@ -103,13 +108,17 @@ fn stream_line<W: Write>(
     desk: &mut Desk,
     writer: &mut W,
 ) -> Option<Streamed>
-    ensures next { (w : Defined) → IsAt world.old w → result ≡ None → IsAt world.new (world_after world.old.tree w (item_in world.old.tree line.now)) }
+    ensures next { (w : Defined) → IsAt world.old w → result ≡ None
+        → IsAt world.new (world_after world.old.tree w (item_in world.old.tree line.now)) }
     ensures all { (w : Defined) → IsAt world.old w → result ≡ None →
-        Appends (W.contents writer.old) (W.contents writer.new) (trace_text world.old.tree (lines_after world.old.tree w (item_in world.old.tree line.now))) }
+        Appends (W.contents writer.old) (W.contents writer.new)
+        (trace_text world.old.tree (lines_after world.old.tree w (item_in world.old.tree line.now))) }
     ensures prefix { (w : Defined) → IsAt world.old w → (n : ℕ) ×
-        Appends (W.contents writer.old) (W.contents writer.new) (take n (trace_text world.old.tree (lines_after world.old.tree w (item_in world.old.tree line.now)))) }
+        Appends (W.contents writer.old) (W.contents writer.new)
+        (take n (trace_text world.old.tree (lines_after world.old.tree w (item_in world.old.tree line.now)))) }
     ensures goes_on { result ≡ None → is_ok (item_in world.old.tree line.now) ≡ true }
-    ensures ended { IfSome result (λ how. IsDone how → (writer.new ≡ writer.old) × IsFault number (item_in world.old.tree line.now) how) }
+    ensures ended { IfSome result (λ how. IsDone how
+        → (writer.new ≡ writer.old) × IsFault number (item_in world.old.tree line.now) how) }
     ensures reads { IfSome result (λ how. how ≡ ReadFault → ⊥) }
     ensures tree { world.new.tree ≡ world.old.tree }
 {
@@ -137,11 +146,18 @@ fn stream_on<R: Read, W: Write>(
 ) -> Streamed
     ensures done { (w : Defined) → IsAt world.old w → IfSome (R.remaining reader.old) (λ input. IsDone result →
         (result ≡ ending_of world.old.tree (lines input))
-        × Appends (W.contents writer.old) (W.contents writer.new) (trace_text world.old.tree (trace_from world.old.tree w (items_before_fault world.old.tree (lines input))))) }
-    ensures whole { (w : Defined) → IsAt world.old w → IfSome (R.remaining reader.old) (λ input. result ≡ ReadFault → (k : ℕ) ×
-        Appends (W.contents writer.old) (W.contents writer.new) (trace_text world.old.tree (trace_from world.old.tree w (items_before_fault world.old.tree (take k (lines input)))))) }
+        × Appends (W.contents writer.old) (W.contents writer.new)
+        (trace_text world.old.tree (trace_from world.old.tree w
+        (items_before_fault world.old.tree (lines input))))) }
+    ensures whole { (w : Defined) → IsAt world.old w
+        → IfSome (R.remaining reader.old) (λ input. result ≡ ReadFault → (k : ℕ) ×
+        Appends (W.contents writer.old) (W.contents writer.new)
+        (trace_text world.old.tree (trace_from world.old.tree w
+        (items_before_fault world.old.tree (take k (lines input)))))) }
     ensures prefix { (w : Defined) → IsAt world.old w → IfSome (R.remaining reader.old) (λ input. (n : ℕ) ×
-        Appends (W.contents writer.old) (W.contents writer.new) (take n (trace_text world.old.tree (trace_from world.old.tree w (items_before_fault world.old.tree (lines input)))))) }
+        Appends (W.contents writer.old) (W.contents writer.new)
+        (take n (trace_text world.old.tree (trace_from world.old.tree w
+        (items_before_fault world.old.tree (lines input)))))) }
 {
     let mut cutter = Lines::new(alloc);
     for number in 1..u64::MAX {

@@ -40,7 +40,8 @@ pub(crate) struct Task {
 
 /// Something comes, if anything does.
 fn comes(arrival: Option<Arrival>) -> Option<Task>
-    ensures task { (h : Hierarchy) (w : World) → turn_of h w result ≡ schedule.done_by h w (option_map arrival_in arrival) }
+    ensures task { (h : Hierarchy) (w : World)
+        → turn_of h w result ≡ schedule.done_by h w (option_map arrival_in arrival) }
     ensures station { option_map (λ t. t.station) result ≡ option_map (λ a. a.station) arrival }
     ensures stop { (h : Hierarchy) (w : World) (x : ItemValue) → IfSome result (λ t. IsStopOf h w x t.station t.doing) }
 {
@@ -67,7 +68,8 @@ ghost use Rattle.smi_world.specs.Coming.{what_comes_to};
 
 /// A station stops after its save, or starts again where it makes no step.
 fn stops_after(station: u16, arrival: Option<Arrival>) -> Task
-    ensures task { (h : Hierarchy) (w : World) → turn_of h w (Some result) ≡ schedule.stopped_behind h w station (option_map arrival_in arrival) }
+    ensures task { (h : Hierarchy) (w : World)
+        → turn_of h w (Some result) ≡ schedule.stopped_behind h w station (option_map arrival_in arrival) }
     ensures station { result.station ≡ station }
     ensures stop { StopsFor station After (option_map arrival_in arrival) result.doing }
 {
@@ -80,7 +82,8 @@ fn stops_after(station: u16, arrival: Option<Arrival>) -> Task
 
 /// A station starts again; where the moment is after the save, the step is made up to it.
 fn stops(station: u16, moment: Moment, arrival: Option<Arrival>) -> Task
-    ensures task { (h : Hierarchy) (w : World) → turn_of h w (Some result) ≡ stopped_at h w station moment (option_map arrival_in arrival) }
+    ensures task { (h : Hierarchy) (w : World)
+        → turn_of h w (Some result) ≡ stopped_at h w station moment (option_map arrival_in arrival) }
     ensures station { result.station ≡ station }
     ensures stop { StopsFor station moment (option_map arrival_in arrival) result.doing }
 {
@@ -97,7 +100,8 @@ ghost use Rattle.smi_world.specs.Tasks.{stopped_at};
 
 /// A station's save fails, where it makes a step.
 fn fails(station: u16, how: Plan, arrival: Option<Arrival>) -> Option<Task>
-    ensures task { (h : Hierarchy) (w : World) → turn_of h w result ≡ schedule.failing h w station (option_map arrival_in arrival) how }
+    ensures task { (h : Hierarchy) (w : World)
+        → turn_of h w result ≡ schedule.failing h w station (option_map arrival_in arrival) how }
     ensures station { IfSome result (λ t. t.station ≡ station) }
     ensures stop { (h : Hierarchy) (w : World) (x : ItemValue) → IfSome result (λ t. IsStopOf h w x t.station t.doing) }
 {
@@ -115,7 +119,8 @@ pub(crate) fn task_of(tree: &Tree, sent: &[Datagram], item: &Item) -> Option<Tas
     requires { has_item tree.now item.now ≡ true }
     ensures task { (w : World) → w.sent ≡ sent.now → turn_of tree.now w result ≡ schedule.turn tree.now w item.now }
     ensures within { IfSome result (λ t. IsBetween 1 (station_count tree.now) t.station) }
-    ensures stop { (w : World) → w.sent ≡ sent.now → IfSome result (λ t. IsStopOf tree.now w item.now t.station t.doing) }
+    ensures stop { (w : World) → w.sent ≡ sent.now
+        → IfSome result (λ t. IsStopOf tree.now w item.now t.station t.doing) }
 {
     match item {
         Item::Do(deed) => comes(arrival_of(tree, sent, deed)),

@@ -27,8 +27,10 @@ fn make_part(
     doing: &Doing,
     left: &mut Left,
 ) -> Result<(), AllocError>
-    ensures makes { (h : Hierarchy) (number : ℕ) (s : Defined) → IsPost h number post.old s → OnOk result (Makes h number post.new left.new (act_of h number doing.now s)) }
-    ensures halts { (h : Hierarchy) (number : ℕ) (s : Defined) → IsPost h number post.old s → OnErr result (IsPost h number post.new s ⊎ IsHalted h number post.new doing.now s) }
+    ensures makes { (h : Hierarchy) (number : ℕ) (s : Defined) → IsPost h number post.old s
+        → OnOk result (Makes h number post.new left.new (act_of h number doing.now s)) }
+    ensures halts { (h : Hierarchy) (number : ℕ) (s : Defined) → IsPost h number post.old s
+        → OnErr result (IsPost h number post.new s ⊎ IsHalted h number post.new doing.now s) }
     ensures before { left.new.before ≡ left.old.before }
 {
     match doing {
@@ -51,8 +53,10 @@ pub(crate) fn turn(
 ) -> Result<(), AllocError>
     requires has { has_item tree.now item.now ≡ true }
     requires count { length posts.old.items ≡ station_count tree.now }
-    ensures makes { (w : World) → ArePosts tree.now 1 posts.old.items w.stations → w.sent ≡ sent.now → OnOk result (Turned tree.now posts.new.items left.new (schedule.turn tree.now w item.now)) }
-    ensures halts { (w : World) → ArePosts tree.now 1 posts.old.items w.stations → w.sent ≡ sent.now → OnErr result (ArePosts tree.now 1 posts.new.items w.stations ⊎ Halted tree.now posts.new.items w item.now) }
+    ensures makes { (w : World) → ArePosts tree.now 1 posts.old.items w.stations → w.sent ≡ sent.now
+        → OnOk result (Turned tree.now posts.new.items left.new (schedule.turn tree.now w item.now)) }
+    ensures halts { (w : World) → ArePosts tree.now 1 posts.old.items w.stations → w.sent ≡ sent.now
+        → OnErr result (ArePosts tree.now 1 posts.new.items w.stations ⊎ Halted tree.now posts.new.items w item.now) }
     ensures count { length posts.new.items ≡ length posts.old.items }
     ensures before { left.new.before ≡ left.old.before }
 {

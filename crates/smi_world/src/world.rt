@@ -16,6 +16,7 @@ use smi_message::Datagram;
 use smi_tree::Tree;
 use std::alloc::{AllocError, Global};
 use std::marker::Model;
+use thiserror::Error;
 
 /// All stations of a tree, and every datagram that was sent. It is at each moment a world that can be reached, so
 /// that what it leaves is safe.
@@ -37,11 +38,13 @@ impl<'a> Model for World<'a> {
 }
 
 /// Why an item was not made.
-#[derive(Clone, Copy, Debug, PartialEq, Eq)]
+#[derive(Clone, Copy, Debug, PartialEq, Eq, Error)]
 pub enum ActFault {
     /// The tree does not have a station, operator or device that the item names. Nothing has changed.
+    #[error("the item names what the tree does not have")]
     NoSuch,
     /// Out of memory. Nothing has changed, but that a station which had stopped after its save stays stopped.
+    #[error("out of memory")]
     Memory,
 }
 
@@ -59,8 +62,12 @@ fn act_at(
 ) -> Result<(), AllocError>
     requires has { names tree.now item.now ≡ true }
     requires count { length posts.old.items ≡ station_count tree.now }
-    ensures makes { (w : Defined) → IsAt (held tree.now posts.old.items sent.old.items) w → OnOk result (IsMade (held tree.now posts.new.items sent.new.items) left.new w (schedule.turn tree.now w item.now)) }
-    ensures halts { (w : Defined) → IsAt (held tree.now posts.old.items sent.old.items) w → OnErr result (IsAt (held tree.now posts.new.items sent.new.items) w ⊎ Halted tree.now posts.new.items w item.now × (sent.new.items ≡ sent.old.items)) }
+    ensures makes { (w : Defined) → IsAt (held tree.now posts.old.items sent.old.items) w
+        → OnOk result (IsMade (held tree.now posts.new.items sent.new.items) left.new w
+        (schedule.turn tree.now w item.now)) }
+    ensures halts { (w : Defined) → IsAt (held tree.now posts.old.items sent.old.items) w
+        → OnErr result (IsAt (held tree.now posts.new.items sent.new.items) w
+        ⊎ Halted tree.now posts.new.items w item.now × (sent.new.items ≡ sent.old.items)) }
     ensures count { length posts.new.items ≡ length posts.old.items }
 {
     sent.reserve(MOST_SENT)?;
@@ -81,7 +88,8 @@ impl<'a> World<'a> {
     ghost use Rattle.smi_world.specs.Posts.{IsAt, IsMade};
     ghost use Rattle.smi_world.specs.Tasks.{IsUnmade};
 
-    /// All stations of the tree start for the first time. Out of memory is answered only where an allocation was refused.
+    /// All stations of the tree start for the first time. Out of memory is answered only where an allocation was
+    /// refused.
     pub fn new(alloc: Global, tree: &'a Tree) -> Result<World<'a>, AllocError>
         ensures opens { IfOk result (λ world. IsAt world (first_world tree.now)) }
         ensures tree { IfOk result (λ world. world.tree ≡ tree.now) }
@@ -105,7 +113,8 @@ impl<'a> World<'a> {
 
     /// Makes an item; what it leaves is in `left` then.
     pub fn act(&mut self, alloc: Global, item: &Item, left: &mut Left) -> Result<(), ActFault>
-        ensures makes { (w : Defined) → IsAt self.old w → OnOk result (IsMade self.new left.new w (schedule.turn self.old.tree w item.now)) }
+        ensures makes { (w : Defined) → IsAt self.old w
+            → OnOk result (IsMade self.new left.new w (schedule.turn self.old.tree w item.now)) }
         ensures names { names self.old.tree item.now ≡ false → result ≡ Err fault.NoSuch }
         ensures unmade { (w : Defined) → IsAt self.old w → OnErr result (IsUnmade self.new w item.now) }
         ensures no_such { result ≡ Err fault.NoSuch → (names self.old.tree item.now ≡ false) × (self.new ≡ self.old) }

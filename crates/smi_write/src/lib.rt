@@ -7,9 +7,11 @@ ghost use Rattle.std.specs.Prelude.{ℕ, OnOk, take};
 ghost use Rattle.std.specs.Io.KnownBytes.{Appends};
 
 use std::io::{ErrorKind, Write};
+use thiserror::Error;
 
 /// A write failed, or the writer takes no more.
-#[derive(Clone, Copy, Debug, PartialEq, Eq)]
+#[derive(Clone, Copy, Debug, PartialEq, Eq, Error)]
+#[error("not all could be written")]
 pub struct NotWritten;
 
 /// Writes all of the bytes. On an error a prefix of them is written.

@@ -36,7 +36,7 @@ fn open(
     UdpLink::open(rt, station, peers)
 }
 
-/// Whether a datagram of this byte alone stands in the front of a buffer.
+/// Whether a datagram of this byte alone stands in the beginning of a buffer.
 fn begins_with(buffer: &[u8; 45], byte: u8) -> bool {
     &buffer[..44] == [byte; 44].as_slice()
 }

@@ -4,11 +4,14 @@ use Rattle.std.specs.List.{range_with_len}
 use Rattle.smi_grant.specs.declared.Command.TheVariants as command
 use Rattle.smi_grant.specs.declared.Holder.TheVariants.{Operator, Domain}
 use Rattle.smi_rows.specs.declared.Mode.TheVariants as mode
-use Rattle.smi_protocol.specs.Played.{Deliver, Restart, StopAfter, Tick, Line, line, sends, TAKE, RUN, TELL, WATCH, STATE}
+use Rattle.smi_protocol.specs.Played.{Deliver, Restart, StopAfter, Tick, Line, line, sends, TAKE, RUN, TELL, WATCH}
+use Rattle.smi_protocol.specs.Played.{STATE}
 use Rattle.smi_protocol.specs.declared.order.Order.TheVariants.{Take, Drop, Do, Include, Manual, Ignore}
 use Rattle.smi_protocol.specs.declared.entry.Entry.{Entry}
-use Rattle.smi_protocol.specs.declared.entry.Entry.TheVariants.{Booted, Granted, Ordered, Ran, Learned, InMode, Settled}
-use Rattle.smi_protocol.specs.examples.WorkedTree.{A, B, ANN, BOB, DCS, TPC, HV, OFF, READY, RUNNING, CONFIGURE, START}
+use Rattle.smi_protocol.specs.declared.entry.Entry.TheVariants.{Booted, Granted, Ordered, Ran, Learned, InMode}
+use Rattle.smi_protocol.specs.declared.entry.Entry.TheVariants.{Settled}
+use Rattle.smi_protocol.specs.examples.WorkedTree.{A, B, ANN, BOB, DCS, TPC, HV, OFF, READY, RUNNING, CONFIGURE}
+use Rattle.smi_protocol.specs.examples.WorkedTree.{START}
 use Rattle.smi_protocol.specs.examples.Words.{ann, bob, ann_told, bob_told, passed, showed}
 use Rattle.smi_protocol.specs.examples.Grants.{taken}
 
@@ -35,7 +38,8 @@ handed_on =
 
 -- TPC runs CONFIGURE and its device moves
 abbrev pub TPC_configured : List Entry
-TPC_configured = Ran TPC 1 1 (command.Do CONFIGURE) ∷ Settled TPC 1 1 0 ∷ passed HV 1 1 READY ∷ passed TPC 1 1 READY ∷ []
+TPC_configured = Ran TPC 1 1 (command.Do CONFIGURE) ∷ Settled TPC 1 1 0 ∷ passed HV 1 1 READY ∷ passed TPC 1 1 READY
+    ∷ []
 
 -- Configured through the hierarchy.
 abbrev pub configured : List Line
@@ -109,7 +113,8 @@ abbrev pub manual : List Line
 manual =
     included
     ++ line (ann (Manual DCS TPC)) (Ordered ANN DCS 1 2 (command.Manual TPC) ∷ []) (sends RUN A A DCS ∷ [])
-    ∷ line (Deliver 8) (Ran DCS 1 2 (command.Manual TPC) ∷ InMode TPC mode.Manual ∷ Settled DCS 1 2 0 ∷ []) (sends TELL A A DCS ∷ [])
+    ∷ line (Deliver 8) (Ran DCS 1 2 (command.Manual TPC) ∷ InMode TPC mode.Manual ∷ Settled DCS 1 2 0 ∷ [])
+    (sends TELL A A DCS ∷ [])
     ∷ line (Deliver 9) (ann_told (Manual DCS TPC) 0 ∷ []) []
     ∷ line (ann (Do DCS CONFIGURE)) (Ordered ANN DCS 1 3 (command.Do CONFIGURE) ∷ []) (sends RUN A A DCS ∷ [])
     ∷ line (Deliver 10) (Ran DCS 1 3 (command.Do CONFIGURE) ∷ Settled DCS 1 3 0 ∷ []) (sends TELL A A DCS ∷ [])
@@ -120,7 +125,8 @@ abbrev pub ignored : List Line
 ignored =
     included
     ++ line (ann (Ignore DCS TPC)) (Ordered ANN DCS 1 2 (command.Ignore TPC) ∷ []) (sends RUN A A DCS ∷ [])
-    ∷ line (Deliver 8) (Ran DCS 1 2 (command.Ignore TPC) ∷ InMode TPC mode.Ignored ∷ Settled DCS 1 2 0 ∷ []) (sends TELL A A DCS ∷ [])
+    ∷ line (Deliver 8) (Ran DCS 1 2 (command.Ignore TPC) ∷ InMode TPC mode.Ignored ∷ Settled DCS 1 2 0 ∷ [])
+    (sends TELL A A DCS ∷ [])
     ∷ line (Deliver 9) (ann_told (Ignore DCS TPC) 0 ∷ []) []
     ∷ line (ann (Do DCS CONFIGURE)) (Ordered ANN DCS 1 3 (command.Do CONFIGURE) ∷ []) (sends RUN A A DCS ∷ [])
     ∷ line (Deliver 10) (Ran DCS 1 3 (command.Do CONFIGURE) ∷ []) (sends TELL A A DCS ∷ sends RUN A B TPC ∷ [])
@@ -134,7 +140,8 @@ ignored =
 
 -- BOB holds TPC and has ordered CONFIGURE
 abbrev pub one_ordered : List Line
-one_ordered = taken ++ line (bob (Do TPC CONFIGURE)) (Ordered BOB TPC 1 1 (command.Do CONFIGURE) ∷ []) (sends RUN B B TPC ∷ []) ∷ []
+one_ordered = taken ++ line (bob (Do TPC CONFIGURE)) (Ordered BOB TPC 1 1 (command.Do CONFIGURE) ∷ [])
+    (sends RUN B B TPC ∷ []) ∷ []
 
 -- Both orders are given before the first is heard of.
 abbrev pub two_ordered : List Line
@@ -149,7 +156,8 @@ both_run =
     two_ordered
     ++ line (Deliver 4) [] (sends TELL B B TPC ∷ [])
     ∷ line (Deliver 3) TPC_configured (sends TELL B B TPC ∷ [])
-    ∷ line (Deliver 4) (Ran TPC 1 2 (command.Do START) ∷ Settled TPC 1 2 0 ∷ passed HV 1 2 RUNNING ∷ passed TPC 1 2 RUNNING ∷ []) (sends TELL B B TPC ∷ [])
+    ∷ line (Deliver 4) (Ran TPC 1 2 (command.Do START) ∷ Settled TPC 1 2 0 ∷ passed HV 1 2 RUNNING
+    ∷ passed TPC 1 2 RUNNING ∷ []) (sends TELL B B TPC ∷ [])
     ∷ []
 
 -- Two commands pending: the outcome of the first was not seen.
@@ -162,11 +170,13 @@ two_pending =
 
 -- BOB orders CONFIGURE under this number.
 abbrev pub ordered_once : ℕ → Line
-ordered_once n = line (bob (Do TPC CONFIGURE)) (Ordered BOB TPC 1 n (command.Do CONFIGURE) ∷ []) (sends RUN B B TPC ∷ [])
+ordered_once n = line (bob (Do TPC CONFIGURE)) (Ordered BOB TPC 1 n (command.Do CONFIGURE) ∷ [])
+    (sends RUN B B TPC ∷ [])
 
 -- CONFIGURE runs under this number, once more.
 abbrev pub ran_again : ℕ → Line
-ran_again n = line (Deliver (n + 2)) (Ran TPC 1 n (command.Do CONFIGURE) ∷ Settled TPC 1 n 0 ∷ []) (sends TELL B B TPC ∷ [])
+ran_again n = line (Deliver (n + 2)) (Ran TPC 1 n (command.Do CONFIGURE) ∷ Settled TPC 1 n 0 ∷ [])
+    (sends TELL B B TPC ∷ [])
 
 -- Eight commands pending: a ninth and a drop are refused; all run in their order, and of all but the last the outcome
 -- was not seen.

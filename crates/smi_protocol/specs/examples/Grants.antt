@@ -4,7 +4,8 @@ use Rattle.smi_grant.specs.declared.Command.TheVariants as command
 use Rattle.smi_grant.specs.declared.Holder.TheVariants.{Operator, Domain}
 use Rattle.smi_protocol.specs.Played.{Deliver, StopAfter, Line, line, sends, TAKE, DROP, RUN, TELL}
 use Rattle.smi_protocol.specs.declared.order.Order.TheVariants.{Take, Drop, Do, Include, Exclude}
-use Rattle.smi_protocol.specs.declared.entry.Entry.TheVariants.{Booted, Granted, Freed, Ordered, Ran, Learned, LetGo, Settled}
+use Rattle.smi_protocol.specs.declared.entry.Entry.TheVariants.{Booted, Granted, Freed, Ordered, Ran, Learned, LetGo}
+use Rattle.smi_protocol.specs.declared.entry.Entry.TheVariants.{Settled}
 use Rattle.smi_protocol.specs.examples.WorkedTree.{A, B, ANN, BOB, DCS, TPC, OFF, STOP}
 use Rattle.smi_protocol.specs.examples.Words.{ann, bob, ann_told, bob_told, passed}
 
@@ -12,7 +13,7 @@ use Rattle.smi_protocol.specs.examples.Words.{ann, bob, ann_told, bob_told, pass
 abbrev pub asked_for_DCS : List Line
 asked_for_DCS = line (bob (Take DCS)) [] (sends TAKE B A DCS ∷ []) ∷ []
 
--- Saved but not told: the keeper stops behind the save of a grant, and answers the take when it comes again.
+-- Saved but not told: the keeper stops after the save of a grant, and answers the take when it comes again.
 abbrev pub saved_but_not_told : List Line
 saved_but_not_told =
     asked_for_DCS

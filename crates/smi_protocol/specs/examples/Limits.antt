@@ -61,7 +61,8 @@ abbrev pub last_epoch_taken : Station
 last_epoch_taken =
     let s = first_opened worked_tree A in
     record s {
-      grants = with_link (with_record s.grants DCS (standing 1 (Operator ANN) 1 Busy 0)) (Domain DCS) TPC (Taking (2 ^ 62));
+      grants = with_link (with_record s.grants DCS (standing 1 (Operator ANN) 1 Busy 0)) (Domain DCS) TPC
+          (Taking (2 ^ 62));
     }
 
 -- TPC is free at the last epoch

@@ -32,7 +32,8 @@ abbrev pub with_child : Hierarchy → Link → Mode → Station
 with_child h l m =
     let s = first_opened h A in
     record s {
-      grants = record (with_link (with_record s.grants DCS (standing 1 (Operator ANN) 0 Settled 0)) (Domain DCS) 2 l) { modes = put s.grants.modes 2 m };
+      grants = record (with_link (with_record s.grants DCS (standing 1 (Operator ANN) 0 Settled 0)) (Domain DCS) 2
+          l) { modes = put s.grants.modes 2 m };
     }
 
 -- ANN's first command comes to DCS

@@ -14,8 +14,13 @@ returns c = λ from.
     let k = c.args.kept.now in
     let g = grants_of k in
     let d = c.args.domain in
-    let runs = ap (λ (r : Standing). admits r c.args.holder c.args.epoch c.args.number) (sym c.record.ensures) ∙ sym c.admit.ensures ∙ c.if-not-admit.false in
+    let runs = ap (λ (r : Standing). admits r c.args.holder c.args.epoch c.args.number) (sym c.record.ensures)
+    ∙ sym c.admit.ensures ∙ c.if-not-admit.false in
     c.three.ensures
-    ∙ ap (λ (es : List Entry). entry.Ran d c.args.epoch c.args.number c.args.command ∷ es ++ if_any c.ended.result) c.of_child.ensures
-    ∙ ap (λ (es : List Entry). entry.Ran d c.args.epoch c.args.number c.args.command ∷ child_entries k.tree g d c.args.command ++ es) c.ended.ensures
-    ∙ run_left k.tree k.number g from d c.args.holder c.args.epoch c.args.number c.args.command c.run_comes-change.result c.record_after-standing.result (c.run_comes-change.ensures from) c.record_after-standing.ensures runs
+    ∙ ap (λ (es : List Entry). entry.Ran d c.args.epoch c.args.number c.args.command ∷ es ++ if_any c.ended.result)
+    c.of_child.ensures
+    ∙ ap (λ (es : List Entry). entry.Ran d c.args.epoch c.args.number c.args.command
+    ∷ child_entries k.tree g d c.args.command ++ es) c.ended.ensures
+    ∙ run_left k.tree k.number g from d c.args.holder c.args.epoch c.args.number c.args.command
+    c.run_comes-change.result c.record_after-standing.result (c.run_comes-change.ensures from)
+    c.record_after-standing.ensures runs

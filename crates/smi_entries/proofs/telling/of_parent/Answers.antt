@@ -20,11 +20,15 @@ returns c =
     let d = c.args.child in
     let r = c.args.news.now in
     let z = c.record_after-standing.result in
-    let same = ap (λ (y : Link × LinkHeard). y.0) c.told-link.ensures ∙ ap (λ (old : Link). told_link old (Domain p) r) c.link-old.ensures in
+    let same = ap (λ (y : Link × LinkHeard). y.0) c.told-link.ensures
+    ∙ ap (λ (old : Link). told_link old (Domain p) r) c.link-old.ensures in
     c.two.ensures
     ∙ ap (λ (es : List Entry). es ++ if_any c.ended.result) c.learned.ensures
     ∙ ap (λ (es : List Entry). learned (Domain p) d c.link-old.result c.told-link.result.0 ++ es) c.ended.ensures
     ∙ ap (λ (l : Link). learned (Domain p) d c.link-old.result l ++ came_to_rest p c.record.result z) same
-    ∙ ap (λ (l : Link). learned (Domain p) d l (told_link (g.links (Domain p) d) (Domain p) r) ++ came_to_rest p c.record.result z) c.link-old.ensures
-    ∙ ap (λ (s : Standing). learned (Domain p) d (g.links (Domain p) d) (told_link (g.links (Domain p) d) (Domain p) r) ++ came_to_rest p s z) c.record.ensures
-    ∙ parent_left k.tree k.number g p d r c.parent_told-change.result z c.parent_told-change.ensures c.record_after-standing.ensures
+    ∙ ap (λ (l : Link). learned (Domain p) d l (told_link (g.links (Domain p) d) (Domain p) r)
+    ++ came_to_rest p c.record.result z) c.link-old.ensures
+    ∙ ap (λ (s : Standing). learned (Domain p) d (g.links (Domain p) d)
+    (told_link (g.links (Domain p) d) (Domain p) r) ++ came_to_rest p s z) c.record.ensures
+    ∙ parent_left k.tree k.number g p d r c.parent_told-change.result z c.parent_told-change.ensures
+    c.record_after-standing.ensures

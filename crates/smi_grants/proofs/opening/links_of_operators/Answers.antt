@@ -19,5 +19,6 @@ loop-place-preserved c =
 
 pub returns : goal.returns
 returns c =
-    let end : c.loop-place.place ≡ operator_count c.args.tree.now = omega (arith, c.operator_count-place-end.ensures.value, c.loop-place-test.false, c.loop-place.auto.place-end) in
+    let end : c.loop-place.place ≡ operator_count c.args.tree.now = omega
+    (arith, c.operator_count-place-end.ensures.value, c.loop-place-test.false, c.loop-place.auto.place-end) in
     c.loop-place.invariant ∙ ap (λ n. map (first_links c.args.tree.now c.args.number) (range_with_len 1 n)) end

@@ -11,7 +11,8 @@ use Rattle.smi_law.proofs.law.commands_are_handed_on.Goals as goal
 
 pub returns-clause-at_work : goal.returns-clause-at_work
 returns-clause-at_work c = λ h past w d me run busy holder.
-    busy_waits h past w d me (ap is_free (sym holder) ∙ working_held (record_in h w d) (known_lawful h w d (viewed h past w run)) busy) run busy holder
+    busy_waits h past w d me (ap is_free (sym holder)
+    ∙ working_held (record_in h w d) (known_lawful h w d (viewed h past w run)) busy) run busy holder
 
 pub returns-clause-handed_on : goal.returns-clause-handed_on
 returns-clause-handed_on c = λ h past w d p e n k more run is.

@@ -14,7 +14,8 @@ pub returns-clause-known : goal.returns-clause-known
 returns-clause-known c = λ h past w d me party run. known_grant h w d me party (viewed h past w run)
 
 pub returns-clause-in_step : goal.returns-clause-in_step
-returns-clause-in_step c = λ h past w d me e n p run is. known_in_step h w d me e n p (held_by_somebody h past w me d e n p run is) (viewed h past w run) is
+returns-clause-in_step c = λ h past w d me e n p run is. known_in_step h w d me e n p
+    (held_by_somebody h past w me d e n p run is) (viewed h past w run) is
 
 pub returns-clause-sent : goal.returns-clause-sent
 returns-clause-sent c = λ h past w d me m e n k run a b.

@@ -7,4 +7,5 @@ pub returns-clause-shown : goal.returns-clause-shown
 returns-clause-shown c = λ h past w tree run. (shows h tree past w run).well
 
 pub returns-clause-echo : goal.returns-clause-echo
-returns-clause-echo c = λ h past w m x v s tree run sent is. ((shows h tree past w run).states m x (w.stations m.to).grants.boot v s sent is).since refl
+returns-clause-echo c = λ h past w m x v s tree run sent is.
+    ((shows h tree past w run).states m x (w.stations m.to).grants.boot v s sent is).since refl

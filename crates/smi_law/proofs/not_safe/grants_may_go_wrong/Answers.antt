@@ -9,7 +9,8 @@ returns-clause-granted_twice c = λ safe. let next : ◌≡◌ {A = ℕ} 1 2 = s
 
 pub returns-clause-freed_before_let_go : goal.returns-clause-freed_before_let_go
 unfolding epoch_at holder_at
-returns-clause-freed_before_let_go c = λ safe. elim safe.grants.0.2 [ inl i ↦ cc | inr s ↦ elim s [ inl i ↦ cc | inr b ↦ b ] ]
+returns-clause-freed_before_let_go c = λ safe. elim safe.grants.0.2
+    [ inl i ↦ cc | inr s ↦ elim s [ inl i ↦ cc | inr b ↦ b ] ]
 
 pub returns-clause-learned_twice : goal.returns-clause-learned_twice
 unfolding epoch_at
@@ -23,4 +24,5 @@ returns-clause-granted_to_a_stranger c = λ safe. let home = safe.grants.0.2.1 i
 
 pub returns-clause-two_commanders : goal.returns-clause-two_commanders
 unfolding epoch_at has_learned
-returns-clause-two_commanders c = λ safe. let one : ◌≡◌ {A = ℕ} 1 2 = safe.grants.1 2 1 2 (directly refl) (directly refl) in omega (arith, one)
+returns-clause-two_commanders c = λ safe. let one
+    : ◌≡◌ {A = ℕ} 1 2 = safe.grants.1 2 1 2 (directly refl) (directly refl) in omega (arith, one)

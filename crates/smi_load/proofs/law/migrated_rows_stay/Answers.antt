@@ -20,8 +20,11 @@ returns-clause-none g c = λ honest.
     mid : Rows
     mid = g.S.Stable.rows c.migrate.new.store
 
-    go : (r : Result ℕ OpenFault) → AllRead c.args.tree.now c.args.number rows → IsSame mid (in_newest c.args.tree.now c.args.number rows) → IfOk r (λ n. Counts c.args.number mid n) → IfOk r (λ n. n ≡ 0)
-    go (Ok n) all same counts = counts.count ∙ nothing_left c.args.tree.now c.args.number rows all mid counts.list same counts.listing
+    go : (r : Result ℕ OpenFault) → AllRead c.args.tree.now c.args.number rows
+        → IsSame mid (in_newest c.args.tree.now c.args.number rows) → IfOk r (λ n. Counts c.args.number mid n)
+        → IfOk r (λ n. n ≡ 0)
+    go (Ok n) all same counts = counts.count ∙ nothing_left c.args.tree.now c.args.number rows all mid counts.list
+        same counts.listing
     go (Err fault) all same counts = tt
 
 pub returns-clause-rows : goal.returns-clause-rows
@@ -38,7 +41,10 @@ returns-clause-rows g c = λ honest.
     new : Rows
     new = g.S.Stable.rows c.migrate-2.new.store
 
-    go : (A : Type 0) (r : Result ℕ OpenFault) → IsSame mid (in_newest c.args.tree.now c.args.number rows) → OnOk r (A × IsSame new (in_newest c.args.tree.now c.args.number mid)) → OnOk r (IsSame new (in_newest c.args.tree.now c.args.number rows))
+    go : (A : Type 0) (r : Result ℕ OpenFault) → IsSame mid (in_newest c.args.tree.now c.args.number rows)
+        → OnOk r (A × IsSame new (in_newest c.args.tree.now c.args.number mid))
+        → OnOk r (IsSame new (in_newest c.args.tree.now c.args.number rows))
     go A (Ok n) same after = λ k.
-        after.1 k ∙ ap (λ (t : Rows). in_newest c.args.tree.now c.args.number t k) (fun_ext same) ∙ newest_twice c.args.tree.now c.args.number rows k
+        after.1 k ∙ ap (λ (t : Rows). in_newest c.args.tree.now c.args.number t k) (fun_ext same)
+        ∙ newest_twice c.args.tree.now c.args.number rows k
     go A (Err fault) same after = tt

@@ -1,4 +1,5 @@
-use Rattle.smi_load.proofs.Restarting.{after_stored, anew_stored, event_stored, nothing_stored, opens_stored, read_stored, start_stored}
+use Rattle.smi_load.proofs.Restarting.{after_stored, anew_stored, event_stored, nothing_stored, opens_stored}
+use Rattle.smi_load.proofs.Restarting.{read_stored, start_stored}
 use Rattle.smi_load.proofs.SavedAgain.{stays_stored, stored_sound}
 use Rattle.smi_load.proofs.law.rows_say_what_is_kept.Goals as goal
 

@@ -19,9 +19,14 @@ returns-in_err-save_row-clause-partly g c = λ honest live still.
     let i = c.loop-row.row-index in
     let rows = g.S.Stable.rows c.args.store.now in
     let before = c.loop-row.invariant.rows (e.honest honest) live in
-    either_way (Unit {0}) (Unit {0}) _ _ _ _ c.in_err-save_row.field-0.0 (e.kept honest before.0) (e.unsure honest still)
+    either_way (Unit {0}) (Unit {0}) _ _ _ _ c.in_err-save_row.field-0.0 (e.kept honest before.0)
+    (e.unsure honest still)
     (λ a. record { count = i; rows = λ k. a k ∙ before.1 k })
-    (λ b. record { count = i + 1; rows = one_more rows c.args.rows.now i c.row-item.result c.loop-row-test.true c.row-item.is (g.S.Stable.rows c.loop-row.store) (g.S.Stable.rows c.save_row.new.store) before.1 b })
+    (λ b. record {
+      count = i + 1;
+      rows = one_more rows c.args.rows.now i c.row-item.result c.loop-row-test.true
+          c.row-item.is (g.S.Stable.rows c.loop-row.store) (g.S.Stable.rows c.save_row.new.store) before.1 b;
+    })
 
 pub returns-in_err-save_row-clause-crash : goal.returns-in_err-save_row-clause-crash
 returns-in_err-save_row-clause-crash g c = λ honest live r may.
@@ -31,23 +36,36 @@ returns-in_err-save_row-clause-crash g c = λ honest live r may.
     let before = c.loop-row.invariant.rows (e.honest honest) live in
     elim (e.crash honest before.0 r may) [
       | inl a ↦ record { count = i; rows = λ k. a k ∙ before.1 k }
-      | inr b ↦ record { count = i + 1; rows = one_more rows c.args.rows.now i c.row-item.result c.loop-row-test.true c.row-item.is (g.S.Stable.rows c.loop-row.store) r before.1 b }
+      | inr b ↦ record {
+        count = i + 1;
+        rows = one_more rows c.args.rows.now i c.row-item.result c.loop-row-test.true
+            c.row-item.is (g.S.Stable.rows c.loop-row.store) r before.1 b;
+      }
     ]
 
 pub returns-in_err-save_row-clause-honest : goal.returns-in_err-save_row-clause-honest
-returns-in_err-save_row-clause-honest g c = λ honest. c.loop-row.invariant.honest (c.in_err-save_row.ensures.honest honest)
+returns-in_err-save_row-clause-honest g c =
+    λ honest. c.loop-row.invariant.honest (c.in_err-save_row.ensures.honest honest)
 
 pub returns-in_err-save_row-clause-failures : goal.returns-in_err-save_row-clause-failures
-returns-in_err-save_row-clause-failures g c = omega (arith, c.loop-row.invariant.failures, c.in_err-save_row.ensures.failures)
+returns-in_err-save_row-clause-failures g c =
+    omega (arith, c.loop-row.invariant.failures, c.in_err-save_row.ensures.failures)
 
 pub returns-in_err-save_row-clause-cause : goal.returns-in_err-save_row-clause-cause
 returns-in_err-save_row-clause-cause g c =
     let p = err_from_is_err_and c.from_residual.result c.from_residual.ensures.1 in
     rw (p.1, p.2)
-    (failed_more (Unit {0}) (Unit {0}) c.in_err-save_row.field-0.0 (g.S.Stable.failures c.args.store.now) (g.S.Stable.failures c.loop-row.store) (g.S.Stable.failures c.save_row.new.store) c.loop-row.invariant.failures c.in_err-save_row.ensures.cause)
+    (failed_more (Unit {0}) (Unit {0}) c.in_err-save_row.field-0.0 (g.S.Stable.failures c.args.store.now)
+    (g.S.Stable.failures c.loop-row.store) (g.S.Stable.failures c.save_row.new.store) c.loop-row.invariant.failures
+    c.in_err-save_row.ensures.cause)
 
 pub loop-row-init : goal.loop-row-init
-loop-row-init g c = record { honest = λ honest. honest; rows = λ honest live. (live, λ k. refl); saves = omega arith; failures = omega arith }
+loop-row-init g c = record {
+  honest = λ honest. honest;
+  rows = λ honest live. (live, λ k. refl);
+  saves = omega arith;
+  failures = omega arith;
+}
 
 pub loop-row-preserved : goal.loop-row-preserved
 loop-row-preserved g c =
@@ -58,22 +76,30 @@ loop-row-preserved g c =
       honest = λ honest. inv.honest (e.honest honest);
       rows = λ honest live.
           let before = inv.rows (e.honest honest) live in
-          let after = e.saved honest in
-          (after.0, one_more (g.S.Stable.rows c.args.store.now) c.args.rows.now i c.row-item.result c.loop-row-test.true c.row-item.is (g.S.Stable.rows c.loop-row.store) (g.S.Stable.rows c.save_row.new.store) before.1 after.1);
+          let after = e.saved honest in (
+            after.0,
+            one_more (g.S.Stable.rows c.args.store.now) c.args.rows.now i c.row-item.result
+                c.loop-row-test.true c.row-item.is (g.S.Stable.rows c.loop-row.store)
+                (g.S.Stable.rows c.save_row.new.store) before.1 after.1,
+          );
       saves = omega (arith, inv.saves, e.saves);
       failures = omega (arith, inv.failures, e.failures);
     }
 
 pub returns-clause-saved : goal.returns-clause-saved
 returns-clause-saved g c = λ honest live.
-    let after = c.loop-row.invariant.rows honest live in
-    (after.0, λ k. after.1 k ∙ ap (λ (xs : List Saved). over (g.S.Stable.rows c.args.store.now) xs k) (take_all c.loop-row.row-index c.args.rows.now c.loop-row-test.false))
+    let after = c.loop-row.invariant.rows honest live in (
+      after.0,
+      λ k. after.1 k ∙ ap (λ (xs : List Saved). over (g.S.Stable.rows c.args.store.now) xs k)
+          (take_all c.loop-row.row-index c.args.rows.now c.loop-row-test.false),
+    )
 
 pub returns-clause-certain : goal.returns-clause-certain
 returns-clause-certain g c = λ honest live. (c.loop-row.invariant.rows honest live).0
 
 pub returns-clause-partly : goal.returns-clause-partly
-returns-clause-partly g c = λ honest live still. record { count = c.loop-row.row-index; rows = (c.loop-row.invariant.rows honest live).1 }
+returns-clause-partly g c = λ honest live still.
+    record { count = c.loop-row.row-index; rows = (c.loop-row.invariant.rows honest live).1 }
 
 pub returns-clause-crash : goal.returns-clause-crash
 returns-clause-crash g c = λ honest live r may.
@@ -85,7 +111,12 @@ pub returns-clause-honest : goal.returns-clause-honest
 returns-clause-honest g c = λ honest. c.loop-row.invariant.honest honest
 
 pub returns-clause-saves : goal.returns-clause-saves
-returns-clause-saves g c = omega (arith, c.loop-row.invariant.saves, c.loop-row-test.false, c.loop-row.auto.row-index-end)
+returns-clause-saves g c = omega (
+  arith,
+  c.loop-row.invariant.saves,
+  c.loop-row-test.false,
+  c.loop-row.auto.row-index-end,
+)
 
 pub returns-clause-failures : goal.returns-clause-failures
 returns-clause-failures g c = c.loop-row.invariant.failures

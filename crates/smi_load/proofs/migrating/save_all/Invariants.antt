@@ -7,7 +7,9 @@ use Rattle.smi_load.proofs.migrating.save_all.Given as goal
 abbrev pub invariant-loop-row : goal.invariant-loop-row
 invariant-loop-row g l = record {
   honest : g.S.Stable.is_honest l.store → g.S.Stable.is_honest l.initial.store;
-  rows : g.S.Stable.is_honest l.store → g.S.Stable.is_open l.initial.store → g.S.Stable.is_open l.store × IsSame (g.S.Stable.rows l.store) (over (g.S.Stable.rows l.initial.store) (take l.row-index l.rows));
+  rows : g.S.Stable.is_honest l.store → g.S.Stable.is_open l.initial.store
+      → g.S.Stable.is_open l.store × IsSame (g.S.Stable.rows l.store)
+      (over (g.S.Stable.rows l.initial.store) (take l.row-index l.rows));
   saves : g.S.Stable.saves l.store ≡ g.S.Stable.saves l.initial.store + l.row-index;
   failures : g.S.Stable.failures l.initial.store ≤ g.S.Stable.failures l.store;
 }

@@ -13,6 +13,7 @@ left n m is less = grind (arith, nat_tests)
 pub returns-clause-comes : goal.returns-clause-comes
 returns-clause-comes c =
     let g = grants_of c.args.kept.now in
-    ap (λ (b : Bool). if b then Err BootsSpent else Ok (record g { boot = g.boot + 1 })) (left c.boot-boot.result g.boot c.boot-boot.ensures c.if-boot-ge-LAST_BOOT.false)
+    ap (λ (b : Bool). if b then Err BootsSpent else Ok (record g { boot = g.boot + 1 }))
+    (left c.boot-boot.result g.boot c.boot-boot.ensures c.if-boot-ge-LAST_BOOT.false)
     ∙ ap (λ (n : ℕ). Ok (record g { boot = n + 1 })) (sym c.boot-boot.ensures)
     ∙ ap (λ (k : Grants). Ok k) (sym c.put_boot.ensures.grants)

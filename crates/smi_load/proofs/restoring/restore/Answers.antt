@@ -9,7 +9,8 @@ use Rattle.smi_load.proofs.Taking.{own_row_is}
 use Rattle.smi_load.proofs.restoring.restore.Goals as goal
 
 -- what the row says
-told : (c : goal.After-said-in-Some-1) → said_to c.args.kept.now.tree c.args.kept.now.number c.args.row.now ≡ Ok (Some c.in-Some.said)
+told : (c : goal.After-said-in-Some-1) → said_to c.args.kept.now.tree c.args.kept.now.number c.args.row.now
+    ≡ Ok (Some c.in-Some.said)
 told c =
     ap (λ (h : Hierarchy). said_to h c.args.kept.now.number c.args.row.now) (sym c.tree.ensures.value)
     ∙ ap (λ n. said_to c.tree.result.now n c.args.row.now) (sym c.number.ensures.value)

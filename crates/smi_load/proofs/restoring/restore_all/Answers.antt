@@ -19,10 +19,17 @@ returns-in_err-restore-clause-comes c =
     let rest = drop (i + 1) rows in
     let fault = c.in_err-restore.field-0.0 in
     let p = err_from_is_err_and c.from_residual.result c.from_residual.ensures.1 in
-    let here : Comes {X = Grants} (Err fault) (taken k.tree k.number g c.row-item.result) = rw (← inv.tree, ← inv.number) c.in_err-restore.ensures.comes in
-    let all : and_then (λ j. restored k.tree k.number j rest) (taken k.tree k.number g c.row-item.result) ≡ restored k.tree k.number (grants_of k) rows =
-    ap (restored k.tree k.number g) (sym (drop_more rows i c.row-item.result c.loop-row-test.true ∙ ap (λ (r : Saved). r ∷ rest) (sym c.row-item.is))) ∙ inv.all in
-    rw (p.1, p.2) (subst (λ (r : Result Grants OpenFault). Comes {X = Grants} (Err fault) r) all (passed_on (λ j. restored k.tree k.number j rest) fault (taken k.tree k.number g c.row-item.result) here))
+    let here : Comes {X = Grants} (Err fault) (taken k.tree k.number g c.row-item.result) = rw (
+      ← inv.tree,
+      ← inv.number,
+    ) c.in_err-restore.ensures.comes in
+    let all : and_then (λ j. restored k.tree k.number j rest) (taken k.tree k.number g c.row-item.result)
+    ≡ restored k.tree k.number (grants_of k) rows =
+    ap (restored k.tree k.number g)
+    (sym (drop_more rows i c.row-item.result c.loop-row-test.true
+    ∙ ap (λ (r : Saved). r ∷ rest) (sym c.row-item.is))) ∙ inv.all in
+    rw (p.1, p.2) (subst (λ (r : Result Grants OpenFault). Comes {X = Grants} (Err fault) r) all
+    (passed_on (λ j. restored k.tree k.number j rest) fault (taken k.tree k.number g c.row-item.result) here))
 
 pub returns-in_err-restore-clause-tree : goal.returns-in_err-restore-clause-tree
 returns-in_err-restore-clause-tree c = c.in_err-restore.ensures.tree ∙ c.loop-row.invariant.tree
@@ -38,11 +45,14 @@ loop-row-preserved c =
     let rows = c.args.rows.now in
     let i = c.loop-row.row-index in
     let rest = drop (i + 1) rows in
-    let here : taken k.tree k.number g c.row-item.result ≡ Ok (grants_of c.restore.new.kept) = rw (← inv.tree, ← inv.number) c.in_ok-restore.ensures.comes in
+    let here : taken k.tree k.number g c.row-item.result
+    ≡ Ok (grants_of c.restore.new.kept) = rw (← inv.tree, ← inv.number) c.in_ok-restore.ensures.comes in
     record {
       all =
           ap (and_then (λ j. restored k.tree k.number j rest)) (sym here)
-          ∙ ap (restored k.tree k.number g) (sym (drop_more rows i c.row-item.result c.loop-row-test.true ∙ ap (λ (r : Saved). r ∷ rest) (sym c.row-item.is)))
+          ∙ ap (restored k.tree k.number g)
+          (sym (drop_more rows i c.row-item.result c.loop-row-test.true
+          ∙ ap (λ (r : Saved). r ∷ rest) (sym c.row-item.is)))
           ∙ inv.all;
       tree = c.in_ok-restore.ensures.tree ∙ inv.tree;
       number = c.in_ok-restore.ensures.number ∙ inv.number;
@@ -51,4 +61,5 @@ loop-row-preserved c =
 pub returns-clause-comes : goal.returns-clause-comes
 returns-clause-comes c =
     let k = c.args.kept.now in
-    sym c.loop-row.invariant.all ∙ ap (restored k.tree k.number (grants_of c.loop-row.kept)) (drop_all c.loop-row.row-index c.args.rows.now c.loop-row-test.false)
+    sym c.loop-row.invariant.all ∙ ap (restored k.tree k.number (grants_of c.loop-row.kept))
+    (drop_all c.loop-row.row-index c.args.rows.now c.loop-row-test.false)

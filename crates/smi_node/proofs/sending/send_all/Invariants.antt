@@ -5,5 +5,7 @@ use Rattle.smi_node.proofs.sending.send_all.Given as goal
 -- whatever the others leave, all leave
 abbrev pub invariant-loop-datagram : goal.invariant-loop-datagram
 invariant-loop-datagram g l =
-    (after : LinkShows) → Sends (drop l.datagram-index l.datagrams) (shown_by g.L.DatagramLink.received g.L.DatagramLink.handed g.L.DatagramLink.failures l.link) after
-    → Sends l.datagrams (shown_by g.L.DatagramLink.received g.L.DatagramLink.handed g.L.DatagramLink.failures l.initial.link) after
+    (after : LinkShows) → Sends (drop l.datagram-index l.datagrams)
+    (shown_by g.L.DatagramLink.received g.L.DatagramLink.handed g.L.DatagramLink.failures l.link) after
+    → Sends l.datagrams (shown_by g.L.DatagramLink.received g.L.DatagramLink.handed g.L.DatagramLink.failures
+    l.initial.link) after

@@ -12,8 +12,11 @@ returns-in-Some g c =
       Some c.in-Some.order,
       c.next.new.self,
       c.in-Some.ensures.step,
-      subst (λ (e : Option Event). Obeys (carrying (StepsTo {S = g.row.S.Denot} s.is_honest s.is_open s.rows s.saves s.failures) c.args.operators.now) c.args.seat e
+      subst (λ (e : Option Event). Obeys (carrying
+          (StepsTo {S = g.row.S.Denot} s.is_honest s.is_open s.rows s.saves s.failures) c.args.operators.now)
+          c.args.seat e
           (node c.args.station.now (edges (shows c.args.link.now) c.next.new.self c.args.board.now))
-          (node c.obey.new.station (edges (shows c.obey.new.link) c.obey.new.desk c.obey.new.board)) (fault_in c.obey.result))
+          (node c.obey.new.station (edges (shows c.obey.new.link) c.obey.new.desk c.obey.new.board))
+          (fault_in c.obey.result))
           c.event_of.ensures c.obey.ensures,
     )

@@ -16,13 +16,18 @@ loop-seat-preserved g c =
     let s = g.S.Stable in
     let steps = StepsTo {S = g.row.S.Denot} s.is_honest s.is_open s.rows s.saves s.failures in
     let shows = shown_by g.L.DatagramLink.received g.L.DatagramLink.handed g.L.DatagramLink.failures in
-    let first : Node (Whole g.row.S.Denot) = node c.args.station.now (edges (shows c.args.link.now) c.args.desk.now c.args.board.now) in
-    let before : Node (Whole g.row.S.Denot) = node c.loop-seat.station (edges (shows c.loop-seat.link) c.loop-seat.desk c.loop-seat.board) in
-    let after : Node (Whole g.row.S.Denot) = node c.serve_seat.new.station (edges (shows c.serve_seat.new.link) c.serve_seat.new.desk c.serve_seat.new.board) in
+    let first : Node (Whole g.row.S.Denot) = node c.args.station.now
+    (edges (shows c.args.link.now) c.args.desk.now c.args.board.now) in
+    let before : Node (Whole g.row.S.Denot) = node c.loop-seat.station
+    (edges (shows c.loop-seat.link) c.loop-seat.desk c.loop-seat.board) in
+    let after : Node (Whole g.row.S.Denot) = node c.serve_seat.new.station
+    (edges (shows c.serve_seat.new.link) c.serve_seat.new.desk c.serve_seat.new.board) in
     record {
-      served = next_seat (carrying steps c.args.operators.now) c.args.operators.now c.seat_count-seats.result c.loop-seat.seat c.speaker-who.result first before after
+      served = next_seat (carrying steps c.args.operators.now) c.args.operators.now c.seat_count-seats.result
+          c.loop-seat.seat c.speaker-who.result first before after
           c.speaker-who.ensures c.loop-seat.invariant.served c.in-Ok.ensures;
-      count = (seat_keeps steps c.args.operators.now c.speaker-who.result c.loop-seat.seat before after None c.in-Ok.ensures).seats ∙ c.loop-seat.invariant.count;
+      count = (seat_keeps steps c.args.operators.now c.speaker-who.result c.loop-seat.seat before after None
+          c.in-Ok.ensures).seats ∙ c.loop-seat.invariant.count;
     }
 
 pub returns-in-Err : goal.returns-in-Err
@@ -30,8 +35,12 @@ returns-in-Err g c =
     let s = g.S.Stable in
     let steps = StepsTo {S = g.row.S.Denot} s.is_honest s.is_open s.rows s.saves s.failures in
     let shows = shown_by g.L.DatagramLink.received g.L.DatagramLink.handed g.L.DatagramLink.failures in
-    let first : Node (Whole g.row.S.Denot) = node c.args.station.now (edges (shows c.args.link.now) c.args.desk.now c.args.board.now) in
-    let before : Node (Whole g.row.S.Denot) = node c.loop-seat.station (edges (shows c.loop-seat.link) c.loop-seat.desk c.loop-seat.board) in
-    let after : Node (Whole g.row.S.Denot) = node c.serve_seat.new.station (edges (shows c.serve_seat.new.link) c.serve_seat.new.desk c.serve_seat.new.board) in
-    broken_seat (carrying steps c.args.operators.now) c.args.operators.now c.seat_count-seats.result c.loop-seat.seat _ c.speaker-who.result first before after _
+    let first : Node (Whole g.row.S.Denot) = node c.args.station.now
+    (edges (shows c.args.link.now) c.args.desk.now c.args.board.now) in
+    let before : Node (Whole g.row.S.Denot) = node c.loop-seat.station
+    (edges (shows c.loop-seat.link) c.loop-seat.desk c.loop-seat.board) in
+    let after : Node (Whole g.row.S.Denot) = node c.serve_seat.new.station
+    (edges (shows c.serve_seat.new.link) c.serve_seat.new.desk c.serve_seat.new.board) in
+    broken_seat (carrying steps c.args.operators.now) c.args.operators.now c.seat_count-seats.result c.loop-seat.seat
+    _ c.speaker-who.result first before after _
     c.speaker-who.ensures c.seat_count-seats.ensures c.loop-seat-test.true c.loop-seat.invariant.served c.in-Err.ensures

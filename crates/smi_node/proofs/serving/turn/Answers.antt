@@ -10,7 +10,11 @@ returns-in-Err-serve_seats g c =
     let s = g.S.Stable in
     let steps = StepsTo {S = g.row.S.Denot} s.is_honest s.is_open s.rows s.saves s.failures in
     let shows = shown_by g.L.DatagramLink.received g.L.DatagramLink.handed g.L.DatagramLink.failures in
-    let first : Node (Whole g.row.S.Denot) = node c.args.station.now (edges (shows c.args.link.now) c.args.desk.now c.args.board.now) in
-    let before : Node (Whole g.row.S.Denot) = node c.hear.new.station (edges (shows c.hear.new.link) c.hear.new.desk c.hear.new.board) in
-    let after : Node (Whole g.row.S.Denot) = node c.serve_seats.new.station (edges (shows c.serve_seats.new.link) c.serve_seats.new.desk c.serve_seats.new.board) in
-    broken_turn (carrying steps c.args.operators.now) c.args.operators.now first before after c.in-Ok.failed c.in-Err-serve_seats.fault c.in-Ok.ensures c.in-Err-serve_seats.ensures
+    let first : Node (Whole g.row.S.Denot) = node c.args.station.now
+    (edges (shows c.args.link.now) c.args.desk.now c.args.board.now) in
+    let before : Node (Whole g.row.S.Denot) = node c.hear.new.station
+    (edges (shows c.hear.new.link) c.hear.new.desk c.hear.new.board) in
+    let after : Node (Whole g.row.S.Denot) = node c.serve_seats.new.station
+    (edges (shows c.serve_seats.new.link) c.serve_seats.new.desk c.serve_seats.new.board) in
+    broken_turn (carrying steps c.args.operators.now) c.args.operators.now first before after c.in-Ok.failed
+    c.in-Err-serve_seats.fault c.in-Ok.ensures c.in-Err-serve_seats.ensures

@@ -12,4 +12,5 @@ invariant-loop-told l =
     × (sent l.answers ++ handed_out l.work.items ≡ sent l.initial.answers ++ handed_out l.initial.work.items)
     × (still_in_work l.work.items ≡ still_in_work l.initial.work.items)
     × (length l.work.items ≤ known_free l.answers)
-    × (known_free l.answers + length (handed_out l.initial.work.items) ≡ known_free l.initial.answers + length (handed_out l.work.items))
+    × (known_free l.answers + length (handed_out l.initial.work.items) ≡ known_free l.initial.answers
+    + length (handed_out l.work.items))

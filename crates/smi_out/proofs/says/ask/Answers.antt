@@ -7,10 +7,14 @@ pub invariant_of-result : goal.invariant_of-result
 invariant_of-result c =
     let tree = c.number.ensures.tree in
     let row = tree.lawful.domains.each _ _ c.domain-to.ensures in
-    let inside : is_domain c.args.domain ≡ true = between 1 128 c.args.domain c.requires.domain.0 (omega (arith, c.requires.domain.1, tree.lawful.domains.most)) in
+    let inside : is_domain c.args.domain ≡ true = between 1 128 c.args.domain c.requires.domain.0
+    (omega (arith, c.requires.domain.1, tree.lawful.domains.most)) in
     record {
       from = (c.requires.from.0, omega (arith, c.requires.from.1, tree.lawful.stations));
       to = (row.station.least, omega (arith, row.station.most, tree.lawful.stations));
-      tree = (omega (arith, c.number.ensures.value, tree.number), omega (arith, c.number.ensures.value, tree.lawful.number));
+      tree = (
+        omega (arith, c.number.ensures.value, tree.number),
+        omega (arith, c.number.ensures.value, tree.lawful.number),
+      );
       body = inside;
     }

@@ -8,8 +8,10 @@ use Rattle.smi_plan.proofs.asking.drop_grant.Goals as goal
 pub send_record-requires-clause-told : goal.send_record-requires-clause-told
 send_record-requires-clause-told c =
     let k = c.args.kept.now in
-    told_after k.tree k.number (grants_of k) _ c.drop_comes-change.result c.args.domain c.record_after-standing.result (c.drop_comes-change.ensures c.args.from)
-    (drop_sound k.tree (grants_of k) c.args.domain c.requires.sound k.number c.args.from _ c.args.holder c.args.epoch c.requires.party)
+    told_after k.tree k.number (grants_of k) _ c.drop_comes-change.result c.args.domain
+    c.record_after-standing.result (c.drop_comes-change.ensures c.args.from)
+    (drop_sound k.tree (grants_of k) c.args.domain c.requires.sound k.number c.args.from _ c.args.holder c.args.epoch
+    c.requires.party)
     c.record_after-standing.ensures
 
 pub returns-clause-plan : goal.returns-clause-plan
@@ -19,5 +21,7 @@ pub returns-clause-sent : goal.returns-clause-sent
 returns-clause-sent c =
     let k = c.args.kept.now in
     c.send_record.ensures
-    ∙ decided_told k.tree k.number (grants_of k) c.args.from c.args.domain c.args.out.now _ (drop_after ((grants_of k).records c.args.domain) c.args.holder c.args.epoch) c.drop_comes-change.result c.record_after-standing.result
+    ∙ decided_told k.tree k.number (grants_of k) c.args.from c.args.domain c.args.out.now _
+    (drop_after ((grants_of k).records c.args.domain) c.args.holder c.args.epoch) c.drop_comes-change.result
+    c.record_after-standing.result
     (c.drop_comes-change.ensures c.args.from) c.record_after-standing.ensures

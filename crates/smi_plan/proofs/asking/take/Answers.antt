@@ -8,8 +8,10 @@ use Rattle.smi_plan.proofs.asking.take.Goals as goal
 pub send_record-requires-clause-told : goal.send_record-requires-clause-told
 send_record-requires-clause-told c =
     let k = c.args.kept.now in
-    told_after k.tree k.number (grants_of k) _ c.take_comes-change.result c.args.domain c.record_after-standing.result (c.take_comes-change.ensures c.args.from)
-    (take_sound k.tree (grants_of k) c.args.domain c.requires.sound k.number c.args.from _ c.args.holder c.args.seen c.requires.party c.requires.holder c.requires.may_hold)
+    told_after k.tree k.number (grants_of k) _ c.take_comes-change.result c.args.domain
+    c.record_after-standing.result (c.take_comes-change.ensures c.args.from)
+    (take_sound k.tree (grants_of k) c.args.domain c.requires.sound k.number c.args.from _ c.args.holder c.args.seen
+    c.requires.party c.requires.holder c.requires.may_hold)
     c.record_after-standing.ensures
 
 pub returns-clause-plan : goal.returns-clause-plan
@@ -19,5 +21,7 @@ pub returns-clause-sent : goal.returns-clause-sent
 returns-clause-sent c =
     let k = c.args.kept.now in
     c.send_record.ensures
-    ∙ decided_told k.tree k.number (grants_of k) c.args.from c.args.domain c.args.out.now _ (take_after ((grants_of k).records c.args.domain) c.args.holder c.args.seen) c.take_comes-change.result c.record_after-standing.result
+    ∙ decided_told k.tree k.number (grants_of k) c.args.from c.args.domain c.args.out.now _
+    (take_after ((grants_of k).records c.args.domain) c.args.holder c.args.seen) c.take_comes-change.result
+    c.record_after-standing.result
     (c.take_comes-change.ensures c.args.from) c.record_after-standing.ensures

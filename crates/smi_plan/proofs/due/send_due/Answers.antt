@@ -15,6 +15,10 @@ loop-i-preserved c =
     let i = c.loop-i.i in
     let rest = map f (filter_map due (range_with_len (i + 1) (8 - (i + 1)))) in
     ap (λ (o : Out). record o { datagrams = sent_after o.datagrams rest }) c.send_if_due.ensures
-    ∙ ap (λ o. record c.loop-i.out { datagrams = sent_after (sent_after c.loop-i.out.datagrams (map f (if_any o))) rest }) c.due.ensures
-    ∙ ap (λ (ms : List Message). record c.loop-i.out { datagrams = ms }) (sym (due_sent c.loop-i.out.datagrams f due 8 i c.loop-i-test.true))
+    ∙ ap (λ o. record c.loop-i.out {
+      datagrams = sent_after (sent_after c.loop-i.out.datagrams (map f (if_any o)))
+          rest;
+    }) c.due.ensures
+    ∙ ap (λ (ms : List Message). record c.loop-i.out { datagrams = ms })
+    (sym (due_sent c.loop-i.out.datagrams f due 8 i c.loop-i-test.true))
     ∙ c.loop-i.invariant

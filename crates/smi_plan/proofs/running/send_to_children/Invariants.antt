@@ -9,5 +9,13 @@ use Rattle.smi_plan.proofs.running.send_to_children.Given as goal
 -- the children so far are asked
 abbrev pub invariant-loop-child : goal.invariant-loop-child
 invariant-loop-child l =
-    record l.out { datagrams = sent_after l.out.datagrams (flat_map (λ x. child_request l.kept.tree l.kept.number l.domain x (change_of l.kept.tree (grants_of l.kept) l.domain l.command x)) (drop l.child-index l.children)) }
-    ≡ record l.initial.out { datagrams = sent_after l.initial.out.datagrams (flat_map (λ x. child_request l.kept.tree l.kept.number l.domain x (change_of l.kept.tree (grants_of l.kept) l.domain l.command x)) l.children) }
+    record l.out {
+      datagrams = sent_after l.out.datagrams
+          (flat_map (λ x. child_request l.kept.tree l.kept.number l.domain x
+          (change_of l.kept.tree (grants_of l.kept) l.domain l.command x)) (drop l.child-index l.children));
+    }
+    ≡ record l.initial.out {
+      datagrams = sent_after l.initial.out.datagrams
+          (flat_map (λ x. child_request l.kept.tree l.kept.number l.domain x
+          (change_of l.kept.tree (grants_of l.kept) l.domain l.command x)) l.children);
+    }

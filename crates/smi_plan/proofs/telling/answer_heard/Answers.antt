@@ -7,9 +7,11 @@ use Rattle.smi_plan.proofs.telling.answer_heard.Goals as goal
 pub returns-in-Unchanged-clause-answers : goal.returns-in-Unchanged-clause-answers
 returns-in-Unchanged-clause-answers c =
     let out = c.args.out.now in
-    rw c.in-Unchanged.is (ap (λ (zs : List Answer). record out { answers = answered_after out.answers zs }) (all_answered c.args.operator c.args.domain c.args.link.now []))
+    rw c.in-Unchanged.is (ap (λ (zs : List Answer). record out { answers = answered_after out.answers zs })
+    (all_answered c.args.operator c.args.domain c.args.link.now []))
 
 pub returns-in-Renewed-clause-answers : goal.returns-in-Renewed-clause-answers
 returns-in-Renewed-clause-answers c =
     let out = c.args.out.now in
-    rw c.in-Renewed.is (ap (λ (zs : List Answer). record out { answers = answered_after out.answers zs }) (all_answered c.args.operator c.args.domain c.args.link.now []))
+    rw c.in-Renewed.is (ap (λ (zs : List Answer). record out { answers = answered_after out.answers zs })
+    (all_answered c.args.operator c.args.domain c.args.link.now []))

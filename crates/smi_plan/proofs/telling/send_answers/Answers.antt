@@ -1,4 +1,5 @@
-use Rattle.std.proofs.Common.{◌<◌, ◌≤◌, ◌∙◌, ◌+◌, List, Option, length, drop, drop_of_length-le, ap, sym, subst, arith}
+use Rattle.std.proofs.Common.{◌<◌, ◌≤◌, ◌∙◌, ◌+◌, List, Option, length, drop, drop_of_length-le, ap, sym, subst}
+use Rattle.std.proofs.Common.{arith}
 use Rattle.smi_command.specs.declared.Settlement.{Settlement}
 use Rattle.smi_out.specs.Handed.{answered_after}
 use Rattle.smi_protocol.specs.Messages.{if_any}
@@ -20,7 +21,10 @@ loop-i-preserved c =
     record {
       all =
           ap (λ (z : Out). record z { answers = answered_after z.answers rest }) c.send_if_any.ensures
-          ∙ ap (λ (a : Option Answer). record out { answers = answered_after (answered_after out.answers (if_any a)) rest }) c.answer_for.ensures
+          ∙ ap (λ (a : Option Answer). record out {
+            answers = answered_after (answered_after out.answers (if_any a))
+                rest;
+          }) c.answer_for.ensures
           ∙ ap (λ (zs : List Answer). record out { answers = zs }) (sym (answer_next out.answers o d l xs i within))
           ∙ c.loop-i.invariant.all;
       few =
@@ -36,6 +40,10 @@ returns-clause-answers c =
     let l = c.args.link.now in
     let xs = c.args.settlements.now in
     let past = subst (λ n. n ≤ c.loop-i.i) c.len-i-end.ensures.value c.loop-i-test.false in
-    ap (λ (ys : List Settlement). record c.loop-i.out { answers = answered_after c.loop-i.out.answers (answers_from o d l c.loop-i.i ys) }) (sym (drop_of_length-le xs past))
+    ap (λ (ys : List Settlement). record c.loop-i.out {
+      answers = answered_after c.loop-i.out.answers
+          (answers_from o d l c.loop-i.i ys);
+    }) (sym (drop_of_length-le xs past))
     ∙ c.loop-i.invariant.all
-    ∙ ap (λ (zs : List Answer). record c.args.out.now { answers = answered_after c.args.out.now.answers zs }) (all_answered o d l xs)
+    ∙ ap (λ (zs : List Answer). record c.args.out.now { answers = answered_after c.args.out.now.answers zs })
+    (all_answered o d l xs)

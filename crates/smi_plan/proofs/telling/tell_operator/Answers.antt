@@ -18,7 +18,10 @@ send_due-requires-clause-link c =
     let g = grants_of k in
     let me = Operator c.args.operator in
     let new = told_link (g.links me c.args.domain) me c.args.news.now in
-    let same = ap (λ (z : Link × LinkHeard). z.0) c.told-link.ensures ∙ ap (λ (old : Link). told_link old me c.args.news.now) c.link-old.ensures in
-    let sound = operator_sound k.tree g c.requires.sound c.args.operator c.args.domain c.args.news.now (is_record-facts c.args.news.now c.requires.news) in
+    let same = ap (λ (z : Link × LinkHeard). z.0) c.told-link.ensures
+    ∙ ap (λ (old : Link). told_link old me c.args.news.now) c.link-old.ensures in
+    let sound = operator_sound k.tree g c.requires.sound c.args.operator c.args.domain c.args.news.now
+    (is_record-facts c.args.news.now c.requires.news) in
     link_due k.tree most_pending c.told-link.result.0
-    (subst (IsLink k.tree most_pending) (put_link_here g.links me c.args.domain new ∙ sym same) (sound.own c.args.operator c.args.domain))
+    (subst (IsLink k.tree most_pending) (put_link_here g.links me c.args.domain new ∙ sym same)
+    (sound.own c.args.operator c.args.domain))

@@ -28,8 +28,10 @@ send_end-requires-clause-told c =
     let p = c.args.parent in
     let d = c.args.child in
     let r = c.args.news.now in
-    told_after k.tree k.number g (parent_told k.tree k.number g p d r) c.parent_told-change.result p c.record_after-standing.result c.parent_told-change.ensures
-    (parent_stays k.tree k.number g p d r c.tree-tree.ensures.kept.tree c.requires.sound c.requires.child c.requires.news c.requires.outcome c.requires.hears)
+    told_after k.tree k.number g (parent_told k.tree k.number g p d r) c.parent_told-change.result p
+    c.record_after-standing.result c.parent_told-change.ensures
+    (parent_stays k.tree k.number g p d r c.tree-tree.ensures.kept.tree c.requires.sound c.requires.child
+    c.requires.news c.requires.outcome c.requires.hears)
     c.record_after-standing.ensures
 
 pub send_end-requires-clause-to : goal.send_end-requires-clause-to
@@ -39,9 +41,12 @@ send_end-requires-clause-to c =
     let p = c.args.parent in
     let d = c.args.child in
     let r = c.args.news.now in
-    let standing = c.record_after-standing.ensures ∙ ap (λ (a : Grants). a.records p) (sym c.parent_told-change.ensures.grants) in
-    λ working. subst (λ (z : Standing). IsBetween 1 (station_count k.tree) (unwrap_or (holder_station k.tree z.holder) 0)) (sym standing)
-    (holder_known k.tree k.number g p d r c.tree-tree.ensures.kept.tree c.requires.sound c.requires.child c.requires.news c.requires.outcome c.requires.hears working)
+    let standing = c.record_after-standing.ensures
+    ∙ ap (λ (a : Grants). a.records p) (sym c.parent_told-change.ensures.grants) in
+    λ working. subst (λ (z : Standing). IsBetween 1 (station_count k.tree)
+    (unwrap_or (holder_station k.tree z.holder) 0)) (sym standing)
+    (holder_known k.tree k.number g p d r c.tree-tree.ensures.kept.tree c.requires.sound c.requires.child
+    c.requires.news c.requires.outcome c.requires.hears working)
 
 pub send_due-requires-clause-link : goal.send_due-requires-clause-link
 send_due-requires-clause-link c =
@@ -50,9 +55,12 @@ send_due-requires-clause-link c =
     let p = c.args.parent in
     let d = c.args.child in
     let r = c.args.news.now in
-    let same = ap (λ (z : Link × LinkHeard). z.0) c.told-link.ensures ∙ ap (λ (old : Link). told_link old (Domain p) r) c.link.ensures in
+    let same = ap (λ (z : Link × LinkHeard). z.0) c.told-link.ensures
+    ∙ ap (λ (old : Link). told_link old (Domain p) r) c.link.ensures in
     link_due k.tree most_handed_on c.told-link.result.0
-    (subst (IsLink k.tree most_handed_on) (sym same) (parent_link k.tree k.number g p d r c.tree-tree.ensures.kept.tree c.requires.sound c.requires.child c.requires.news c.requires.outcome c.requires.hears))
+    (subst (IsLink k.tree most_handed_on) (sym same)
+    (parent_link k.tree k.number g p d r c.tree-tree.ensures.kept.tree c.requires.sound c.requires.child
+    c.requires.news c.requires.outcome c.requires.hears))
 
 pub returns-clause-sent : goal.returns-clause-sent
 returns-clause-sent c =
@@ -61,14 +69,29 @@ returns-clause-sent c =
     let p = c.args.parent in
     let d = c.args.child in
     let r = c.args.news.now in
-    let same = ap (λ (z : Link × LinkHeard). z.0) c.told-link.ensures ∙ ap (λ (old : Link). told_link old (Domain p) r) c.link.ensures in
+    let same = ap (λ (z : Link × LinkHeard). z.0) c.told-link.ensures
+    ∙ ap (λ (old : Link). told_link old (Domain p) r) c.link.ensures in
     let out = c.args.out.now in
     let new = told_link (g.links (Domain p) d) (Domain p) r in
-    let standing = c.record_after-standing.ensures ∙ ap (λ (a : Grants). a.records p) (sym c.parent_told-change.ensures.grants) in
+    let standing = c.record_after-standing.ensures
+    ∙ ap (λ (a : Grants). a.records p) (sym c.parent_told-change.ensures.grants) in
     c.send_due.ensures
-    ∙ ap (λ (h : Hierarchy). record c.send_end.new.out { datagrams = sent_after c.send_end.new.out.datagrams (requests_due h c.number.result (Domain p) d c.told-link.result.0) }) c.tree-tree.ensures.value
-    ∙ ap (λ n. record c.send_end.new.out { datagrams = sent_after c.send_end.new.out.datagrams (requests_due k.tree n (Domain p) d c.told-link.result.0) }) c.number.ensures.value
-    ∙ ap (λ (l : Link). record c.send_end.new.out { datagrams = sent_after c.send_end.new.out.datagrams (requests_due k.tree k.number (Domain p) d l) }) same
+    ∙ ap (λ (h : Hierarchy). record c.send_end.new.out {
+      datagrams = sent_after c.send_end.new.out.datagrams
+          (requests_due h c.number.result (Domain p) d c.told-link.result.0);
+    }) c.tree-tree.ensures.value
+    ∙ ap (λ n. record c.send_end.new.out {
+      datagrams = sent_after c.send_end.new.out.datagrams
+          (requests_due k.tree n (Domain p) d c.told-link.result.0);
+    }) c.number.ensures.value
+    ∙ ap (λ (l : Link). record c.send_end.new.out {
+      datagrams = sent_after c.send_end.new.out.datagrams
+          (requests_due k.tree k.number (Domain p) d l);
+    }) same
     ∙ ap (λ (o : Out). record o { datagrams = sent_after o.datagrams (requests_due k.tree k.number (Domain p) d new) })
-    (c.send_end.ensures ∙ ap (λ (z : Standing). record out { datagrams = sent_after out.datagrams (told_end k.tree k.number p (g.records p) z) }) standing)
+    (c.send_end.ensures
+    ∙ ap (λ (z : Standing). record out {
+      datagrams = sent_after out.datagrams
+          (told_end k.tree k.number p (g.records p) z);
+    }) standing)
     ∙ parent_sends k.tree k.number g p d r out

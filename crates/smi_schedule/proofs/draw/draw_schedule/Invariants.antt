@@ -4,4 +4,5 @@ use Rattle.smi_schedule.proofs.draw.draw_schedule.Given as goal
 
 -- the items so far, and then as many as are left, are all
 abbrev pub invariant-loop : goal.invariant-loop
-invariant-loop l = l.items.items ++ items_drawn l.tree (l.steps - l.counter) l.drawer ≡ schedule_drawn l.tree l.seed l.steps
+invariant-loop l = l.items.items ++ items_drawn l.tree (l.steps - l.counter) l.drawer
+    ≡ schedule_drawn l.tree l.seed l.steps

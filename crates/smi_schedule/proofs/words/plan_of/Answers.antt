@@ -4,7 +4,11 @@ use Rattle.std.specs.Prelude.{codes}
 use Rattle.smi_schedule.proofs.words.plan_of.Goals as goal
 
 pub returns-in-device : goal.returns-in-device
-returns-in-device c = rw (text_from_reads c.args.word.now (codes "device") (omega arith) (omega arith, (omega arith, (omega arith, (omega arith, (omega arith, (omega arith, tt))))))) refl
+returns-in-device c =
+    rw (text_from_reads c.args.word.now (codes "device") (omega arith)
+    (omega arith, (omega arith, (omega arith, (omega arith, (omega arith, (omega arith, tt))))))) refl
 
 pub returns-in-before : goal.returns-in-before
-returns-in-before c = rw (text_from_reads c.args.word.now (codes "before") (omega arith) (omega arith, (omega arith, (omega arith, (omega arith, (omega arith, (omega arith, tt))))))) refl
+returns-in-before c =
+    rw (text_from_reads c.args.word.now (codes "before") (omega arith)
+    (omega arith, (omega arith, (omega arith, (omega arith, (omega arith, (omega arith, tt))))))) refl

@@ -23,8 +23,11 @@ returns-in-Ok-clause-outside g c =
     let old = state g.S.Store c.args.conn in
     let new = state g.S.Store c.make_table.new.conn in
     let auto : c.args.conn.in_transaction ≡ false = search rules in
-    let has : c.args.conn.schema ≡ no_schema = search rules in
-    (auto, λ clean. was-made old new c.in-Ok.field-0 has clean (c.in-Ok.ensures.runs clean) c.make_table.ensures.survives)
+    let has : c.args.conn.schema ≡ no_schema = search rules in (
+      auto,
+      λ clean. was-made old new c.in-Ok.field-0 has clean (c.in-Ok.ensures.runs clean)
+          c.make_table.ensures.survives,
+    )
 
 pub returns-in-Err-clause-given_back : goal.returns-in-Err-clause-given_back
 returns-in-Err-clause-given_back g c clean =
@@ -33,18 +36,22 @@ returns-in-Err-clause-given_back g c clean =
     let auto : c.args.conn.in_transaction ≡ false = search rules in
     let settled : IsTrue old.is_open → old.now ≡ old.committed = c.is_autocommit.ensures.settled (search rules) in
     let has : c.args.conn.schema ≡ no_schema = search rules in
-    not-made old new auto settled has clean (fails old new _ _ c.in-Err.error (c.in-Err.ensures.runs clean)) c.make_table.ensures.survives
+    not-made old new auto settled has clean (fails old new _ _ c.in-Err.error (c.in-Err.ensures.runs clean))
+    c.make_table.ensures.survives
 
 pub returns-in-Ok-clause-live : goal.returns-in-Ok-clause-live
 returns-in-Ok-clause-live g c clean live =
     let old = state g.S.Store c.args.conn in
     let new = state g.S.Store c.make_table.new.conn in
-    let has : c.args.conn.schema ≡ no_schema = search rules in
-    ((creates old new c.in-Ok.field-0 has (c.in-Ok.ensures.runs clean)).0.shown.is_open, c.make_table.ensures.survives.counts)
+    let has : c.args.conn.schema ≡ no_schema = search rules in (
+      (creates old new c.in-Ok.field-0 has (c.in-Ok.ensures.runs clean)).0.shown.is_open,
+      c.make_table.ensures.survives.counts,
+    )
 
 pub returns-in-Err-clause-reason : goal.returns-in-Err-clause-reason
 returns-in-Err-clause-reason g c clean live can =
     let old = state g.S.Store c.args.conn in
     let new = state g.S.Store c.make_table.new.conn in
     let has : c.args.conn.schema ≡ no_schema = search rules in
-    subst (HasReason old new) (sym c.fault_of.ensures.value) (made_or old new c.in-Err.error has live (c.in-Err.ensures.runs clean))
+    subst (HasReason old new) (sym c.fault_of.ensures.value)
+    (made_or old new c.in-Err.error has live (c.in-Err.ensures.runs clean))

@@ -15,7 +15,8 @@ if_ok : {A E : Type 0} (r : Result A E) (P : A → Type 0) (X : Type 0) → IfOk
 if_ok (Ok a) P X h next = next a h
 if_ok (Err e) P X h next = tt
 
-either_way : {A E : Type 0} (r : Result A E) (P : A → Type 0) (Q : E → Type 0) (X : Type 0) → IfOk r P → IfErr r Q → ((a : A) → P a → X) → ((e : E) → Q e → X) → X
+either_way : {A E : Type 0} (r : Result A E) (P : A → Type 0) (Q : E → Type 0) (X : Type 0) → IfOk r P → IfErr r Q
+    → ((a : A) → P a → X) → ((e : E) → Q e → X) → X
 either_way (Ok a) P Q X h k ok err = ok a h
 either_way (Err e) P Q X h k ok err = err e k
 
@@ -26,17 +27,21 @@ returns-clause-values g c ready clean live =
     let rest = (ready (clean_before old new _ c.query_all.ensures.survives clean)).1 live in
     let sound = (c.schema-schema.ensures.live live).0 in
     let unique = subst (λ k. Keeps Unique k old.now.trees) rest.schema (sound.obeys.rules Unique) in
-    then c.query_all.result _ _ (c.query_all.ensures.ok clean) (λ rows shown k. listed old.now.trees rows.items rest.keyed unique (loads old new rows.items rest.schema shown) (pos k.station) (pos k.domain) (pos k.operator))
+    then c.query_all.result _ _ (c.query_all.ensures.ok clean)
+    (λ rows shown k. listed old.now.trees rows.items rest.keyed unique (loads old new rows.items rest.schema shown)
+    (pos k.station) (pos k.domain) (pos k.operator))
 
 pub returns-clause-unchanged : goal.returns-clause-unchanged
 returns-clause-unchanged g c ready clean live =
     let old = state g.S.Store c.args.conn.now in
     let new = state g.S.Store c.query_all.new.self in
     let rest = (ready (clean_before old new _ c.query_all.ensures.survives clean)).1 live in
-    if_ok c.query_all.result _ _ (c.query_all.ensures.ok clean) (λ rows shown. load-unchanged old new rows.items rest.schema shown)
+    if_ok c.query_all.result _ _ (c.query_all.ensures.ok clean)
+    (λ rows shown. load-unchanged old new rows.items rest.schema shown)
 
 pub returns-clause-clean : goal.returns-clause-clean
-returns-clause-clean g c clean = clean_before (state g.S.Store c.args.conn.now) (state g.S.Store c.query_all.new.self) _ c.query_all.ensures.survives clean
+returns-clause-clean g c clean = clean_before (state g.S.Store c.args.conn.now)
+    (state g.S.Store c.query_all.new.self) _ c.query_all.ensures.survives clean
 
 pub returns-clause-crash : goal.returns-clause-crash
 returns-clause-crash g c ready clean live db may =
@@ -62,8 +67,10 @@ returns-clause-ready g c ready clean =
     let old = state g.S.Store c.args.conn.now in
     let new = state g.S.Store c.query_all.new.self in
     let before = ready (clean_before old new _ c.query_all.ensures.survives clean) in
-    let s = either_way c.query_all.result _ _ (StillAt old new) (c.query_all.ensures.ok clean) (c.query_all.ensures.err clean)
-    (λ rows shown. still old new before.0 before.1 (inl (load-unchanged old new rows.items (before.1 (load-open old new _ _ rows.items shown)).schema shown)))
+    let s = either_way c.query_all.result _ _ (StillAt old new) (c.query_all.ensures.ok clean)
+    (c.query_all.ensures.err clean)
+    (λ rows shown. still old new before.0 before.1
+    (inl (load-unchanged old new rows.items (before.1 (load-open old new _ _ rows.items shown)).schema shown)))
     (λ e fails. still old new before.0 before.1 (load-fails old new _ _ e fails)) in
     (s.0, λ live. (s.1 live).0)
 

@@ -7,4 +7,6 @@ use Rattle.smi_stable.proofs.shown.saved_rows.Given as goal
 
 -- a key's bytes are among the rows so far, or else among those that are left
 abbrev pub invariant-loop-row : goal.invariant-loop-row
-invariant-loop-row l = (k : Key) → or_else (found_in l.list.items k) (listed_at (pos k.station) (pos k.domain) (pos k.operator) (drop l.row-index l.rows.items)) ≡ listed_at (pos k.station) (pos k.domain) (pos k.operator) l.rows.items
+invariant-loop-row l = (k : Key) → or_else (found_in l.list.items k)
+    (listed_at (pos k.station) (pos k.domain) (pos k.operator) (drop l.row-index l.rows.items))
+    ≡ listed_at (pos k.station) (pos k.domain) (pos k.operator) l.rows.items

@@ -26,7 +26,8 @@ returns-in-Ok-clause-crash g c ready clean live =
     let old = state g.S.Store c.args.conn.now in
     let new = state g.S.Store c.put.new.conn in
     let before = ready (clean_before old new _ c.put.ensures.survives clean) in
-    crashes old new c.args.key c.args.bytes.now (before.1 live) (λ db may. g.met.S.Store.settled c.args.conn.now.store db live may) clean c.put.ensures.survives
+    crashes old new c.args.key c.args.bytes.now (before.1 live)
+    (λ db may. g.met.S.Store.settled c.args.conn.now.store db live may) clean c.put.ensures.survives
 
 pub returns-in-Err-clause-ready : goal.returns-in-Err-clause-ready
 returns-in-Err-clause-ready g c ready clean =
@@ -49,10 +50,13 @@ returns-in-Err-clause-crash g c ready clean live =
     let old = state g.S.Store c.args.conn.now in
     let new = state g.S.Store c.put.new.conn in
     let before = ready (clean_before old new _ c.put.ensures.survives clean) in
-    crashes old new c.args.key c.args.bytes.now (before.1 live) (λ db may. g.met.S.Store.settled c.args.conn.now.store db live may) clean c.put.ensures.survives
+    crashes old new c.args.key c.args.bytes.now (before.1 live)
+    (λ db may. g.met.S.Store.settled c.args.conn.now.store db live may) clean c.put.ensures.survives
 
 pub returns-in-Ok-clause-clean : goal.returns-in-Ok-clause-clean
-returns-in-Ok-clause-clean g c clean = clean_before (state g.S.Store c.args.conn.now) (state g.S.Store c.put.new.conn) _ c.put.ensures.survives clean
+returns-in-Ok-clause-clean g c clean = clean_before (state g.S.Store c.args.conn.now)
+    (state g.S.Store c.put.new.conn) _ c.put.ensures.survives clean
 
 pub returns-in-Err-clause-clean : goal.returns-in-Err-clause-clean
-returns-in-Err-clause-clean g c clean = clean_before (state g.S.Store c.args.conn.now) (state g.S.Store c.put.new.conn) _ c.put.ensures.survives clean
+returns-in-Err-clause-clean g c clean = clean_before (state g.S.Store c.args.conn.now)
+    (state g.S.Store c.put.new.conn) _ c.put.ensures.survives clean

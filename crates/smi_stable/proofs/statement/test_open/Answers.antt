@@ -23,10 +23,12 @@ returns-in-Err-clause-still g c before clean live =
     (opened old new h live, (s.1 live).1)
 
 pub returns-in-Err-clause-undone : goal.returns-in-Err-clause-undone
-returns-in-Err-clause-undone g c clean = not_run (state g.S.Store c.args.conn.now) (state g.S.Store c.prepare.new.self) _ [] c.in-Err.error (c.in-Err.ensures.err clean [])
+returns-in-Err-clause-undone g c clean = not_run (state g.S.Store c.args.conn.now)
+    (state g.S.Store c.prepare.new.self) _ [] c.in-Err.error (c.in-Err.ensures.err clean [])
 
 pub returns-in-Err-clause-reason : goal.returns-in-Err-clause-reason
 returns-in-Err-clause-reason g c clean live has =
     let old = state g.S.Store c.args.conn.now in
     let new = state g.S.Store c.prepare.new.self in
-    subst (HasReason old new) (sym c.fault_of.ensures.value) (prepared old new c.in-Err.error has live (c.in-Err.ensures.err clean))
+    subst (HasReason old new) (sym c.fault_of.ensures.value)
+    (prepared old new c.in-Err.error has live (c.in-Err.ensures.err clean))

@@ -16,19 +16,24 @@ pub order_comes-requires-clause-room : goal.order_comes-requires-clause-room
 order_comes-requires-clause-room g c =
     let k = c.args.kept.now in
     let step = order_comes k.tree k.number (grants_of k) c.args.operator c.args.what.now in
-    subst (λ (o : Out). length o.answers < most_answers) (sym (c.in-Ok.ensures.out ∙ c.order-change.ensures.sent ∙ ap (λ (o : Out). with_step o step) c.requires.empty))
-    (subst (λ (xs : List Answer). length (answered_after [] xs) < most_answers) (sym (order_answers k.tree k.number (grants_of k) c.args.operator c.args.what.now)) (omega arith))
+    subst (λ (o : Out). length o.answers < most_answers)
+    (sym (c.in-Ok.ensures.out ∙ c.order-change.ensures.sent ∙ ap (λ (o : Out). with_step o step) c.requires.empty))
+    (subst (λ (xs : List Answer). length (answered_after [] xs) < most_answers)
+    (sym (order_answers k.tree k.number (grants_of k) c.args.operator c.args.what.now)) (omega arith))
 
 pub returns-in-Ok-clause-station : goal.returns-in-Ok-clause-station
 returns-in-Ok-clause-station g c =
     let k = c.args.kept.now in
-    obeyed_station k c.make.new.kept c.args.display.now c.order_comes.new.self c.args.operator c.args.what.now c.requires.halves
-    (c.in-Ok.ensures.grants (order_comes k.tree k.number (grants_of k) c.args.operator c.args.what.now) c.order-change.ensures.plan) c.order_comes.ensures.display
+    obeyed_station k c.make.new.kept c.args.display.now c.order_comes.new.self c.args.operator c.args.what.now
+    c.requires.halves
+    (c.in-Ok.ensures.grants (order_comes k.tree k.number (grants_of k) c.args.operator c.args.what.now)
+    c.order-change.ensures.plan) c.order_comes.ensures.display
 
 pub returns-in-Ok-clause-heard : goal.returns-in-Ok-clause-heard
 returns-in-Ok-clause-heard g c =
     let k = c.args.kept.now in
-    c.in-Ok.ensures.heard (order_comes k.tree k.number (grants_of k) c.args.operator c.args.what.now) c.order-change.ensures.plan
+    c.in-Ok.ensures.heard (order_comes k.tree k.number (grants_of k) c.args.operator c.args.what.now)
+    c.order-change.ensures.plan
 
 pub returns-in-Ok-clause-out : goal.returns-in-Ok-clause-out
 returns-in-Ok-clause-out g c =
@@ -38,29 +43,38 @@ returns-in-Ok-clause-out g c =
     obeyed_out k c.make.new.kept d c.order_comes.new.self c.args.operator c.args.what.now c.requires.halves
     (c.in-Ok.ensures.grants step c.order-change.ensures.plan) c.order_comes.ensures.display c.order_comes.new.out
     (c.order_comes.ensures.sent
-    ∙ ap (λ (o : Out). with_notice o (order_noticed d.tree d.number d.published.boot (display_of d) c.args.operator c.args.what.now))
+    ∙ ap (λ (o : Out). with_notice o (order_noticed d.tree d.number d.published.boot (display_of d) c.args.operator
+    c.args.what.now))
     (c.in-Ok.ensures.out ∙ c.order-change.ensures.sent ∙ ap (λ (o : Out). with_step o step) c.requires.empty))
 
 pub returns-in-Ok-clause-store : goal.returns-in-Ok-clause-store
 returns-in-Ok-clause-store g c =
     let k = c.args.kept.now in
-    rw (← c.in-Ok.is) (c.make.ensures.store (order_comes k.tree k.number (grants_of k) c.args.operator c.args.what.now) c.order-change.ensures.plan)
+    rw (← c.in-Ok.is)
+    (c.make.ensures.store (order_comes k.tree k.number (grants_of k) c.args.operator c.args.what.now)
+    c.order-change.ensures.plan)
 
 pub returns-in-Ok-clause-halves : goal.returns-in-Ok-clause-halves
 returns-in-Ok-clause-halves g c =
     let k = c.args.kept.now in
     let step = order_comes k.tree k.number (grants_of k) c.args.operator c.args.what.now in
-    still_halves k c.make.new.kept c.args.display.now c.order_comes.new.self step.grants c.requires.halves c.in-Ok.ensures.same c.order_comes.ensures.rest
+    still_halves k c.make.new.kept c.args.display.now c.order_comes.new.self step.grants c.requires.halves
+    c.in-Ok.ensures.same c.order_comes.ensures.rest
     (c.in-Ok.ensures.grants step c.order-change.ensures.plan)
-    (stays_sound k.tree k.number (grants_of k) (Orders c.args.operator c.args.what.now) c.tree-tree.ensures.kept.tree c.requires.halves.sound tt c.requires.accepted)
+    (stays_sound k.tree k.number (grants_of k) (Orders c.args.operator c.args.what.now) c.tree-tree.ensures.kept.tree
+    c.requires.halves.sound tt c.requires.accepted)
 
 pub returns-in-Ok-clause-room : goal.returns-in-Ok-clause-room
 returns-in-Ok-clause-room g c =
     let k = c.args.kept.now in
-    obeyed_room k c.make.new.kept c.args.display.now c.order_comes.new.self c.args.operator c.args.what.now c.requires.halves
-    (c.in-Ok.ensures.grants (order_comes k.tree k.number (grants_of k) c.args.operator c.args.what.now) c.order-change.ensures.plan) c.order_comes.ensures.display c.requires.room
+    obeyed_room k c.make.new.kept c.args.display.now c.order_comes.new.self c.args.operator c.args.what.now
+    c.requires.halves
+    (c.in-Ok.ensures.grants (order_comes k.tree k.number (grants_of k) c.args.operator c.args.what.now)
+    c.order-change.ensures.plan) c.order_comes.ensures.display c.requires.room
 
 pub returns-in-Err-clause-store : goal.returns-in-Err-clause-store
 returns-in-Err-clause-store g c =
     let k = c.args.kept.now in
-    rw (← c.in-Err.is) (c.make.ensures.store (order_comes k.tree k.number (grants_of k) c.args.operator c.args.what.now) c.order-change.ensures.plan)
+    rw (← c.in-Err.is)
+    (c.make.ensures.store (order_comes k.tree k.number (grants_of k) c.args.operator c.args.what.now)
+    c.order-change.ensures.plan)

@@ -7,7 +7,8 @@ use Rattle.smi_station.proofs.reporting.domain_of.Goals as goal
 pub returns-clause-among : goal.returns-clause-among
 returns-clause-among c =
     let k = c.args.kept.now in
-    device_among k.tree c.args.device c.device.result (ap (λ (h : Hierarchy). entry h.devices c.args.device) (sym c.tree-tree.ensures.value) ∙ c.device.ensures)
+    device_among k.tree c.args.device c.device.result
+    (ap (λ (h : Hierarchy). entry h.devices c.args.device) (sym c.tree-tree.ensures.value) ∙ c.device.ensures)
 
 pub returns-clause-device : goal.returns-clause-device
 returns-clause-device c =

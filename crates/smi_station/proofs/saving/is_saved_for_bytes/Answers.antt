@@ -7,4 +7,6 @@ use Rattle.smi_station.proofs.saving.is_saved_for_bytes.Goals as goal
 
 pub returns-in-Ok : goal.returns-in-Ok
 returns-in-Ok c = λ s same.
-    subst (λ (r : Result Message Bad). c.is_saved_for_datagram.result ≡ is_some (after_reading c.args.kept.now.tree c.args.kept.now.number s r).saved) (sym c.in-Ok.is ∙ c.decode.ensures.exact) (c.is_saved_for_datagram.ensures s same)
+    subst (λ (r : Result Message Bad). c.is_saved_for_datagram.result
+    ≡ is_some (after_reading c.args.kept.now.tree c.args.kept.now.number s r).saved)
+    (sym c.in-Ok.is ∙ c.decode.ensures.exact) (c.is_saved_for_datagram.ensures s same)

@@ -11,6 +11,7 @@ returns-in-None c = λ s same.
     let kept = c.args.kept.now in
     c.has_row.ensures
     ∙ taken_saves kept.tree kept.number s (Comes c.args.datagram.now) (grants_of kept) c.plan.result same
-    (sym (ap (λ (h : Hierarchy). refusal_of_message h c.number.result c.args.datagram.now) c.tree.ensures.value ∙ ap (λ n. refusal_of_message kept.tree n c.args.datagram.now) c.number.ensures.value)
+    (sym (ap (λ (h : Hierarchy). refusal_of_message h c.number.result c.args.datagram.now) c.tree.ensures.value
+    ∙ ap (λ n. refusal_of_message kept.tree n c.args.datagram.now) c.number.ensures.value)
     ∙ sym c.refusal_of_message.ensures ∙ c.in-None.is)
     c.plan.ensures.plan

@@ -6,5 +6,6 @@ use Rattle.smi_station.proofs.saving.is_saved_for_order.Goals as goal
 
 pub returns-in-None : goal.returns-in-None
 returns-in-None c = λ s same.
-    subst (λ (what : Happening). c.is_saved_if_taken.result ≡ is_some (after c.args.kept.now.tree c.args.kept.now.number s what).saved)
+    subst (λ (what : Happening). c.is_saved_if_taken.result
+    ≡ is_some (after c.args.kept.now.tree c.args.kept.now.number s what).saved)
     (sym (c.reported_in.ensures.other c.args.operator c.in-None.is)) (c.is_saved_if_taken.ensures s same)

@@ -10,10 +10,12 @@ pub returns-in-Some : goal.returns-in-Some
 returns-in-Some c = λ s same.
     let kept = c.args.kept.now in
     refused_saves_nothing kept.tree kept.number s (Orders c.args.operator c.args.what.now) c.in-Some.field-0
-    (ap (λ (x : Grants). refusal_of kept.tree kept.number x (Orders c.args.operator c.args.what.now)) same ∙ sym c.refusal_of_order.ensures ∙ c.in-Some.is)
+    (ap (λ (x : Grants). refusal_of kept.tree kept.number x (Orders c.args.operator c.args.what.now)) same
+    ∙ sym c.refusal_of_order.ensures ∙ c.in-Some.is)
 
 pub returns-in-None : goal.returns-in-None
 returns-in-None c = λ s same.
     let kept = c.args.kept.now in
     c.has_row.ensures
-    ∙ taken_saves kept.tree kept.number s (Orders c.args.operator c.args.what.now) (grants_of kept) c.order.result same (sym c.refusal_of_order.ensures ∙ c.in-None.is) c.order.ensures.plan
+    ∙ taken_saves kept.tree kept.number s (Orders c.args.operator c.args.what.now) (grants_of kept) c.order.result
+    same (sym c.refusal_of_order.ensures ∙ c.in-None.is) c.order.ensures.plan

@@ -7,4 +7,6 @@ use Rattle.smi_station.proofs.stirring.act.Goals as goal
 pub returns-in-None-clause-changes : goal.returns-in-None-clause-changes
 returns-in-None-clause-changes c =
     let d = c.args.display.now in
-    rw (c.in-None.is) (c.new.ensures ∙ sym (unchanged_shown d.published.boot (display_of d).conditions (device_objects d.tree c.args.domain)))
+    rw (c.in-None.is)
+    (c.new.ensures
+    ∙ sym (unchanged_shown d.published.boot (display_of d).conditions (device_objects d.tree c.args.domain)))

@@ -17,8 +17,10 @@ use Rattle.smi_station.proofs.stirring.stir_domain.Goals as goal
 pub show_anew-is_spent-requires-clause-room : goal.show_anew-is_spent-requires-clause-room
 show_anew-is_spent-requires-clause-room c =
     let d0 = c.args.display.now in
-    unit_room d0 c.act-changes.new.display (acted_by d0.tree (conditions_of d0.published) c.args.domain c.args.found.now.action) c.args.domain
-    c.requires.domain.most c.act-changes.ensures.display (acted_first d0.tree (conditions_of d0.published) c.args.domain c.args.found.now.action) c.requires.room
+    unit_room d0 c.act-changes.new.display (acted_by d0.tree (conditions_of d0.published) c.args.domain
+    c.args.found.now.action) c.args.domain
+    c.requires.domain.most c.act-changes.ensures.display
+    (acted_first d0.tree (conditions_of d0.published) c.args.domain c.args.found.now.action) c.requires.room
 
 pub returns-clause-sent : goal.returns-clause-sent
 returns-clause-sent c =
@@ -26,8 +28,11 @@ returns-clause-sent c =
     let mid = acted_by d0.tree (conditions_of d0.published) c.args.domain c.args.found.now.action in
     c.show_anew-is_spent.ensures.sent
     ∙ ap (λ (xs : List Message). record c.args.out.now { datagrams = sent_after c.args.out.now.datagrams xs })
-    (shown_sends d0 c.act-changes.new.display c.show_anew-is_spent.new.self (grants_of c.args.kept.now) c.args.found.now.before mid c.args.domain c.act-changes.result c.show_anew-is_spent.new.changes
-    c.requires.domain.most c.act-changes.ensures.rest c.act-changes.ensures.display (acted_first d0.tree (conditions_of d0.published) c.args.domain c.args.found.now.action) c.act-changes.ensures.changes c.show_anew-is_spent.ensures.display c.show_anew-is_spent.ensures.changes)
+    (shown_sends d0 c.act-changes.new.display c.show_anew-is_spent.new.self (grants_of c.args.kept.now)
+    c.args.found.now.before mid c.args.domain c.act-changes.result c.show_anew-is_spent.new.changes
+    c.requires.domain.most c.act-changes.ensures.rest c.act-changes.ensures.display
+    (acted_first d0.tree (conditions_of d0.published) c.args.domain c.args.found.now.action)
+    c.act-changes.ensures.changes c.show_anew-is_spent.ensures.display c.show_anew-is_spent.ensures.changes)
 
 pub returns-clause-spent : goal.returns-clause-spent
 returns-clause-spent c =
@@ -35,14 +40,21 @@ returns-clause-spent c =
     let mid = acted_by d0.tree (conditions_of d0.published) c.args.domain c.args.found.now.action in
     c.show_anew-is_spent.ensures.spent
     ∙ ap is_spent
-    (all_shown d0 c.act-changes.new.display c.show_anew-is_spent.new.self (grants_of c.args.kept.now) c.args.found.now.before mid c.args.domain c.act-changes.result c.show_anew-is_spent.new.changes
-    c.requires.domain.most c.act-changes.ensures.rest c.act-changes.ensures.display (acted_first d0.tree (conditions_of d0.published) c.args.domain c.args.found.now.action) c.act-changes.ensures.changes c.show_anew-is_spent.ensures.display c.show_anew-is_spent.ensures.changes)
+    (all_shown d0 c.act-changes.new.display c.show_anew-is_spent.new.self (grants_of c.args.kept.now)
+    c.args.found.now.before mid c.args.domain c.act-changes.result c.show_anew-is_spent.new.changes
+    c.requires.domain.most c.act-changes.ensures.rest c.act-changes.ensures.display
+    (acted_first d0.tree (conditions_of d0.published) c.args.domain c.args.found.now.action)
+    c.act-changes.ensures.changes c.show_anew-is_spent.ensures.display c.show_anew-is_spent.ensures.changes)
 
 pub returns-clause-room : goal.returns-clause-room
 returns-clause-room c unspent =
     let d0 = c.args.display.now in
     let d2 = c.show_anew-is_spent.new.self in
     let mid = acted_by d0.tree (conditions_of d0.published) c.args.domain c.args.found.now.action in
-    stirred_room d0 c.act-changes.new.display d2 (grants_of c.args.kept.now) c.args.found.now.before mid c.args.domain c.act-changes.result c.show_anew-is_spent.new.changes
-    c.requires.domain.most c.act-changes.ensures.rest c.act-changes.ensures.display (acted_first d0.tree (conditions_of d0.published) c.args.domain c.args.found.now.action) c.act-changes.ensures.changes c.show_anew-is_spent.ensures.display c.show_anew-is_spent.ensures.changes
-    d2.tree d2.number c.requires.room c.tree-tree.ensures.displayed.sound (sym c.show_anew-is_spent.ensures.spent ∙ unspent)
+    stirred_room d0 c.act-changes.new.display d2 (grants_of c.args.kept.now) c.args.found.now.before mid
+    c.args.domain c.act-changes.result c.show_anew-is_spent.new.changes
+    c.requires.domain.most c.act-changes.ensures.rest c.act-changes.ensures.display
+    (acted_first d0.tree (conditions_of d0.published) c.args.domain c.args.found.now.action)
+    c.act-changes.ensures.changes c.show_anew-is_spent.ensures.display c.show_anew-is_spent.ensures.changes
+    d2.tree d2.number c.requires.room c.tree-tree.ensures.displayed.sound
+    (sym c.show_anew-is_spent.ensures.spent ∙ unspent)

@@ -11,5 +11,6 @@ invariant-reads g l =
       long_told : length l.told ≡ 65536;
       within : l.rest < 44;
       counted : l.count ≤ l.counter * 1490;
-      going : Goes (remaining l.fn.reader) (remaining l.reader) (take l.rest l.block) l.keeper l.count (contents l.fn.writer) (contents l.writer);
+      going : Goes (remaining l.fn.reader) (remaining l.reader) (take l.rest l.block) l.keeper l.count
+          (contents l.fn.writer) (contents l.writer);
     }

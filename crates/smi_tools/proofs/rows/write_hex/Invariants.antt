@@ -5,4 +5,5 @@ use Rattle.smi_tools.proofs.rows.write_hex.Given as goal
 
 -- the bytes so far are written
 abbrev pub invariant-loop-byte : goal.invariant-loop-byte
-invariant-loop-byte g l = Appends (g.W.Write.contents l.fn.writer) (g.W.Write.contents l.writer) (hex_text (take l.byte-index l.bytes))
+invariant-loop-byte g l = Appends (g.W.Write.contents l.fn.writer) (g.W.Write.contents l.writer)
+    (hex_text (take l.byte-index l.bytes))

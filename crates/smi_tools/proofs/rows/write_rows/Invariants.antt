@@ -5,4 +5,5 @@ use Rattle.smi_tools.proofs.rows.write_rows.Given as goal
 
 -- the rows so far are written
 abbrev pub invariant-loop-row : goal.invariant-loop-row
-invariant-loop-row g l = Appends (g.W.Write.contents l.fn.writer) (g.W.Write.contents l.writer) (rows_text (take l.row-index l.rows))
+invariant-loop-row g l = Appends (g.W.Write.contents l.fn.writer) (g.W.Write.contents l.writer)
+    (rows_text (take l.row-index l.rows))

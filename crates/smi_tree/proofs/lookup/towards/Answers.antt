@@ -7,17 +7,20 @@ use Rattle.smi_tree.proofs.lookup.towards.Goals as goal
 
 pub returns-then-parent-domain : goal.returns-then-parent-domain
 returns-then-parent-domain c =
-    let step = towards-step c.loop.counter c.args.domains.now c.args.domain c.loop.at c.in-Some.parent (omega arith) (sym c.in-Some.ensures) in
+    let step = towards-step c.loop.counter c.args.domains.now c.args.domain c.loop.at c.in-Some.parent (omega arith)
+    (sym c.in-Some.ensures) in
     let same : (c.in-Some.parent == c.args.domain) ≡ true = grind (arith, nat_tests) in
     sym (sym c.loop.invariant ∙ step ∙ rw same refl)
 
 pub returns-in-None : goal.returns-in-None
 returns-in-None c =
-    sym (sym c.loop.invariant ∙ towards-root (8 - c.loop.counter) c.args.domains.now c.args.domain c.loop.at (sym c.in-None.ensures))
+    sym (sym c.loop.invariant ∙ towards-root (8 - c.loop.counter) c.args.domains.now c.args.domain c.loop.at
+    (sym c.in-None.ensures))
 
 pub loop-preserved : goal.loop-preserved
 loop-preserved c =
-    let step = towards-step c.loop.counter c.args.domains.now c.args.domain c.loop.at c.in-Some.parent (omega arith) (sym c.in-Some.ensures) in
+    let step = towards-step c.loop.counter c.args.domains.now c.args.domain c.loop.at c.in-Some.parent (omega arith)
+    (sym c.in-Some.ensures) in
     let other : (c.in-Some.parent == c.args.domain) ≡ false = grind (arith, nat_tests) in
     sym (step ∙ rw other refl) ∙ c.loop.invariant
 

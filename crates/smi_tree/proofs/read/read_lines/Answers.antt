@@ -5,8 +5,10 @@ use Rattle.smi_tree.proofs.read.read_lines.Goals as goal
 
 pub returns-in-Err : goal.returns-in-Err
 returns-in-Err c =
-    rw c.at_line.ensures (Reads-refused (c.loop-cut.number + 1) c.loop-cut.tables c.in-Some.cut.0.now (lines c.in-Some.cut.1.now)
-    (lines c.loop-cut.rest.now) _ c.read_line.new.self c.in-Err.refusal c.in-Some.ensures.0 c.loop-cut.invariant.same c.in-Err.ensures)
+    rw c.at_line.ensures (Reads-refused (c.loop-cut.number + 1) c.loop-cut.tables c.in-Some.cut.0.now
+    (lines c.in-Some.cut.1.now)
+    (lines c.loop-cut.rest.now) _ c.read_line.new.self c.in-Err.refusal c.in-Some.ensures.0 c.loop-cut.invariant.same
+    c.in-Err.ensures)
 
 pub loop-cut-preserved : goal.loop-cut-preserved
 loop-cut-preserved c = record {
@@ -18,4 +20,5 @@ loop-cut-preserved c = record {
 
 pub returns : goal.returns
 returns c =
-    sym c.loop-cut.invariant.same ∙ with_lines-none (c.loop-cut.number + 1) c.loop-cut.tables (lines c.loop-cut.rest.now) c.in_default.ensures
+    sym c.loop-cut.invariant.same ∙ with_lines-none (c.loop-cut.number + 1) c.loop-cut.tables
+    (lines c.loop-cut.rest.now) c.in_default.ensures

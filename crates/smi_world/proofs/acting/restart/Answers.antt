@@ -7,4 +7,6 @@ use Rattle.smi_world.proofs.acting.restart.Goals as goal
 
 pub returns-clause-makes : goal.returns-clause-makes
 returns-clause-makes c = λ h number s is.
-    subst (λ (kept : List Entry). OnOk c.start_again.result (Makes h number c.start_again.new.post c.start_again.new.left (restart_act h number kept s))) c.new-left-inside.ensures (c.start_again.ensures.makes h number s is)
+    subst (λ (kept : List Entry). OnOk c.start_again.result
+    (Makes h number c.start_again.new.post c.start_again.new.left (restart_act h number kept s)))
+    c.new-left-inside.ensures (c.start_again.ensures.makes h number s is)

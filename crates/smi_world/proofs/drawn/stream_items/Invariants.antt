@@ -9,6 +9,8 @@ use Rattle.smi_world.proofs.drawn.stream_items.Given as goal
 abbrev pub invariant-loop : goal.invariant-loop
 invariant-loop g l = record {
   tree : l.world.tree ≡ l.fn.world.tree;
-  made : (w : World) → IsAt l.fn.world w → Drawing l.fn.world.tree w (items_drawn l.fn.world.tree l.steps l.fn.drawer) l.world
-      (g.W.Write.contents l.fn.writer) (g.W.Write.contents l.writer) (items_drawn l.fn.world.tree (l.steps - l.counter) l.drawer);
+  made : (w : World) → IsAt l.fn.world w → Drawing l.fn.world.tree w
+      (items_drawn l.fn.world.tree l.steps l.fn.drawer) l.world
+      (g.W.Write.contents l.fn.writer) (g.W.Write.contents l.writer)
+      (items_drawn l.fn.world.tree (l.steps - l.counter) l.drawer);
 }

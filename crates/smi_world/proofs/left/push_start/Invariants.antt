@@ -10,5 +10,8 @@ use Rattle.smi_world.proofs.left.push_start.Given as goal
 -- the lines so far, and those that are left, are all
 abbrev pub invariant-loop-object : goal.invariant-loop-object
 invariant-loop-object l =
-    l.lines.items ++ map line.Entry (map entry.Passed (filter_map (shown_at l.boot (first_condition l.tree l.station)) (range_with_len (l.object + 1) (l.count - l.object))))
+    l.lines.items
+    ++ map line.Entry
+    (map entry.Passed (filter_map (shown_at l.boot (first_condition l.tree l.station))
+    (range_with_len (l.object + 1) (l.count - l.object))))
     ≡ l.fn.lines.items ++ map line.Entry (start_entries l.tree l.station (Some l.boot))

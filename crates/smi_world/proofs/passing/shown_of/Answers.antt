@@ -14,8 +14,10 @@ use Rattle.smi_world.proofs.passing.shown_of.Goals as goal
 
 pub overflow_add-domains : goal.overflow_add-domains
 overflow_add-domains c =
-    let listed : c.devices-device-items.result.now ≡ devices_of c.tree-tree.result.now c.args.domain = c.devices-device-items.ensures in
-    let within : c.loop-device.device-index < length (devices_of c.tree-tree.result.now c.args.domain) = rw (← listed) c.loop-device-test.true in
+    let listed : c.devices-device-items.result.now
+    ≡ devices_of c.tree-tree.result.now c.args.domain = c.devices-device-items.ensures in
+    let within : c.loop-device.device-index < length
+    (devices_of c.tree-tree.result.now c.args.domain) = rw (← listed) c.loop-device-test.true in
     let tree = c.domain_count-domains.ensures.tree in
     let number = device_at c.tree-tree.result.now c.args.domain c.loop-device.device-index 0 tree within in
     rw listed (omega (arith, number.most, tree.lawful.domains.most, c.domain_count-domains.ensures.value))
@@ -41,12 +43,16 @@ returns c =
     let list = c.loop-device.list in
     let domains = c.domain_count-domains.result in
     let items = c.devices-device-items.result.now in
-    let here : c.tree-tree.result.now ≡ tree_of core = c.tree-tree.ensures.value ∙ ap (λ (k : Kept). k.tree) c.grants.ensures in
+    let here : c.tree-tree.result.now ≡ tree_of core = c.tree-tree.ensures.value
+    ∙ ap (λ (k : Kept). k.tree) c.grants.ensures in
     let same : list ≡ filter_map f (device_objects (tree_of core) c.args.domain) =
     sym (append-nil list)
-    ∙ ap (λ xs. list ++ filter_map f (map (λ device. domains + device) xs)) (sym (drop_all c.loop-device.device-index items c.loop-device-test.false))
+    ∙ ap (λ xs. list ++ filter_map f (map (λ device. domains + device) xs))
+    (sym (drop_all c.loop-device.device-index items c.loop-device-test.false))
     ∙ c.loop-device.invariant.1
     ∙ ap (λ n. filter_map f (map (λ device. n + device) items)) c.domain_count-domains.ensures.value
-    ∙ ap (λ xs. filter_map f (map (λ device. domain_count c.tree-tree.result.now + device) xs)) c.devices-device-items.ensures
+    ∙ ap (λ xs. filter_map f (map (λ device. domain_count c.tree-tree.result.now + device) xs))
+    c.devices-device-items.ensures
     ∙ ap (λ (h : Hierarchy). filter_map f (device_objects h c.args.domain)) here in
-    c.push-2.ensures ∙ ap (λ o. list ++ if_any o) c.current-2.ensures ∙ with_last f (device_objects (tree_of core) c.args.domain) c.args.domain list same
+    c.push-2.ensures ∙ ap (λ o. list ++ if_any o) c.current-2.ensures
+    ∙ with_last f (device_objects (tree_of core) c.args.domain) c.args.domain list same

@@ -8,5 +8,6 @@ use Rattle.smi_world.proofs.passing.shown_of.Given as goal
 abbrev pub invariant-loop-device : goal.invariant-loop-device
 invariant-loop-device l =
     (length l.list ≤ l.device-index)
-    × (l.list ++ filter_map (current_of (station_of l.station.core)) (map (λ device. l.domains + device) (drop l.device-index l.device-items))
+    × (l.list ++ filter_map (current_of (station_of l.station.core))
+    (map (λ device. l.domains + device) (drop l.device-index l.device-items))
     ≡ filter_map (current_of (station_of l.station.core)) (map (λ device. l.domains + device) l.device-items))

@@ -10,4 +10,6 @@ pub returns-in-Ok-clause-safe : goal.returns-in-Ok-clause-safe
 returns-in-Ok-clause-safe c =
     let h = c.args.tree.now in
     let items = c.args.items.now in
-    subst (λ (ls : List Line). Safe h (past_of ls)) (sym (c.in-Ok.ensures.trace ∙ ap (λ (ls : List Line). ls ++ trace_of h items) c.new-lines.ensures.items)) (schedule_safe h c.station_count-stations.ensures.tree items)
+    subst (λ (ls : List Line). Safe h (past_of ls))
+    (sym (c.in-Ok.ensures.trace ∙ ap (λ (ls : List Line). ls ++ trace_of h items) c.new-lines.ensures.items))
+    (schedule_safe h c.station_count-stations.ensures.tree items)

@@ -20,7 +20,9 @@ returns-in-Err-NoSuch-clause-no_such c =
     let number = was.number in
     let not = c.act_into.ensures.unnamed (c.in-Err-NoSuch.is ∙ ap Err c.in-Err-NoSuch.field-0-is) in
     let e : 1 + i ≡ c.loop-item.number + 1 = omega (arith, number) in
-    subst (FirstUnnamed h items) e (was.seen.unnamed 1 (unnamed_here h x (drop i items) (drop (i + 1) items) (items_next items i d c.loop-item-test.true) (subst (λ (t : Hierarchy). has_item t x ≡ false) was.tree not)))
+    subst (FirstUnnamed h items) e (was.seen.unnamed 1
+    (unnamed_here h x (drop i items) (drop (i + 1) items) (items_next items i d c.loop-item-test.true)
+    (subst (λ (t : Hierarchy). has_item t x ≡ false) was.tree not)))
 
 pub loop-item-preserved : goal.loop-item-preserved
 loop-item-preserved c =
@@ -35,8 +37,12 @@ loop-item-preserved c =
       tree = c.in-Ok.ensures.tree ∙ was.tree;
       number = ap (λ n. n + 1) was.number;
       made = λ w is.
-          made_on h c.loop-item.world c.act_into.new.world c.loop-item.lines.items c.act_into.new.lines.items _ x (drop i items) (drop (i + 1) items) same
-          (λ v at. subst (λ (t : Hierarchy). c.act_into.new.lines.items ≡ c.loop-item.lines.items ++ lines_of v (turn t v x)) was.tree (c.in-Ok.ensures.lines v at))
-          (λ v at. subst (λ (t : Hierarchy). IsAt c.act_into.new.world (turn t v x).world) was.tree (c.in-Ok.ensures.next v at)) (was.made w is);
-      seen = seen_on h x items (drop i items) (drop (i + 1) items) i same (subst (λ (t : Hierarchy). has_item t x ≡ true) was.tree c.in-Ok.ensures.named) was.seen;
+          made_on h c.loop-item.world c.act_into.new.world c.loop-item.lines.items c.act_into.new.lines.items _ x
+          (drop i items) (drop (i + 1) items) same
+          (λ v at. subst (λ (t : Hierarchy). c.act_into.new.lines.items ≡ c.loop-item.lines.items
+          ++ lines_of v (turn t v x)) was.tree (c.in-Ok.ensures.lines v at))
+          (λ v at. subst (λ (t : Hierarchy). IsAt c.act_into.new.world (turn t v x).world) was.tree
+          (c.in-Ok.ensures.next v at)) (was.made w is);
+      seen = seen_on h x items (drop i items) (drop (i + 1) items) i same
+          (subst (λ (t : Hierarchy). has_item t x ≡ true) was.tree c.in-Ok.ensures.named) was.seen;
     }

@@ -20,13 +20,17 @@ returns-clause-leaves c =
     let steps = c.in_ok-step_with.ensures.steps in
     leaves (tree_of now) (number_of now) (station_of now) what _
     (c.number-left-inside.ensures.value ∙ ap (λ (k : Kept). k.number) c.grants-2.ensures ∙ steps.same.number)
-    (subst (λ (k : Kept). c.foresee-foreseen.result.kept ≡ (after k.tree k.number (station_of now) what).kept) c.grants.ensures
-    (c.foresee-foreseen.ensures.kept (station_of now) (subst (λ (k : Kept). grants_of now.kept ≡ grants_of k) (sym c.grants.ensures) refl)))
+    (subst (λ (k : Kept). c.foresee-foreseen.result.kept ≡ (after k.tree k.number (station_of now) what).kept)
+    c.grants.ensures
+    (c.foresee-foreseen.ensures.kept (station_of now)
+    (subst (λ (k : Kept). grants_of now.kept ≡ grants_of k) (sym c.grants.ensures) refl)))
     refl
     (c.passed_since-left-inside.ensures
     ∙ ap (λ (s : Station). passed_since s c.shown_in-old.result) steps.station
     ∙ ap (λ (xs : List Shown). passed_since (after (tree_of now) (number_of now) (station_of now) what).station xs)
     (c.shown_in-old.ensures
     ∙ ap (λ (o : Option ℕ). shown_in (tree_of now) (station_of now) o)
-    (c.foresee-foreseen.ensures.domain ∙ ap (λ (k : Kept). unless_refused (refusal_of k.tree k.number (grants_of k) what) (domain_of_happening k.tree what)) c.grants.ensures)))
+    (c.foresee-foreseen.ensures.domain
+    ∙ ap (λ (k : Kept). unless_refused (refusal_of k.tree k.number (grants_of k) what)
+    (domain_of_happening k.tree what)) c.grants.ensures)))
     steps.out

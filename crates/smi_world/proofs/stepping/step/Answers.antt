@@ -4,5 +4,7 @@ use Rattle.smi_world.proofs.stepping.step.Goals as goal
 
 pub returns-in-Err-clause-stored : goal.returns-in-Err-clause-stored
 returns-in-Err-clause-stored c = λ stored.
-    fault_stored c.args.station.now.core c.step.new.self.core (found_in c.args.station.now.store.list) (found_in c.step.new.self.store.list) c.in-Err.field-0
-    c.in-Err.ensures.kept ((c.in-Err.ensures.store c.requires.runs).kept tt) ((c.in-Err.ensures.store c.requires.runs).cause) stored
+    fault_stored c.args.station.now.core c.step.new.self.core (found_in c.args.station.now.store.list)
+    (found_in c.step.new.self.store.list) c.in-Err.field-0
+    c.in-Err.ensures.kept ((c.in-Err.ensures.store c.requires.runs).kept tt)
+    ((c.in-Err.ensures.store c.requires.runs).cause) stored

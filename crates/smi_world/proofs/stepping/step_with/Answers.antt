@@ -15,13 +15,18 @@ use Rattle.smi_world.proofs.stepping.step_with.Goals as goal
 pub returns-in-Datagram-clause-steps : goal.returns-in-Datagram-clause-steps
 returns-in-Datagram-clause-steps c =
     let now = c.args.station.now.core in
-    subst (λ (w : Coming). OnOk c.step.result (Steps now c.step.new.station.core (after (tree_of now) (number_of now) (station_of now) (happening w)) c.step.new.out)) (sym c.in-Datagram.is)
-    (subst (λ (r : Result Message Bad). OnOk c.step.result (Steps now c.step.new.station.core (after_reading (tree_of now) (number_of now) (station_of now) r) c.step.new.out))
-    (ap reading c.encode-bytes.ensures ∙ spelled_is_read c.in-Datagram.datagram (subst (λ (m : Message). is_message m ≡ true) c.datagram.view_is (message_is _ c.datagram.invariant)))
+    subst (λ (w : Coming). OnOk c.step.result (Steps now c.step.new.station.core
+    (after (tree_of now) (number_of now) (station_of now) (happening w)) c.step.new.out)) (sym c.in-Datagram.is)
+    (subst (λ (r : Result Message Bad). OnOk c.step.result (Steps now c.step.new.station.core
+    (after_reading (tree_of now) (number_of now) (station_of now) r) c.step.new.out))
+    (ap reading c.encode-bytes.ensures ∙ spelled_is_read c.in-Datagram.datagram
+    (subst (λ (m : Message). is_message m ≡ true) c.datagram.view_is (message_is _ c.datagram.invariant)))
     c.step.ensures.steps)
 
 pub returns-in-Order-clause-steps : goal.returns-in-Order-clause-steps
 returns-in-Order-clause-steps c =
     let now = c.args.station.now.core in
-    subst (λ (w : Coming). OnOk c.step-in-Order.result (Steps now c.step-in-Order.new.station.core (after (tree_of now) (number_of now) (station_of now) (happening w)) c.step-in-Order.new.out)) (sym c.in-Order.is)
+    subst (λ (w : Coming). OnOk c.step-in-Order.result
+    (Steps now c.step-in-Order.new.station.core
+    (after (tree_of now) (number_of now) (station_of now) (happening w)) c.step-in-Order.new.out)) (sym c.in-Order.is)
     c.step-in-Order.ensures.steps

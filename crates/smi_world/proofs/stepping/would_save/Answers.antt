@@ -14,7 +14,10 @@ use Rattle.smi_world.proofs.stepping.would_save.Goals as goal
 pub returns-in-Datagram : goal.returns-in-Datagram
 returns-in-Datagram c =
     let now = c.args.station.now.core in
-    subst (λ (w : Coming). c.saves.result ≡ is_some (after (tree_of now) (number_of now) (station_of now) (happening w)).saved) (sym c.in-Datagram.is)
-    (subst (λ (r : Result Message Bad). c.saves.result ≡ is_some (after_reading (tree_of now) (number_of now) (station_of now) r).saved)
-    (ap reading c.encode-bytes.ensures ∙ spelled_is_read c.in-Datagram.datagram (subst (λ (m : Message). is_message m ≡ true) c.datagram.view_is (message_is _ c.datagram.invariant)))
+    subst (λ (w : Coming). c.saves.result ≡ is_some
+    (after (tree_of now) (number_of now) (station_of now) (happening w)).saved) (sym c.in-Datagram.is)
+    (subst (λ (r : Result Message Bad). c.saves.result
+    ≡ is_some (after_reading (tree_of now) (number_of now) (station_of now) r).saved)
+    (ap reading c.encode-bytes.ensures ∙ spelled_is_read c.in-Datagram.datagram
+    (subst (λ (m : Message). is_message m ≡ true) c.datagram.view_is (message_is _ c.datagram.invariant)))
     c.saves.ensures)

@@ -13,7 +13,8 @@ pub write_item-requires : goal.write_item-requires
 write_item-requires g c =
     let h = c.args.world.now.tree in
     let same = ap (λ (t : Hierarchy). item_in t c.args.line.now) c.tree.ensures in
-    read_named h c.args.line.now c.in-Ok-Some.item (sym same ∙ sym c.read_item.ensures ∙ c.in-Ok-Some.is ∙ ap Ok c.in-Ok-Some.field-0-is)
+    read_named h c.args.line.now c.in-Ok-Some.item
+    (sym same ∙ sym c.read_item.ensures ∙ c.in-Ok-Some.is ∙ ap Ok c.in-Ok-Some.field-0-is)
 
 pub returns-in-Ok-clause-prefix : goal.returns-in-Ok-clause-prefix
 returns-in-Ok-clause-prefix g c = λ w is.
@@ -21,7 +22,9 @@ returns-in-Ok-clause-prefix g c = λ w is.
     let h = c.args.world.now.tree in
     let same = ap (λ (t : Hierarchy). item_in t c.args.line.now) c.tree.ensures in
     let e = sym same ∙ sym c.read_item.ensures ∙ c.in-Ok-Some.is ∙ ap Ok c.in-Ok-Some.field-0-is in
-    subst (λ (r : Result (Option Item) Fault). (n : ℕ) × Appends (contents c.args.writer.now) (contents c.write_item.new.writer) (take n (trace_text h (lines_after h w r)))) (sym e) (c.write_item.ensures.prefix w is)
+    subst (λ (r : Result (Option Item) Fault). (n : ℕ)
+    × Appends (contents c.args.writer.now) (contents c.write_item.new.writer)
+    (take n (trace_text h (lines_after h w r)))) (sym e) (c.write_item.ensures.prefix w is)
 
 pub returns-in-Err-write_item-clause-prefix : goal.returns-in-Err-write_item-clause-prefix
 returns-in-Err-write_item-clause-prefix g c = λ w is.
@@ -29,4 +32,6 @@ returns-in-Err-write_item-clause-prefix g c = λ w is.
     let h = c.args.world.now.tree in
     let same = ap (λ (t : Hierarchy). item_in t c.args.line.now) c.tree.ensures in
     let e = sym same ∙ sym c.read_item.ensures ∙ c.in-Ok-Some.is ∙ ap Ok c.in-Ok-Some.field-0-is in
-    subst (λ (r : Result (Option Item) Fault). (n : ℕ) × Appends (contents c.args.writer.now) (contents c.write_item.new.writer) (take n (trace_text h (lines_after h w r)))) (sym e) (c.write_item.ensures.prefix w is)
+    subst (λ (r : Result (Option Item) Fault). (n : ℕ)
+    × Appends (contents c.args.writer.now) (contents c.write_item.new.writer)
+    (take n (trace_text h (lines_after h w r)))) (sym e) (c.write_item.ensures.prefix w is)

@@ -10,5 +10,6 @@ abbrev pub invariant-loop-number : goal.invariant-loop-number
 invariant-loop-number g l = record {
   tree : l.world.tree ≡ l.fn.world.tree;
   gone : (w : World) → IsAt l.fn.world w → IfSome (g.R.Read.remaining l.fn.reader) (λ input.
-      Going l.fn.world.tree w input l.number l.world (g.W.Write.contents l.fn.writer) (g.W.Write.contents l.writer) (left l.cutter (g.R.Read.remaining l.reader)));
+      Going l.fn.world.tree w input l.number l.world (g.W.Write.contents l.fn.writer) (g.W.Write.contents l.writer)
+      (left l.cutter (g.R.Read.remaining l.reader)));
 }

@@ -14,7 +14,9 @@ returns-in-Ok-clause-prefix g c = λ w is.
     let prefix = c.write_lines.ensures.prefix in
     let text =
     ap (λ (t : Hierarchy). trace_text t c.as_slice.result.now) (c.tree.ensures ∙ c.act_into.ensures.tree)
-    ∙ ap (trace_text h) (c.as_slice.ensures.value ∙ c.in-Ok.ensures.lines w is ∙ ap (λ (ls : List Line). ls ++ made) c.clear.ensures.items) in (
+    ∙ ap (trace_text h) (c.as_slice.ensures.value ∙ c.in-Ok.ensures.lines w is
+    ∙ ap (λ (ls : List Line). ls ++ made) c.clear.ensures.items) in (
       prefix.0,
-      subst (λ (t : List ℕ). Appends (contents c.args.writer.now) (contents c.write_lines.new.writer) (take prefix.0 t)) text prefix.1,
+      subst (λ (t : List ℕ). Appends (contents c.args.writer.now) (contents c.write_lines.new.writer)
+          (take prefix.0 t)) text prefix.1,
     )

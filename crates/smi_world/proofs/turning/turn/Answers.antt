@@ -17,9 +17,12 @@ returns-in-Some-clause-makes c = λ w are same.
     let range = c.in-Some.ensures.within in
     let at : number ≡ 1 + i = omega (arith, c.from.ensures, range.least) in
     let within : i < length posts = omega (arith, c.from.ensures, range.least, range.most, c.requires.count) in
-    let is = subst (λ (p : Post). IsPost h number p (w.stations number)) (sym c.index_mut-post.ensures.value) (there h w posts number i at within are c.index_mut-post.result.now) in
-    subst (λ (t : Turn). OnOk c.make_part.result (Turned h (slice_set posts i c.make_part.new.post) c.make_part.new.left t)) (c.in-Some.ensures.task w same)
-    (on_ok c.make_part.result (c.make_part.ensures.makes h number (w.stations number) is) (λ makes. turned_at h w posts number i at within are c.make_part.new.post c.make_part.new.left _ makes))
+    let is = subst (λ (p : Post). IsPost h number p (w.stations number)) (sym c.index_mut-post.ensures.value)
+    (there h w posts number i at within are c.index_mut-post.result.now) in
+    subst (λ (t : Turn). OnOk c.make_part.result
+    (Turned h (slice_set posts i c.make_part.new.post) c.make_part.new.left t)) (c.in-Some.ensures.task w same)
+    (on_ok c.make_part.result (c.make_part.ensures.makes h number (w.stations number) is)
+    (λ makes. turned_at h w posts number i at within are c.make_part.new.post c.make_part.new.left _ makes))
 
 pub returns-in-Some-clause-halts : goal.returns-in-Some-clause-halts
 returns-in-Some-clause-halts c = λ w are same.
@@ -30,6 +33,8 @@ returns-in-Some-clause-halts c = λ w are same.
     let range = c.in-Some.ensures.within in
     let at : number ≡ 1 + i = omega (arith, c.from.ensures, range.least) in
     let within : i < length posts = omega (arith, c.from.ensures, range.least, range.most, c.requires.count) in
-    let is = subst (λ (p : Post). IsPost h number p (w.stations number)) (sym c.index_mut-post.ensures.value) (there h w posts number i at within are c.index_mut-post.result.now) in
+    let is = subst (λ (p : Post). IsPost h number p (w.stations number)) (sym c.index_mut-post.ensures.value)
+    (there h w posts number i at within are c.index_mut-post.result.now) in
     on_err c.make_part.result (c.make_part.ensures.halts h number (w.stations number) is)
-    (λ how. halts_at h w posts number i at within are c.make_part.new.post c.in-Some.task.doing c.args.item.now (c.in-Some.ensures.stop w same) how)
+    (λ how. halts_at h w posts number i at within are c.make_part.new.post c.in-Some.task.doing c.args.item.now
+    (c.in-Some.ensures.stop w same) how)

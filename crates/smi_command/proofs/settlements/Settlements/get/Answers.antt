@@ -13,13 +13,15 @@ returns-then-i-self c =
 pub returns-then-i-self-2 : goal.returns-then-i-self-2
 returns-then-i-self-2 c =
     let run = c.self.inside in
-    let newest : run.code ≡ (if c.args.i + 1 == run.count then run.code else unseen) = grind (arith, nat_tests, c.if-i-self-2.true) in
+    let newest : run.code ≡ (if c.args.i + 1 == run.count then run.code else unseen) = grind
+    (arith, nat_tests, c.if-i-self-2.true) in
     ap (λ x. Some (settlement (run.first + c.args.i) x)) newest
     ∙ one_within run.first run.count run.code c.args.self.now c.self.view_is c.args.i c.if-i-self.false
 
 pub returns-else-i-self-2 : goal.returns-else-i-self-2
 returns-else-i-self-2 c =
     let run = c.self.inside in
-    let older : unseen ≡ (if c.args.i + 1 == run.count then run.code else unseen) = grind (arith, nat_tests, c.if-i-self-2.false) in
+    let older : unseen ≡ (if c.args.i + 1 == run.count then run.code else unseen) = grind
+    (arith, nat_tests, c.if-i-self-2.false) in
     ap (λ x. Some (settlement (run.first + c.args.i) x)) older
     ∙ one_within run.first run.count run.code c.args.self.now c.self.view_is c.args.i c.if-i-self.false

@@ -7,9 +7,17 @@ overflow_add-object c =
     let tree = c.self.invariant.tree in
     let all = c.devices-devices.ensures in
     let long = ap length all in
-    let within = device_within _ tree c.args.domain c.loop-device.device-index 0 (omega (arith, c.loop-device-test.true, long)) in
+    let within = device_within _ tree c.args.domain c.loop-device.device-index 0
+    (omega (arith, c.loop-device-test.true, long)) in
     let same = ap (λ xs. get_or xs c.loop-device.device-index 0) all in
-    omega (arith, same, within, c.domain_count-domains.ensures.value, tree.lawful.domains.most, tree.lawful.devices.most)
+    omega (
+      arith,
+      same,
+      within,
+      c.domain_count-domains.ensures.value,
+      tree.lawful.domains.most,
+      tree.lawful.devices.most,
+    )
 
 pub push-requires : goal.push-requires
 push-requires c =

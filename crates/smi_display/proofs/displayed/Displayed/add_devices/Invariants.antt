@@ -8,7 +8,10 @@ use Rattle.smi_display.proofs.displayed.Displayed.add_devices.Given as goal
 -- the devices so far are listed
 abbrev pub invariant-loop-device : goal.invariant-loop-device
 invariant-loop-device l = record {
-  all : added l.members (map (λ x. member x (option_map_or (λ c. c.state) (conditions_of l.self.published x) 0)) (map (λ device. l.domains + device) (drop l.device-index l.devices)))
-      ≡ added l.initial.members (map (λ x. member x (option_map_or (λ c. c.state) (conditions_of l.self.published x) 0)) (map (λ device. l.domains + device) l.devices));
+  all : added l.members (map (λ x. member x (option_map_or (λ c. c.state) (conditions_of l.self.published x) 0))
+      (map (λ device. l.domains + device) (drop l.device-index l.devices)))
+      ≡ added l.initial.members
+      (map (λ x. member x (option_map_or (λ c. c.state) (conditions_of l.self.published x) 0))
+      (map (λ device. l.domains + device) l.devices));
   few : length l.members.objects ≤ length l.initial.members.objects + l.device-index;
 }

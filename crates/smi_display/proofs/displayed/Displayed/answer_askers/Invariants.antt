@@ -9,7 +9,14 @@ use Rattle.smi_display.proofs.displayed.Displayed.answer_askers.Given as goal
 -- the askers so far are answered
 abbrev pub invariant-loop-operator : goal.invariant-loop-operator
 invariant-loop-operator l = record {
-  all : record l.out { answers = answered_after l.out.answers (map (λ o. answer_asked o l.domain l.news) (filter (has_asked (display_of l.self) l.domain) (drop l.operator-index l.operators))) }
-      ≡ record l.initial.out { answers = answered_after l.initial.out.answers (map (λ o. answer_asked o l.domain l.news) (filter (has_asked (display_of l.self) l.domain) l.operators)) };
+  all : record l.out {
+    answers = answered_after l.out.answers
+        (map (λ o. answer_asked o l.domain l.news)
+        (filter (has_asked (display_of l.self) l.domain) (drop l.operator-index l.operators)));
+  }
+      ≡ record l.initial.out {
+        answers = answered_after l.initial.out.answers
+            (map (λ o. answer_asked o l.domain l.news) (filter (has_asked (display_of l.self) l.domain) l.operators));
+      };
   few : length l.out.answers ≤ length l.initial.out.answers + l.operator-index;
 }

@@ -8,4 +8,6 @@ use Rattle.smi_display.proofs.displayed.Displayed.ask.Goals as goal
 pub returns-clause-display : goal.returns-clause-display
 returns-clause-display c =
     rw (← c.self.view_is, c.from.ensures)
-    (asked_is _ c.self.invariant c.args.operator c.args.domain (subst (λ (k : Displayed). IsBetween 1 (operator_count k.tree) c.args.operator) (sym c.self.view_is) c.requires.operator))
+    (asked_is _ c.self.invariant c.args.operator c.args.domain
+    (subst (λ (k : Displayed). IsBetween 1 (operator_count k.tree) c.args.operator) (sym c.self.view_is)
+    c.requires.operator))

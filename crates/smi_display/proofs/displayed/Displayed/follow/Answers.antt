@@ -9,12 +9,29 @@ use Rattle.smi_display.proofs.displayed.Displayed.follow.Goals as goal
 
 pub invariant_of-self : goal.invariant_of-self
 invariant_of-self c =
-    evaluated_kept _ c.self.invariant c.evaluate.new.self c.args.domain c.states.result.now c.evaluate.ensures.boot c.evaluate.ensures.conditions
+    evaluated_kept _ c.self.invariant c.evaluate.new.self c.args.domain c.states.result.now c.evaluate.ensures.boot
+    c.evaluate.ensures.conditions
     (subst (λ (k : Displayed). HasRoom (conditions_of k.published) c.args.domain) (sym c.self.view_is) c.requires.room)
 
 pub returns-clause-shown : goal.returns-clause-shown
 returns-clause-shown c =
-    let s : Displayed = record { tree = c.self.inside.tree.now; number = c.self.inside.number; published = c.evaluate.new.self; views = c.self.inside.view; named = c.self.inside.named.items; echoes = c.self.inside.echoes.items; watchers = c.self.inside.watchers.lists; place = c.self.inside.place; asks = c.self.inside.asks.items } in
+    let s : Displayed = record {
+      tree = c.self.inside.tree.now;
+      number = c.self.inside.number;
+      published = c.evaluate.new.self;
+      views = c.self.inside.view;
+      named = c.self.inside.named.items;
+      echoes =
+          c.self.inside.echoes.items;
+      watchers = c.self.inside.watchers.lists;
+      place = c.self.inside.place;
+      asks =
+          c.self.inside.asks.items;
+    } in
     subst (λ (k : Displayed). IfSome c.evaluate.result (IsShown k.tree)) c.self.view_is (
     subst (λ o. IfSome o (IsShown s.tree)) (sym c.evaluate.ensures.change)
-    (change_shown s (evaluated_kept _ c.self.invariant c.evaluate.new.self c.args.domain c.states.result.now c.evaluate.ensures.boot c.evaluate.ensures.conditions (subst (λ (k : Displayed). HasRoom (conditions_of k.published) c.args.domain) (sym c.self.view_is) c.requires.room)) (conditions_of c.self.inside.publisher) c.self.inside.publisher.boot c.args.domain (sym c.evaluate.ensures.boot)))
+    (change_shown s (evaluated_kept _ c.self.invariant c.evaluate.new.self c.args.domain c.states.result.now
+    c.evaluate.ensures.boot c.evaluate.ensures.conditions
+    (subst (λ (k : Displayed). HasRoom (conditions_of k.published) c.args.domain) (sym c.self.view_is)
+    c.requires.room)) (conditions_of c.self.inside.publisher) c.self.inside.publisher.boot c.args.domain
+    (sym c.evaluate.ensures.boot)))

@@ -12,6 +12,7 @@ returns c =
     let devices = device_members s.tree (display_of s).conditions c.args.domain in
     let children = child_members s.tree (grants_of c.args.kept.now) (display_of s).shown c.args.domain in
     c.add_children.ensures
-    ∙ ap (λ (m : Listed). added m children) (c.add_devices.ensures.members ∙ ap (λ (m : Listed). added m devices) c.new-members.ensures)
+    ∙ ap (λ (m : Listed). added m children) (c.add_devices.ensures.members
+    ∙ ap (λ (m : Listed). added m devices) c.new-members.ensures)
     ∙ added_twice _ devices children
     ∙ added_first _

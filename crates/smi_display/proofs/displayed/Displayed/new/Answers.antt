@@ -10,8 +10,22 @@ use Rattle.smi_display.proofs.displayed.Displayed.new.Goals as goal
 
 pub returns-clause-display : goal.returns-clause-display
 returns-clause-display c =
-    first_is (record { tree = c.args.tree.now; number = c.args.number; published = c.in_ok-publisher.publisher; views = c.in_ok-view.view; named = c.loop.named.items; echoes = c.loop-2.echoes.items; watchers = c.in_ok-watchers.watchers.lists; place = first_place; asks = c.loop-3.asks.items }) c.args.tree.now c.args.number c.loop.counter c.loop-2.counter c.loop-3.counter c.in_ok-publisher.ensures.opened c.in_ok-view.ensures.last
-    c.loop.invariant c.loop-2.invariant (c.in_ok-watchers.ensures.lists ∙ ap (λ n. replicate n []) c.object_count-objects.ensures) refl c.loop-3.invariant
+    first_is (record {
+      tree = c.args.tree.now;
+      number = c.args.number;
+      published = c.in_ok-publisher.publisher;
+      views = c.in_ok-view.view;
+      named = c.loop.named.items;
+      echoes = c.loop-2.echoes.items;
+      watchers =
+          c.in_ok-watchers.watchers.lists;
+      place = first_place;
+      asks = c.loop-3.asks.items;
+    }) c.args.tree.now
+    c.args.number c.loop.counter c.loop-2.counter c.loop-3.counter c.in_ok-publisher.ensures.opened
+    c.in_ok-view.ensures.last
+    c.loop.invariant c.loop-2.invariant (c.in_ok-watchers.ensures.lists
+    ∙ ap (λ n. replicate n []) c.object_count-objects.ensures) refl c.loop-3.invariant
 
 pub invariant_of-result : goal.invariant_of-result
 invariant_of-result c = record {
@@ -31,7 +45,22 @@ invariant_of-result c = record {
       omega (arith, long, c.loop-3-test.false, c.loop-3.auto.counter-end, c.operator_count-end.ensures.value);
   sound =
       subst (IsDisplay c.args.tree.now c.args.number)
-      (sym (first_is (record { tree = c.args.tree.now; number = c.args.number; published = c.in_ok-publisher.publisher; views = c.in_ok-view.view; named = c.loop.named.items; echoes = c.loop-2.echoes.items; watchers = c.in_ok-watchers.watchers.lists; place = first_place; asks = c.loop-3.asks.items }) c.args.tree.now c.args.number c.loop.counter c.loop-2.counter c.loop-3.counter c.in_ok-publisher.ensures.opened c.in_ok-view.ensures.last
-      c.loop.invariant c.loop-2.invariant (c.in_ok-watchers.ensures.lists ∙ ap (λ n. replicate n []) c.object_count-objects.ensures) refl c.loop-3.invariant))
+      (sym (first_is
+      (record {
+        tree = c.args.tree.now;
+        number = c.args.number;
+        published = c.in_ok-publisher.publisher;
+        views = c.in_ok-view.view;
+        named = c.loop.named.items;
+        echoes = c.loop-2.echoes.items;
+        watchers =
+            c.in_ok-watchers.watchers.lists;
+        place = first_place;
+        asks = c.loop-3.asks.items;
+      }) c.args.tree.now
+      c.args.number c.loop.counter c.loop-2.counter c.loop-3.counter c.in_ok-publisher.ensures.opened
+      c.in_ok-view.ensures.last
+      c.loop.invariant c.loop-2.invariant (c.in_ok-watchers.ensures.lists
+      ∙ ap (λ n. replicate n []) c.object_count-objects.ensures) refl c.loop-3.invariant))
       (first_sound c.args.tree.now c.station_count-end.ensures.tree c.args.number);
 }

@@ -9,7 +9,8 @@ use Rattle.smi_display.proofs.displayed.Displayed.offer_children.Goals as goal
 
 pub loop-place-preserved : goal.loop-place-preserved
 loop-place-preserved c =
-    let f = λ (x : ℕ). owed_to_child c.args.self.now.tree c.args.self.now.number (grants_of c.args.kept.now) x (parent_of c.args.self.now.tree x) in
+    let f = λ (x : ℕ). owed_to_child c.args.self.now.tree c.args.self.now.number (grants_of c.args.kept.now) x
+    (parent_of c.args.self.now.tree x) in
     let n = c.domain_count-place-end.result in
     let i = c.loop-place.place in
     ap (λ (s : Sweeping). offered s (flat_map f (range_with_len (i + 1 + 1) (n - (i + 1))))) c.offer_child.ensures

@@ -13,6 +13,8 @@ loop-place-preserved c =
     let n = c.domain_count-place-end.result in
     let i = c.loop-place.place in
     ap (λ (s : Sweeping). offered s (flat_map f (range_with_len (i + 1 + 1) (n - (i + 1))))) c.offer_to_domain.ensures
-    ∙ ap (λ (l : Link). offered (offered (sweeping c.loop-place.sweep c.loop-place.out) (domain_owed c.args.self.now.tree c.args.self.now.number c.args.operator (i + 1) l)) (flat_map f (range_with_len (i + 1 + 1) (n - (i + 1))))) c.link-link.ensures
+    ∙ ap (λ (l : Link). offered (offered (sweeping c.loop-place.sweep c.loop-place.out)
+    (domain_owed c.args.self.now.tree c.args.self.now.number c.args.operator (i + 1) l))
+    (flat_map f (range_with_len (i + 1 + 1) (n - (i + 1))))) c.link-link.ensures
     ∙ sym (range_offered (sweeping c.loop-place.sweep c.loop-place.out) f n i c.loop-place-test.true)
     ∙ c.loop-place.invariant

@@ -12,7 +12,8 @@ use Rattle.smi_display.proofs.displayed.Displayed.offer_orders.Goals as goal
 
 pub loop-operator-preserved : goal.loop-operator-preserved
 loop-operator-preserved c =
-    let f = λ (o : ℕ). flat_map (owed_to_domain c.args.self.now.tree c.args.self.now.number (grants_of c.args.kept.now) o) (domains_of c.args.self.now.tree) in
+    let f = λ (o : ℕ). flat_map (owed_to_domain c.args.self.now.tree c.args.self.now.number
+    (grants_of c.args.kept.now) o) (domains_of c.args.self.now.tree) in
     let xs = c.operators-operators.result.now in
     let i = c.loop-operator.operator-index in
     ap (λ (s : Sweeping). offered s (flat_map f (drop (i + 1) xs))) c.offer_links.ensures
@@ -24,4 +25,5 @@ offer_links-requires-clause-operator c =
     let xs = c.operators-operators.result.now in
     let i = c.loop-operator.operator-index in
     subst (λ (k : Displayed). IsBetween 1 (operator_count k.tree) (get_or xs i 0)) c.self.view_is
-    (operator_at _ c.self.invariant.tree c.self.inside.number xs i 0 c.operators-operators.ensures c.loop-operator-test.true)
+    (operator_at _ c.self.invariant.tree c.self.inside.number xs i 0 c.operators-operators.ensures
+    c.loop-operator-test.true)

@@ -8,7 +8,8 @@ use Rattle.smi_display.proofs.displayed.Displayed.offer_questions.Goals as goal
 
 pub loop-operator-preserved : goal.loop-operator-preserved
 loop-operator-preserved c =
-    let f = λ (o : ℕ). owed_question c.args.self.now.tree c.args.self.now.number o ((display_of c.args.self.now).asks o) in
+    let f = λ (o : ℕ). owed_question c.args.self.now.tree c.args.self.now.number o
+    ((display_of c.args.self.now).asks o) in
     let xs = c.operators-operators.result.now in
     let i = c.loop-operator.operator-index in
     ap (λ (s : Sweeping). offered s (flat_map f (drop (i + 1) xs))) c.offer_question.ensures

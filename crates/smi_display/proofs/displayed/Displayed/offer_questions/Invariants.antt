@@ -8,5 +8,7 @@ use Rattle.smi_display.proofs.displayed.Displayed.offer_questions.Given as goal
 -- what is due so far was offered
 abbrev pub invariant-loop-operator : goal.invariant-loop-operator
 invariant-loop-operator l =
-    offered (sweeping l.sweep l.out) (flat_map (λ o. owed_question l.self.tree l.self.number o ((display_of l.self).asks o)) (drop l.operator-index l.operators))
-    ≡ offered (sweeping l.initial.sweep l.initial.out) (flat_map (λ o. owed_question l.self.tree l.self.number o ((display_of l.self).asks o)) l.operators)
+    offered (sweeping l.sweep l.out) (flat_map
+    (λ o. owed_question l.self.tree l.self.number o ((display_of l.self).asks o)) (drop l.operator-index l.operators))
+    ≡ offered (sweeping l.initial.sweep l.initial.out)
+    (flat_map (λ o. owed_question l.self.tree l.self.number o ((display_of l.self).asks o)) l.operators)

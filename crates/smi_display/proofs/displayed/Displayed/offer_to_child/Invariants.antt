@@ -11,5 +11,9 @@ use Rattle.smi_display.proofs.displayed.Displayed.offer_to_child.Given as goal
 -- what is due so far was offered
 abbrev pub invariant-loop-i : goal.invariant-loop-i
 invariant-loop-i l =
-    offered (sweeping l.sweep l.out) (map (λ due. owed (place.Child l.child) (requests l.self.tree l.self.number (Domain l.parent) l.child due)) (filter_map (due_of l.link) (range_with_len l.i (8 - l.i))))
-    ≡ offered (sweeping l.initial.sweep l.initial.out) (map (λ due. owed (place.Child l.child) (requests l.self.tree l.self.number (Domain l.parent) l.child due)) (filter_map (due_of l.link) (range_with_len 0 8)))
+    offered (sweeping l.sweep l.out)
+    (map (λ due. owed (place.Child l.child) (requests l.self.tree l.self.number (Domain l.parent) l.child due))
+    (filter_map (due_of l.link) (range_with_len l.i (8 - l.i))))
+    ≡ offered (sweeping l.initial.sweep l.initial.out)
+    (map (λ due. owed (place.Child l.child) (requests l.self.tree l.self.number (Domain l.parent) l.child due))
+    (filter_map (due_of l.link) (range_with_len 0 8)))

@@ -8,7 +8,8 @@ use Rattle.smi_display.proofs.displayed.Displayed.offer_watches.Goals as goal
 
 pub loop-place-preserved : goal.loop-place-preserved
 loop-place-preserved c =
-    let f = owed_watch c.args.self.now.tree c.args.self.now.number c.args.self.now.published.boot (display_of c.args.self.now) in
+    let f = owed_watch c.args.self.now.tree c.args.self.now.number c.args.self.now.published.boot
+    (display_of c.args.self.now) in
     let n = c.object_count-place-end.result in
     let i = c.loop-place.place in
     ap (λ (s : Sweeping). offered s (flat_map f (range_with_len (i + 1 + 1) (n - (i + 1))))) c.offer_watch.ensures

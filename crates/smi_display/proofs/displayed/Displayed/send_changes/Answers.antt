@@ -23,7 +23,8 @@ loop-shown-preserved c =
       all =
           ap (λ (o : Out). record o { datagrams = sent_after o.datagrams rest }) c.show_to_all.ensures
           ∙ ap (λ (ms : List Message). record out { datagrams = ms })
-          (sent_twice out.datagrams (told (get_or xs i _)) rest ∙ ap (λ (ys : List Shown). sent_after out.datagrams (flat_map told ys)) (sym next))
+          (sent_twice out.datagrams (told (get_or xs i _)) rest
+          ∙ ap (λ (ys : List Shown). sent_after out.datagrams (flat_map told ys)) (sym next))
           ∙ c.loop-shown.invariant.all;
       each = (subst (AllByRecursion (IsShown s.tree)) next c.loop-shown.invariant.each).1;
     }

@@ -17,7 +17,8 @@ send_changes-requires c =
     (elim c.match-follow.branch [
       | in-Some w ↦
           subst (AllByRecursion (IsShown h)) (sym (w.changes-is ∙ w.push.ensures))
-          (one_more_shown (IsShown h) c.args.changes.now w.in-Some.shown c.requires.shown (subst (λ o. IfSome o (IsShown h)) w.in-Some.is c.follow.ensures.shown))
+          (one_more_shown (IsShown h) c.args.changes.now w.in-Some.shown c.requires.shown
+          (subst (λ o. IfSome o (IsShown h)) w.in-Some.is c.follow.ensures.shown))
       | in-None w ↦ subst (AllByRecursion (IsShown h)) (sym w.changes-is) c.requires.shown
     ]))
 
@@ -25,4 +26,7 @@ pub returns-clause-display : goal.returns-clause-display
 returns-clause-display c =
     let s = c.args.self.now in
     c.follow.ensures.display
-    ∙ ap (λ (m : Listed). record (display_of s) { conditions = followed_by s.tree c.args.before.now m (display_of s).conditions c.args.domain }) c.members-after.ensures
+    ∙ ap (λ (m : Listed). record (display_of s) {
+      conditions = followed_by s.tree c.args.before.now m
+          (display_of s).conditions c.args.domain;
+    }) c.members-after.ensures

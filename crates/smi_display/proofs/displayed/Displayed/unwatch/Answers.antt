@@ -8,4 +8,6 @@ use Rattle.smi_display.proofs.displayed.Displayed.unwatch.Goals as goal
 pub returns-clause-display : goal.returns-clause-display
 returns-clause-display c =
     rw (sym c.is_child_unit.ensures ∙ c.if-is_child_unit.false, ← c.self.view_is, c.from.ensures)
-    (named_is _ c.self.invariant c.args.object false (subst (λ (k : Displayed). IsBetween 1 (object_count k.tree) c.args.object) (sym c.self.view_is) c.requires.object))
+    (named_is _ c.self.invariant c.args.object false
+    (subst (λ (k : Displayed). IsBetween 1 (object_count k.tree) c.args.object) (sym c.self.view_is)
+    c.requires.object))

@@ -8,7 +8,9 @@ use Rattle.smi_display.proofs.displayed.Displayed.unwatch_comes.Goals as goal
 
 pub unwatch-requires-clause-object_most : goal.unwatch-requires-clause-object_most
 unwatch-requires-clause-object_most c =
-    let within = kept_within _ c.self.invariant.tree _ c.args.object (subst (λ (k : Displayed). is_kept_by k.tree k.number c.args.object ≡ true) (sym c.self.view_is) c.requires.object) in
+    let within = kept_within _ c.self.invariant.tree _ c.args.object
+    (subst (λ (k : Displayed). is_kept_by k.tree k.number c.args.object ≡ true) (sym c.self.view_is)
+    c.requires.object) in
     let below = within.1 in
     omega (arith, below, c.self.invariant.sound.lists)
 

@@ -9,4 +9,6 @@ use Rattle.smi_display.proofs.displayed.Displayed.watch.Goals as goal
 pub returns-clause-display : goal.returns-clause-display
 returns-clause-display c =
     rw (← c.self.view_is, c.from.ensures)
-    (named_is _ c.self.invariant c.args.object true (subst (λ (k : Displayed). IsBetween 1 (object_count k.tree) c.args.object) (sym c.self.view_is) c.requires.object))
+    (named_is _ c.self.invariant c.args.object true
+    (subst (λ (k : Displayed). IsBetween 1 (object_count k.tree) c.args.object) (sym c.self.view_is)
+    c.requires.object))

@@ -8,7 +8,10 @@ use Rattle.smi_grants.proofs.after.After.child_links.Given as goal
 -- what is there and what is left is all
 abbrev pub invariant-loop-child : goal.invariant-loop-child
 invariant-loop-child l = record {
-  all : l.links.items ++ filter_map (λ x. stored_if x ((after_of l.self).links (Domain l.domain) x) ((after_of l.self).modes x)) (drop l.child-index l.children)
-      ≡ filter_map (λ x. stored_if x ((after_of l.self).links (Domain l.domain) x) ((after_of l.self).modes x)) l.children;
+  all : l.links.items
+      ++ filter_map (λ x. stored_if x ((after_of l.self).links (Domain l.domain) x) ((after_of l.self).modes x))
+      (drop l.child-index l.children)
+      ≡ filter_map (λ x. stored_if x ((after_of l.self).links (Domain l.domain) x) ((after_of l.self).modes x))
+      l.children;
   few : length l.links.items ≤ l.child-index;
 }

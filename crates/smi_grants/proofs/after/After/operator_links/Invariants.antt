@@ -9,6 +9,7 @@ use Rattle.smi_grants.proofs.after.After.operator_links.Given as goal
 -- the links of the first domains
 abbrev pub invariant-loop-place : goal.invariant-loop-place
 invariant-loop-place l = record {
-  all : l.links.items ≡ filter_map (λ d. stored_if d ((after_of l.self).links (Operator l.operator) d) Included) (range_with_len 1 l.place);
+  all : l.links.items ≡ filter_map (λ d. stored_if d ((after_of l.self).links (Operator l.operator) d) Included)
+      (range_with_len 1 l.place);
   few : length l.links.items ≤ l.place;
 }

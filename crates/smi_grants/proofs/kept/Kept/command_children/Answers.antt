@@ -14,9 +14,13 @@ command_child-requires c =
     let h = c.args.self.now.tree in
     let xs = c.children-children.result.now in
     let x = get_or xs c.loop-child.child-index 0 in
-    let listed : xs ≡ children_of h c.args.domain = c.children-children.ensures ∙ ap (λ (t : Hierarchy). children_of t c.args.domain) c.tree-tree.ensures.value in
+    let listed : xs ≡ children_of h c.args.domain = c.children-children.ensures
+    ∙ ap (λ (t : Hierarchy). children_of t c.args.domain) c.tree-tree.ensures.value in
     let there : is_among xs x ≡ true = at_among xs c.loop-child.child-index 0 c.loop-child-test.true in
-    record { parent = rw c.loop-child.invariant.tree (sym (among_children h c.args.domain x) ∙ ap (λ (ys : List ℕ). is_among ys x) (sym listed) ∙ there) }
+    record {
+      parent = rw c.loop-child.invariant.tree
+          (sym (among_children h c.args.domain x) ∙ ap (λ (ys : List ℕ). is_among ys x) (sym listed) ∙ there);
+    }
 
 pub loop-child-preserved : goal.loop-child-preserved
 loop-child-preserved c =
@@ -26,9 +30,11 @@ loop-child-preserved c =
     let i = c.loop-child.child-index in
     let xs = c.children-children.result.now in
     let x = get_or xs i 0 in
-    let listed : xs ≡ children_of h d = c.children-children.ensures ∙ ap (λ (t : Hierarchy). children_of t d) c.tree-tree.ensures.value in
+    let listed : xs ≡ children_of h d = c.children-children.ensures
+    ∙ ap (λ (t : Hierarchy). children_of t d) c.tree-tree.ensures.value in
     let fresh : is_among (take i xs) x ≡ false =
-    subst (λ (ys : List ℕ). is_among (take i ys) (get_or ys i 0) ≡ false) (sym listed) (fresh_child h d i 0 (subst (λ (ys : List ℕ). i < length ys) listed c.loop-child-test.true)) in
+    subst (λ (ys : List ℕ). is_among (take i ys) (get_or ys i 0) ≡ false) (sym listed)
+    (fresh_child h d i 0 (subst (λ (ys : List ℕ). i < length ys) listed c.loop-child-test.true)) in
     let inv = c.loop-child.invariant in
     let e = c.command_child.ensures in
     record {
@@ -36,7 +42,8 @@ loop-child-preserved c =
           e.grants
           ∙ ap (λ (t : Hierarchy). commanded_child t (grants_of c.loop-child.self) d c.args.command x) inv.tree
           ∙ ap (λ (k : Grants). commanded_child h k d c.args.command x) inv.grants
-          ∙ one_more h g d c.args.command xs i x c.loop-child-test.true (get_or_default xs i 0 x c.loop-child-test.true) fresh;
+          ∙ one_more h g d c.args.command xs i x c.loop-child-test.true
+          (get_or_default xs i 0 x c.loop-child-test.true) fresh;
       tree = e.tree ∙ inv.tree;
       number = e.number ∙ inv.number;
     }
@@ -47,7 +54,8 @@ returns-clause-grants c =
     let g = grants_of c.args.self.now in
     let d = c.args.domain in
     let xs = c.children-children.result.now in
-    let listed : xs ≡ children_of h d = c.children-children.ensures ∙ ap (λ (t : Hierarchy). children_of t d) c.tree-tree.ensures.value in
+    let listed : xs ≡ children_of h d = c.children-children.ensures
+    ∙ ap (λ (t : Hierarchy). children_of t d) c.tree-tree.ensures.value in
     c.loop-child.invariant.grants
     ∙ ap (commanded_among h g d c.args.command) (take_all c.loop-child.child-index xs c.loop-child-test.false ∙ listed)
     ∙ all_commanded h g d c.args.command

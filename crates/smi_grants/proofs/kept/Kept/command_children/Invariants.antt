@@ -6,7 +6,8 @@ use Rattle.smi_grants.proofs.kept.Kept.command_children.Given as goal
 -- the command has reached the first children
 abbrev pub invariant-loop-child : goal.invariant-loop-child
 invariant-loop-child l = record {
-  grants : grants_of l.self ≡ commanded_among l.initial.self.tree (grants_of l.initial.self) l.domain l.command (take l.child-index l.children);
+  grants : grants_of l.self ≡ commanded_among l.initial.self.tree (grants_of l.initial.self) l.domain l.command
+      (take l.child-index l.children);
   tree : l.self.tree ≡ l.initial.self.tree;
   number : l.self.number ≡ l.initial.self.number;
 }

@@ -15,13 +15,15 @@ loop-place-preserved c =
     let out = c.is_out.ensures ∙ ap is_out c.link.ensures in
     elim c.if-not-is_out.branch [
       | then-not-is_out w ↦
-          let one : cond {A = ℕ} (test (place + 1)) 1 0 ≡ 1 = ap (λ b. cond {A = ℕ} (not b) 1 0) (sym out ∙ w.if-not-is_out.true) in
+          let one : cond {A = ℕ} (test (place + 1)) 1 0
+          ≡ 1 = ap (λ b. cond {A = ℕ} (not b) 1 0) (sym out ∙ w.if-not-is_out.true) in
           record {
             counted = w.count-is ∙ omega (arith, c.loop-place.invariant.counted, more, one);
             few = omega (arith, w.count-is, c.loop-place.invariant.few);
           }
       | else-not-is_out w ↦
-          let none : cond {A = ℕ} (test (place + 1)) 1 0 ≡ 0 = ap (λ b. cond {A = ℕ} (not b) 1 0) (sym out ∙ w.if-not-is_out.false) in
+          let none : cond {A = ℕ} (test (place + 1)) 1 0
+          ≡ 0 = ap (λ b. cond {A = ℕ} (not b) 1 0) (sym out ∙ w.if-not-is_out.false) in
           record {
             counted = w.count-is ∙ omega (arith, c.loop-place.invariant.counted, more, none);
             few = omega (arith, w.count-is, c.loop-place.invariant.few);

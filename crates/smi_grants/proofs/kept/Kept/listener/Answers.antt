@@ -17,10 +17,13 @@ returns-then-hears c =
     let i = c.loop-operator.operator-index in
     let test = λ (who : Holder). hears ((grants_of k).links who d) who c.args.news.now in
     let rest = parent_here k.tree k.number (parent_of k.tree d) in
-    let passes : test (Operator (get_or ops i 0)) ≡ true = rw (← c.link.ensures) (sym c.hears.ensures ∙ c.if-hears.true) in
+    let passes : test (Operator (get_or ops i 0))
+    ≡ true = rw (← c.link.ensures) (sym c.hears.ensures ∙ c.if-hears.true) in
     let listed : ops ≡ operators_of k.tree k.number =
-    c.operators-operators.ensures ∙ ap (λ (t : Hierarchy). operators_of t c.self.inside.number) c.tree-tree.ensures.value ∙ ap (λ (z : Kept). operators_of k.tree z.number) c.self.view_is in
-    sym (found_next test ops rest i 0 c.loop-operator-test.true passes) ∙ c.loop-operator.invariant ∙ ap (λ xs. find test (map Operator xs ++ rest)) listed
+    c.operators-operators.ensures ∙ ap (λ (t : Hierarchy). operators_of t c.self.inside.number)
+    c.tree-tree.ensures.value ∙ ap (λ (z : Kept). operators_of k.tree z.number) c.self.view_is in
+    sym (found_next test ops rest i 0 c.loop-operator-test.true passes) ∙ c.loop-operator.invariant
+    ∙ ap (λ xs. find test (map Operator xs ++ rest)) listed
 
 pub returns : goal.returns
 returns c =
@@ -31,5 +34,7 @@ returns c =
     let test = λ (who : Holder). hears ((grants_of k).links who d) who c.args.news.now in
     let rest = parent_here k.tree k.number (parent_of k.tree d) in
     let listed : ops ≡ operators_of k.tree k.number =
-    c.operators-operators.ensures ∙ ap (λ (t : Hierarchy). operators_of t c.self.inside.number) c.tree-tree.ensures.value ∙ ap (λ (z : Kept). operators_of k.tree z.number) c.self.view_is in
-    c.listening_parent.ensures ∙ sym (found_later test ops rest i c.loop-operator-test.false) ∙ c.loop-operator.invariant ∙ ap (λ xs. find test (map Operator xs ++ rest)) listed
+    c.operators-operators.ensures ∙ ap (λ (t : Hierarchy). operators_of t c.self.inside.number)
+    c.tree-tree.ensures.value ∙ ap (λ (z : Kept). operators_of k.tree z.number) c.self.view_is in
+    c.listening_parent.ensures ∙ sym (found_later test ops rest i c.loop-operator-test.false)
+    ∙ c.loop-operator.invariant ∙ ap (λ xs. find test (map Operator xs ++ rest)) listed

@@ -9,5 +9,8 @@ use Rattle.smi_grants.proofs.kept.Kept.listener.Given as goal
 -- no operator so far is the one
 abbrev pub invariant-loop-operator : goal.invariant-loop-operator
 invariant-loop-operator l =
-    find (λ who. hears ((grants_of l.self).links who l.domain) who l.news) (map Operator (drop l.operator-index l.operators) ++ parent_here l.self.tree l.self.number (parent_of l.self.tree l.domain))
-    ≡ find (λ who. hears ((grants_of l.self).links who l.domain) who l.news) (map Operator l.operators ++ parent_here l.self.tree l.self.number (parent_of l.self.tree l.domain))
+    find (λ who. hears ((grants_of l.self).links who l.domain) who l.news)
+    (map Operator (drop l.operator-index l.operators)
+    ++ parent_here l.self.tree l.self.number (parent_of l.self.tree l.domain))
+    ≡ find (λ who. hears ((grants_of l.self).links who l.domain) who l.news)
+    (map Operator l.operators ++ parent_here l.self.tree l.self.number (parent_of l.self.tree l.domain))

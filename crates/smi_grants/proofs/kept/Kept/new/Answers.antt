@@ -19,7 +19,8 @@ module _ (c : goal.In_ok-operator_links) where
   count = omega (arith, c.from-domains.ensures, c.domain_count.ensures.value)
 
   records : c.in_ok-records.records.items ≡ replicate c.from-domains.result fresh
-  records = c.in_ok-records.ensures.items_if_clones_equal (λ y is. is) ∙ ap (λ r. replicate c.from-domains.result r) c.fresh.ensures
+  records = c.in_ok-records.ensures.items_if_clones_equal (λ y is. is)
+      ∙ ap (λ r. replicate c.from-domains.result r) c.fresh.ensures
 
   gathered : c.in_ok-gathered.gathered.items ≡ replicate c.from-domains.result 0
   gathered = c.in_ok-gathered.ensures.items_if_clones_equal (λ y is. is)
@@ -44,7 +45,8 @@ invariant_of-result c =
       operators = ap length c.in_ok-operator_links.ensures ∙ long;
       served = λ o here.
           let there = operator_there h o c.args.number c.domain_count.ensures.tree here in
-          ap (λ (t : List (List Link)). length (entry_or t o [])) c.in_ok-operator_links.ensures ∙ served_first h c.args.number (operator_count h) o there.least there.most here;
+          ap (λ (t : List (List Link)). length (entry_or t o [])) c.in_ok-operator_links.ensures
+          ∙ served_first h c.args.number (operator_count h) o there.least there.most here;
     }
 
 pub returns-clause-grants : goal.returns-clause-grants

@@ -10,7 +10,8 @@ returns-in-Take c =
     let h = c.args.self.now.tree in
     let n = c.args.self.now.number in
     let here = ap (λ (o : Order). is_order_here h n c.args.operator o) (sym c.in-Take.is) ∙ c.requires in
-    let planned = c.obeyed.ensures h n (grants_of c.args.self.now) None (may_take h n c.args.operator c.in-Take.domain here) in
+    let planned = c.obeyed.ensures h n (grants_of c.args.self.now) None
+    (may_take h n c.args.operator c.in-Take.domain here) in
     rw c.in-Take.is (rw (c.begin_take.ensures, c.link.ensures) at planned)
 
 pub returns-in-Drop : goal.returns-in-Drop
@@ -18,7 +19,8 @@ returns-in-Drop c =
     let h = c.args.self.now.tree in
     let n = c.args.self.now.number in
     let here = ap (λ (o : Order). is_order_here h n c.args.operator o) (sym c.in-Drop.is) ∙ c.requires in
-    let planned = c.obeyed-in-Drop.ensures h n (grants_of c.args.self.now) None (may_take h n c.args.operator c.in-Drop.domain here) in
+    let planned = c.obeyed-in-Drop.ensures h n (grants_of c.args.self.now) None
+    (may_take h n c.args.operator c.in-Drop.domain here) in
     rw c.in-Drop.is (rw (c.begin_drop.ensures, c.link-in-Drop.ensures) at planned)
 
 pub returns-in-Do : goal.returns-in-Do

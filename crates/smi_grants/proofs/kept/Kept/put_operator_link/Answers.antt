@@ -13,19 +13,24 @@ use Rattle.smi_grants.proofs.kept.Kept.put_operator_link.Goals as goal
 record Own (c : goal.After-self-1) : Type 0 where
   pub least : 1 ≤ c.args.operator
   pub most : c.args.operator ≤ length c.self.inside.operator_links.items
-  pub table : c.put.new.self ≡ set (entry_or c.self.inside.operator_links.items c.args.operator []) (c.args.domain - 1) c.args.link
-  pub long : length (entry_or c.self.inside.operator_links.items c.args.operator []) ≡ domain_count c.self.inside.tree.now
+  pub table : c.put.new.self ≡ set (entry_or c.self.inside.operator_links.items c.args.operator [])
+      (c.args.domain - 1) c.args.link
+  pub long : length (entry_or c.self.inside.operator_links.items c.args.operator [])
+      ≡ domain_count c.self.inside.tree.now
   pub within : c.args.domain ≤ length (entry_or c.self.inside.operator_links.items c.args.operator [])
 
 own : (c : goal.After-self-1) → Own c
 own c =
     let links = c.self.inside.operator_links.items in
     let at : is_number (operator_station_of c.self.inside.tree.now c.args.operator) c.self.inside.number ≡ true =
-    subst (λ (k : Kept). is_number (operator_station_of k.tree c.args.operator) k.number ≡ true) (sym c.self.view_is) c.requires.operator in
-    let there : IsBetween 1 (operator_count c.self.inside.tree.now) c.args.operator = operator_there _ _ _ c.self.invariant.tree at in
+    subst (λ (k : Kept). is_number (operator_station_of k.tree c.args.operator) k.number ≡ true) (sym c.self.view_is)
+    c.requires.operator in
+    let there : IsBetween 1 (operator_count c.self.inside.tree.now) c.args.operator = operator_there _ _ _
+    c.self.invariant.tree at in
     let most : c.args.operator ≤ length links = omega (arith, there.most, c.self.invariant.operators) in
     let read : c.index_mut.result.now ≡ entry_or links c.args.operator [] =
-    entry_read links c.args.operator c.index_mut.result.now [] there.least most (rw (← c.from.ensures) c.index_mut.ensures.value) in
+    entry_read links c.args.operator c.index_mut.result.now [] there.least most
+    (rw (← c.from.ensures) c.index_mut.ensures.value) in
     let long = c.self.invariant.served c.args.operator at in
     record {
       least = there.least;
@@ -48,7 +53,8 @@ invariant_of-self c =
       modes = old.modes;
       child_links = old.child_links;
       operators = length-set c.self.inside.operator_links.items (c.from.result - 1) c.put.new.self ∙ old.operators;
-      served = λ m at. rw c.from.ensures (served_put c.self.inside.operator_links.items c.args.operator _ m c.put.new.self o.least o.most long (old.served m at));
+      served = λ m at. rw c.from.ensures (served_put c.self.inside.operator_links.items c.args.operator _ m
+          c.put.new.self o.least o.most long (old.served m at));
     }
 
 pub returns-clause-grants : goal.returns-clause-grants

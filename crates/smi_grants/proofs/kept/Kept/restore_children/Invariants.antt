@@ -6,7 +6,8 @@ use Rattle.smi_grants.proofs.kept.Kept.restore_children.Given as goal
 -- the first children are restored
 abbrev pub invariant-loop-child : goal.invariant-loop-child
 invariant-loop-child l = record {
-  grants : grants_of l.self ≡ with_children (grants_of l.initial.self) l.domain l.links (take l.child-index l.child-items);
+  grants : grants_of l.self ≡ with_children (grants_of l.initial.self) l.domain l.links
+      (take l.child-index l.child-items);
   tree : l.self.tree ≡ l.initial.self.tree;
   number : l.self.number ≡ l.initial.self.number;
 }

@@ -16,6 +16,7 @@ returns-clause-grants c =
     c.put_gathered.ensures.grants
     ∙ ap (λ (k : Grants). with_gathered k d row.gathered) c.put_record.ensures.grants
     ∙ ap (λ (k : Grants). with_gathered (with_record k d row.standing) d row.gathered) c.restore_children.ensures.grants
-    ∙ ap (λ (xs : List StoredLink). with_gathered (with_record (with_children g d xs (children_of h d)) d row.standing) d row.gathered) c.deref.ensures.value
+    ∙ ap (λ (xs : List StoredLink). with_gathered
+    (with_record (with_children g d xs (children_of h d)) d row.standing) d row.gathered) c.deref.ensures.value
     ∙ domain_restored h g d (record { standing = row.standing; gathered = row.gathered; links = row.links.items })
     ∙ ap (with_domain h g d) c.row.view_is

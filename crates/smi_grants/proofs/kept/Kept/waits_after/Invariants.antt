@@ -9,5 +9,7 @@ use Rattle.smi_grants.proofs.kept.Kept.waits_after.Given as goal
 -- no child so far will have to answer
 abbrev pub invariant-loop-child : goal.invariant-loop-child
 invariant-loop-child l =
-    list_any (λ x. is_unsettled ((commanded l.self.tree (grants_of l.self) l.domain l.command).links (Domain l.domain) x)) (drop l.child-index l.children)
-    ≡ list_any (λ x. is_unsettled ((commanded l.self.tree (grants_of l.self) l.domain l.command).links (Domain l.domain) x)) l.children
+    list_any (λ x. is_unsettled ((commanded l.self.tree (grants_of l.self) l.domain l.command).links
+    (Domain l.domain) x)) (drop l.child-index l.children)
+    ≡ list_any (λ x. is_unsettled ((commanded l.self.tree (grants_of l.self) l.domain l.command).links
+    (Domain l.domain) x)) l.children

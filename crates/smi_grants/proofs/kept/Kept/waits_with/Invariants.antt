@@ -9,5 +9,7 @@ use Rattle.smi_grants.proofs.kept.Kept.waits_with.Given as goal
 -- no child so far has to answer
 abbrev pub invariant-loop-other : goal.invariant-loop-other
 invariant-loop-other l =
-    list_any (λ x. is_unsettled ((with_link (grants_of l.self) (Domain l.domain) l.child l.link).links (Domain l.domain) x)) (drop l.other-index l.children)
-    ≡ list_any (λ x. is_unsettled ((with_link (grants_of l.self) (Domain l.domain) l.child l.link).links (Domain l.domain) x)) l.children
+    list_any (λ x. is_unsettled ((with_link (grants_of l.self) (Domain l.domain) l.child l.link).links
+    (Domain l.domain) x)) (drop l.other-index l.children)
+    ≡ list_any (λ x. is_unsettled ((with_link (grants_of l.self) (Domain l.domain) l.child l.link).links
+    (Domain l.domain) x)) l.children

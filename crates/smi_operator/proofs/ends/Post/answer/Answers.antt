@@ -11,7 +11,8 @@ invariant_of-self c =
     let is = c.end_at.ensures ∙ ap (λ work. ended_at work c.args.place x) c.as_mut_slice.ensures.value in
     record {
       in_order =
-          answered_in_order (sent c.args.self.now.answers) (sent c.hand_out.new.answers) xs _ c.hand_out.new.work.items (received c.args.self.now.orders)
+          answered_in_order (sent c.args.self.now.answers) (sent c.hand_out.new.answers) xs _
+          c.hand_out.new.work.items (received c.args.self.now.orders)
           c.args.self.now.in_order
           (written_orders (λ e. ended_by e x) c.args.place xs c.end_at.new.work c.requires is (λ e. refl))
           c.hand_out.ensures.sent

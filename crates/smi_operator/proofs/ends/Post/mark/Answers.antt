@@ -12,9 +12,12 @@ invariant_of-self c =
     record {
       in_order =
           ap (λ orders. map order_told (sent c.args.self.now.answers) ++ orders)
-          (written_orders (λ e. marked_by e c.args.mark) (length xs - 1) xs c.mark_newest.new.work within is (λ e. refl))
+          (written_orders (λ e. marked_by e c.args.mark) (length xs - 1) xs c.mark_newest.new.work within is
+          (λ e. refl))
           ∙ c.args.self.now.in_order;
       size = c.args.self.now.size;
-      few = rw (written_length (λ e. marked_by e c.args.mark) (length xs - 1) xs c.mark_newest.new.work within is) c.args.self.now.few;
-      place = rw (written_length (λ e. marked_by e c.args.mark) (length xs - 1) xs c.mark_newest.new.work within is) c.args.self.now.place;
+      few = rw (written_length (λ e. marked_by e c.args.mark) (length xs - 1) xs c.mark_newest.new.work within is)
+          c.args.self.now.few;
+      place = rw (written_length (λ e. marked_by e c.args.mark) (length xs - 1) xs c.mark_newest.new.work within is)
+          c.args.self.now.place;
     }

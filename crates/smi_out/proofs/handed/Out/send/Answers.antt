@@ -8,17 +8,32 @@ use Rattle.smi_out.proofs.handed.Out.send.Goals as goal
 pub returns-then-self-lt-MOST_SENT : goal.returns-then-self-lt-MOST_SENT
 returns-then-self-lt-MOST_SENT c =
     let i = c.self.invariant.0 in
-    let long : length (take c.self.inside.sent c.self.inside.datagrams) ≡ c.self.inside.sent = length-take-le c.self.inside.sent c.self.inside.datagrams (omega (arith, i.all, i.within)) in
+    let long : length (take c.self.inside.sent c.self.inside.datagrams)
+    ≡ c.self.inside.sent = length-take-le c.self.inside.sent c.self.inside.datagrams
+    (omega (arith, i.all, i.within)) in
     let room : length (take c.self.inside.sent c.self.inside.datagrams) < most_sent = omega arith in
     rw (← c.self.view_is)
-    (ap (λ (xs : List Message). record { datagrams = xs; answers = take c.self.inside.answered c.self.inside.answers; issued = c.self.inside.issued; shown = c.self.inside.shown })
-    (take_more_set c.self.inside.datagrams c.self.inside.sent c.args.datagram (omega (arith, i.all)) ∙ one_sent (take c.self.inside.sent c.self.inside.datagrams) c.args.datagram room))
+    (ap (λ (xs : List Message). record {
+      datagrams = xs;
+      answers = take c.self.inside.answered c.self.inside.answers;
+      issued = c.self.inside.issued;
+      shown = c.self.inside.shown;
+    })
+    (take_more_set c.self.inside.datagrams c.self.inside.sent c.args.datagram (omega (arith, i.all))
+    ∙ one_sent (take c.self.inside.sent c.self.inside.datagrams) c.args.datagram room))
 
 pub returns-else-self-lt-MOST_SENT : goal.returns-else-self-lt-MOST_SENT
 returns-else-self-lt-MOST_SENT c =
     let i = c.self.invariant.0 in
-    let long : length (take c.self.inside.sent c.self.inside.datagrams) ≡ c.self.inside.sent = length-take-le c.self.inside.sent c.self.inside.datagrams (omega (arith, i.all, i.within)) in
+    let long : length (take c.self.inside.sent c.self.inside.datagrams)
+    ≡ c.self.inside.sent = length-take-le c.self.inside.sent c.self.inside.datagrams
+    (omega (arith, i.all, i.within)) in
     let full : length (take c.self.inside.sent c.self.inside.datagrams) ≡ most_sent = omega (arith, long, i.within) in
     rw (← c.self.view_is)
-    (ap (λ (xs : List Message). record { datagrams = xs; answers = take c.self.inside.answered c.self.inside.answers; issued = c.self.inside.issued; shown = c.self.inside.shown })
+    (ap (λ (xs : List Message). record {
+      datagrams = xs;
+      answers = take c.self.inside.answered c.self.inside.answers;
+      issued = c.self.inside.issued;
+      shown = c.self.inside.shown;
+    })
     (none_sent (take c.self.inside.sent c.self.inside.datagrams) c.args.datagram full))

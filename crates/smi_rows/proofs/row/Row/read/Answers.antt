@@ -8,10 +8,13 @@ pub returns-clause-found : goal.returns-clause-found
 returns-clause-found c = reads_row c.args.tree.now c.args.key c.args.bytes.now c.tested.result c.tested.ensures
 
 pub returns-clause-only : goal.returns-clause-only
-returns-clause-only c = λ r w. reads-along c.tested.result _ (Ok r) (row_is_read c.args.tree.now c.args.key c.args.bytes.now r w) c.tested.ensures
+returns-clause-only c = λ r w. reads-along c.tested.result _ (Ok r)
+    (row_is_read c.args.tree.now c.args.key c.args.bytes.now r w) c.tested.ensures
 
 pub returns-clause-unknown : goal.returns-clause-unknown
-returns-clause-unknown c = λ r w n. reads-along c.tested.result _ (refused Unknown) (unknown_row c.args.tree.now c.args.key c.args.bytes.now r w n) c.tested.ensures
+returns-clause-unknown c = λ r w n. reads-along c.tested.result _ (refused Unknown)
+    (unknown_row c.args.tree.now c.args.key c.args.bytes.now r w n) c.tested.ensures
 
 pub returns-clause-out_of_range : goal.returns-clause-out_of_range
-returns-clause-out_of_range c = λ is r w. in_range c.args.tree.now c.args.key c.args.bytes.now c.tested.result c.tested.ensures is r w
+returns-clause-out_of_range c = λ is r w. in_range c.args.tree.now c.args.key c.args.bytes.now c.tested.result
+    c.tested.ensures is r w

@@ -3,4 +3,5 @@ use Rattle.smi_schedule.proofs.Cuts.{too_long}
 use Rattle.smi_schedule.proofs.lines.Lines.cut_read.Goals as goal
 
 pub returns-then-length : goal.returns-then-length
-returns-then-length c = λ later. too_long c.args.self.now.rest later (rw (← c.rest-rest.ensures) (omega arith)) (rw (← c.rest-rest.ensures) (omega arith))
+returns-then-length c = λ later. too_long c.args.self.now.rest later (rw (← c.rest-rest.ensures) (omega arith))
+    (rw (← c.rest-rest.ensures) (omega arith))

@@ -8,7 +8,9 @@ pub returns-in-Ok : goal.returns-in-Ok
 returns-in-Ok c = λ later.
     let from = c.self.inside.from in
     let end = c.args.end in
-    line_taken c.self.inside.read.items c.args.self.now.rest later c.without_return-line.result.now c.replace.new.line.items from end (from + end)
+    line_taken c.self.inside.read.items c.args.self.now.rest later c.without_return-line.result.now
+    c.replace.new.line.items from end (from + end)
     (ap (λ (w : Window). w.rest) (sym c.self.view_is)) refl
-    (c.without_return-line.ensures ∙ ap (λ (t : List ℕ). strip_carriage_return (take (from + end - from) (drop from t))) c.deref.ensures.value)
+    (c.without_return-line.ensures
+    ∙ ap (λ (t : List ℕ). strip_carriage_return (take (from + end - from) (drop from t))) c.deref.ensures.value)
     c.in-Ok.ensures c.requires.within c.requires.first

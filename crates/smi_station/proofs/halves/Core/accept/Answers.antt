@@ -14,28 +14,38 @@ use Rattle.smi_protocol.specs.declared.event.StepFault.{StepFault}
 use Rattle.smi_protocol.specs.declared.order.Order.{Order}
 use Rattle.smi_station.specs.Core.{Core, IsCore, Steps, core_with, number_of, station_of, station_with, tree_of}
 use Rattle.smi_station.specs.Leaving.{Leaves}
-use Rattle.smi_station.proofs.Steps.{made_core, made_steps, made_tidy, refused_steps, rests, running, stands, taken_steps, watched_core, watched_steps}
+use Rattle.smi_station.proofs.Steps.{made_core, made_steps, made_tidy, refused_steps, rests, running, stands}
+use Rattle.smi_station.proofs.Steps.{taken_steps, watched_core, watched_steps}
 use Rattle.smi_station.proofs.halves.Core.accept.Goals as goal
 
 pub invariant_of-self : goal.invariant_of-self
 invariant_of-self g c =
     let i = c.self.inside in
     let runs = running i.kept i.display i.is_stopped c.args.self.now c.self.view_is c.requires.runs in
-    made_core i.kept c.hear.new.kept i.display c.hear.new.display c.hear.new.is_stopped c.hear.result c.self.invariant.halves (c.self.invariant.room runs) c.hear.ensures.halves c.hear.ensures.room c.hear.ensures.unchanged
-    (made_tidy i.kept c.hear.new.kept i.display c.hear.new.display c.hear.new.is_stopped (Comes c.args.datagram.now) c.hear.result c.hear.ensures.station c.hear.ensures.same c.hear.ensures.unchanged c.self.invariant.tidy)
+    made_core i.kept c.hear.new.kept i.display c.hear.new.display c.hear.new.is_stopped c.hear.result
+    c.self.invariant.halves (c.self.invariant.room runs) c.hear.ensures.halves c.hear.ensures.room
+    c.hear.ensures.unchanged
+    (made_tidy i.kept c.hear.new.kept i.display c.hear.new.display c.hear.new.is_stopped (Comes c.args.datagram.now)
+    c.hear.result c.hear.ensures.station c.hear.ensures.same c.hear.ensures.unchanged c.self.invariant.tidy)
 
 pub returns-in-None-clause-step : goal.returns-in-None-clause-step
 returns-in-None-clause-step g c =
     let i = c.self.inside in
     stands i.kept i.display i.is_stopped c.args.self.now c.self.view_is c.requires.runs
-    (λ (before : Core). Steps before (core_with c.hear.new.kept c.hear.new.display c.hear.new.is_stopped) (accepted (tree_of before) (number_of before) (station_of before) (Comes c.args.datagram.now)) c.hear.new.out c.hear.result)
-    (made_steps _ i.kept c.hear.new.kept i.display c.hear.new.display c.hear.new.is_stopped (accepted i.kept.tree i.kept.number (station_with i.kept i.display false) (Comes c.args.datagram.now)) c.hear.new.out c.hear.result
-    c.hear.ensures.station c.hear.ensures.heard c.hear.ensures.out c.hear.ensures.same c.hear.ensures.unchanged c.hear.ensures.cleared)
+    (λ (before : Core). Steps before (core_with c.hear.new.kept c.hear.new.display c.hear.new.is_stopped)
+    (accepted (tree_of before) (number_of before) (station_of before) (Comes c.args.datagram.now)) c.hear.new.out
+    c.hear.result)
+    (made_steps _ i.kept c.hear.new.kept i.display c.hear.new.display c.hear.new.is_stopped
+    (accepted i.kept.tree i.kept.number (station_with i.kept i.display false) (Comes c.args.datagram.now))
+    c.hear.new.out c.hear.result
+    c.hear.ensures.station c.hear.ensures.heard c.hear.ensures.out c.hear.ensures.same c.hear.ensures.unchanged
+    c.hear.ensures.cleared)
 
 pub returns-in-None-clause-store : goal.returns-in-None-clause-store
 returns-in-None-clause-store g c =
     let i = c.self.inside in
     stands i.kept i.display i.is_stopped c.args.self.now c.self.view_is c.requires.runs
-    (λ (before : Core). Leaves g.S.Stable.is_honest g.S.Stable.is_open g.S.Stable.rows g.S.Stable.saves g.S.Stable.failures c.args.store.now c.hear.new.store c.hear.result
+    (λ (before : Core). Leaves g.S.Stable.is_honest g.S.Stable.is_open g.S.Stable.rows g.S.Stable.saves
+    g.S.Stable.failures c.args.store.now c.hear.new.store c.hear.result
     (accepted (tree_of before) (number_of before) (station_of before) (Comes c.args.datagram.now)).saved)
     c.hear.ensures.store

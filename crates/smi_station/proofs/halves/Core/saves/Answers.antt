@@ -6,5 +6,6 @@ use Rattle.smi_station.proofs.halves.Core.saves.Goals as goal
 
 pub returns : goal.returns
 returns c =
-    subst (λ (before : Core). c.is_saved.result ≡ is_some (after_event (tree_of before) (number_of before) (station_of before) c.args.event).saved) c.self.view_is
+    subst (λ (before : Core). c.is_saved.result
+    ≡ is_some (after_event (tree_of before) (number_of before) (station_of before) c.args.event).saved) c.self.view_is
     (c.is_saved.ensures (station_of (core_with c.self.inside.kept c.self.inside.display c.self.inside.is_stopped)) refl)

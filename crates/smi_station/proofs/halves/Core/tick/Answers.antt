@@ -14,7 +14,8 @@ use Rattle.smi_protocol.specs.declared.event.StepFault.{StepFault}
 use Rattle.smi_protocol.specs.declared.order.Order.{Order}
 use Rattle.smi_station.specs.Core.{Core, IsCore, Steps, core_with, number_of, station_of, station_with, tree_of}
 use Rattle.smi_station.specs.Leaving.{Leaves}
-use Rattle.smi_station.proofs.Steps.{made_core, made_steps, made_tidy, refused_steps, rests, running, stands, taken_steps, watched_core, watched_steps}
+use Rattle.smi_station.proofs.Steps.{made_core, made_steps, made_tidy, refused_steps, rests, running, stands}
+use Rattle.smi_station.proofs.Steps.{taken_steps, watched_core, watched_steps}
 use Rattle.smi_station.proofs.halves.Core.tick.Goals as goal
 
 pub invariant_of-self : goal.invariant_of-self
@@ -22,7 +23,8 @@ invariant_of-self c =
     let i = c.self.inside in
     record {
       halves = c.tick.ensures.halves;
-      tidy = made_tidy i.kept i.kept i.display c.tick.new.display false Ticks (Ok Same) c.tick.ensures.station (refl, refl) tt c.self.invariant.tidy;
+      tidy = made_tidy i.kept i.kept i.display c.tick.new.display false Ticks (Ok Same) c.tick.ensures.station
+          (refl, refl) tt c.self.invariant.tidy;
       room = λ is. c.tick.ensures.room;
     }
 
@@ -31,6 +33,16 @@ returns-clause-step c =
     let i = c.self.inside in
     let runs = running i.kept i.display i.is_stopped c.args.self.now c.self.view_is c.requires.runs in
     stands i.kept i.display i.is_stopped c.args.self.now c.self.view_is c.requires.runs
-    (λ (before : Core). Steps before (core_with i.kept c.tick.new.display i.is_stopped) (accepted (tree_of before) (number_of before) (station_of before) Ticks) c.tick.new.out (Ok Same))
-    (subst (λ b. Steps (core_with i.kept i.display false) (core_with i.kept c.tick.new.display b) (accepted i.kept.tree i.kept.number (station_with i.kept i.display false) Ticks) c.tick.new.out (Ok Same)) (sym runs)
-    (record { station = c.tick.ensures.station; heard = refl; out = c.tick.ensures.out; cleared = tt; tree = refl; number = refl }))
+    (λ (before : Core). Steps before (core_with i.kept c.tick.new.display i.is_stopped)
+    (accepted (tree_of before) (number_of before) (station_of before) Ticks) c.tick.new.out (Ok Same))
+    (subst (λ b. Steps (core_with i.kept i.display false) (core_with i.kept c.tick.new.display b)
+    (accepted i.kept.tree i.kept.number (station_with i.kept i.display false) Ticks) c.tick.new.out (Ok Same))
+    (sym runs)
+    (record {
+      station = c.tick.ensures.station;
+      heard = refl;
+      out = c.tick.ensures.out;
+      cleared = tt;
+      tree = refl;
+      number = refl;
+    }))

@@ -6,6 +6,8 @@ use Rattle.smi_station.proofs.station.Station.restart.Goals as goal
 
 pub returns-clause-anew : goal.returns-clause-anew
 returns-clause-anew g c =
-    subst (λ (before : Whole g.row.S.Denot). g.S.Stable.is_honest c.restart.new.store → g.S.Stable.is_open before.store → IsStoredIn (g.S.Stable.rows before.store) before.core
-    → Restarts (tree_of before.core) (number_of before.core) (station_of before.core).grants (begun (restarted c.restart.new.self c.restart.result)))
+    subst (λ (before : Whole g.row.S.Denot). g.S.Stable.is_honest c.restart.new.store
+    → g.S.Stable.is_open before.store → IsStoredIn (g.S.Stable.rows before.store) before.core
+    → Restarts (tree_of before.core) (number_of before.core) (station_of before.core).grants
+    (begun (restarted c.restart.new.self c.restart.result)))
     c.self.view_is c.restart.ensures.anew

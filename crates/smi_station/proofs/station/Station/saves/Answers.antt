@@ -7,4 +7,6 @@ use Rattle.smi_station.proofs.station.Station.saves.Goals as goal
 
 pub returns : goal.returns
 returns g c =
-    subst (λ (before : Whole g.row.S.Denot). c.saves.result ≡ is_some (after_event (tree_of before.core) (number_of before.core) (station_of before.core) c.args.event).saved) c.self.view_is c.saves.ensures
+    subst (λ (before : Whole g.row.S.Denot). c.saves.result
+    ≡ is_some (after_event (tree_of before.core) (number_of before.core) (station_of before.core)
+    c.args.event).saved) c.self.view_is c.saves.ensures

@@ -10,19 +10,26 @@ use Rattle.smi_station.proofs.station.Station.step.Goals as goal
 
 pub returns-clause-step : goal.returns-clause-step
 returns-clause-step g c =
-    subst (λ (before : Whole g.row.S.Denot). before.core.is_stopped ≡ false → Steps before.core c.step.new.self (after_event (tree_of before.core) (number_of before.core) (station_of before.core) c.args.event) c.step.new.out c.step.result)
+    subst (λ (before : Whole g.row.S.Denot). before.core.is_stopped ≡ false
+    → Steps before.core c.step.new.self (after_event (tree_of before.core) (number_of before.core)
+    (station_of before.core) c.args.event) c.step.new.out c.step.result)
     c.self.view_is c.step.ensures.step
 
 pub returns-clause-store : goal.returns-clause-store
 returns-clause-store g c =
-    subst (λ (before : Whole g.row.S.Denot). before.core.is_stopped ≡ false → Leaves g.S.Stable.is_honest g.S.Stable.is_open g.S.Stable.rows g.S.Stable.saves g.S.Stable.failures before.store c.step.new.store c.step.result
+    subst (λ (before : Whole g.row.S.Denot). before.core.is_stopped ≡ false
+    → Leaves g.S.Stable.is_honest g.S.Stable.is_open g.S.Stable.rows g.S.Stable.saves g.S.Stable.failures
+    before.store c.step.new.store c.step.result
     (after_event (tree_of before.core) (number_of before.core) (station_of before.core) c.args.event).saved)
     c.self.view_is c.step.ensures.store
 
 pub returns-clause-stored : goal.returns-clause-stored
 returns-clause-stored g c =
-    subst (λ (before : Whole g.row.S.Denot). before.core.is_stopped ≡ false → g.S.Stable.is_honest c.step.new.store → g.S.Stable.is_open before.store → IsStoredIn (g.S.Stable.rows before.store) before.core → OnOk c.step.result (IsStoredIn (g.S.Stable.rows c.step.new.store) c.step.new.self))
+    subst (λ (before : Whole g.row.S.Denot). before.core.is_stopped ≡ false → g.S.Stable.is_honest c.step.new.store
+    → g.S.Stable.is_open before.store → IsStoredIn (g.S.Stable.rows before.store) before.core
+    → OnOk c.step.result (IsStoredIn (g.S.Stable.rows c.step.new.store) c.step.new.self))
     c.self.view_is
     (λ runs honest opened stored.
-    step_stored (g.S.Stable.is_open c.step.new.store) c.self.inside.core c.step.new.self c.args.event c.step.new.out c.step.result (g.S.Stable.rows c.self.inside.store) (g.S.Stable.rows c.step.new.store)
+    step_stored (g.S.Stable.is_open c.step.new.store) c.self.inside.core c.step.new.self c.args.event c.step.new.out
+    c.step.result (g.S.Stable.rows c.self.inside.store) (g.S.Stable.rows c.step.new.store)
     c.tree-tree.ensures.lawful (c.step.ensures.step runs) ((c.step.ensures.store runs).saved honest opened) stored)

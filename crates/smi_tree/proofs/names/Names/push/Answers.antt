@@ -15,5 +15,6 @@ returns c =
 pub invariant_of-self-2 : goal.invariant_of-self-2
 invariant_of-self-2 c =
     let names = c.self.inside.names.keys in
-    once-inserted c.insert.result names c.insert.new.self.keys c.args.name.now (rw (← c.to_owned.ensures) c.insert.ensures.keys) c.insert.ensures.err
+    once-inserted c.insert.result names c.insert.new.self.keys c.args.name.now
+    (rw (← c.to_owned.ensures) c.insert.ensures.keys) c.insert.ensures.err
     (rw c.self.view_is c.requires.absent) (rw c.self.view_is c.requires.few) c.self.invariant.1

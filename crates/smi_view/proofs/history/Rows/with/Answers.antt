@@ -13,5 +13,6 @@ compare_exchange-found-requires g c =
       book,
       pen.0 ∙ book,
       offer.0,
-      rw (ap (λ w. w.key) counter, pen.1, offer.1, offer.3, seen) (moves c.self.inside.seen.log c.args.row c.self.inside.count (sym c.self.invariant.0)),
+      rw (ap (λ w. w.key) counter, pen.1, offer.1, offer.3, seen)
+          (moves c.self.inside.seen.log c.args.row c.self.inside.count (sym c.self.invariant.0)),
     )

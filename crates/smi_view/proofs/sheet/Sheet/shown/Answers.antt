@@ -8,4 +8,5 @@ use Rattle.smi_view.proofs.sheet.Sheet.shown.Goals as goal
 pub returns : goal.returns
 returns c =
     let found : c.copied.result ≡ lookup (is_at (nat_cmp c.args.object)) c.args.self.now.last.entries = search rules in
-    found ∙ ap (λ es. lookup (is_at (nat_cmp c.args.object)) es) c.requires ∙ entry_is c.args.self.now.mark.seen.log c.args.object
+    found ∙ ap (λ es. lookup (is_at (nat_cmp c.args.object)) es) c.requires
+    ∙ entry_is c.args.self.now.mark.seen.log c.args.object

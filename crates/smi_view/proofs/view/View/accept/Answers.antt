@@ -7,4 +7,5 @@ pub returns-clause-last : goal.returns-clause-last
 returns-clause-last c =
     let table = ap (λ (v : Views). v.table) c.self.view_is in
     let most : c.args.shown.object ≤ length c.self.inside.table.items = rw table c.requires.most in
-    rw (c.from.ensures, ← table) (last_set c.self.inside.table.items c.args.shown.object c.args.shown c.requires.least most)
+    rw (c.from.ensures, ← table) (last_set c.self.inside.table.items c.args.shown.object c.args.shown
+    c.requires.least most)

@@ -11,7 +11,8 @@ use denote.SharingLaws.{beside_shr_laws, nothing_shr_laws}
 use denote.RawPtr.{Ptr, lies_at}
 use denote.Memory.{lone}
 use denote.Shares.{Shares-less}
-use denote.Struct.Lending.{lent_at, lent_at_shr_laws, Lends, Lends-lies, Lends-first, Lends-both, Lends-nothing, of_Lends}
+use denote.Struct.Lending.{lent_at, lent_at_shr_laws, Lends, Lends-lies, Lends-first, Lends-both, Lends-nothing}
+use denote.Struct.Lending.{of_Lends}
 use Rattle.smi_watchers.specs.Memory.{freeing}
 use Rattle.smi_watchers.specs.declared.cell.Cell.{Cell}
 use Rattle.smi_watchers.specs.contracts.cell.Cell.{the_row as X}
@@ -24,7 +25,8 @@ lent_laws : (hs : List (Ptr × Cell)) → ShrLaws (cells_lent hs)
 lent_laws [] = nothing_shr_laws
 lent_laws (h ∷ hs) = beside_shr_laws _ _ (lent_at_shr_laws X L.shr_laws h.0 h.1) (lent_laws hs)
 
-Lends-cells : {M : Type 1} {𝓤 : Ura M} (𝓛 : Logic 𝓤) (l : Lft) (hs : List (Ptr × Cell)) → Lends 𝓛 (cells_own hs) (cells_lent hs) l
+Lends-cells : {M : Type 1} {𝓤 : Ura M} (𝓛 : Logic 𝓤) (l : Lft) (hs : List (Ptr × Cell))
+    → Lends 𝓛 (cells_own hs) (cells_lent hs) l
 Lends-cells 𝓛 l [] = Lends-nothing 𝓛 ftrue l
 Lends-cells 𝓛 l (h ∷ hs) =
     Lends-both 𝓛 (cell_owns h) (cells_own hs) (lent_at X h.0 h.1) (cells_lent hs) l
@@ -33,4 +35,5 @@ Lends-cells 𝓛 l (h ∷ hs) =
     (Lends-cells 𝓛 l hs)
 
 pub shares : statement
-shares = of_Lends C.struct C.the_codes C.the_heap C.the_lent (λ d p. lent_laws d.held) tt (λ M 𝓤 𝓛 d p. Lends-cells 𝓛 C.the_row.lives d.held)
+shares = of_Lends C.struct C.the_codes C.the_heap C.the_lent (λ d p. lent_laws d.held) tt
+    (λ M 𝓤 𝓛 d p. Lends-cells 𝓛 C.the_row.lives d.held)

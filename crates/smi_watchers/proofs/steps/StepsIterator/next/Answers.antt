@@ -14,7 +14,8 @@ pub returns-clause-steps : goal.returns-clause-steps
 returns-clause-steps c =
     let n = c.self.inside.lists.now in let p = c.in_ok-place.place in
     let rest = chain_rest n c.self.inside.next p c.self.invariant c.in_ok-place.was in
-    sym c.self.view_is ∙ ap (map (step_at n)) rest.0 ∙ (λ i. (p, sym c.cell-cell.ensures i) ∷ steps_from n (sym c.cell-cell.ensures i).by_object.after)
+    sym c.self.view_is ∙ ap (map (step_at n)) rest.0
+    ∙ (λ i. (p, sym c.cell-cell.ensures i) ∷ steps_from n (sym c.cell-cell.ensures i).by_object.after)
 
 pub returns-clause-goes : goal.returns-clause-goes
 returns-clause-goes c = let e = returns-clause-steps c in rw e (search rules)

@@ -11,7 +11,10 @@ pub overflow_add-self : goal.overflow_add-self
 overflow_add-self c =
     let n = c.loop-place.self-inside.lists in
     let front = ap (λ k. next Station k n None) (sym c.from.ensures) ∙ sym c.first.ensures ∙ c.in-Some.is in
-    record { fits = visits_fit c.args.station c.requires c.self.inside.lists n _ c.loop-place.invariant c.in-Some.place front }
+    record {
+      fits = visits_fit c.args.station c.requires c.self.inside.lists n _ c.loop-place.invariant
+          c.in-Some.place front;
+    }
 
 pub take_out-requires-clause-held : goal.take_out-requires-clause-held
 take_out-requires-clause-held c =
@@ -40,4 +43,7 @@ returns c =
     let empty = ap (λ k. next Station k n None) (sym c.from.ensures) ∙ sym c.first.ensures ∙ c.in_default.is in
     let left = all_left c.args.station c.requires c.self.inside.lists n _ c.loop-place.invariant empty in
     let lists = ap (λ (l : Listing). l.lists) c.self.view_is in
-    λ t. record { lists = (left.0 ∙ ap (left_by c.args.station) lists) t; visits = (left.1 ∙ ap (entries_of c.args.station) lists) t }
+    λ t. record {
+      lists = (left.0 ∙ ap (left_by c.args.station) lists) t;
+      visits = (left.1 ∙ ap (entries_of c.args.station) lists) t;
+    }

@@ -11,4 +11,5 @@ as_it_is (Some w) = refl
 pub returns-clause-entry : goal.returns-clause-entry
 returns-clause-entry c =
     as_it_is c.nth.result
-    ∙ nth_from_yields_List {v = λ (w : Watcher). w} c.nth.result c.nth.new.self c.args.i c.nth.ensures.ran (YieldsList-from_first (λ (w : Watcher). w) (λ s. s) _ c.walk.ensures.entries)
+    ∙ nth_from_yields_List {v = λ (w : Watcher). w} c.nth.result c.nth.new.self c.args.i c.nth.ensures.ran
+    (YieldsList-from_first (λ (w : Watcher). w) (λ s. s) _ c.walk.ensures.entries)

@@ -13,7 +13,9 @@ add-requires-clause-absent c =
 pub returns-clause-room : goal.returns-clause-room
 returns-clause-room c =
     let s = c.args.station in let lists = c.args.self.now.lists in
-    let left : length (listed c.leave.new.self.lists c.args.object) ≡ length (others_of s (listed lists c.args.object)) =
-    ap (λ lists. length (listed lists c.args.object)) c.leave.ensures.lists ∙ ap length (listed_left s c.args.object lists) in
+    let left : length (listed c.leave.new.self.lists c.args.object)
+    ≡ length (others_of s (listed lists c.args.object)) =
+    ap (λ lists. length (listed lists c.args.object)) c.leave.ensures.lists
+    ∙ ap length (listed_left s c.args.object lists) in
     let few = c.is_full.ensures.lawful.few in let room = other_many _ _ c.if-is_full.ensures.full in
     omega (arith, left, few, room)

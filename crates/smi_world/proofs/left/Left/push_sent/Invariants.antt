@@ -6,4 +6,5 @@ use Rattle.smi_world.proofs.left.Left.push_sent.Given as goal
 abbrev pub invariant-loop-datagram : goal.invariant-loop-datagram
 invariant-loop-datagram l =
     (l.number ≡ l.self.before + l.datagram-index)
-    × (l.lines.items ++ sent_lines (l.number + 1) (drop l.datagram-index l.datagram-items) ≡ l.fn.lines.items ++ sent_lines (l.self.before + 1) l.self.out.datagrams)
+    × (l.lines.items ++ sent_lines (l.number + 1) (drop l.datagram-index l.datagram-items) ≡ l.fn.lines.items
+    ++ sent_lines (l.self.before + 1) l.self.out.datagrams)
