@@ -46,3 +46,8 @@ several-bytes old front oldest counted all d m e n p q same two f o c a =
         ∙ ap (λ ys. counted ++ commands_bytes ys) (take_all (length (x ∷ next ∷ more) - 1) (next ∷ more)
         (omega arith)) in
         rw (a', c', o, f) (simp append_assoc)
+
+-- four pieces, one after the other
+pub four-appended : (old first second third all a b c d : List ℕ) → first ≡ old ++ a → second ≡ first ++ b
+    → third ≡ second ++ c → all ≡ third ++ d → all ≡ old ++ (a ++ b ++ c ++ d)
+four-appended old first second third all a b c d f s t e = rw (e, t, s, f) (simp append_assoc)

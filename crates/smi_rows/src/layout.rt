@@ -78,10 +78,13 @@ fn domain_in(alloc: Global, schema: u8, domain: &DomainRow) -> Result<Vec<u8>, A
     ensures { IfOk result (λ row. row.items ≡ spec.domain_bytes schema domain.now) }
 {
     let mut row = Vec::new(alloc);
-    put_holder(&mut row, schema, &domain.standing)?;
-    put_work(&mut row, &domain.standing, domain.gathered)?;
-    row.extend_from_slice(&(domain.links.len() as u16).to_be_bytes())?;
-    put_links(&mut row, &domain.links)?;
+    put_domain(
+        &mut row,
+        schema,
+        &domain.standing,
+        domain.gathered,
+        &domain.links,
+    )?;
     Ok(row)
 }
 
@@ -89,10 +92,69 @@ fn operator_in(alloc: Global, schema: u8, operator: &OperatorRow) -> Result<Vec<
     requires { length operator.now < 2 ^ 16 }
     ensures { IfOk result (λ row. row.items ≡ spec.operator_bytes schema operator.now) }
 {
-    let mut row = Vec::from_slice(alloc, &[schema, 0])?;
-    row.extend_from_slice(&(operator.links.len() as u16).to_be_bytes())?;
-    put_links(&mut row, &operator.links)?;
+    let mut row = Vec::new(alloc);
+    put_operator(&mut row, schema, &operator.links)?;
     Ok(row)
+}
+
+/// Puts the bytes of a domain's row at the end of others: of one with this standing, this gathered code and these
+/// links to its children, by rising number.
+///
+/// Out of memory is answered where an allocation was refused, and nowhere else.
+pub fn append_domain(
+    row: &mut Vec<u8>,
+    standing: &Record,
+    gathered: u16,
+    links: &[StoredLink],
+) -> Result<(), AllocError>
+    requires { length links.now < 2 ^ 16 }
+    ensures { OnOk result (row.new.items ≡ row.old.items ++ spec.domain_bytes (newest RowKind.Domain)
+        (record { standing = standing.now; gathered = gathered; links = links.now })) }
+{
+    put_domain(
+        row,
+        RowKind::Domain.newest_schema(),
+        standing,
+        gathered,
+        links,
+    )
+}
+
+/// Puts the bytes of an operator's row at the end of others: of one with these links, by rising number.
+///
+/// Out of memory is answered where an allocation was refused, and nowhere else.
+pub fn append_operator(row: &mut Vec<u8>, links: &[StoredLink]) -> Result<(), AllocError>
+    requires { length links.now < 2 ^ 16 }
+    ensures { OnOk result (row.new.items ≡ row.old.items
+        ++ spec.operator_bytes (newest RowKind.Operator) links.now) }
+{
+    put_operator(row, RowKind::Operator.newest_schema(), links)
+}
+
+fn put_domain(
+    row: &mut Vec<u8>,
+    schema: u8,
+    standing: &Record,
+    gathered: u16,
+    links: &[StoredLink],
+) -> Result<(), AllocError>
+    requires { length links.now < 2 ^ 16 }
+    ensures { OnOk result (row.new.items ≡ row.old.items ++ spec.domain_bytes schema
+        (record { standing = standing.now; gathered = gathered; links = links.now })) }
+{
+    put_holder(row, schema, standing)?;
+    put_work(row, standing, gathered)?;
+    row.extend_from_slice(&(links.len() as u16).to_be_bytes())?;
+    put_links(row, links)
+}
+
+fn put_operator(row: &mut Vec<u8>, schema: u8, links: &[StoredLink]) -> Result<(), AllocError>
+    requires { length links.now < 2 ^ 16 }
+    ensures { OnOk result (row.new.items ≡ row.old.items ++ spec.operator_bytes schema links.now) }
+{
+    row.extend_from_slice(&[schema, 0])?;
+    row.extend_from_slice(&(links.len() as u16).to_be_bytes())?;
+    put_links(row, links)
 }
 
 // Who holds a domain, and since when.
