@@ -1,3 +1,4 @@
+mod InUse
 mod Tables
 mod Listing
 mod Verdicts

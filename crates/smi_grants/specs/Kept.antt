@@ -1,5 +1,6 @@
 -- What a station keeps of grants, in tables by number.
 use Rattle.std.specs.Prelude.{ℕ, ◌≡◌, if◌then◌else◌, true, List, [], length}
+use Rattle.std.specs.Prelude.{not, count_by}
 use Rattle.smi_grant.specs.declared.Holder.{Holder}
 use Rattle.smi_grant.specs.declared.Holder.TheVariants.{Free, Operator, Domain}
 use Rattle.smi_grant.specs.Record.{Standing, fresh}
@@ -9,6 +10,7 @@ use Rattle.smi_tree.specs.Hierarchy.{Hierarchy}
 use Rattle.smi_tree.specs.Lawful.{IsTree, IsBetween}
 use Rattle.smi_tree.specs.Lookups.{station_count, domain_count, operator_count, operator_station_of}
 use Rattle.smi_rows.specs.Known.{is_number, is_parent}
+use Rattle.smi_rows.specs.Stored.{is_out}
 use Rattle.smi_rows.specs.declared.Mode.{Mode}
 use Rattle.smi_rows.specs.declared.Mode.TheVariants.{Included}
 use Rattle.smi_protocol.specs.Grants.{Grants}
@@ -25,6 +27,14 @@ pub record Kept : Type 0 where
   pub modes : List Mode
   pub child_links : List Link
   pub operator_links : List (List Link)
+
+-- 1 where somebody holds by the link, or asks for the domain
+abbrev pub use_of : Link → ℕ
+use_of link = if not (is_out link) then 1 else 0
+
+-- how many links are not out
+abbrev pub count_in_use : List Link → ℕ
+count_in_use links = count_by (λ l. not (is_out l)) links
 
 -- the link of a holder to a domain
 abbrev pub link_in : Kept → Holder → ℕ → Link

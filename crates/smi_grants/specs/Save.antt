@@ -1,10 +1,16 @@
 -- What a step that saves a row comes to.
-use Rattle.std.specs.Prelude.{◌⊎◌, Result, Ok, Err, OnOk, Option}
-use Rattle.smi_rows.specs.Store.{Rows, Saved, IsSame}
+use Rattle.std.specs.Prelude.{◌⊎◌, ℕ, List, Result, Ok, Err, OnOk, Option, Some, None}
+use Rattle.smi_rows.specs.declared.key.Key.{Key}
+use Rattle.smi_rows.specs.Store.{Rows, Saved, saved, IsSame}
 use Rattle.smi_protocol.specs.declared.event.Heard.{Heard}
 use Rattle.smi_grants.specs.Change.{with_saved}
 use Rattle.smi_protocol.specs.declared.event.StepFault.{StepFault}
 use Rattle.smi_protocol.specs.declared.event.StepFault.TheVariants.{NotStored, Stopped, Memory}
+
+-- the row with this key and these bytes, where there is one
+abbrev pub row_with : Option Key → List ℕ → Option Saved
+row_with None bytes = None
+row_with (Some key) bytes = Some (saved key bytes)
 
 -- nothing was saved, and that is known
 abbrev pub IfKept : {X : Type 0} → Result X StepFault → Type 0 → Type 0

@@ -1,4 +1,5 @@
 use crate::links::Links;
+use crate::room::Room;
 use smi_command::Link;
 use smi_grant::{Holder, Record};
 use smi_rows::Mode;
@@ -18,6 +19,7 @@ pub struct Kept<'a> {
     pub(crate) modes: Vec<Mode>,
     pub(crate) child_links: Links,
     pub(crate) operator_links: Vec<Links>,
+    pub(crate) room: Room,
 }
 
 impl<'a> Model for Kept<'a> {

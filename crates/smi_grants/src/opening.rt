@@ -8,6 +8,7 @@ ghost use Rattle.smi_grants.specs.Restored.{first_links};
 
 use crate::kept::Kept;
 use crate::links::Links;
+use crate::room::Room;
 use smi_command::Link;
 use smi_grant::Record;
 use smi_rows::{DomainRow, Mode, OperatorRow, StoredLink};
@@ -38,6 +39,7 @@ impl<'a> Kept<'a> {
         let modes = vec![in alloc; Mode::Included; domains]?;
         let child_links = Links::new(alloc, domains)?;
         let operator_links = links_of_operators(alloc, tree, number)?;
+        let room = Room::new(alloc, tree.domain_count())?;
         Ok(Kept {
             tree,
             number,
@@ -47,6 +49,7 @@ impl<'a> Kept<'a> {
             modes,
             child_links,
             operator_links,
+            room,
         })
     }
 

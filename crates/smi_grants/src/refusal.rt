@@ -15,7 +15,7 @@ use smi_tables::is_keeper;
 use smi_tree::Tree;
 
 /// So many links of an operator may be not out at a time.
-pub const MOST_LINKS: u16 = 16;
+pub const MOST_LINKS: usize = 16;
 
 /// Why a station does not take a datagram: 7 it is of another tree, 8 for another station, 9 it names what the
 /// tree does not have, or not there.
@@ -181,20 +181,10 @@ fn why_not(link: Result<Link, u16>) -> Option<u16>
     }
 }
 
-/// Whether nobody holds by the link, nor asks for the domain.
-fn is_out(link: &Link) -> bool
-    ensures { result ≡ is_out link.now }
-{
-    match link {
-        Link::Out(_) => true,
-        _ => false,
-    }
-}
-
-ghost use Rattle.smi_rows.specs.Stored.{is_out};
-
 impl<'a> Kept<'a> {
-    ghost use Rattle.std.specs.Prelude.{◌≡◌};
+    ghost use Rattle.std.specs.Prelude.{◌≡◌, true};
+    ghost use Rattle.smi_tree.specs.Lookups.{operator_station_of};
+    ghost use Rattle.smi_rows.specs.Known.{is_number};
     ghost use Rattle.smi_protocol.specs.Happening.{Orders};
     ghost use Rattle.smi_protocol.specs.Refusals as spec;
     ghost use Rattle.smi_grants.specs.Kept.{grants_of};
@@ -213,6 +203,7 @@ impl<'a> Kept<'a> {
 
     /// Why the operator's link does not take an order, if it does not.
     fn refusal_by_link(&self, operator: u16, order: &Order) -> Option<u16>
+        requires { is_number (operator_station_of self.now.tree operator) self.now.number ≡ true }
         ensures { result ≡ spec.refusal_by_link self.now.tree (grants_of self.now) operator order.now }
     {
         match *order {
@@ -251,6 +242,7 @@ impl<'a> Kept<'a> {
     }
 
     fn take_refusal(&self, operator: u16, domain: u16) -> Option<u16>
+        requires { is_number (operator_station_of self.now.tree operator) self.now.number ≡ true }
         ensures { result ≡ spec.take_refusal self.now.tree (grants_of self.now) operator domain }
     {
         match why_not(begin_take(&self.link(Holder::Operator(operator), domain))) {
@@ -269,17 +261,11 @@ impl<'a> Kept<'a> {
         why_not(issue(&self.link(Holder::Operator(operator), domain), command))
     }
 
-    /// How many links of an operator are not out.
-    fn links_in_use(&self, operator: u16) -> u16
+    /// How many links of an operator of the station are not out.
+    fn links_in_use(&self, operator: u16) -> usize
+        requires { is_number (operator_station_of self.now.tree operator) self.now.number ≡ true }
         ensures { result ≡ spec.links_in_use self.now.tree (grants_of self.now) operator }
     {
-        let holder = Holder::Operator(operator);
-        let mut count = 0;
-        for place in 0..self.tree().domain_count() {
-            if !is_out(&self.link(holder, place + 1)) {
-                count += 1;
-            }
-        }
-        count
+        self.operator_links[usize::from(operator) - 1].in_use()
     }
 }

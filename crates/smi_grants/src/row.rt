@@ -5,10 +5,11 @@ ghost use Rattle.smi_protocol.specs.SavedRows.{stored_if};
 
 use crate::after::After;
 use crate::change::Change;
+use crate::room::Room;
 use smi_command::Link;
 use smi_grant::Holder;
-use smi_rows::{DomainRow, Key, Mode, OperatorRow, SavedRow, StoredLink};
-use std::alloc::{AllocError, Global};
+use smi_rows::{Key, Mode, StoredLink, append_domain, append_operator};
+use std::alloc::AllocError;
 
 /// A link as it is stored, none where nothing was ever heard of the domain.
 fn stored_if(domain: u16, link: Link, mode: Mode) -> Option<StoredLink>
@@ -21,18 +22,19 @@ fn stored_if(domain: u16, link: Link, mode: Mode) -> Option<StoredLink>
 }
 
 impl<'k, 'a> After<'k, 'a> {
-    ghost use Rattle.std.specs.Prelude.{◌≡◌, ◌≤◌, ◌<◌, ◌^◌, length, IfOk};
+    ghost use Rattle.std.specs.Prelude.{◌≡◌, ◌≤◌, ◌<◌, ◌^◌, length, IfOk, OnOk};
     ghost use Rattle.smi_tree.specs.Lookups.{domain_count};
     ghost use Rattle.smi_rows.specs.Store.{saved};
     ghost use Rattle.smi_protocol.specs.GrantStep.{OfDomain, OfOperator};
     ghost use Rattle.smi_protocol.specs.SavedRows as rows;
     ghost use Rattle.smi_grants.specs.Change.{after_of, saved_by, IsChange};
     ghost use Rattle.smi_grants.specs.Kept.{grants_of};
+    ghost use Rattle.smi_grants.specs.Save.{row_with};
 
-    /// The row that the change has saved, if any.
-    pub fn row(&self, alloc: Global) -> Result<Option<SavedRow>, AllocError>
+    /// Makes the row ready that the change has saved, if any: its key is answered, and its bytes stand in the room.
+    pub fn row(&self, room: &mut Room) -> Result<Option<Key>, AllocError>
         requires { IsChange self.now.kept.tree self.now.kept.number self.now.change }
-        ensures { IfOk result (λ row. row ≡ saved_by self.now.kept.tree self.now.kept.number
+        ensures { IfOk result (λ key. row_with key room.new ≡ saved_by self.now.kept.tree self.now.kept.number
             (grants_of self.now.kept) self.now.change) }
     {
         match *self.change {
@@ -40,48 +42,40 @@ impl<'k, 'a> After<'k, 'a> {
             Change::Handed(domain, _)
             | Change::Ran(domain, _, _, _)
             | Change::Heard(domain, _, _, _, _) => {
-                let row = self.domain_row(alloc, domain)?;
-                Ok(Some(row))
+                let key = self.domain_row(room, domain)?;
+                Ok(Some(key))
             }
             Change::Linked(operator, _, _) => {
-                let row = self.operator_row(alloc, operator)?;
-                Ok(Some(row))
+                let key = self.operator_row(room, operator)?;
+                Ok(Some(key))
             }
         }
     }
 
     /// The row of a domain.
-    fn domain_row(&self, alloc: Global, domain: u16) -> Result<SavedRow, AllocError>
+    fn domain_row(&self, room: &mut Room, domain: u16) -> Result<Key, AllocError>
         requires least { 1 ≤ domain }
         requires most { domain ≤ domain_count self.now.kept.tree }
-        ensures { IfOk result (λ row. row ≡ rows.saved_row self.now.kept.tree self.now.kept.number
+        ensures { IfOk result (λ key. saved key room.new ≡ rows.saved_row self.now.kept.tree self.now.kept.number
             (after_of self.now) (OfDomain domain)) }
     {
-        let links = self.child_links(alloc, domain)?;
-        let row = DomainRow {
-            standing: self.record(domain),
-            gathered: self.gathered(domain),
-            links,
-        };
-        let bytes = row.write(alloc)?;
-        Ok(SavedRow {
-            key: self.key(domain, 0),
-            bytes,
-        })
+        let Room { links, bytes } = room;
+        self.child_links(links, domain)?;
+        bytes.clear();
+        append_domain(bytes, &self.record(domain), self.gathered(domain), links)?;
+        Ok(self.key(domain, 0))
     }
 
     /// The row of an operator.
-    fn operator_row(&self, alloc: Global, operator: u16) -> Result<SavedRow, AllocError>
-        ensures { IfOk result (λ row. row ≡ rows.saved_row self.now.kept.tree self.now.kept.number
+    fn operator_row(&self, room: &mut Room, operator: u16) -> Result<Key, AllocError>
+        ensures { IfOk result (λ key. saved key room.new ≡ rows.saved_row self.now.kept.tree self.now.kept.number
             (after_of self.now) (OfOperator operator)) }
     {
-        let links = self.operator_links(alloc, operator)?;
-        let row = OperatorRow { links };
-        let bytes = row.write(alloc)?;
-        Ok(SavedRow {
-            key: self.key(0, operator),
-            bytes,
-        })
+        let Room { links, bytes } = room;
+        self.operator_links(links, operator)?;
+        bytes.clear();
+        append_operator(bytes, links)?;
+        Ok(self.key(0, operator))
     }
 
     fn key(&self, domain: u16, operator: u16) -> Key
@@ -95,15 +89,14 @@ impl<'k, 'a> After<'k, 'a> {
     }
 
     /// A domain's links to its children, as they are stored.
-    fn child_links(&self, alloc: Global, domain: u16) -> Result<Vec<StoredLink>, AllocError>
+    fn child_links(&self, links: &mut Vec<StoredLink>, domain: u16) -> Result<(), AllocError>
         requires least { 1 ≤ domain }
         requires most { domain ≤ domain_count self.now.kept.tree }
-        ensures links { IfOk result (λ links. links.items
-            ≡ rows.child_links self.now.kept.tree (after_of self.now) domain) }
-        ensures few { IfOk result (λ links. length links.items < 2 ^ 16) }
+        ensures links { OnOk result (links.new.items ≡ rows.child_links self.now.kept.tree (after_of self.now) domain) }
+        ensures few { OnOk result (length links.new.items < 2 ^ 16) }
     {
         let holder = Holder::Domain(domain);
-        let mut links = Vec::new(alloc);
+        links.clear();
         let children = self.kept.tree().children(domain);
         for child in children {
             match stored_if(*child, self.link(holder, *child), self.mode(*child)) {
@@ -111,17 +104,17 @@ impl<'k, 'a> After<'k, 'a> {
                 None => {}
             }
         }
-        Ok(links)
+        Ok(())
     }
 
     /// An operator's links, as they are stored.
-    fn operator_links(&self, alloc: Global, operator: u16) -> Result<Vec<StoredLink>, AllocError>
-        ensures links { IfOk result (λ links. links.items
+    fn operator_links(&self, links: &mut Vec<StoredLink>, operator: u16) -> Result<(), AllocError>
+        ensures links { OnOk result (links.new.items
             ≡ rows.operator_links self.now.kept.tree (after_of self.now) operator) }
-        ensures few { IfOk result (λ links. length links.items < 2 ^ 16) }
+        ensures few { OnOk result (length links.new.items < 2 ^ 16) }
     {
         let holder = Holder::Operator(operator);
-        let mut links = Vec::new(alloc);
+        links.clear();
         for place in 0..self.kept.tree().domain_count() {
             let domain = place + 1;
             match stored_if(domain, self.link(holder, domain), Mode::Included) {
@@ -129,6 +122,6 @@ impl<'k, 'a> After<'k, 'a> {
                 None => {}
             }
         }
-        Ok(links)
+        Ok(())
     }
 }

@@ -5,34 +5,36 @@ ghost use Rattle.smi_rows.specs.Store.{Rows, IsSame, with_row};
 ghost use Rattle.smi_protocol.specs.Step.{heard_of};
 ghost use Rattle.smi_grants.specs.Kept.{grants_of};
 ghost use Rattle.smi_grants.specs.Change.{changed, saved_by, with_saved, IsChange};
-ghost use Rattle.smi_grants.specs.Save.{IfKept, IfStopped, IfCounted};
+ghost use Rattle.smi_grants.specs.Save.{IfKept, IfStopped, IfCounted, row_with};
 
 use crate::after::After;
 use crate::change::Change;
 use crate::kept::Kept;
+use crate::room::Room;
 use smi_protocol::{Heard, StepFault};
-use smi_rows::{SavedRow, Stable, StoreFault};
+use smi_rows::{Key, Stable, StoreFault};
+use std::mem;
 
-/// A row is saved, if there is one.
-pub fn save<S: Stable>(store: &mut S, row: &Option<SavedRow>) -> Result<Heard, StepFault>
-    ensures heard { IfOk result (λ heard. heard ≡ heard_of row.now) }
+/// A row is saved, if there is one: with this key and these bytes.
+pub fn save<S: Stable>(store: &mut S, key: Option<Key>, bytes: &[u8]) -> Result<Heard, StepFault>
+    ensures heard { IfOk result (λ heard. heard ≡ heard_of (row_with key bytes.now)) }
     ensures saved { S.is_honest store.new → S.is_open store.old
-        → OnOk result (S.is_open store.new × IsSame (S.rows store.new) (with_saved row.now (S.rows store.old))) }
+        → OnOk result (S.is_open store.new × IsSame (S.rows store.new) (with_saved (row_with key bytes.now) (S.rows store.old))) }
     ensures kept { S.is_honest store.new → IfKept result
         (S.is_open store.old → S.is_open store.new × IsSame (S.rows store.new) (S.rows store.old)) }
     ensures unsure { S.is_honest store.new → S.is_open store.new
         → IfStopped result (IsSame (S.rows store.new) (S.rows store.old)
-        ⊎ IsSame (S.rows store.new) (with_saved row.now (S.rows store.old))) }
+        ⊎ IsSame (S.rows store.new) (with_saved (row_with key bytes.now) (S.rows store.old))) }
     ensures crash { S.is_honest store.new → S.is_open store.old → (r : Rows) → S.may_find store.new r
-        → IsSame r (S.rows store.old) ⊎ IsSame r (with_saved row.now (S.rows store.old)) }
+        → IsSame r (S.rows store.old) ⊎ IsSame r (with_saved (row_with key bytes.now) (S.rows store.old)) }
     ensures honest { S.is_honest store.new → S.is_honest store.old }
     ensures saves { S.saves store.new ≤ S.saves store.old + 1 }
     ensures failures { S.failures store.old ≤ S.failures store.new }
     ensures cause { IfCounted result (S.failures store.old < S.failures store.new) }
 {
-    match row {
+    match key {
         None => Ok(Heard::Same),
-        Some(row) => match store.save(row.key, &row.bytes) {
+        Some(key) => match store.save(key, bytes) {
             Ok(()) => Ok(Heard::Done),
             Err(StoreFault::Memory) => Err(StepFault::Memory),
             Err(StoreFault::Device) => Err(StepFault::NotStored),
@@ -67,21 +69,46 @@ pub fn carry_out<S: Stable>(
     ensures failures { S.failures store.old ≤ S.failures store.new }
     ensures cause { IfCounted result (S.failures store.old < S.failures store.new) }
 {
-    let row = planned_row(kept, change)?;
-    let heard = save(store, &row)?;
-    kept.commit(change);
-    Ok(heard)
+    let alloc = kept.alloc();
+    let mut room = mem::replace(&mut kept.room, Room::none(alloc));
+    let saved = save_planned(kept, &mut room, store, change);
+    kept.room = room;
+    match saved {
+        Ok(heard) => {
+            kept.commit(change);
+            Ok(heard)
+        }
+        Err(fault) => Err(fault),
+    }
 }
 
-/// The row that a change has saved, if any.
-fn planned_row(kept: &Kept<'_>, change: &Change) -> Result<Option<SavedRow>, StepFault>
+/// The row that a change has saved is made ready, and saved.
+fn save_planned<S: Stable>(
+    kept: &Kept<'_>,
+    room: &mut Room,
+    store: &mut S,
+    change: &Change,
+) -> Result<Heard, StepFault>
     requires { IsChange kept.now.tree kept.now.number change.now }
-    ensures row { IfOk result (λ row. row ≡ saved_by kept.now.tree kept.now.number (grants_of kept.now) change.now) }
-    ensures fault { IfErr result (λ fault. fault ≡ StepFault.Memory) }
+    ensures heard { IfOk result (λ heard. heard
+        ≡ heard_of (saved_by kept.now.tree kept.now.number (grants_of kept.now) change.now)) }
+    ensures saved { S.is_honest store.new → S.is_open store.old
+        → OnOk result (S.is_open store.new × IsSame (S.rows store.new)
+        (with_saved (saved_by kept.now.tree kept.now.number (grants_of kept.now) change.now) (S.rows store.old))) }
+    ensures kept { S.is_honest store.new → IfKept result
+        (S.is_open store.old → S.is_open store.new × IsSame (S.rows store.new) (S.rows store.old)) }
+    ensures unsure { S.is_honest store.new → S.is_open store.new
+        → IfStopped result (IsSame (S.rows store.new) (S.rows store.old)
+        ⊎ IsSame (S.rows store.new)
+        (with_saved (saved_by kept.now.tree kept.now.number (grants_of kept.now) change.now) (S.rows store.old))) }
+    ensures honest { S.is_honest store.new → S.is_honest store.old }
+    ensures saves { S.saves store.new ≤ S.saves store.old + 1 }
+    ensures failures { S.failures store.old ≤ S.failures store.new }
+    ensures cause { IfCounted result (S.failures store.old < S.failures store.new) }
 {
     let after = After::of(kept, change);
-    match after.row(kept.alloc()) {
-        Ok(row) => Ok(row),
+    match after.row(room) {
+        Ok(key) => save(store, key, room.bytes()),
         Err(_) => Err(StepFault::Memory),
     }
 }

@@ -1,31 +1,25 @@
-use Rattle.std.proofs.Common.{◌≡◌, ℕ, ◌+◌, cond, sym, ap, ◌∙◌, arith}
-use Rattle.std.specs.Prelude.{not}
-use Rattle.smi_grant.specs.declared.Holder.TheVariants.{Operator}
-use Rattle.smi_rows.specs.Stored.{is_out}
-use Rattle.smi_grants.specs.Kept.{grants_of}
-use Rattle.smi_grants.proofs.Listing.{count_more}
-use Rattle.smi_grants.proofs.kept.Kept.links_in_use.Goals.{then-not-is_out, else-not-is_out}
+use Rattle.std.proofs.Common.{◌≡◌, ◌≤◌, [], true, length, ap, sym, ◌∙◌, subst, arith}
+use Rattle.smi_tree.specs.Lookups.{domain_count, operator_station_of}
+use Rattle.smi_rows.specs.Known.{is_number}
+use Rattle.smi_grants.specs.Kept.{Kept, count_in_use}
+use Rattle.smi_tables.specs.Entries.{entry_or}
+use Rattle.smi_tables.proofs.Writes.{entry_read}
+use Rattle.smi_grants.proofs.InUse.{counted_by_number}
+use Rattle.smi_grants.proofs.Tables.{operator_there}
 use Rattle.smi_grants.proofs.kept.Kept.links_in_use.Goals as goal
 
-pub loop-place-preserved : goal.loop-place-preserved
-loop-place-preserved c =
-    let test = λ (d : ℕ). not (is_out ((grants_of c.args.self.now).links (Operator c.args.operator) d)) in
-    let place = c.loop-place.place in
-    let more = count_more test place in
-    let out = c.is_out.ensures ∙ ap is_out c.link.ensures in
-    elim c.if-not-is_out.branch [
-      | then-not-is_out w ↦
-          let one : cond {A = ℕ} (test (place + 1)) 1 0
-          ≡ 1 = ap (λ b. cond {A = ℕ} (not b) 1 0) (sym out ∙ w.if-not-is_out.true) in
-          record {
-            counted = w.count-is ∙ omega (arith, c.loop-place.invariant.counted, more, one);
-            few = omega (arith, w.count-is, c.loop-place.invariant.few);
-          }
-      | else-not-is_out w ↦
-          let none : cond {A = ℕ} (test (place + 1)) 1 0
-          ≡ 0 = ap (λ b. cond {A = ℕ} (not b) 1 0) (sym out ∙ w.if-not-is_out.false) in
-          record {
-            counted = w.count-is ∙ omega (arith, c.loop-place.invariant.counted, more, none);
-            few = omega (arith, w.count-is, c.loop-place.invariant.few);
-          }
-    ]
+pub returns : goal.returns
+returns c =
+    let links = c.self.inside.operator_links.items in
+    let h = c.self.inside.tree.now in
+    let at : is_number (operator_station_of h c.args.operator) c.self.inside.number ≡ true =
+    subst (λ (k : Kept). is_number (operator_station_of k.tree c.args.operator) k.number ≡ true)
+    (sym c.self.view_is) c.requires in
+    let there = operator_there _ _ _ c.self.invariant.tree at in
+    let most : c.args.operator ≤ length links = omega (arith, there.most, c.self.invariant.operators) in
+    let read : c.index.result.now ≡ entry_or links c.args.operator [] =
+    entry_read links c.args.operator c.index.result.now [] there.least most
+    (rw (← c.from.ensures) c.index.ensures) in
+    rw (← c.self.view_is) (c.in_use.ensures ∙ ap count_in_use read
+    ∙ counted_by_number (entry_or links c.args.operator []) (domain_count h)
+    (c.self.invariant.served c.args.operator at))

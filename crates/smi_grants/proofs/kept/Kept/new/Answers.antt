@@ -14,7 +14,7 @@ use Rattle.smi_grants.proofs.Restoring.{first_is, served_first}
 use Rattle.smi_grants.proofs.kept.Kept.new.Goals as goal
 
 -- each table is as long as the tree's domains
-module _ (c : goal.In_ok-operator_links) where
+module _ (c : goal.In_ok-room) where
   count : c.from-domains.result ≡ domain_count c.args.tree.now
   count = omega (arith, c.from-domains.ensures, c.domain_count.ensures.value)
 
