@@ -76,6 +76,9 @@ impl<'a> Displayed<'a> {
         ensures { sweeping sweep.new out.new ≡ offered (sweeping sweep.old out.old)
             (child_owed self.now.tree self.now.number parent child link.now) }
     {
+        if !link.is_unsettled() {
+            return;
+        }
         for i in 0..MOST_PENDING {
             self.offer_due_of_child(sweep, out, parent, child, due(link, i));
         }
@@ -131,6 +134,9 @@ impl<'a> Displayed<'a> {
         ensures { sweeping sweep.new out.new ≡ offered (sweeping sweep.old out.old)
             (domain_owed self.now.tree self.now.number operator domain link.now) }
     {
+        if !link.is_unsettled() {
+            return;
+        }
         for i in 0..MOST_PENDING {
             self.offer_due_of_operator(sweep, out, operator, domain, due(link, i));
         }
