@@ -128,6 +128,15 @@ def count_of(crates):
     return sum(len(edits.paths_of([folder_of(crate)])) for crate in crates)
 
 
+def unfit(crates):
+    """The edits of these crates that no longer fit their files, as one whose text holds a comment that has changed."""
+    found = [edits.Edit(crate, path) for crate in crates for path in edits.paths_of([folder_of(crate)])]
+    for edit in found:
+        if edit.how == edits.BAD:
+            print("%s: does not fit: %s" % (os.path.relpath(edit.path, kit.ROOT), edit.why))
+    return sum(edit.how == edits.BAD for edit in found)
+
+
 def try_edits(is_whole, since, sums):
     """The edits of the crates that the record lacks, or of all."""
     part = Part("edits")
@@ -143,7 +152,7 @@ def try_edits(is_whole, since, sums):
         write_record({name: sums[name] for name in well})
     names = ", ".join(crate.name for crate in skipped)
     more = "; %d not tried, since edits.ok has them (%s)" % (count_of(skipped), names) if skipped else ""
-    return part.end(passed + refused, failed + others, more)
+    return part.end(passed + refused, failed + others + unfit(skipped), more)
 
 
 def record(names):

@@ -12,6 +12,8 @@ ROOT = os.path.dirname(os.path.dirname(os.path.abspath(__file__)))
 # What a verdict on a crate's edits rests on: the crate's own files, and of the crates below it all but their edits.
 OWN, BELOW = ("src", "specs", "proofs", "edits"), ("src", "specs", "proofs")
 TOOLS = ("tools/kit.py", "tools/edits.py")
+# How a line of comment begins, by the kind of file.
+COMMENTS = {".rt": b"//", ".antt": b"--"}
 
 
 def load():
@@ -50,8 +52,17 @@ def files(crate, parts):
     return found
 
 
+def without_comments(path, data):
+    """What the file has beside lines that are comments alone, on which no verdict rests."""
+    mark = COMMENTS.get(os.path.splitext(path)[1])
+    return b"\n".join(line for line in data.split(b"\n") if not mark or not line.lstrip().startswith(mark))
+
+
 def sum_of(crate):
-    """A sum of all that the refusal of the crate's edits rests on; neither the time nor the place of a file is part of it."""
+    """A sum of all that the refusal of the crate's edits rests on.
+
+    Neither the time nor the place of a file is part of it, nor are lines of comments.
+    """
     whole = hashlib.sha256(version().encode())
     below = sorted(crate.below(), key=lambda it: it.name)
     for it in [crate, *below]:
@@ -59,5 +70,5 @@ def sum_of(crate):
     paths = [*TOOLS, *files(crate, OWN)] + [path for it in below for path in files(it, BELOW)]
     for path in paths:
         with open(os.path.join(ROOT, path), "rb") as file:
-            whole.update(repr((path, file.read())).encode())
+            whole.update(repr((path, without_comments(path, file.read()))).encode())
     return whole.hexdigest()
