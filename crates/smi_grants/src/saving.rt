@@ -19,7 +19,8 @@ use std::mem;
 pub fn save<S: Stable>(store: &mut S, key: Option<Key>, bytes: &[u8]) -> Result<Heard, StepFault>
     ensures heard { IfOk result (λ heard. heard ≡ heard_of (row_with key bytes.now)) }
     ensures saved { S.is_honest store.new → S.is_open store.old
-        → OnOk result (S.is_open store.new × IsSame (S.rows store.new) (with_saved (row_with key bytes.now) (S.rows store.old))) }
+        → OnOk result (S.is_open store.new × IsSame (S.rows store.new)
+        (with_saved (row_with key bytes.now) (S.rows store.old))) }
     ensures kept { S.is_honest store.new → IfKept result
         (S.is_open store.old → S.is_open store.new × IsSame (S.rows store.new) (S.rows store.old)) }
     ensures unsure { S.is_honest store.new → S.is_open store.new
