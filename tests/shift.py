@@ -49,7 +49,7 @@ def below(top):
 
 
 def units(whole, conditions, others=None):
-    """The state of every unit: of the experiment, of the sub-detectors by their conditions, of the services, and others."""
+    """The state of each unit: of the experiment, of sub-detectors by their conditions, of services, and of others."""
     states = {"EXPERIMENT": whole, "INFRA": "READY", **dict.fromkeys(SERVICES, "READY")}
     for top, condition in conditions.items():
         low, high, readout, all_of_it = CONDITIONS[condition]

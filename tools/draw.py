@@ -4,13 +4,13 @@ usage: draw.py tree FILE [--trace TRACE] [--levels N]
        draw.py trace FILE [--tree TREE]
 
 `tree` draws the hierarchy of a tree file: a box for each domain in the colour of its station, with a legend of the
-stations and who works there, and how many devices each domain has. With the text of a trace it also shows who holds and
-who commands what at its end, and in which states units are. Domains below the N-th level are only counted.
+stations and who works there, and how many devices each domain has. With the text of a trace it also shows who holds
+and who commands what at its end, and in which states units are. Domains below the N-th level are only counted.
 
 `trace` draws the text of a trace, as `smi sim` prints it or as tools/play.py does, with the schedule's lines in it as
 comments. Each station is a line that goes down, each datagram an arrow from one to another. One that never came to its
-receiver ends in a cross: where the text has no comments, one that brought nothing about counts as such. The bars beside
-a station's line are the grants of its domains. A tree file says where those are kept of which no datagram tells it.
+receiver ends in a cross: where the text has no comments, one that brought nothing about counts as such. The bars
+beside a station's line are the grants of its domains. A tree file says where those are kept of which no datagram does.
 """
 
 import argparse
@@ -324,12 +324,12 @@ class Story:
             self.datagrams[number - 1].came.append(self.place())
 
     def guess(self):
-        """Where a datagram came that was answered, or that brought something about: in the row of that."""
-        for it in self.datagrams:
-            for place in range(it.row + 1, len(self.rows)):
-                if any(self.answers(it, line.split()) for line in self.rows[place].lines):
-                    it.came.append(place)
-                    break
+        """Where datagrams came that were answered or brought something about: of those that fit the last one."""
+        for place, row in enumerate(self.rows):
+            for line in row.lines:
+                fits = [it for it in self.datagrams if it.row < place and self.answers(it, line.split())]
+                if fits and not fits[-1].came:
+                    fits[-1].came.append(place)
 
     def answers(self, it, words):
         """Whether a line of a trace is what comes of such a datagram."""
@@ -449,7 +449,8 @@ def draw_trace(lines, tree=None):
             draw_arrow(picture, sheet, it, row, nth == 0)
     for place, row in enumerate(story.rows):
         item = row.item or ("(start)" if place == 0 else "")
-        picture.text(12, sheet.y(place) + 4, cut(item, LONG), NOTE, bold=True)
+        if item:
+            picture.text(12, sheet.y(place) + 4, cut(item, LONG), NOTE, bold=True)
         for nth, note in enumerate(row.notes):
             picture.text(sheet.right, sheet.y(place) + 4 + nth * STEP, note, NOTE)
     return picture

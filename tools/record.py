@@ -42,7 +42,7 @@ class Recorder:
         return [tuple(line.split()[1:]) for line in told.splitlines() if line.startswith("sent ")]
 
     def deliver(self, lost=None, stopping=None):
-        """Delivers all that is under way, but the first that is `lost`; the first that is `stopping` stops its receiver."""
+        """Delivers all that is under way, but the first `lost` one; the first `stopping` one stops its receiver."""
         for _ in range(ROUNDS):
             waiting = [it for it in self.sent() if it[0] not in self.done]
             if not waiting:
