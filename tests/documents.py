@@ -164,7 +164,7 @@ def slug(heading):
 
 def link_cases():
     """Relative links, paths in the text, and sections that are named."""
-    made = ("bin/", "stores/", "out/", "crates/*/", "crates/NAME/", "crates/CRATE/")
+    made = ("crates/*/", "crates/NAME", "crates/CRATE")
     for path in documents():
         text = read(path)
         for target in re.findall(r"\]\(([^)\s]+)\)", prose(text)):
