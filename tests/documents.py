@@ -2,11 +2,11 @@
 
 usage: documents.py SMI [TEXT]
 
-A fenced block of the kind `console` is run, line by line, in one shell: what stands after `$ ` is a command, and the lines
-below it up to the next are what it prints, standard error included. A line `...` stands for any lines up to the next
-command. The block runs in a folder of its own with a copy of the examples, in which stations have ports of their own.
-`make run` and `make test` are not run: that they are targets of the Makefile is looked at. With a TEXT only the cases are
-run whose name has it. The last line is 'N passed, M failed'.
+A fenced block of the kind `console` is run, line by line, in one shell: what stands after `$ ` is a command, and the
+lines below it up to the next are what it prints, standard error included. A line `...` stands for any lines up to the
+next command. The block runs in a folder of its own with a copy of the examples, in which stations have ports of their
+own. `make run` and `make test` are not run: that they are targets of the Makefile is looked at. With a TEXT only the
+cases are run whose name has it. The last line is 'N passed, M failed'.
 """
 
 import glob
@@ -22,6 +22,7 @@ import threading
 import time
 
 import nodes
+import verdict
 
 HERE = os.path.dirname(os.path.abspath(__file__))
 ROOT = os.path.dirname(HERE)
@@ -80,14 +81,15 @@ def section(text, heading):
 def is_defined(crate, file, name):
     """Whether a file of definitions has one of that name."""
     path = os.path.join("crates", crate, "specs", file + ".antt")
-    return os.path.isfile(os.path.join(ROOT, path)) and re.search(
-        r"^(?:(?:pub|abbrev|data|record|unfoldable|opaque) )+%s\b" % re.escape(name), read(path), flags=re.M) is not None
+    begun = r"^(?:(?:pub|abbrev|data|record|unfoldable|opaque) )+%s\b" % re.escape(name)
+    return os.path.isfile(os.path.join(ROOT, path)) and re.search(begun, read(path), flags=re.M) is not None
 
 
 def sources(crate, kinds=("src",)):
     """All text of a crate in these folders."""
-    paths = [path for kind in kinds for path in glob.glob("crates/%s/%s/**/*.*t*" % (crate, kind), root_dir=ROOT, recursive=True)]
-    return "\n".join(read(path) for path in sorted(paths) if path.endswith((".rt", ".antt")))
+    places = ["crates/%s/%s/**/*.%s" % (crate, kind, end) for kind in kinds for end in ("rt", "antt")]
+    paths = [path for place in places for path in glob.glob(place, root_dir=ROOT, recursive=True)]
+    return "\n".join(read(path) for path in sorted(paths))
 
 
 def is_function(crate, name):
@@ -95,7 +97,8 @@ def is_function(crate, name):
 
 
 def is_edit(crate, name):
-    return any(os.path.isfile(os.path.join(ROOT, "crates", crate, folder, name + ".edit")) for folder in ("edits", "must-fail"))
+    paths = [os.path.join(ROOT, "crates", crate, folder, name + ".edit") for folder in ("edits", "must-fail")]
+    return any(map(os.path.isfile, paths))
 
 
 def named(cell):
@@ -117,7 +120,8 @@ def rule_cases():
             found += 1
             yield name + ", its definition", named(definitions) and all(
                 is_defined(crate, file, it) for it, crate, file in named(definitions))
-            yield name + ", its function", named(functions) and all(is_function(crate, it) for it, crate, _ in named(functions))
+            yield name + ", its function", named(functions) and all(
+                is_function(crate, it) for it, crate, _ in named(functions))
             yield name + ", its edits", all(is_edit(crate, it) for it, crate, _ in named(edits))
             yield name + ", its example", not example or example in examples
             # a cell of which nothing is read would say anything
@@ -133,10 +137,11 @@ def crate_lines():
 
 
 def crate_cases():
-    """The crates have their lines, stand on what is said there and on lower lines of the picture, and have what is claimed."""
+    """The crates have their lines, stand on what is said there and drawn, and have what is claimed of them."""
     crates = crate_lines()
     architecture, proof = read("docs", "ARCHITECTURE.md"), read("docs", "PROOF.md")
-    told = {row[0].strip("`"): re.findall(r"[`*](\w+)[`*]", row[2]) for row in tables(section(architecture, "The crates"))}
+    rows = tables(section(architecture, "The crates"))
+    told = {row[0].strip("`"): re.findall(r"[`*](\w+)[`*]", row[2]) for row in rows}
     yield "ARCHITECTURE.md has the crates", sorted(told) == sorted(crates)
     for name, below in crates.items():
         yield "ARCHITECTURE.md: what %s stands on" % name, told.get(name) == below
@@ -155,7 +160,7 @@ def crate_cases():
             text = sources(name, ("src", "specs")) + sources("smi_protocol", ("specs",))
             words = [it for whole in re.findall(r"`([\w:]+)`", row[1]) for it in whole.split("::")]
             lost = [it for it in words if it not in crates and not re.search(r"\b%s\b" % it, text)]
-            yield "PROOF.md: what is claimed of %s is there%s" % (name, ": " + " ".join(lost) if lost else ""), not lost
+            yield "PROOF.md: what is claimed of %s%s" % (name, ", but " + " ".join(lost) if lost else ""), not lost
 
 
 def slug(heading):
@@ -213,8 +218,9 @@ def number_cases():
     schedule = numbers_in(tables(re.search(r"A line is refused.*?### Drawn", formats, flags=re.S)[0]), 1)
     rows = numbers_in(tables(re.search(r"A row is refused.*?### The table", formats, flags=re.S)[0]))
     statuses = numbers_in(tables(section(read("README.md"), "The commands")), 0)
-    for heading, wanted in [("How an order ends", orders), ("Refused datagrams", tests + refusals), ("Faults of a tree file", faults),
-                            ("Faults of a line", schedule), ("Faults of a row", set(rows)), ("Statuses of the program", statuses)]:
+    for heading, wanted in [
+            ("How an order ends", orders), ("Refused datagrams", tests + refusals), ("Faults of a tree file", faults),
+            ("Faults of a line", schedule), ("Faults of a row", set(rows)), ("Statuses of the program", statuses)]:
         yield "NUMBERS.md: %s" % heading, sorted(listed(heading)) == sorted(wanted) and len(wanted) > 3
     for row in tables(text):
         yield "NUMBERS.md: %s is explained" % row[0], len(row) >= 2 and all(len(cell) > 3 for cell in row[1:])
@@ -225,13 +231,29 @@ def number_cases():
 
 def word_cases():
     """docs/GLOSSARY.md has each word once, in the order of letters."""
-    words = [row[0] for row in tables(section(read("docs", "GLOSSARY.md"), "Words"))]
+    rows = tables(section(read("docs", "GLOSSARY.md"), "Words"))
+    words = [row[0] for row in rows]
     yield "GLOSSARY.md has each word once", len(set(words)) == len(words) > 30
     yield "GLOSSARY.md is in order", words == sorted(words, key=str.lower)
-    yield "GLOSSARY.md explains each", all(len(row[1]) > 10 for row in tables(section(read("docs", "GLOSSARY.md"), "Words")))
+    yield "GLOSSARY.md explains each", all(len(row[1]) > 10 for row in rows)
 
 
 # Commands
+
+def order_cases(program):
+    """The orders of the handbook are orders over the example detector: a schedule of them is read to its end."""
+    text = read("docs", "HANDBOOK.md")
+    orders = re.findall(r"^    (order .+)$", text, flags=re.M) + re.findall(r"`(order [^`]+)`", text)
+    with tempfile.TemporaryDirectory() as folder:
+        path = os.path.join(folder, "schedule")
+        with open(path, "w", encoding="ascii") as file:
+            file.write("\n".join(orders) + "\n")
+        words = [program, "sim", os.path.join(ROOT, "examples", "detector.tree"), path]
+        done = subprocess.run(words, stdout=subprocess.PIPE, stderr=subprocess.PIPE, check=False)
+    fault = re.search(rb"line (\d+) fault", done.stderr)
+    name = ": " + orders[int(fault[1]) - 1] if fault else ""
+    yield "HANDBOOK.md: its orders%s" % name, done.returncode == 0 and len(orders) > 15
+
 
 def blocks(path):
     """The console blocks of a document: each its commands, with what they print."""
@@ -361,7 +383,8 @@ def command_cases(program, only):
 def broken_cases():
     """A command that prints something else, more or less than is said of it is seen, and one that prints it is not."""
     for name, command, wanted, is_right in [
-            ("what is said", "echo one; echo two", ["one", "two"], True), ("what begins so", "seq 9", ["1", "..."], True),
+            ("what is said", "echo one; echo two", ["one", "two"], True),
+            ("what begins so", "seq 9", ["1", "..."], True),
             ("another line", "echo one", ["two"], False), ("a line more", "echo one; echo two", ["one"], False),
             ("a line less", "echo one", ["one", "two"], False), ("another beginning", "seq 9", ["2", "..."], False)]:
         with tempfile.TemporaryDirectory() as folder:
@@ -380,19 +403,15 @@ def cases(program, only):
     yield from make_cases()
     yield from number_cases()
     yield from word_cases()
+    yield from order_cases(program)
     yield from broken_cases()
     yield from command_cases(program, only)
 
 
 def main():
     program, only = os.path.abspath(sys.argv[1]), sys.argv[2] if len(sys.argv) > 2 else ""
-    done = [(name, bool(held)) for name, held in cases(program, only) if only in name]
-    for name, held in done:
-        if not held:
-            print("FAILED " + name)
-    passed = sum(held for _, held in done)
-    print("%d passed, %d failed" % (passed, len(done) - passed))
-    sys.exit(1 if passed < len(done) or not done else 0)
+    done = [case for case in cases(program, only) if only in case[0]]
+    verdict.end(done)
 
 
 if __name__ == "__main__":

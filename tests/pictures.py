@@ -23,6 +23,7 @@ import hierarchy  # noqa: E402
 import play  # noqa: E402
 import record  # noqa: E402
 import rows  # noqa: E402
+import verdict  # noqa: E402 (this stands here)
 
 EXAMPLES, PICTURES = os.path.join(ROOT, "examples"), os.path.join(ROOT, "docs", "pictures")
 SVG = "{http://www.w3.org/2000/svg}"
@@ -188,6 +189,33 @@ RECORDED = [
 ]
 
 
+def outline(plan, tree):
+    """What a plan says beside its deliveries, as it stands in the schedule."""
+    found = []
+    for line in plan:
+        words = line.split()
+        if not words or words[0].startswith("#"):
+            found.append(line)
+        elif words[0] == "place":
+            found.append("# " + line)
+        else:
+            # what stands before the line itself
+            at = {"lose": 3, "stop": 5}.get(words[0], 0)
+            found += record.made_of(" ".join(words[at:]), tree)
+    return found
+
+
+def shift_cases():
+    """The shift's schedule is that of its plan, but for deliveries, of which each datagram has one at most."""
+    plan, schedule = lines_of(example("shift.plan")), lines_of(example("shift.schedule"))
+    stops = [line for line in schedule if line.startswith("stop ")]
+    given = [line for line in schedule if not line.startswith(("deliver ", "stop "))]
+    yield "the shift is its plan", given == outline(plan, hierarchy.read(example("detector.tree")))
+    yield "the shift has its stops", len(stops) == sum(line.startswith("stop ") for line in plan) > 0
+    numbers = [line.split()[-1] for line in schedule if line.startswith(("deliver ", "stop "))]
+    yield "the shift delivers no datagram twice", len(set(numbers)) == len(numbers) > 1000
+
+
 def record_cases(program, folder):
     """Plans over the worked tree, and what they come to."""
     for name, plan, schedule in RECORDED:
@@ -243,6 +271,7 @@ def cases(program, folder):
     yield from tree_cases()
     yield from trace_cases(program)
     yield from record_cases(program, folder)
+    yield from shift_cases()
     yield from row_cases()
     yield from moment_cases(program, folder)
     yield from kept_cases(program, folder)
@@ -255,12 +284,7 @@ def main():
             write(program, folder)
             return
         done = [case for case in cases(program, folder) if only in case[0]]
-    for name, held in done:
-        if not held:
-            print("FAILED " + name)
-    passed = sum(held for _, held in done)
-    print("%d passed, %d failed" % (passed, len(done) - passed))
-    sys.exit(1 if passed < len(done) or not done else 0)
+    verdict.end(done)
 
 
 if __name__ == "__main__":

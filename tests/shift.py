@@ -16,7 +16,8 @@ import tempfile
 HERE = os.path.dirname(os.path.abspath(__file__))
 sys.path.insert(0, os.path.join(HERE, "..", "tools"))
 
-import hierarchy  # noqa: E402 (beside the tools)
+import hierarchy  # noqa: E402 (this stands in tools/)
+import verdict  # noqa: E402
 
 EXAMPLES = os.path.join(HERE, "..", "examples")
 TREE, SCHEDULE = (os.path.join(EXAMPLES, name) for name in ("detector.tree", "shift.schedule"))
@@ -240,12 +241,7 @@ def blind_case(program):
 def main():
     program, only = os.path.abspath(sys.argv[1]), sys.argv[2] if len(sys.argv) > 2 else ""
     done = [case for case in [*cases(program), *blind_case(program)] if only in case[0]]
-    for name, held in done:
-        if not held:
-            print("FAILED " + name)
-    passed = sum(held for _, held in done)
-    print("%d passed, %d failed" % (passed, len(done) - passed))
-    sys.exit(1 if passed < len(done) or not done else 0)
+    verdict.end(done)
 
 
 if __name__ == "__main__":
