@@ -35,7 +35,7 @@ class Picture:
     """Shapes and texts, and how far they reach."""
 
     def __init__(self):
-        self.shapes, self.wide, self.high = [], 0, 0
+        self.shapes, self.labels, self.wide, self.high = [], [], 0, 0
 
     def reach(self, x, y):
         self.wide, self.high = max(self.wide, x), max(self.high, y)
@@ -47,6 +47,14 @@ class Picture:
         side = "" if anchor == "start" else ' text-anchor="%s"' % anchor
         self.shapes.append('<text x="%.1f" y="%.1f" font-size="%d" fill="%s"%s%s>%s</text>' % (
             x, y, size, colour, weight, side, escape(text)))
+
+    def label(self, x, y, text, anchor):
+        """A small text over all lines, which end at its edge."""
+        far = width_of(text, 9) * (1 if anchor == "start" else -1)
+        self.reach(max(x, x + far), y + 4)
+        self.labels.append('<text x="%.1f" y="%.1f" font-size="9" fill="%s" stroke="white" stroke-width="3" '
+                           'paint-order="stroke"%s>%s</text>' % (
+                               x, y, INK, "" if anchor == "start" else ' text-anchor="end"', escape(text)))
 
     def upright(self, x, y, text, colour):
         """A small text that is read from below, and ends at this height."""
@@ -74,7 +82,7 @@ class Picture:
             'font-family="%s">' % (wide, high, wide, high, FONT),
             '<defs><marker id="arrow" viewBox="0 0 10 10" refX="9" refY="5" markerWidth="7" markerHeight="7" '
             'orient="auto"><path d="M0 0 L10 5 L0 10 z" fill="%s"/></marker></defs>' % INK,
-            '<rect width="100%" height="100%" fill="white"/>', *self.shapes, "</svg>"])
+            '<rect width="100%" height="100%" fill="white"/>', *self.shapes, *self.labels, "</svg>"])
 
 
 class Standing:
@@ -408,7 +416,7 @@ def draw_arrow(picture, sheet, it, row, is_first):
         if row is None:
             draw_cross(picture, bow, y)
         if is_first:
-            picture.text(bow + 7, y + 3, text, 9)
+            picture.label(bow + 7, y + 3, text, "start")
         return
     side = 1 if end > x else -1
     low, to = (y + 6, (x + end) / 2) if row is None else (sheet.y(row) - 3, end)
@@ -417,7 +425,7 @@ def draw_arrow(picture, sheet, it, row, is_first):
         draw_cross(picture, to, low)
     if is_first:
         above = y + 40 / abs(to - x) * (low - y) - 3
-        picture.text(x + side * 40, above, text, 9, anchor="start" if side > 0 else "end")
+        picture.label(x + side * 40, above, text, "start" if side > 0 else "end")
 
 
 def draw_cross(picture, x, y):
