@@ -152,6 +152,10 @@ def crate_cases():
     yield "ARCHITECTURE.md draws the crates", set(heights) == set(crates) - beside
     yield "ARCHITECTURE.md: layers stand on lower ones", all(
         heights[name] > heights[it] for name in heights for it in crates.get(name, ()) if it in heights)
+    scripts = glob.glob("tools/*.py", root_dir=ROOT) + glob.glob("tests/*.py", root_dir=ROOT)
+    outside = tables(section(architecture, "Outside the crates"))
+    told = [it for row in outside for it in re.findall(r"`(\S+\.py)`", row[0])]
+    yield "ARCHITECTURE.md has the scripts", sorted(told) == sorted(scripts)
     rows = tables(section(proof, "Crate by crate"))
     listed = [name for row in rows for name in re.findall(r"`(\w+)`", row[0])]
     yield "PROOF.md has the crates", sorted(listed) == sorted(crates)
