@@ -167,6 +167,20 @@ def crate_cases():
             yield "PROOF.md: what is claimed of %s%s" % (name, ", but " + " ".join(lost) if lost else ""), not lost
 
 
+def promise_cases():
+    """Each promise of README.md names public functions of the file beside them, and what it is proved of."""
+    path = None
+    rows = tables(section(read("README.md"), "What is promised"))
+    for promise, kind, where in rows:
+        yield "README.md: what is proved: %s" % promise[:40], kind in ("definitions", "code")
+        for word in re.findall(r"`([^`]+)`", where):
+            if word.startswith("crates/"):
+                path = word
+            elif not word.endswith(".antt") and word not in ("Safe", "trace", "safe"):
+                yield "README.md: %s has %s" % (path, word), re.search(r"\bpub fn %s\b" % word, read(path)) is not None
+    yield "README.md has its promises", len(rows) > 10
+
+
 def slug(heading):
     return re.sub(r"[^\w\- ]", "", heading.lower()).replace(" ", "-")
 
@@ -403,6 +417,7 @@ def broken_cases():
 def cases(program, only):
     yield from rule_cases()
     yield from crate_cases()
+    yield from promise_cases()
     yield from link_cases()
     yield from make_cases()
     yield from number_cases()
