@@ -5,7 +5,7 @@ usage: shift.py SMI [TEXT]
 The table below is worked out from the rules of the tree and of docs/PROTOCOL.md, by hand. At each place it has the
 state of every unit, what the control room was shown of the sub-detectors, and of all since the place before it the
 grants, the commands that ran, and what the crew was told. A tree without the rule for a trip has to be caught by the
-same table. With a TEXT only the cases are run whose name has it. The last line is 'N passed, M failed'.
+same table. Besides, each class of devices is taken through every state and action. With a TEXT only the cases are run whose name has it. The last line is 'N passed, M failed'.
 """
 
 import os
@@ -238,9 +238,65 @@ def blind_case(program):
     yield "a tree that does not see a trip", blind != text and held == {"a run": True, "a trip": False}
 
 
+ACTIONS = ("GO_STANDBY", "CONFIGURE", "START", "STOP", "RECOVER", "SWITCH_OFF")
+# Of each class a device, its domain, an operator of its station, and the states that such a device may be in.
+SAMPLES = {
+    "LOW_VOLTAGE": ("PIXEL_LV1", "PIXEL_LV", "TRK_EXPERT", ("UNKNOWN", "OFF", "READY", "ERROR")),
+    "HIGH_VOLTAGE": ("PIXEL_HV1", "PIXEL_HV", "TRK_EXPERT",
+                     ("UNKNOWN", "OFF", "STANDBY", "RAMPING", "READY", "ERROR")),
+    "READOUT": ("CLOCK_1", "CLOCK", "TRG_EXPERT", ("UNKNOWN", "OFF", "STANDBY", "READY", "RUNNING", "ERROR")),
+    "SENSOR": ("GAS_1", "GAS", "SAFETY", ("UNKNOWN", "READY", "ERROR")),
+}
+
+
+def moved(program, device, domain, operator, states):
+    """Where each action brings a device from each state, as the program runs it; an answer of 1 counts as staying."""
+    lines, found = ["order %s take %s" % (operator, domain), "deliver 1", "deliver 2"], {}
+    tried = [(state, action) for state in states for action in ACTIONS]
+    for place, (state, action) in enumerate(tried):
+        run = 3 + 2 * place
+        lines += ["report %s %s" % (device, state), "order %s do %s %s" % (operator, domain, action),
+                  "deliver %d" % run, "deliver %d" % (run + 1)]
+    with tempfile.TemporaryDirectory() as folder:
+        path = os.path.join(folder, "schedule")
+        with open(path, "w", encoding="ascii") as file:
+            file.write("\n".join(lines) + "\n")
+        trace = sim(program, TREE, path)
+    ended = [place for place, line in enumerate(trace) if line.startswith("told %s do " % operator)]
+    for it, place in zip(tried, ended):
+        found[it] = last(trace[:place], ["passed", device], 1).get(device)
+    return found
+
+
+def move_cases(program):
+    """What has to hold of every class: what switches off, what recovers, and what nothing moves."""
+    for name, (device, domain, operator, states) in SAMPLES.items():
+        to = moved(program, device, domain, operator, states)
+        yield name + ": every action is tried", sorted(to) == sorted((s, a) for s in states for a in ACTIONS)
+        yield name + ": a device goes where its class may be", set(to.values()) <= set(states)
+        yield name + ": nothing moves what is unknown", all(to.get(("UNKNOWN", it)) == "UNKNOWN" for it in ACTIONS)
+        yield name + ": RECOVER alone ends a fault", all(
+            (to.get(("ERROR", it)) == "ERROR") == (it != "RECOVER") for it in ACTIONS)
+        yield name + ": RECOVER moves nothing else", all(
+            to.get((it, "RECOVER")) == it for it in states if it != "ERROR")
+        if name == "SENSOR":
+            continue
+        on = [it for it in states if it not in ("UNKNOWN", "ERROR")]
+        yield name + ": SWITCH_OFF switches off", all(to.get((it, "SWITCH_OFF")) == "OFF" for it in on)
+        # however far each is, the ones that are on come together, so that a group is in one state again
+        calm = [it for it in on if it != "RUNNING"]
+        yield name + ": GO_STANDBY brings them together", len({to.get((it, "GO_STANDBY")) for it in calm}) == 1
+        again = {to.get((to.get(("ERROR", "RECOVER")), "GO_STANDBY")), to.get(("OFF", "GO_STANDBY"))}
+        yield name + ": and what has recovered with them", len(again) == 1
+        running = [it for it in states if to.get((it, "START")) == "RUNNING"]
+        yield name + ": a run begins from READY", running == (["READY", "RUNNING"] if name == "READOUT" else [])
+        yield name + ": STOP ends a run and nothing else", all(
+            to.get((it, "STOP")) == ("READY" if it == "RUNNING" else it) for it in states)
+
+
 def main():
     program, only = os.path.abspath(sys.argv[1]), sys.argv[2] if len(sys.argv) > 2 else ""
-    done = [case for case in [*cases(program), *blind_case(program)] if only in case[0]]
+    done = [case for case in [*cases(program), *blind_case(program), *move_cases(program)] if only in case[0]]
     verdict.end(done)
 
 
