@@ -5,7 +5,8 @@ usage: shift.py SMI [TEXT]
 The table below is worked out from the rules of the tree and of docs/PROTOCOL.md, by hand. At each place it has the
 state of every unit, what the control room was shown of the sub-detectors, and of all since the place before it the
 grants, the commands that ran, and what the crew was told. A tree without the rule for a trip has to be caught by the
-same table. Besides, each class of devices is taken through every state and action. With a TEXT only the cases are run whose name has it. The last line is 'N passed, M failed'.
+same table. Besides, each class of devices is taken through every state and action. With a TEXT only the cases are run
+whose name has it. The last line is 'N passed, M failed'.
 """
 
 import os
