@@ -2,7 +2,7 @@
 
 SOURCES := crates.txt $(shell find crates -path '*/out' -prune -o -type f \( -name '*.rt' -o -name '*.antt' \) -print)
 
-.PHONY: smi run try test gate record check cases nodes soak edits edits-test costs bench
+.PHONY: smi run try test gate record check cases nodes soak shift tools documents pictures edits edits-test costs bench
 
 # The program, proved and built, at bin/smi.
 smi: bin/smi
@@ -49,6 +49,22 @@ nodes: bin/smi
 # Three nodes behind a proxy that loses, repeats, delays and reorders, with kills: make soak WORDS='--seconds 3600 --seed 7'.
 soak: bin/smi
 	@python3 tests/soak.py bin/smi $(WORDS)
+
+# The shift of examples/shift.schedule over the whole detector: what must hold at each place, or at those with a text.
+shift: bin/smi
+	@python3 tests/shift.py bin/smi $(if $(ONLY),'$(ONLY)')
+
+# The tools beside the program, and the pictures that they draw.
+tools: bin/smi
+	@python3 tests/pictures.py bin/smi $(if $(ONLY),'$(ONLY)')
+
+# The documents: what they name, and the commands in them.
+documents: bin/smi
+	@python3 tests/documents.py bin/smi $(if $(ONLY),'$(ONLY)')
+
+# The pictures of docs/pictures/, made anew from the examples.
+pictures: bin/smi
+	@python3 tests/pictures.py bin/smi --write
 
 # The edits that the prover must refuse, of all crates or of some: make edits CRATE='smi_grant smi_tree' ONLY=take JOBS=2.
 # The last line is 'N refused, M not'.

@@ -1,0 +1,437 @@
+"""The documents: whether what they name is there, and whether the commands in them print what stands below them.
+
+usage: documents.py SMI [TEXT]
+
+A fenced block of the kind `console` is run, line by line, in one shell: what stands after `$ ` is a command, and the
+lines below it up to the next are what it prints, standard error included. A line `...` stands for any lines up to the
+next command. The block runs in a folder of its own with a copy of the examples, in which stations have ports of their
+own. `make run` and `make test` are not run: that they are targets of the Makefile is looked at. With a TEXT only the
+cases are run whose name has it. The last line is 'N passed, M failed'.
+"""
+
+import glob
+import os
+import queue
+import re
+import shutil
+import signal
+import subprocess
+import sys
+import tempfile
+import threading
+import time
+
+import nodes
+import verdict
+
+HERE = os.path.dirname(os.path.abspath(__file__))
+ROOT = os.path.dirname(HERE)
+PATIENCE = 20
+# What a reader of a first page can be asked to read.
+README_LINES = 150
+# What of the repository a block of commands finds in its folder.
+FOLDERS = ("docs", "tests", "tools")
+
+
+def read(*path):
+    with open(os.path.join(ROOT, *path), encoding="utf-8") as file:
+        return file.read()
+
+
+def documents():
+    """The paths of all documents, from the root."""
+    return sorted(glob.glob("*.md", root_dir=ROOT) + glob.glob("docs/*.md", root_dir=ROOT))
+
+
+def prose(text):
+    """A document without its fenced blocks."""
+    return re.sub(r"^```.*?^```$", "", text, flags=re.M | re.S)
+
+
+def headings(text):
+    return [line.lstrip("#").strip() for line in prose(text).splitlines() if re.match(r"#+ ", line)]
+
+
+def tables(text):
+    """The rows of all tables, each as its cells, without heads and rules."""
+    found, above = [], False
+    for line in text.splitlines():
+        if line.startswith("|"):
+            cells = [cell.strip() for cell in line.strip().strip("|").split("|")]
+            if above and not all(re.fullmatch(r":?-+:?", cell) for cell in cells):
+                found.append(cells)
+            above = True
+        else:
+            above = False
+    return found
+
+
+def section(text, heading):
+    """What stands below a heading, up to the next one of its level."""
+    begun = re.search(r"^(#+) %s$" % re.escape(heading), text, flags=re.M)
+    if not begun:
+        return ""
+    rest = text[begun.end():]
+    ended = re.search(r"^#{1,%d} " % len(begun[1]), rest, flags=re.M)
+    return rest[:ended.start()] if ended else rest
+
+
+# Names
+
+def is_defined(crate, file, name):
+    """Whether a file of definitions has one of that name."""
+    path = os.path.join("crates", crate, "specs", file + ".antt")
+    begun = r"^(?:(?:pub|abbrev|data|record|unfoldable|opaque) )+%s\b" % re.escape(name)
+    return os.path.isfile(os.path.join(ROOT, path)) and re.search(begun, read(path), flags=re.M) is not None
+
+
+def sources(crate, kinds=("src",)):
+    """All text of a crate in these folders."""
+    places = ["crates/%s/%s/**/*.%s" % (crate, kind, end) for kind in kinds for end in ("rt", "antt")]
+    paths = [path for place in places for path in glob.glob(place, root_dir=ROOT, recursive=True)]
+    return "\n".join(read(path) for path in sorted(paths))
+
+
+def is_function(crate, name):
+    return re.search(r"\bfn %s\b" % re.escape(name), sources(crate)) is not None
+
+
+def is_edit(crate, name):
+    paths = [os.path.join(ROOT, "crates", crate, folder, name + ".edit") for folder in ("edits", "must-fail")]
+    return any(map(os.path.isfile, paths))
+
+
+def named(cell):
+    """The names of a cell, each with its crate and, of a definition, its file."""
+    return re.findall(r"`(\w+)` \(`(\w+)`(?:, specs/(\w+))?\)", cell)
+
+
+def rule_cases():
+    """Each row below a rule of docs/PROTOCOL.md: its definition, its function, its edits and its example are there."""
+    examples = headings(read("docs", "EXAMPLES.md"))
+    text = read("docs", "PROTOCOL.md")
+    found = 0
+    for heading in re.findall(r"^## (.+)$", text, flags=re.M):
+        _, mark, rest = section(text, heading).partition("Where it stands:\n")
+        if not mark:
+            continue
+        for rule, definitions, functions, edits, example in tables(rest):
+            name = "%s: %s" % (heading, rule)
+            found += 1
+            yield name + ", its definition", named(definitions) and all(
+                is_defined(crate, file, it) for it, crate, file in named(definitions))
+            yield name + ", its function", named(functions) and all(
+                is_function(crate, it) for it, crate, _ in named(functions))
+            yield name + ", its edits", all(is_edit(crate, it) for it, crate, _ in named(edits))
+            yield name + ", its example", not example or example in examples
+            # a cell of which nothing is read would say anything
+            cells = (definitions, functions, edits)
+            yield name + ", all names are read", all(cell.count("(") == len(named(cell)) for cell in cells)
+    yield "rules of the protocol are told", found > 40
+
+
+def crate_lines():
+    """The crates of crates.txt, each with what it stands on."""
+    lines = [line.split("#")[0] for line in read("crates.txt").splitlines()]
+    return {name.strip(): below.split() for name, mark, below in (line.partition(":") for line in lines) if mark}
+
+
+def crate_cases():
+    """The crates have their lines, stand on what is said there and drawn, and have what is claimed of them."""
+    crates = crate_lines()
+    architecture, proof = read("docs", "ARCHITECTURE.md"), read("docs", "PROOF.md")
+    rows = tables(section(architecture, "The crates"))
+    told = {row[0].strip("`"): re.findall(r"[`*](\w+)[`*]", row[2]) for row in rows}
+    yield "ARCHITECTURE.md has the crates", sorted(told) == sorted(crates)
+    for name, below in crates.items():
+        yield "ARCHITECTURE.md: what %s stands on" % name, told.get(name) == below
+    layers = re.search(r"^```\n(the program.*?)^```$", architecture, flags=re.M | re.S)
+    heights = {name: -place for place, line in enumerate(layers[1].splitlines() if layers else [])
+               for name in re.findall(r"\bsmi\w*", line[18:])}
+    beside = {name for name in crates if name.endswith(("_tests", "_bench", "_trial"))}
+    yield "ARCHITECTURE.md draws the crates", set(heights) == set(crates) - beside
+    yield "ARCHITECTURE.md: layers stand on lower ones", all(
+        heights[name] > heights[it] for name in heights for it in crates.get(name, ()) if it in heights)
+    scripts = glob.glob("tools/*.py", root_dir=ROOT) + glob.glob("tests/*.py", root_dir=ROOT)
+    outside = tables(section(architecture, "Outside the crates"))
+    told = [it for row in outside for it in re.findall(r"`(\S+\.py)`", row[0])]
+    yield "ARCHITECTURE.md has the scripts", sorted(told) == sorted(scripts)
+    rows = tables(section(proof, "Crate by crate"))
+    listed = [name for row in rows for name in re.findall(r"`(\w+)`", row[0])]
+    yield "PROOF.md has the crates", sorted(listed) == sorted(crates)
+    for row in rows:
+        for name in re.findall(r"`(\w+)`", row[0])[:1]:
+            text = sources(name, ("src", "specs")) + sources("smi_protocol", ("specs",))
+            words = [it for whole in re.findall(r"`([\w:]+)`", row[1]) for it in whole.split("::")]
+            lost = [it for it in words if it not in crates and not re.search(r"\b%s\b" % it, text)]
+            yield "PROOF.md: what is claimed of %s%s" % (name, ", but " + " ".join(lost) if lost else ""), not lost
+
+
+def promise_cases():
+    """Each promise of README.md names public functions of the file beside them, and what it is proved of."""
+    path = None
+    rows = tables(section(read("README.md"), "What is promised"))
+    for promise, kind, where in rows:
+        yield "README.md: what is proved: %s" % promise[:40], kind in ("definitions", "code")
+        for word in re.findall(r"`([^`]+)`", where):
+            if word.startswith("crates/"):
+                path = word
+            elif not word.endswith(".antt") and word not in ("Safe", "trace", "safe"):
+                yield "README.md: %s has %s" % (path, word), re.search(r"\bpub fn %s\b" % word, read(path)) is not None
+    yield "README.md has its promises", len(rows) > 10
+
+
+def slug(heading):
+    return re.sub(r"[^\w\- ]", "", heading.lower()).replace(" ", "-")
+
+
+def link_cases():
+    """Relative links, paths in the text, and sections that are named."""
+    made = ("crates/*/", "crates/NAME", "crates/CRATE")
+    for path in documents():
+        text = read(path)
+        for target in re.findall(r"\]\(([^)\s]+)\)", prose(text)):
+            if re.match(r"[a-z]+:", target):
+                continue
+            file, _, part = target.partition("#")
+            at = os.path.normpath(os.path.join(os.path.dirname(path), file)) if file else path
+            held = os.path.exists(os.path.join(ROOT, at))
+            held = held and (not part or part in [slug(it) for it in headings(read(at))])
+            yield "%s: the link to %s" % (path, target), held
+        paths = set(re.findall(r"(?<![\w/.-])((?:crates|docs|examples|tests|tools)/[\w./*@-]*[\w*@/])", text))
+        for target in sorted(it for it in paths if not it.startswith(made)):
+            yield "%s: there is %s" % (path, target), bool(glob.glob(os.path.join(ROOT, target)))
+        for target, quoted in re.findall(r"(docs/\w+\.md), \"([^\"]+)\"", text):
+            yield "%s: %s has \"%s\"" % (path, target, quoted), quoted in headings(read(target))
+
+
+def make_cases():
+    """Each target that a document names is one of the Makefile, and README is short."""
+    targets = set(re.findall(r"^([\w/-]+):", read("Makefile"), flags=re.M))
+    for path in documents():
+        for target in sorted(set(re.findall(r"(?:`|^    )make ([a-z-]+)", read(path), flags=re.M))):
+            yield "%s: make %s" % (path, target), target in targets
+    yield "README.md is short", len(read("README.md").splitlines()) < README_LINES
+    yield "README.md has its two commands", all("    make %s " % it in read("README.md") for it in ("run", "test"))
+
+
+# Numbers
+
+def numbers_in(rows, place=0):
+    return [int(it) for row in rows for it in re.findall(r"\d+", row[place])]
+
+
+def number_cases():
+    """docs/NUMBERS.md has every number of the other documents, once, and a sentence for each."""
+    text, protocol, formats = read("docs", "NUMBERS.md"), read("docs", "PROTOCOL.md"), read("docs", "FORMATS.md")
+
+    def listed(heading):
+        return numbers_in(tables(section(text, heading)))
+
+    orders = numbers_in(tables(section(protocol, "Outcomes")))
+    orders += [int(it) for it in set(re.findall(r"\b2\d\b", section(protocol, "Orders")))] + [31, 32, 33]
+    tests = numbers_in(tables(section(formats, "Datagrams")[section(formats, "Datagrams").index("Code"):]))
+    refusals = numbers_in(tables(section(protocol, "Refusals").split("Where it stands")[0])[1:])
+    faults = numbers_in(tables(section(formats, "Faults of a tree file")), 1)
+    schedule = numbers_in(tables(re.search(r"A line is refused.*?### Drawn", formats, flags=re.S)[0]), 1)
+    rows = numbers_in(tables(re.search(r"A row is refused.*?### The table", formats, flags=re.S)[0]))
+    statuses = numbers_in(tables(section(read("README.md"), "The commands")), 0)
+    for heading, wanted in [
+            ("How an order ends", orders), ("Refused datagrams", tests + refusals), ("Faults of a tree file", faults),
+            ("Faults of a line", schedule), ("Faults of a row", set(rows)), ("Statuses of the program", statuses)]:
+        yield "NUMBERS.md: %s" % heading, sorted(listed(heading)) == sorted(wanted) and len(wanted) > 3
+    for row in tables(text):
+        yield "NUMBERS.md: %s is explained" % row[0], len(row) >= 2 and all(len(cell) > 3 for cell in row[1:])
+    told = re.findall(r"`([a-z][a-z ]+)`", section(read("README.md"), "The commands"))
+    told = [it for it in told if it.endswith(("fault", "line", "spent", "memory", "stopped"))]
+    yield "NUMBERS.md: lines on standard error", len(told) > 5 and all("`%s`" % it in text for it in told)
+
+
+def word_cases():
+    """docs/GLOSSARY.md has each word once, in the order of letters."""
+    rows = tables(section(read("docs", "GLOSSARY.md"), "Words"))
+    words = [row[0] for row in rows]
+    yield "GLOSSARY.md has each word once", len(set(words)) == len(words) > 30
+    yield "GLOSSARY.md is in order", words == sorted(words, key=str.lower)
+    yield "GLOSSARY.md explains each", all(len(row[1]) > 10 for row in rows)
+
+
+# Commands
+
+def order_cases(program):
+    """The orders of the handbook are orders over the example detector: a schedule of them is read to its end."""
+    text = read("docs", "HANDBOOK.md")
+    orders = re.findall(r"^    (order .+)$", text, flags=re.M) + re.findall(r"`(order [^`]+)`", text)
+    with tempfile.TemporaryDirectory() as folder:
+        path = os.path.join(folder, "schedule")
+        with open(path, "w", encoding="ascii") as file:
+            file.write("\n".join(orders) + "\n")
+        words = [program, "sim", os.path.join(ROOT, "examples", "detector.tree"), path]
+        done = subprocess.run(words, stdout=subprocess.PIPE, stderr=subprocess.PIPE, check=False)
+    fault = re.search(rb"line (\d+) fault", done.stderr)
+    name = ": " + orders[int(fault[1]) - 1] if fault else ""
+    yield "HANDBOOK.md: its orders%s" % name, done.returncode == 0 and len(orders) > 15
+
+
+def blocks(path):
+    """The console blocks of a document: each its commands, with what they print."""
+    for text in re.findall(r"^```console\n(.*?)^```$", read(path), flags=re.M | re.S):
+        commands = []
+        for line in text.splitlines():
+            if line.startswith("$ "):
+                commands.append((line[2:], []))
+            else:
+                commands[-1][1].append(line)
+        yield commands
+
+
+def with_own_ports(text, ports):
+    """A tree file in which each station of this machine has one of these ports."""
+    return re.sub(r"127\.0\.0\.1:\d+", lambda _: "127.0.0.1:%d" % ports.pop(), text)
+
+
+def furnish(folder, program):
+    """A folder that looks like the repository to a block of commands."""
+    os.mkdir(os.path.join(folder, "bin"))
+    os.symlink(program, os.path.join(folder, "bin", "smi"))
+    for name in FOLDERS:
+        os.symlink(os.path.join(ROOT, name), os.path.join(folder, name))
+    shutil.copytree(os.path.join(ROOT, "examples"), os.path.join(folder, "examples"))
+    for path in glob.glob(os.path.join(folder, "examples", "*.tree")):
+        with open(path, encoding="ascii") as file:
+            text = file.read()
+        with open(path, "w", encoding="ascii") as file:
+            file.write(with_own_ports(text, nodes.free_ports(text.count("127.0.0.1:"))))
+
+
+class Shell:
+    """A shell that is given one command after the other."""
+
+    def __init__(self, folder, patience=PATIENCE):
+        self.patience = patience
+        self.child = subprocess.Popen(["bash"], cwd=folder, stdin=subprocess.PIPE, stdout=subprocess.PIPE,
+                                      stderr=subprocess.STDOUT, text=True, start_new_session=True)
+        self.lines, self.marks = queue.Queue(), 0
+        threading.Thread(target=self.take, daemon=True).start()
+
+    def take(self):
+        for line in self.child.stdout:
+            self.lines.put(line.rstrip("\n"))
+
+    def say(self, command):
+        self.child.stdin.write(command + "\n")
+        self.child.stdin.flush()
+
+    def line(self):
+        """The next line that is printed, nothing where none comes in time."""
+        try:
+            return self.lines.get(timeout=self.patience)
+        except queue.Empty:
+            return None
+
+    def rest(self):
+        """All lines that are printed until the shell has come to the end of its commands."""
+        self.marks += 1
+        mark, found = "end of command %d" % self.marks, []
+        self.say("echo '%s'" % mark)
+        while True:
+            line = self.line()
+            if line in (mark, None):
+                return found if line else found + [None]
+            found.append(line)
+
+    def run(self, command, wanted):
+        """What a command prints, and what it has to: these lines and no others, or any after `...`."""
+        self.say(command)
+        is_open = "..." in wanted
+        wanted = wanted[:wanted.index("...")] if is_open else wanted
+        found = [self.line() for _ in wanted]
+        more = self.rest()
+        return (found if is_open and None not in more else found + more), wanted
+
+    def end(self):
+        """Ends the shell and all that it has started: they are a group of their own."""
+        self.child.stdin.close()
+        try:
+            os.killpg(self.child.pid, signal.SIGTERM)
+        except ProcessLookupError:
+            pass
+        self.child.wait(PATIENCE)
+
+
+def shown_in_time(shell, command, wanted):
+    """The same for a command that asks a node what it was shown, which may take a moment."""
+    until = time.monotonic() + PATIENCE
+    while True:
+        found, wanted = shell.run(command, wanted)
+        if found == wanted or time.monotonic() > until:
+            return found, wanted
+        time.sleep(0.05)
+
+
+def block_case(program, path, place, commands):
+    """One block: each command in turn."""
+    with tempfile.TemporaryDirectory() as folder:
+        furnish(folder, program)
+        shell = Shell(folder)
+        try:
+            for command, wanted in commands:
+                how = shown_in_time if "'show " in command else Shell.run
+                found, said = how(shell, command, wanted)
+                if found != said:
+                    print("  after %s\n    wanted %s\n    found  %s" % (command, said, found))
+                yield "%s, block %d: %s" % (path, place, command), found == said
+                if found != said:
+                    return
+        finally:
+            shell.end()
+
+
+def command_cases(program, only):
+    """The blocks of all documents."""
+    count = 0
+    for path in documents():
+        for place, commands in enumerate(blocks(path), 1):
+            count += 1
+            if only in path or any(only in command for command, _ in commands):
+                yield from block_case(program, path, place, commands)
+    yield "there are commands to run", count >= 5
+
+
+def broken_cases():
+    """A command that prints something else, more or less than is said of it is seen, and one that prints it is not."""
+    for name, command, wanted, is_right in [
+            ("what is said", "echo one; echo two", ["one", "two"], True),
+            ("what begins so", "seq 9", ["1", "..."], True),
+            ("another line", "echo one", ["two"], False), ("a line more", "echo one; echo two", ["one"], False),
+            ("a line less", "echo one", ["one", "two"], False), ("another beginning", "seq 9", ["2", "..."], False)]:
+        with tempfile.TemporaryDirectory() as folder:
+            shell = Shell(folder, 1)
+            try:
+                found, said = shell.run(command, wanted)
+            finally:
+                shell.end()
+        yield "a command that prints %s" % name, (found == said) == is_right
+
+
+def cases(program, only):
+    yield from rule_cases()
+    yield from crate_cases()
+    yield from promise_cases()
+    yield from link_cases()
+    yield from make_cases()
+    yield from number_cases()
+    yield from word_cases()
+    yield from order_cases(program)
+    yield from broken_cases()
+    yield from command_cases(program, only)
+
+
+def main():
+    program, only = os.path.abspath(sys.argv[1]), sys.argv[2] if len(sys.argv) > 2 else ""
+    done = [case for case in cases(program, only) if only in case[0]]
+    verdict.end(done)
+
+
+if __name__ == "__main__":
+    main()

@@ -1,0 +1,163 @@
+"""Says in words what the rows of a store hold (docs/FORMATS.md, "Stable rows").
+
+usage: rows.py STORE TREE [SMI]
+
+It reads the listing of `smi rows STORE`, by bin/smi where no other program is named, so the store may be in use.
+Whether a row is right is for `smi node` to say: a row that is cut or of no known schema is shown as it stands.
+"""
+
+import os
+import struct
+import subprocess
+import sys
+
+import hierarchy
+
+HERE = os.path.dirname(os.path.abspath(__file__))
+VERBS = {1: "do", 2: "include", 3: "exclude", 4: "manual", 5: "ignore"}
+MODES = {0: "included", 1: "manual", 2: "ignored"}
+# What schemas a row of each kind may have.
+SCHEMAS = {"boot": (1, 2), "domain": (1, 2), "operator": (1, 2, 3)}
+
+
+class Cut(Exception):
+    """A row that is not as long as it says, or of a schema or a form that nobody knows."""
+
+
+def name_of(names, number):
+    """The name of that number, or the number where there is none."""
+    names = list(names)
+    return names[number - 1] if 1 <= number <= len(names) else str(number)
+
+
+def command(tree, verb, argument):
+    names = tree.actions if verb == 1 else tree.domains
+    return "%s %s" % (VERBS.get(verb, "verb %d" % verb), name_of(names, argument))
+
+
+def holder(tree, kind, number):
+    if kind == 0:
+        return "free"
+    return "held by " + name_of(tree.operators if kind == 1 else tree.domains, number)
+
+
+def take(data, form):
+    """The numbers at the beginning of some bytes, and the rest of them."""
+    size = struct.calcsize(form)
+    if len(data) < size:
+        raise Cut
+    return struct.unpack(form, data[:size]), data[size:]
+
+
+def pending(tree, form, number, verb, argument, data):
+    """The commands of a held link that were not answered yet, oldest first, and the bytes after them."""
+    commands = []
+    if form in (3, 5):
+        commands = [command(tree, verb, argument)]
+    if form == 5:
+        (count,), data = take(data, ">H")
+        for _ in range(count):
+            (verb, argument), data = take(data, ">HH")
+            commands.append(command(tree, verb, argument))
+    first = number - len(commands) + 1
+    return ["%d %s" % (first + place, text) for place, text in enumerate(commands)], data
+
+
+def link(tree, data, has_mode):
+    """A link in words, and the bytes after it."""
+    (domain, form, mode, epoch, number, verb, argument), data = take(data, ">HBBQIHH")
+    waiting, data = pending(tree, form, number, verb, argument, data)
+    if form == 0:
+        text = "out, last heard of epoch %d" % epoch
+    elif form == 1:
+        text = "being taken, last seen free at epoch %d" % epoch
+    elif form == 4:
+        text = "being given back, held until epoch %d" % epoch
+    elif form in (2, 3, 5):
+        text = "held at epoch %d, " % epoch + (MODES.get(mode, "mode %d" % mode) + ", " if has_mode else "")
+        text += "no command issued" if number == 0 else "%d issued" % number
+        text += ", not answered: " + "; ".join(waiting) if waiting else ""
+    else:
+        raise Cut
+    return "%s: %s" % (name_of(tree.domains, domain), text), data
+
+
+def links(tree, data, count, has_mode):
+    found = []
+    for _ in range(count):
+        text, data = link(tree, data, has_mode)
+        found.append("    " + text)
+    if data:
+        raise Cut
+    return found
+
+
+def boot_row(_, data):
+    (boot,), rest = take(data[4:], ">I")
+    if rest:
+        raise Cut
+    return ["boot %d" % boot]
+
+
+def domain_row(tree, data):
+    (schema, kind, number, epoch, last, phase, _, outcome, gathered, count), rest = take(data, ">BBHQIBBHHH")
+    text = "%s at epoch %d" % (holder(tree, kind, number), epoch)
+    if last == 0:
+        text += ", no command has run" if kind else ""
+    elif phase:
+        text += ", command %d is at work, largest code so far %d" % (last, gathered)
+    else:
+        text += ", command %d has ended with %d" % (last, outcome)
+    return [text] + links(tree, rest, count, schema >= 2)
+
+
+def operator_row(tree, data):
+    (_, _, count), rest = take(data, ">BBH")
+    return [counted(count)] + links(tree, rest, count, False)
+
+
+def counted(count):
+    return "%d link%s" % (count, "" if count == 1 else "s")
+
+
+def said(tree, station, domain, operator, data):
+    """What a row says: its lines, the first with what it is about."""
+    if domain and operator:
+        kind, about, read = "", "domain %d and operator %d" % (domain, operator), None
+    elif domain:
+        kind, about, read = "domain", "domain " + name_of(tree.domains, domain), domain_row
+    elif operator:
+        kind, about, read = "operator", "operator " + name_of(tree.operators, operator), operator_row
+    else:
+        kind, about, read = "boot", "station " + name_of(tree.stations, station), boot_row
+    head = "%s: " % about if kind == "boot" else "%s at %s: " % (about, name_of(tree.stations, station))
+    try:
+        if read is None or not data or data[0] not in SCHEMAS[kind]:
+            raise Cut
+        first, *more = read(tree, data)
+    except Cut:
+        return [head + "not a row that can be read: " + data.hex()]
+    return [head + first] + more
+
+
+def lines_of(tree, listing):
+    """The words for a listing of rows."""
+    found = []
+    for line in listing.splitlines():
+        station, domain, operator, text = (line + " ").split(" ")[:4]
+        found += said(tree, int(station), int(domain), int(operator), bytes.fromhex(text))
+    return found
+
+
+def main():
+    if len(sys.argv) not in (3, 4):
+        sys.exit(__doc__.split("\n\n")[1])
+    program = sys.argv[3] if len(sys.argv) == 4 else os.path.join(HERE, "..", "bin", "smi")
+    done = subprocess.run([program, "rows", sys.argv[1]], stdout=subprocess.PIPE, check=False)
+    for line in lines_of(hierarchy.read(sys.argv[2]), done.stdout.decode()):
+        print(line)
+    sys.exit(done.returncode)
+
+
+if __name__ == "__main__":
+    main()
