@@ -3,7 +3,7 @@
 usage: words.py
 
 Sources are read line by line; a line that is long for a text in quotes alone may be. Words are looked for in comments and
-in documents (docs/GLOSSARY.md, "Words in comments"). The last line is 'N passed, M failed'; each file is a case.
+in documents (docs/GLOSSARY.md, "Ordinary words"). The last line is 'N passed, M failed'; each file is a case.
 """
 
 import glob
@@ -23,6 +23,15 @@ UNUSUAL = re.compile(r"\b(growths?|want of memory|(?:stays?|is|are|stayed) as (?
 GLOSSARY = "docs/GLOSSARY.md"
 
 
+# What stands between backquotes is a name.
+NAME = re.compile(r"`[^`]*`")
+
+
+def unusual(line):
+    """The first such word of a line, if it has any."""
+    return UNUSUAL.search(NAME.sub("", line))
+
+
 def files(patterns):
     found = (path for pattern in patterns for path in glob.glob(os.path.join(ROOT, pattern), recursive=True))
     return sorted(os.path.relpath(path, ROOT) for path in found if "/out/" not in path)
@@ -39,14 +48,14 @@ def faults_of_source(path):
     for number, line in enumerate(lines_of(path), 1):
         if len(line) > WIDTH and '"' not in line:
             yield number, "%d columns" % len(line)
-        if comment.match(line) and UNUSUAL.search(line):
-            yield number, UNUSUAL.search(line)[0]
+        if comment.match(line) and unusual(line):
+            yield number, unusual(line)[0]
 
 
 def faults_of_document(path):
     for number, line in enumerate(lines_of(path), 1):
-        if UNUSUAL.search(line) and path != GLOSSARY:
-            yield number, UNUSUAL.search(line)[0]
+        if unusual(line) and path != GLOSSARY:
+            yield number, unusual(line)[0]
 
 
 def main():

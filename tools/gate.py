@@ -186,7 +186,8 @@ def main():
     print(free_space())
     if not parts[0].failed:
         take_programs(since)
-        for name, words in [("command lines", ["tests/command_lines.py", "bin/smi", "bin/smi_trial"]),
+        for name, words in [("lines and words", ["tests/words.py"]),
+                            ("command lines", ["tests/command_lines.py", "bin/smi", "bin/smi_trial"]),
                             ("nodes", ["tests/nodes.py", "bin/smi"]),
                             ("a shift", ["tests/shift.py", "bin/smi"]),
                             ("tools", ["tests/pictures.py", "bin/smi"]),
