@@ -16,12 +16,12 @@ use side::{Made, Post, act, first, rows_of};
 use smi_item::{Item, Line};
 use smi_message::encode;
 use smi_out::Out;
+use smi_protocol::StepFault;
 use smi_schedule::{draw_schedule, read_schedule};
 use smi_stable::{MemoryStable, PlannedStable, SavedRow};
 use smi_tree::Tree;
 use smi_world::{Left, World};
 use std::alloc::{AllocError, Global};
-use smi_protocol::StepFault;
 use store::{Closing, Played};
 use turn::{Turn, turn_of};
 
@@ -65,7 +65,9 @@ fn add<'a>(
     sides: &mut Sides<'a>,
 ) -> Result<(), AllocError> {
     let sql = over_sql(alloc)?;
-    sides.memory.push(first(alloc, tree, number, MemoryStable::new(alloc)))?;
+    sides
+        .memory
+        .push(first(alloc, tree, number, MemoryStable::new(alloc)))?;
     let planned = PlannedStable::new(MemoryStable::new(alloc));
     sides.planned.push(first(alloc, tree, number, planned))?;
     sides.sql.push(first(alloc, tree, number, sql))?;
@@ -99,13 +101,17 @@ fn are_kept(one: Option<Vec<SavedRow>>, other: Option<Vec<SavedRow>>) -> bool {
 
 fn are_equal(one: &[SavedRow], other: &[SavedRow]) -> bool {
     one.len() == other.len()
-        && one.iter().zip(other).all(|(a, b)| a.key == b.key && a.bytes.as_slice() == b.bytes.as_slice())
+        && one.iter().zip(other).all(|(a, b)| a.key == b.key
+            && a.bytes.as_slice() == b.bytes.as_slice())
 }
 
 /// Whether the station tells of itself what the lines say; one that has stopped does not know how its row stands.
 fn is_told<S: Played + Drop>(post: &Post<'_, S>, made: Made, lines: &[Line]) -> bool {
     made == Made::Heard(Err(StepFault::Stopped))
-        || post.station.as_ref().is_some_and(|station| are_so(station, lines))
+        || post
+            .station
+            .as_ref()
+            .is_some_and(|station| are_so(station, lines))
 }
 
 /// The station of a number over each store.
@@ -179,7 +185,10 @@ fn turns<'a>(
 fn leaves(alloc: Global, world: &mut World<'_>, item: &Item, sheets: &mut Sheets) -> bool {
     sheets.lines.clear();
     world.act(alloc, item, &mut sheets.left).is_ok()
-        && sheets.left.push_lines(world.tree(), &mut sheets.lines).is_ok()
+        && sheets
+            .left
+            .push_lines(world.tree(), &mut sheets.lines)
+            .is_ok()
 }
 
 /// What was sent goes after all that was sent before.

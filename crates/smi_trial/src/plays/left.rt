@@ -20,9 +20,8 @@ struct Seen {
 
 /// Whether the station's record of a domain is like this.
 fn stands<S>(station: &Station<'_, S>, domain: u16, epoch: u64, holder: Option<Holder>) -> bool {
-    station
-        .record(domain)
-        .is_some_and(|record| record.epoch == epoch && holder.is_none_or(|it| record.holder == it))
+    station.record(domain).is_some_and(|record| record.epoch == epoch
+        && holder.is_none_or(|it| record.holder == it))
 }
 
 /// Whether the last command of a domain is this one of this grant.

@@ -56,7 +56,10 @@ fn coming<'a>(tree: &Tree, sent: &'a [[u8; 44]], deed: &Deed) -> Option<(u16, Ev
             if operator < 1 || tree.operator_count() < operator {
                 return None;
             }
-            Some((tree.operator_station(operator), Event::Order(operator, order)))
+            Some((
+                tree.operator_station(operator),
+                Event::Order(operator, order),
+            ))
         }
         Deed::Report(device, state) => reported(tree, device, state),
         Deed::Tick(station) => Some((station, Event::Tick)),
