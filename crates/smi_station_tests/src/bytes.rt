@@ -11,10 +11,10 @@ use smi_tree::Tree;
 use std::alloc::{AllocError, Global};
 use std::test::Fail;
 
-type Bytes = [u8; 44];
+pub(crate) type Bytes = [u8; 44];
 
 // "A take": operator 2, at station 2, takes domain 1 of tree 17, which it last saw free at epoch 0.
-const TAKE: Bytes = [
+pub(crate) const TAKE: Bytes = [
     0x53, 0x4D, 1, 2, 0, 2, 0, 1, 0, 1, 1, 0, 0, 2, 0, 0, // to whom, and who takes
     0, 0, 0, 0, 0, 0, 0, 0, 0, 0, 0, 0, 0, 0, 0, 0x11, 0, 0, 0, 0, 0, 0, 0, 0, 0, 0, 0, 0,
 ];

@@ -6,4 +6,6 @@ mod bytes;
 #[cfg(test)]
 mod plays;
 #[cfg(test)]
+mod refusals;
+#[cfg(test)]
 mod starts;
