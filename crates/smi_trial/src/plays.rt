@@ -11,6 +11,8 @@ mod store;
 mod turn;
 
 use crate::disks;
+use crate::outcome::are_handed_out;
+use crate::stores::are_same;
 use left::{are_left, are_so};
 use side::{Made, Post, act, first, rows_of};
 use smi_item::{Item, Line};
@@ -81,28 +83,12 @@ fn add_all<'a>(alloc: Global, tree: &'a Tree, sides: &mut Sides<'a>) -> Result<(
     Ok(())
 }
 
-/// Whether two steps have handed out the same.
-fn are_same(one: &Out, other: &Out) -> bool {
-    let (a, b) = (one.datagrams(), other.datagrams());
-    a.len() == b.len()
-        && a.iter().zip(b).all(|(x, y)| encode(x) == encode(y))
-        && one.answers() == other.answers()
-        && one.shown() == other.shown()
-        && one.issued() == other.issued()
-}
-
 /// Whether the same rows are kept.
 fn are_kept(one: Option<Vec<SavedRow>>, other: Option<Vec<SavedRow>>) -> bool {
     match (one, other) {
-        (Some(one), Some(other)) => are_equal(&one, &other),
+        (Some(one), Some(other)) => are_same(&one, &other),
         _ => false,
     }
-}
-
-fn are_equal(one: &[SavedRow], other: &[SavedRow]) -> bool {
-    one.len() == other.len()
-        && one.iter().zip(other).all(|(a, b)| a.key == b.key
-            && a.bytes.as_slice() == b.bytes.as_slice())
 }
 
 /// Whether the station tells of itself what the lines say; one that has stopped does not know how its row stands.
@@ -150,8 +136,8 @@ fn make<'a>(
     act(alloc, tree, planned, turn, &mut sheets.planned) == made
         && act(alloc, tree, sql, turn, &mut sheets.sql) == made
         && made != Made::Lost
-        && are_same(&sheets.memory, &sheets.planned)
-        && are_same(&sheets.memory, &sheets.sql)
+        && are_handed_out(&sheets.memory, &sheets.planned)
+        && are_handed_out(&sheets.memory, &sheets.sql)
         && are_kept(rows_of(memory), rows_of(planned))
         && are_kept(rows_of(memory), rows_of(sql))
         && are_left(&sheets.memory, lines, before)
