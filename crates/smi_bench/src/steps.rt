@@ -99,11 +99,9 @@ fn take_all(tree: &Tree, station: &mut Kept<'_>, desk: &mut Desk) -> io::Result<
     order(station, desk, Order::Take(1))?;
     for number in 1..tree.domain_count() {
         let target = number.wrapping_add(1);
-        let above = if target <= tree.domain_count() { tree.parent(target) } else { None };
-        if let (Some(above), Some(_)) = (above, station.record(target)) {
-            if above > 0 && station.record(above).is_some() {
-                order(station, desk, Order::Include(1, target))?;
-            }
+        let above = tree.parent(target).and_then(|above| station.record(above));
+        if above.is_some() && station.record(target).is_some() {
+            order(station, desk, Order::Include(1, target))?;
         }
     }
     Ok(())
@@ -129,7 +127,12 @@ const TELL: u8 = 5;
 const STATE: u8 = 7;
 
 /// The first operator takes the first domain at every even epoch, and drops it at every odd one.
-fn take_and_drop(tree: &Tree, station: &mut Kept<'_>, desk: &mut Desk, count: u32) -> io::Result<()> {
+fn take_and_drop(
+    tree: &Tree,
+    station: &mut Kept<'_>,
+    desk: &mut Desk,
+    count: u32,
+) -> io::Result<()> {
     let own = station.grants().number();
     for epoch in 0..count {
         let kind = if epoch % 2 == 0 { TAKE } else { DROP };
@@ -145,12 +148,19 @@ fn take_and_drop(tree: &Tree, station: &mut Kept<'_>, desk: &mut Desk, count: u3
 
 /// A child of domain 1 at another station, and that station.
 fn child_of(tree: &Tree, own: u16) -> Option<(u16, u16)> {
+    if tree.domain_count() < 1 {
+        return None;
+    }
     let child = *tree.children(1).first()?;
     if child < 1 || tree.domain_count() < child {
         return None;
     }
     let keeper = tree.domain(child).station;
-    if keeper == own { None } else { Some((child, keeper)) }
+    if keeper == own {
+        None
+    } else {
+        Some((child, keeper))
+    }
 }
 
 /// The first operator's domain takes in its first child, and its devices are in the last state.
@@ -165,6 +175,9 @@ fn take_in(tree: &Tree, station: &mut Kept<'_>, desk: &mut Desk) -> io::Result<(
         bytes[23] = 1;
         step(station, desk, Event::Datagram(&bytes))?;
         settle(station, desk)?;
+    }
+    if tree.domain_count() < 1 {
+        return Ok(());
     }
     for device in tree.devices(1) {
         step(station, desk, Event::Report(*device, tree.state_count()))?;
@@ -244,14 +257,19 @@ const NOTHING: Counted = Counted {
     made: 0,
 };
 
-/// How long a station takes, and what it has counted.
+/// How often the first unit has changed since the station started.
+fn changes_of(station: &Kept<'_>) -> u32 {
+    station.current(1).map_or(0, |shown| shown.version.sequence)
+}
+
+/// How long the steps of a station take, what was counted, and how often its first unit has changed.
 fn timed(
     rt: &HostRuntime,
     tree: &Tree,
     station: &mut Kept<'_>,
     kind: Kind,
     count: u32,
-) -> io::Result<(Duration, Counted)> {
+) -> io::Result<(Duration, Counted, u32)> {
     let mut desk = Desk {
         out: Out::new(),
         waiting: Vec::new(rt.alloc()),
@@ -259,25 +277,28 @@ fn timed(
     };
     prepare(tree, station, &mut desk, kind)?;
     desk.counted = NOTHING;
+    let before = changes_of(station);
     let start = Instant::now(rt)?;
     run(tree, station, &mut desk, kind, count)?;
-    Ok((start.elapsed(rt)?, desk.counted))
+    let time = start.elapsed(rt)?;
+    let changes = changes_of(station).wrapping_sub(before);
+    Ok((time, desk.counted, changes))
 }
 
-/// How long the steps of a station take, what was counted, and how often its first unit has changed.
+/// The same of the first station, or of the last where nothing is to be due.
 fn at_station(
     rt: &HostRuntime,
     tree: &Tree,
     kind: Kind,
     count: u32,
 ) -> io::Result<(Duration, Counted, u32)> {
-    let number = if kind == Kind::Tick { tree.station_count() } else { 1 };
+    let number = if kind == Kind::Tick {
+        tree.station_count()
+    } else {
+        1
+    };
     match Station::open(rt.alloc(), tree, number, MemoryStable::new(rt.alloc())) {
-        Ok(mut station) => {
-            let (time, counted) = timed(rt, tree, &mut station, kind, count)?;
-            let changes = station.current(1).map_or(0, |shown| shown.version.sequence);
-            Ok((time, counted, changes))
-        }
+        Ok(mut station) => timed(rt, tree, &mut station, kind, count),
         Err(_) => Err(io::Error::other("no station opened")),
     }
 }
