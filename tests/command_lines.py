@@ -12,9 +12,9 @@ After the table, a take is tried with other values in its fields, at the ends of
 lengths, against the layout in layout.py, each tree file of trees.py is checked, each store of stores.py listed, a store
 that SMI_TRIAL saved is read by others, and each growth of some runs, and of the layers' objects in SMI_TRIAL, is refused
 in turn (growths.py). Words that are no text and stores that may only be read are tried (paths.py), and each layer at its
-limits (limits.py). Watcher lists answer random calls as plain lists do (random_calls.py), and
-schedules leave what is said of them (schedules.py). With a TEXT only the cases are
-run whose name has it; the growths of a run or a layer go together, under its name. The last line is 'N passed, M failed'.
+limits (limits.py). Watcher lists answer random calls as plain lists do (random_calls.py), schedules leave what is said
+of them (schedules.py), and stations over each store do the same (plays.py). With a TEXT only the cases are run whose
+name has it; the growths of a run or a layer go together, under its name. The last line is 'N passed, M failed'.
 """
 
 import os
@@ -26,6 +26,7 @@ import growths
 import layout
 import limits
 import paths
+import plays
 import random_calls
 import schedules
 import stores
@@ -178,6 +179,7 @@ def main():
         others += limits.rows_case(program, at_limits, only)
         others += random_calls.cases(trial, only)
         others += schedules.cases(program, room(folder, "of schedules"), only)
+        others += plays.cases(trial, room(folder, "of plays"), only)
         for name, held in others:
             done.append(held)
             if not held:

@@ -25,7 +25,7 @@ RUNS = [
 ]
 
 # The layers whose objects smi_trial makes and changes.
-LAYERS = ["watchers", "link", "view", "publish", "board", "seats", "rows", "memory", "sql"]
+LAYERS = ["watchers", "link", "view", "publish", "board", "seats", "rows", "memory", "sql", "station", "world"]
 
 
 def library(folder):

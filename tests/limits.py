@@ -7,7 +7,7 @@ import stores
 import trees
 
 # The layers that need no tree, and those over the tree at every limit.
-LAYERS = ["board", "told", "lists", "seats", "link", "udp"]
+LAYERS = ["board", "told", "lists", "seats", "link", "udp", "stops"]
 OVER_TREE = ["tree", "publish", "view", "rows"]
 
 # How many datagrams are answered in one run.

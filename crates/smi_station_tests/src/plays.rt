@@ -10,26 +10,28 @@ use smi_tree::Tree;
 use std::alloc::{AllocError, Global};
 use std::test::Fail;
 
-const TREE: &[u8] =
+pub(crate) const TREE: &[u8] =
     b"tree 17\nstate OFF\nstate READY\nstate RUNNING\nstate ERROR\naction CONFIGURE\naction START\naction STOP\nstation A 127.0.0.1:9001\nstation B 127.0.0.1:9002\noperator ANN A\noperator BOB B\ndevclass DEV OFF\nmove DEV OFF CONFIGURE READY\nmove DEV READY START RUNNING\nunitclass UNIT OFF\naccept UNIT CONFIGURE\naccept UNIT START\nany UNIT ERROR ERROR\nall UNIT RUNNING RUNNING\nall UNIT READY READY\nall UNIT OFF OFF\ndomain DCS A UNIT -\ndomain TPC B UNIT DCS\ndevice HV TPC DEV\n";
 
-const A: u16 = 1;
+pub(crate) const A: u16 = 1;
 
-const B: u16 = 2;
+pub(crate) const B: u16 = 2;
 
-const ANN: u16 = 1;
+pub(crate) const ANN: u16 = 1;
 
-const BOB: u16 = 2;
+pub(crate) const BOB: u16 = 2;
 
-const DCS: u16 = 1;
+pub(crate) const DCS: u16 = 1;
 
-const TPC: u16 = 2;
+pub(crate) const TPC: u16 = 2;
 
 const HV: u16 = 3;
 
-const CONFIGURE: u16 = 1;
+pub(crate) const CONFIGURE: u16 = 1;
 
-const READY: u16 = 2;
+pub(crate) const START: u16 = 2;
+
+pub(crate) const READY: u16 = 2;
 
 // The kinds of datagrams, as their fourth byte has them.
 const TAKE: u8 = 2;

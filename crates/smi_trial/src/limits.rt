@@ -7,6 +7,7 @@ mod links;
 mod lists;
 mod saved;
 mod seats;
+mod stops;
 mod told;
 mod tree;
 
@@ -35,6 +36,7 @@ pub(crate) fn of<R: Runtime<A = Global> + Wait + Threads + Sync>(rt: &R, layer: 
         "lists" => lists::holds(rt.alloc()),
         "seats" => seats::holds(rt.alloc()),
         "link" => links::holds(rt.alloc()),
+        "stops" => stops::holds(rt.alloc()),
         _ => false,
     }
 }

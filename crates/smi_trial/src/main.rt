@@ -23,10 +23,12 @@
 ghost use Rattle.std.specs.Prelude.{◌≤◌};
 
 mod board;
+mod disks;
 mod file;
 mod limits;
 mod links;
 mod outcome;
+mod plays;
 mod random;
 mod refused;
 mod rows;
@@ -35,7 +37,8 @@ mod watched;
 mod watching;
 
 use outcome::Outcome;
-use std::{env, io};
+use plays::Items;
+use std::{env, fs, io};
 
 /// How many datagrams go each way between two links over UDP.
 const MANY: u32 = 5_000;
@@ -61,6 +64,18 @@ fn main(rt: HostRuntime) -> io::Result<()> {
             println!(rt; "{}", Outcome::of(is_so).word())
         }
         [_, what, calls] if what.as_str() == "random" => random::call(&rt, number(calls.as_str())),
+        [_, what, tree, schedule] if what.as_str() == "plays" => {
+            let tree = fs::read(&rt, tree.as_str())?;
+            let text = fs::read(&rt, schedule.as_str())?;
+            let is_so = plays::are_whole(rt.alloc(), tree.as_slice(), Items::Of(text.as_slice()));
+            println!(rt; "{}", Outcome::of(is_so).word())
+        }
+        [_, what, tree, seed, steps] if what.as_str() == "plays" => {
+            let tree = fs::read(&rt, tree.as_str())?;
+            let items = Items::Drawn(u64::from(number(seed.as_str())), number(steps.as_str()));
+            let is_so = plays::are_whole(rt.alloc(), tree.as_slice(), items);
+            println!(rt; "{}", Outcome::of(is_so).word())
+        }
         [_, what, path] if what.as_str() == "store" => file::save_rows(&rt, path.as_str()),
         [_, what, readers, reads] if what.as_str() == "board" => {
             board::measure(&rt, number(readers.as_str()), number(reads.as_str()))

@@ -1,3 +1,6 @@
+use smi_message::encode;
+use smi_out::Out;
+
 /// What a run saw of refused allocations.
 #[derive(Clone, Copy, Debug, PartialEq, Eq)]
 pub(crate) enum Outcome {
@@ -44,4 +47,14 @@ impl Outcome {
             Outcome::Changed => "changed",
         }
     }
+}
+
+/// Whether two steps have handed out the same.
+pub(crate) fn are_handed_out(one: &Out, other: &Out) -> bool {
+    let (a, b) = (one.datagrams(), other.datagrams());
+    a.len() == b.len()
+        && a.iter().zip(b).all(|(x, y)| encode(x) == encode(y))
+        && one.answers() == other.answers()
+        && one.shown() == other.shown()
+        && one.issued() == other.issued()
 }

@@ -2,6 +2,9 @@
 
 ghost use Rattle.std.specs.Prelude.{◌≡◌, ◌≤◌, ◌<◌, length, IfSome};
 
+mod stations;
+mod worlds;
+
 use crate::outcome::Outcome;
 use crate::{rows, stores};
 use smi_grant::{Shown, Version};
@@ -20,7 +23,7 @@ pub(crate) fn of<R: Wait>(rt: &R, alloc: Global, layer: &str) -> Outcome {
         "watchers" => watchers(alloc),
         "link" => link(alloc),
         "view" => view(alloc),
-        "publish" | "rows" => over_tree(alloc, layer),
+        "publish" | "rows" | "station" | "world" => over_tree(alloc, layer),
         "board" => board(rt, alloc),
         "seats" => seats(alloc),
         "memory" => stores::memory(alloc),
@@ -216,6 +219,8 @@ fn over_tree(alloc: Global, layer: &str) -> Outcome {
 fn of_tree(alloc: Global, tree: &Tree, layer: &str) -> Outcome {
     match layer {
         "rows" => rows::of(alloc, tree),
+        "station" => stations::of(alloc, tree),
+        "world" => worlds::of(alloc, tree),
         _ => publisher(alloc, tree),
     }
 }

@@ -97,7 +97,7 @@ fn save<S: Stable>(store: &mut S, saved: Saved) -> Result<Outcome, Unsure> {
 }
 
 /// All rows, at the second try where the first was refused its allocation.
-fn rows_of<S: Stable>(store: &mut S) -> Result<(Vec<SavedRow>, Outcome), StoreFault> {
+pub(crate) fn rows_of<S: Stable>(store: &mut S) -> Result<(Vec<SavedRow>, Outcome), StoreFault> {
     match store.load() {
         Ok(rows) => Ok((rows, Outcome::Whole)),
         Err(StoreFault::Memory) => Ok((store.load()?, Outcome::Kept)),
@@ -109,7 +109,7 @@ fn is_saved<S: Stable>(store: &mut S, before: &[SavedRow], saved: Saved) -> bool
     rows_of(store).is_ok_and(|rows| are_as_saved(before, &rows.0, saved))
 }
 
-fn are_same(before: &[SavedRow], after: &[SavedRow]) -> bool {
+pub(crate) fn are_same(before: &[SavedRow], after: &[SavedRow]) -> bool {
     before.len() == after.len()
         && before.iter().zip(after.iter()).all(|(a, b)| a.key == b.key
             && a.bytes.as_slice() == b.bytes.as_slice())

@@ -1,0 +1,36 @@
+"""Schedules played on stations over three stores, beside the world: the plays of schedules.txt, and drawn ones.
+
+What smi_trial says of each: whether the stations over the three stores hear, hand out and save the same at every item,
+and leave what the world leaves (crates/smi_trial/src/plays.rt). What the world leaves is what `smi sim` prints, which
+schedules.py holds against what is written down.
+"""
+
+import os
+import subprocess
+
+import schedules
+
+# Seeds and counts of items that are drawn, over each of these trees.
+DRAWN = [(1, 1500), (2, 500), (3, 500)]
+TREES = [schedules.TREE, schedules.DETECTOR]
+
+
+def is_whole(trial, words):
+    done = subprocess.run([trial, "plays"] + words, stdout=subprocess.PIPE, check=False)
+    return (done.stdout, done.returncode) == (b"whole\n", 0)
+
+
+def cases(trial, folder, only=""):
+    """Of each schedule: a name, and whether it is played so; of those alone in whose name the word is."""
+    for name, items in schedules.read_plays().items():
+        if only not in "stations play " + name:
+            continue
+        path = os.path.join(folder, "schedule")
+        with open(path, "w", encoding="ascii") as file:
+            file.write("".join(item + "\n" for item, _ in items))
+        yield "stations play " + name, is_whole(trial, [schedules.TREE, path])
+    for tree in TREES:
+        for seed, count in DRAWN:
+            name = "stations play %d items of seed %d over %s" % (count, seed, os.path.basename(tree))
+            if only in name:
+                yield name, is_whole(trial, [tree, str(seed), str(count)])
