@@ -17,7 +17,7 @@ COMMENTS = {".rt": re.compile(r"\s*//"), ".antt": re.compile(r"\s*--")}
 SOURCES = ["crates/*/src/**/*.rt", "crates/*/specs/**/*.antt", "crates/*/proofs/**/*.antt"]
 DOCUMENTS = ["README.md", "CONTRIBUTING.md", "CHANGELOG.md", "docs/*.md"]
 # The ordinary word for each: allocation, out of memory, unchanged, after, k-th.
-UNUSUAL = re.compile(r"\b(growths?|want of memory|(?:stays?|is|are|stayed) as (?:it was|they were)|so-manieth"
+UNUSUAL = re.compile(r"\b(growths?|want of memory|(?:stays?|is|are|stayed) as (?:it was|they were)(?! found)|so-manieth"
                      r"|behind the (?:save|others|first|next|last|opening))\b", re.IGNORECASE)
 # The glossary names them to say what stands in their place.
 GLOSSARY = "docs/GLOSSARY.md"
