@@ -12,7 +12,7 @@ pub(crate) enum Doing {
     Come,
     /// The event comes, and the save of its step fails so.
     Fail(Plan),
-    /// The event comes, and the station stops behind the save and is started again.
+    /// The event comes, and the station stops after the save and is started again.
     StopAfter,
     /// The station is started again.
     Start,
