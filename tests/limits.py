@@ -8,7 +8,7 @@ import trees
 
 # The layers that need no tree, and those over the tree at every limit.
 LAYERS = ["board", "told", "lists", "seats", "link", "udp", "stops"]
-OVER_TREE = ["tree", "publish", "view", "rows"]
+OVER_TREE = ["tree", "publish", "view", "rows", "drawn"]
 
 # How many datagrams are answered in one run.
 MANY = 5_000_000

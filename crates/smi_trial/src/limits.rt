@@ -3,6 +3,7 @@
 //! The limits are those of docs/PROTOCOL.md and docs/FORMATS.md.
 
 mod board;
+mod drawn;
 mod links;
 mod lists;
 mod saved;

@@ -1,4 +1,4 @@
-//! A tree at every limit, and the publishers, views and rows over it.
+//! A tree at every limit, and the publishers, views, rows and worlds over it.
 //!
 //! The tree is that of tests/trees.py: 128 stations, of which the first four have eight operators
 //! each; station n keeps domain n; domain 1 has 16 children and 16 devices, and domain 23 is 8 deep.
@@ -8,7 +8,7 @@
 ghost use Rattle.std.specs.Prelude.{◌≡◌, ◌≤◌, length};
 ghost use Rattle.smi_tree.specs.Lookups.{domain_count};
 
-use super::{OBJECTS, STATIONS, saved};
+use super::{OBJECTS, STATIONS, drawn, saved};
 use smi_grant::{Shown, Version};
 use smi_publish::Publisher;
 use smi_tree::Tree;
@@ -39,6 +39,7 @@ fn of_tree(alloc: Global, tree: &Tree, layer: &str) -> bool {
         "publish" => are_published(alloc, tree),
         "view" => are_viewed(alloc),
         "rows" => saved::holds(alloc, tree),
+        "drawn" => drawn::holds(alloc, tree),
         _ => false,
     }
 }
