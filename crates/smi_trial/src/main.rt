@@ -10,6 +10,10 @@
 //! the second over the tree file at every limit that tests/trees.py writes. They print `whole` where all
 //! was as it should be, and `changed` else.
 //!
+//! `smi_trial plays TREE SCHEDULE` and `smi_trial plays TREE SEED STEPS` play a schedule, or one that is
+//! drawn, on stations over three stores and in the world. They print `whole` where all did the same, and
+//! `changed` else.
+//!
 //! `smi_trial store PATH` saves three rows in a file, for other programs to read.
 //!
 //! `smi_trial random CALLS` makes random calls of watcher lists and compares each answer with that of plain
