@@ -41,6 +41,9 @@ fn reported(tree: &Tree, device: u16, state: u16) -> Option<(u16, Event<'static>
         return None;
     }
     let domain = tree.device(device).domain;
+    if domain < 1 || tree.domain_count() < domain {
+        return None;
+    }
     Some((tree.domain(domain).station, Event::Report(device, state)))
 }
 
