@@ -1,6 +1,6 @@
 /* Saves of stable rows by SQLite's C library, as smi_bench makes them: a log that is written ahead, each save one
-   statement that is handed to the device before it returns. Prints the microseconds of so many saves to a new store that
-   has so many rows, each there before.
+   statement that is handed to the device before it returns. Prints the microseconds of so many saves to a new store
+   that has so many rows, each there before.
 
    usage: saves STORE SAVES ROWS */
 #include <sqlite3.h>
@@ -21,7 +21,7 @@ static void check(int code, int wanted) {
     }
 }
 
-/* The nth save: the domains of one station in turn, then the next one's; no two that follow one another are the same. */
+/* The nth save: the domains of one station in turn, then the next one's; no two that follow one another are alike. */
 static void save(unsigned nth, unsigned rows) {
     unsigned char row[24] = {2, 1, 0, 2, 0, 0, 0, 0, 0, 0, 0, 1};
     unsigned place = nth % rows;

@@ -1,5 +1,5 @@
-//! Migrations of rows of older schemas, also such that stop in the middle (docs/FORMATS.md, "Stable rows"): how many rows
-//! were saved anew, what the rows are then, and that another one saves the rest, and a third nothing.
+//! Migrations of rows of older schemas, also such that stop in the middle (docs/FORMATS.md, "Stable rows"): how many
+//! rows were saved anew, what the rows are then, and that another one saves the rest, and a third nothing.
 
 use crate::starts::{
     A, B, BOOT, BOOT_1, HELD, HELD_1, HELD_2, Rows, SHORT_1, TAKEN, TAKEN_1, TREE, has, key,

@@ -10,6 +10,10 @@
 //! the second over the tree file at every limit that tests/trees.py writes. They print `whole` where all
 //! was as it should be, and `changed` else.
 //!
+//! `smi_trial plays TREE SCHEDULE` and `smi_trial plays TREE SEED STEPS` play a schedule, or one that is
+//! drawn, on stations over three stores and in the world. They print `whole` where all did the same, and
+//! `changed` else.
+//!
 //! `smi_trial store PATH` saves three rows in a file, for other programs to read.
 //!
 //! `smi_trial random CALLS` makes random calls of watcher lists and compares each answer with that of plain
@@ -65,16 +69,16 @@ fn main(rt: HostRuntime) -> io::Result<()> {
         }
         [_, what, calls] if what.as_str() == "random" => random::call(&rt, number(calls.as_str())),
         [_, what, tree, schedule] if what.as_str() == "plays" => {
-            let tree = fs::read(&rt, tree.as_str())?;
             let text = fs::read(&rt, schedule.as_str())?;
-            let is_so = plays::are_whole(rt.alloc(), tree.as_slice(), Items::Of(text.as_slice()));
-            println!(rt; "{}", Outcome::of(is_so).word())
+            play(&rt, tree.as_str(), Items::Of(text.as_slice()))
         }
         [_, what, tree, seed, steps] if what.as_str() == "plays" => {
-            let tree = fs::read(&rt, tree.as_str())?;
-            let items = Items::Drawn(u64::from(number(seed.as_str())), number(steps.as_str()));
-            let is_so = plays::are_whole(rt.alloc(), tree.as_slice(), items);
-            println!(rt; "{}", Outcome::of(is_so).word())
+            let seed = u64::from(number(seed.as_str()));
+            play(
+                &rt,
+                tree.as_str(),
+                Items::Drawn(seed, number(steps.as_str())),
+            )
         }
         [_, what, path] if what.as_str() == "store" => file::save_rows(&rt, path.as_str()),
         [_, what, readers, reads] if what.as_str() == "board" => {
@@ -88,6 +92,13 @@ fn main(rt: HostRuntime) -> io::Result<()> {
         }
         _ => Ok(()),
     }
+}
+
+/// Plays items over the tree in a file.
+fn play(rt: &HostRuntime, tree: &str, items: Items<'_>) -> io::Result<()> {
+    let tree = fs::read(rt, tree)?;
+    let is_so = plays::are_whole(rt.alloc(), tree.as_slice(), items);
+    println!(rt; "{}", Outcome::of(is_so).word())
 }
 
 /// The number of a word, at least 1.

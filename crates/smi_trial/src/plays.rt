@@ -1,7 +1,7 @@
 //! Schedules played on stations over three stores side by side, and beside the world of `smi_world`.
 //!
 //! Each station of the tree runs over a store in memory, over one whose saves are planned to fail where the schedule
-//! says so, and over SQL on disks in memory; a restart gives each of them up and opens it anew on what its store has.
+//! says so, and over SQL on disks in memory.
 //! After each item the three have heard, handed out and saved the same, byte for byte; the world has left what they
 //! have handed out; and each of the three tells of itself what the entries say.
 
@@ -14,7 +14,7 @@ use crate::disks;
 use crate::outcome::are_handed_out;
 use crate::stores::are_same;
 use left::{are_left, are_so};
-use side::{Made, Post, act, first, rows_of};
+use side::{Made, Post, act, add, rows_of};
 use smi_item::{Item, Line};
 use smi_message::encode;
 use smi_out::Out;
@@ -59,26 +59,31 @@ fn over_sql(alloc: Global) -> Result<Closing<disks::Store>, AllocError> {
     }
 }
 
-/// A station over each store.
-fn add<'a>(
+/// A station over each store; whether each is there.
+fn add_three<'a>(
     alloc: Global,
     tree: &'a Tree,
     number: u16,
+    sql: Closing<disks::Store>,
     sides: &mut Sides<'a>,
-) -> Result<(), AllocError> {
-    let sql = over_sql(alloc)?;
-    sides
-        .memory
-        .push(first(alloc, tree, number, MemoryStable::new(alloc)))?;
+) -> bool {
     let planned = PlannedStable::new(MemoryStable::new(alloc));
-    sides.planned.push(first(alloc, tree, number, planned))?;
-    sides.sql.push(first(alloc, tree, number, sql))?;
-    Ok(())
+    add(
+        alloc,
+        tree,
+        number,
+        MemoryStable::new(alloc),
+        &mut sides.memory,
+    ) && add(alloc, tree, number, planned, &mut sides.planned)
+        && add(alloc, tree, number, sql, &mut sides.sql)
 }
 
 fn add_all<'a>(alloc: Global, tree: &'a Tree, sides: &mut Sides<'a>) -> Result<(), AllocError> {
     for number in 0..tree.station_count() {
-        add(alloc, tree, number.wrapping_add(1), sides)?;
+        let sql = over_sql(alloc)?;
+        if !add_three(alloc, tree, number.wrapping_add(1), sql, sides) {
+            return Err(AllocError);
+        }
     }
     Ok(())
 }
@@ -93,11 +98,7 @@ fn are_kept(one: Option<Vec<SavedRow>>, other: Option<Vec<SavedRow>>) -> bool {
 
 /// Whether the station tells of itself what the lines say; one that has stopped does not know how its row stands.
 fn is_told<S: Played + Drop>(post: &Post<'_, S>, made: Made, lines: &[Line]) -> bool {
-    made == Made::Heard(Err(StepFault::Stopped))
-        || post
-            .station
-            .as_ref()
-            .is_some_and(|station| are_so(station, lines))
+    made == Made::Heard(Err(StepFault::Stopped)) || are_so(&post.station, lines)
 }
 
 /// The station of a number over each store.
@@ -118,10 +119,9 @@ fn posts_at<'a, 'b>(sides: &'b mut Sides<'a>, number: u16) -> Option<Three<'a, '
 }
 
 /// Whether a turn makes the same of the station over each store, and has left that.
-fn make<'a>(
+fn make(
     alloc: Global,
-    tree: &'a Tree,
-    posts: Three<'a, '_>,
+    posts: Three<'_, '_>,
     turn: &Turn<'_>,
     sheets: &mut Sheets,
     before: usize,
@@ -131,10 +131,10 @@ fn make<'a>(
         planned,
         sql,
     } = posts;
-    let made = act(alloc, tree, memory, turn, &mut sheets.memory);
+    let made = act(alloc, memory, turn, &mut sheets.memory);
     let lines = sheets.lines.as_slice();
-    act(alloc, tree, planned, turn, &mut sheets.planned) == made
-        && act(alloc, tree, sql, turn, &mut sheets.sql) == made
+    act(alloc, planned, turn, &mut sheets.planned) == made
+        && act(alloc, sql, turn, &mut sheets.sql) == made
         && made != Made::Lost
         && are_handed_out(&sheets.memory, &sheets.planned)
         && are_handed_out(&sheets.memory, &sheets.sql)
@@ -147,17 +147,17 @@ fn make<'a>(
 }
 
 /// Whether an item that comes to no station has left nothing, and one that comes to a station what it makes of it.
-fn turns<'a>(
+fn turns(
     alloc: Global,
-    tree: &'a Tree,
-    sides: &mut Sides<'a>,
+    tree: &Tree,
+    sides: &mut Sides<'_>,
     sent: &[[u8; 44]],
     item: &Item,
     sheets: &mut Sheets,
 ) -> bool {
     match turn_of(tree, sent, item) {
         Some(turn) => match posts_at(sides, turn.station) {
-            Some(posts) => make(alloc, tree, posts, &turn, sheets, sent.len()),
+            Some(posts) => make(alloc, posts, &turn, sheets, sent.len()),
             None => false,
         },
         None => {
@@ -186,11 +186,11 @@ fn keep(sent: &mut Vec<[u8; 44]>, out: &Out) -> Result<(), AllocError> {
 }
 
 /// Whether each item leaves in the world what it makes of the stations.
-fn are_made<'a>(
+fn are_made(
     alloc: Global,
-    tree: &'a Tree,
+    tree: &Tree,
     world: &mut World<'_>,
-    sides: &mut Sides<'a>,
+    sides: &mut Sides<'_>,
     items: &[Item],
     sheets: &mut Sheets,
 ) -> Result<bool, AllocError> {

@@ -28,7 +28,7 @@ const FIRST: &[u8] = &[2, 0, 0, 0, 0, 0, 0, 1];
 const MOST_CALLS: u64 = 1_000;
 
 /// What an open and a step came to.
-#[derive(Clone, Copy, Debug, PartialEq, Eq)]
+#[derive(Clone, Copy, PartialEq, Eq)]
 enum End {
     /// The store was not opened.
     NoStore,
@@ -36,10 +36,14 @@ enum End {
     NotOpened(OpenFault),
     /// The domain was taken.
     Stepped(Result<Heard, StepFault>),
+    /// The station was opened, and goes on where it was asked to.
+    Opened,
+    /// It does not go on.
+    Wrong,
 }
 
 /// What rows are found.
-#[derive(Clone, Copy, Debug, PartialEq, Eq)]
+#[derive(Clone, Copy, PartialEq, Eq)]
 enum Found {
     /// Boot 1.
     Before,
@@ -78,24 +82,6 @@ fn fits(end: End, found: Found) -> bool {
     }
 }
 
-/// The domain is taken at a station over a store, on files that may stop.
-fn taken(alloc: Global, tree: &Tree, store: Store) -> (End, Disks) {
-    match Station::open(alloc, tree, 1, store) {
-        Ok(mut station) => {
-            let end = station.step(Event::Datagram(&TAKE), &mut Out::new());
-            (End::Stepped(end), close(station.into_stable()))
-        }
-        Err((fault, store)) => (End::NotOpened(fault), close(store)),
-    }
-}
-
-fn run(alloc: Global, tree: &Tree, files: Disks) -> (End, Disks) {
-    match open(alloc, files) {
-        Ok(store) => taken(alloc, tree, store),
-        Err(files) => (End::NoStore, files),
-    }
-}
-
 /// Whether a station that was opened on these rows goes on: with the next boot, and with the domain as they say.
 fn is_going_on(station: &mut Station<'_, Store>, found: Found) -> bool {
     let (boot, heard) = match found {
@@ -110,28 +96,59 @@ fn is_going_on(station: &mut Station<'_, Store>, found: Found) -> bool {
     station.boot() == boot && is_stepped && is_held && out.datagrams().len() == 1
 }
 
-/// Whether a station goes on over a store that has these rows.
-fn goes_on(alloc: Global, tree: &Tree, store: Store, found: Found) -> bool {
-    match Station::open(alloc, tree, 1, store) {
-        Ok(mut station) => {
-            let is_so = is_going_on(&mut station, found);
-            drop(close(station.into_stable()));
-            is_so
-        }
-        Err((_, store)) => {
-            drop(close(store));
-            false
+/// What is done at a station that has opened.
+#[derive(Clone, Copy)]
+enum Work {
+    Nothing,
+    /// The domain is taken.
+    Take,
+    /// It goes on, with these rows.
+    GoOn(Found),
+}
+
+fn work_at(station: &mut Station<'_, Store>, work: Work) -> End {
+    match work {
+        Work::Nothing => End::Opened,
+        Work::Take => End::Stepped(station.step(Event::Datagram(&TAKE), &mut Out::new())),
+        Work::GoOn(found) => {
+            if is_going_on(station, found) {
+                End::Opened
+            } else {
+                End::Wrong
+            }
         }
     }
 }
 
-/// The rows of a store, if they are any of those, and if a station goes on over them.
+// One function owns a station: whatever owns one is dear to prove.
+fn at_station(alloc: Global, tree: &Tree, store: Store, work: Work) -> (End, Disks) {
+    match Station::open(alloc, tree, 1, store) {
+        Ok(mut station) => {
+            let end = work_at(&mut station, work);
+            (end, close(station.into_stable()))
+        }
+        Err((fault, store)) => (End::NotOpened(fault), close(store)),
+    }
+}
+
+/// What is done at a station over a store on these files.
+fn on_files(alloc: Global, tree: &Tree, files: Disks, work: Work) -> (End, Disks) {
+    match open(alloc, files) {
+        Ok(store) => at_station(alloc, tree, store, work),
+        Err(files) => (End::NoStore, files),
+    }
+}
+
+/// The rows of a store, if they are any of those, where a station goes on over them.
 fn found_over(alloc: Global, tree: &Tree, store: Store) -> Option<Found> {
     let mut store = store;
     let found = store.load().ok().and_then(|rows| found_in(&rows));
     // Whatever was found, the store is given up there.
-    let goes_on = goes_on(alloc, tree, store, found.unwrap_or(Found::Before));
-    if goes_on { found } else { None }
+    let work = Work::GoOn(found.unwrap_or(Found::Before));
+    match at_station(alloc, tree, store, work) {
+        (End::Opened, _) => found,
+        _ => None,
+    }
 }
 
 /// The rows that the next open finds, once the machine is back.
@@ -154,13 +171,13 @@ fn limits(which: usize, calls: u64) -> (u64, u64) {
 /// What the run comes to on copies of the files that stop so, where the rows fit that.
 fn end_of(alloc: Global, tree: &Tree, files: &Disks, which: usize, calls: u64) -> Option<End> {
     let (log, db) = limits(which, calls);
-    let (end, left) = run(alloc, tree, copied(alloc, files, log, db)?);
+    let (end, left) = on_files(alloc, tree, copied(alloc, files, log, db)?, Work::Take);
     let found = rows_after(alloc, tree, left)?;
     if fits(end, found) { Some(end) } else { None }
 }
 
 /// How often the station was not opened, and how often it stopped, before a run came to its end.
-#[derive(Clone, Copy, Debug, PartialEq, Eq)]
+#[derive(Clone, Copy)]
 struct Counts {
     not_opened: u64,
     stopped: u64,
@@ -174,7 +191,7 @@ fn count_ends(alloc: Global, tree: &Tree, files: &Disks, which: usize) -> Option
     };
     for calls in 0..MOST_CALLS {
         match end_of(alloc, tree, files, which, calls)? {
-            End::NoStore => {}
+            End::NoStore | End::Opened | End::Wrong => {}
             End::NotOpened(_) => counts.not_opened = counts.not_opened.wrapping_add(1),
             End::Stepped(Ok(_)) => return Some(counts),
             End::Stepped(Err(_)) => counts.stopped = counts.stopped.wrapping_add(1),
@@ -191,24 +208,10 @@ fn all_fit(alloc: Global, tree: &Tree, files: &Disks) -> bool {
         && count_ends(alloc, tree, files, 2).is_some_and(has_both)
 }
 
-/// The files of a station in its first boot.
-fn begun(alloc: Global, tree: &Tree, store: Store) -> Option<Disks> {
-    match Station::open(alloc, tree, 1, store) {
-        Ok(station) => Some(close(station.into_stable())),
-        Err((_, store)) => {
-            drop(close(store));
-            None
-        }
-    }
-}
-
 fn over_tree(alloc: Global, tree: &Tree) -> bool {
-    match open(alloc, blank(alloc)) {
-        Ok(store) => match begun(alloc, tree, store) {
-            Some(files) => all_fit(alloc, tree, &files),
-            None => false,
-        },
-        Err(_) => false,
+    match on_files(alloc, tree, blank(alloc), Work::Nothing) {
+        (End::Opened, files) => all_fit(alloc, tree, &files),
+        _ => false,
     }
 }
 

@@ -11,10 +11,10 @@ use smi_station::Station;
 use smi_tree::Tree;
 use std::alloc::Global;
 
-/// A station; none where it could not be started again.
+/// A station.
 #[derive(Drop)]
 pub(crate) struct Post<'a, S: Played + Drop> {
-    pub station: Option<Station<'a, S>>,
+    pub station: Station<'a, S>,
     /// Whether a save that failed by hand has stopped it.
     is_out: bool,
 }
@@ -23,44 +23,33 @@ pub(crate) struct Post<'a, S: Played + Drop> {
 const NOT_STORED: u16 = 31;
 
 /// What was made of a station.
-#[derive(Clone, Copy, Debug, PartialEq, Eq)]
+#[derive(Clone, Copy, PartialEq, Eq)]
 pub(crate) enum Made {
     /// What it has heard.
     Heard(Result<Heard, StepFault>),
     /// It has started, after it had heard this, if it had.
     Started(Option<Result<Heard, StepFault>>),
-    /// It could not be started.
+    /// It could not be started again.
     Lost,
 }
 
-/// A station that starts on an empty store.
-pub(crate) fn first<'a, S: Played + Drop>(
+/// One station more, which starts on an empty store; whether it is there.
+pub(crate) fn add<'a, S: Played + Drop>(
     alloc: Global,
     tree: &'a Tree,
     number: u16,
     store: S,
-) -> Post<'a, S> {
-    Post {
-        station: Station::open(alloc, tree, number, store).ok(),
-        is_out: false,
-    }
-}
-
-/// The station stops, and is opened anew on its store.
-fn start<'a, S: Played + Drop>(
-    alloc: Global,
-    tree: &'a Tree,
-    number: u16,
-    post: &mut Post<'a, S>,
+    posts: &mut Vec<Post<'a, S>>,
 ) -> bool {
-    post.is_out = false;
-    let Some(station) = post.station.take() else {
-        return false;
-    };
-    if let Some(store) = station.into_stable().reopened(alloc) {
-        post.station = Station::open(alloc, tree, number, store).ok();
+    match Station::open(alloc, tree, number, store) {
+        Ok(station) => posts
+            .push(Post {
+                station,
+                is_out: false,
+            })
+            .is_ok(),
+        Err(_) => false,
     }
-    post.station.is_some()
 }
 
 /// The event comes to a station.
@@ -69,13 +58,11 @@ fn come<S: Played + Drop>(
     event: Event<'_>,
     out: &mut Out,
 ) -> Result<Heard, StepFault> {
-    match post.station.as_mut() {
-        Some(station) if !post.is_out => station.step(event, out),
-        _ => {
-            out.clear();
-            Err(StepFault::Stopped)
-        }
+    if post.is_out {
+        out.clear();
+        return Err(StepFault::Stopped);
     }
+    post.station.step(event, out)
 }
 
 /// An order whose row was not saved is answered, where nothing else was handed out.
@@ -105,10 +92,7 @@ fn fail_by_hand<S: Played + Drop>(
     event: Event<'_>,
     out: &mut Out,
 ) -> Result<Heard, StepFault> {
-    let would_save = match post.station.as_ref() {
-        Some(station) => !station.is_stopped() && station.saves(out, event),
-        None => false,
-    };
+    let would_save = !post.station.is_stopped() && post.station.saves(out, event);
     if !would_save || post.is_out {
         return come(post, event, out);
     }
@@ -124,13 +108,6 @@ fn fail_by_hand<S: Played + Drop>(
     Err(StepFault::Stopped)
 }
 
-fn plans<S: Played + Drop>(post: &mut Post<'_, S>, how: Plan) -> bool {
-    match post.station.as_mut() {
-        Some(station) => station.stable_mut().plan_next(how),
-        None => false,
-    }
-}
-
 /// The event comes, and the save of its step fails so.
 fn fail<S: Played + Drop>(
     post: &mut Post<'_, S>,
@@ -138,14 +115,12 @@ fn fail<S: Played + Drop>(
     event: Event<'_>,
     out: &mut Out,
 ) -> Result<Heard, StepFault> {
-    let heard = if plans(post, how) {
+    let heard = if post.station.stable_mut().plan_next(how) {
         come(post, event, out)
     } else {
         fail_by_hand(post, how, event, out)
     };
-    if let Some(station) = post.station.as_mut() {
-        station.stable_mut().plan_nothing();
-    }
+    post.station.stable_mut().plan_nothing();
     if heard == Err(StepFault::NotStored) {
         tell_not_stored(event, out);
     }
@@ -153,10 +128,9 @@ fn fail<S: Played + Drop>(
 }
 
 /// What a turn makes of a station; what it hands out is in `out` then.
-pub(crate) fn act<'a, S: Played + Drop>(
+pub(crate) fn act<S: Played + Drop>(
     alloc: Global,
-    tree: &'a Tree,
-    post: &mut Post<'a, S>,
+    post: &mut Post<'_, S>,
     turn: &Turn<'_>,
     out: &mut Out,
 ) -> Made {
@@ -167,14 +141,14 @@ pub(crate) fn act<'a, S: Played + Drop>(
         Doing::Start => None,
     };
     out.clear();
-    if start(alloc, tree, turn.station, post) {
-        Made::Started(before)
-    } else {
-        Made::Lost
+    post.is_out = false;
+    match post.station.restart(alloc) {
+        Ok(()) => Made::Started(before),
+        Err(_) => Made::Lost,
     }
 }
 
 /// The rows of a station's store.
 pub(crate) fn rows_of<S: Played + Drop>(post: &mut Post<'_, S>) -> Option<Vec<SavedRow>> {
-    post.station.as_mut()?.stable_mut().load().ok()
+    post.station.stable_mut().load().ok()
 }

@@ -2,9 +2,8 @@
 
 ghost use Rattle.std.specs.Prelude.{◌≡◌};
 
-use crate::disks::{Store, close, open};
+use crate::disks::{Store, close};
 use smi_stable::{Key, MemoryStable, Plan, PlannedStable, SavedRow, Stable, StoreFault};
-use std::alloc::Global;
 
 /// A store that a play uses.
 pub(crate) trait Played: Stable {
@@ -13,9 +12,6 @@ pub(crate) trait Played: Stable {
 
     /// No save is planned to fail.
     fn plan_nothing(&mut self);
-
-    /// The store once its process has stopped and is started again; nothing where it can't be opened.
-    fn reopened(self, alloc: Global) -> Option<Self>;
 }
 
 impl Played for MemoryStable {
@@ -24,10 +20,6 @@ impl Played for MemoryStable {
     }
 
     fn plan_nothing(&mut self) {}
-
-    fn reopened(self, _alloc: Global) -> Option<Self> {
-        Some(self)
-    }
 }
 
 impl<S: Played> Played for PlannedStable<S> {
@@ -38,11 +30,6 @@ impl<S: Played> Played for PlannedStable<S> {
 
     fn plan_nothing(&mut self) {
         self.unplan();
-    }
-
-    fn reopened(self, alloc: Global) -> Option<Self> {
-        let store = self.into_inner().reopened(alloc)?;
-        Some(PlannedStable::new(store))
     }
 }
 
@@ -99,12 +86,4 @@ impl Played for Closing<Store> {
     }
 
     fn plan_nothing(&mut self) {}
-
-    fn reopened(self, alloc: Global) -> Option<Self> {
-        let Closing { store } = self;
-        match open(alloc, close(store)) {
-            Ok(store) => Some(Closing { store }),
-            Err(_) => None,
-        }
-    }
 }

@@ -6,7 +6,7 @@ use smi_stable::Plan;
 use smi_tree::Tree;
 
 /// What is made of a station.
-#[derive(Clone, Copy, Debug, PartialEq, Eq)]
+#[derive(Clone, Copy)]
 pub(crate) enum Doing {
     /// The event comes.
     Come,
@@ -19,7 +19,7 @@ pub(crate) enum Doing {
 }
 
 /// What is made of which station.
-#[derive(Clone, Copy, Debug)]
+#[derive(Clone, Copy)]
 pub(crate) struct Turn<'a> {
     pub station: u16,
     pub doing: Doing,
@@ -41,6 +41,9 @@ fn reported(tree: &Tree, device: u16, state: u16) -> Option<(u16, Event<'static>
         return None;
     }
     let domain = tree.device(device).domain;
+    if domain < 1 || tree.domain_count() < domain {
+        return None;
+    }
     Some((tree.domain(domain).station, Event::Report(device, state)))
 }
 

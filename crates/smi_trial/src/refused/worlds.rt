@@ -76,20 +76,12 @@ struct Sheets {
     whole: Vec<Line>,
 }
 
-/// A line more, at the second try where the first was refused an allocation.
-fn add(lines: &mut Vec<Line>, line: Line) -> Outcome {
-    match lines.push(line) {
-        Ok(()) => Outcome::Whole,
-        Err(_) => Outcome::again(true, lines.push(line).is_ok()),
-    }
-}
-
+/// More lines, at the second try where the first was refused an allocation.
 fn add_all(whole: &mut Vec<Line>, lines: &[Line]) -> Outcome {
-    let mut outcome = Outcome::Whole;
-    for line in lines {
-        outcome = outcome.and(add(whole, *line));
+    match whole.extend_from_slice(lines) {
+        Ok(()) => Outcome::Whole,
+        Err(_) => Outcome::again(true, whole.extend_from_slice(lines).is_ok()),
     }
-    outcome
 }
 
 /// An item in both worlds.
@@ -103,8 +95,11 @@ fn both(
     let (first, is_again) = act(alloc, one, item, &mut sheets.left, &mut sheets.one);
     let (second, is_again_there) = act(alloc, other, item, &mut sheets.left, &mut sheets.other);
     let is_so = are_left(item, &sheets.one, &sheets.other, is_again || is_again_there);
-    let lines = if is_again { &sheets.other } else { &sheets.one };
-    let added = add_all(&mut sheets.whole, lines);
+    let added = if is_again {
+        add_all(&mut sheets.whole, &sheets.other)
+    } else {
+        add_all(&mut sheets.whole, &sheets.one)
+    };
     first.and(second).and(added).and(Outcome::of(is_so))
 }
 
