@@ -50,14 +50,14 @@ fn push(tree: &Tree, left: &Left, lines: &mut Vec<Line>) -> Outcome {
 
 /// The lines from the start of a station on.
 fn from_start(lines: &[Line]) -> &[Line] {
-    let mut rest = lines;
-    while let [first, others @ ..] = rest {
-        if matches!(first, Line::Entry(Entry::Booted { .. })) {
-            return rest;
+    let mut place: usize = 0;
+    for line in lines {
+        if matches!(line, Line::Entry(Entry::Booted { .. })) {
+            return lines.get(place..).unwrap_or(&[]);
         }
-        rest = others;
+        place = place.wrapping_add(1);
     }
-    rest
+    &[]
 }
 
 /// Whether two worlds have left the same, or one that was refused an allocation the start alone.
