@@ -19,6 +19,8 @@ import sys
 import tempfile
 import time
 
+import trees as tree_files
+
 HERE = os.path.dirname(os.path.abspath(__file__))
 ROUNDS = 5
 # How many items are drawn: as many as the program takes.
@@ -193,8 +195,17 @@ def counting(folder):
     return path
 
 
+def c_saves(folder):
+    """The program that makes the same saves by SQLite's C library; None where that is not installed."""
+    path = os.path.join(folder, "c_saves")
+    source = os.path.join(HERE, "peer", "saves.c")
+    made = subprocess.run(["cc", "-O2", "-o", path, source, "-lsqlite3"], stderr=subprocess.DEVNULL, check=False)
+    return path if made.returncode == 0 else None
+
+
 def saves_over(bench, kept):
-    """So many saves to a store with so many rows: saves and plain writes a second, and syncs a save."""
+    """So many saves to a store with so many rows: saves and plain writes a second, syncs a save, and saves a second by
+    C."""
     # On the disk that the repository is on, as a folder for temporary files may be in memory.
     with tempfile.TemporaryDirectory(dir=os.path.dirname(bench)) as folder:
         store, syncs = os.path.join(folder, "store"), os.path.join(folder, "syncs")
@@ -205,16 +216,25 @@ def saves_over(bench, kept):
         with open(syncs, encoding="ascii") as file:
             # Each plain write is handed to the device once.
             count = int(file.read()) - SAVES
-    return SAVES * 1e6 / int(words[3]), SAVES * 1e6 / int(words[7]), count / (kept + SAVES)
+        by_c, other = c_saves(folder), 0
+        if by_c:
+            told = subprocess.run([by_c, os.path.join(folder, "c_store"), str(SAVES), str(kept)], stdout=subprocess.PIPE,
+                                  check=True).stdout.split()
+            check_store(os.path.join(folder, "c_store"), kept)
+            other = SAVES * 1e6 / int(told[2])
+    return SAVES * 1e6 / int(words[3]), SAVES * 1e6 / int(words[7]), count / (kept + SAVES), other
 
 
 def saves(bench):
     """Saves of stable rows, beside the same bytes written one row after the other and handed to the device."""
     for kept in KEPT:
         runs = [saves_over(bench, kept) for _ in range(ROUNDS)]
-        stored, written, syncs = ([run[place] for run in runs] for place in range(3))
+        stored, written, syncs, by_c = ([run[place] for run in runs] for place in range(4))
         print("stable rows: %d saves to %d rows, %.0f a second (least %.0f); plain writes %.0f (least %.0f); ratio %.2f; %.2f syncs a save"
               % (SAVES, kept, max(stored), min(stored), max(written), min(written), max(stored) / max(written), max(syncs)))
+        if max(by_c):
+            print("stable rows: C's SQLite, with a log and full syncs too, %.0f a second (least %.0f); ratio %.2f"
+                  % (max(by_c), min(by_c), max(stored) / max(by_c)))
 
 
 LAYERS = [["board", "1", "2000000"], ["board", "3", "2000000"], ["link", "20000"], ["watchers", "20"]]
@@ -236,11 +256,56 @@ def schedules(program):
         print("sim: %d drawn items over %s, %.0f a second" % (ITEMS, os.path.basename(tree), ITEMS / taken[0]))
 
 
+# Three levels of domains that one station keeps.
+LEVELS = """tree 17
+state OFF
+action GO
+station A 127.0.0.1:9001
+operator ANN A
+unitclass UNIT OFF
+accept UNIT GO
+domain TOP A UNIT -
+domain MID A UNIT TOP
+domain LOW A UNIT MID
+"""
+
+# What is measured of steps, over which trees, and how many times.
+STEPS = [("take", "worked", 400_000), ("take", "full", 400_000), ("do", "levels", 50_000), ("state", "worked", 400_000),
+         ("state", "full", 400_000), ("tick", "worked", 400_000), ("tick", "full", 100_000), ("due", "full", 20_000)]
+
+
+def best_of(command):
+    """The words of that run of a measure whose time, its third word, was least."""
+    runs = [subprocess.run(command, stdout=subprocess.PIPE, check=True).stdout.decode().replace(",", "").split()
+            for _ in range(ROUNDS)]
+    return min(runs, key=lambda words: int(words[2]))
+
+
+def steps(bench, folder):
+    """How many steps a station makes in a second, and how many items a world, without text."""
+    paths = {name: os.path.join(folder, name + ".tree") for name in ("full", "levels")}
+    paths["worked"], paths["detector"] = (os.path.join(HERE, "..", "examples", name + ".tree") for name in ("worked", "detector"))
+    for name, text in [("full", tree_files.full()), ("levels", LEVELS)]:
+        with open(paths[name], "w", encoding="ascii") as file:
+            file.write(text)
+    for kind, name, count in STEPS:
+        words = best_of([bench, "steps", paths[name], kind, str(count)])
+        made, took, good, sent, changes = (int(words[place]) for place in (0, 2, 4, 6, 8))
+        # Nothing was refused, each told state has changed the unit, and where nothing is due nothing is sent.
+        assert good == made and (kind != "state" or changes == count) and (kind != "tick" or sent == 0), words
+        print("steps: %s over the %s tree, %.0f a second, %.2f datagrams each" % (kind, name, made * 1e6 / took, sent / made))
+    for name in ("worked", "detector"):
+        words = best_of([bench, "act", paths[name], str(ITEMS)])
+        assert int(words[0]) == ITEMS, words
+        print("act: %d drawn items over the %s tree, without text, %.0f a second" % (ITEMS, name, ITEMS * 1e6 / int(words[2])))
+
+
 def main():
     program, bench, trial = map(os.path.abspath, sys.argv[1:])
     with tempfile.TemporaryDirectory() as folder:
         answers(program, folder)
         schedules(program)
+        steps(bench, folder)
         trees(bench, folder)
         layers(trial)
     saves(bench)

@@ -3,9 +3,14 @@
 //! `smi_bench FILE ROUNDS` prints for one round the microseconds of `Tree::read` and of a loop that
 //! only finds the lines and words. `smi_bench STORE PLAIN SAVES ROWS` prints the microseconds of so
 //! many saves to a new store that has so many rows, each there before, and of as many writes to a new
-//! file. Without words it measures nothing.
+//! file. `smi_bench steps TREE KIND COUNT` prints the microseconds of steps of a station over a store in
+//! memory, and what was counted of them: of `take` and `state` so many datagrams, of `do` so many orders
+//! and what the station then sends itself, of `tick` and `due` so many ticks. `smi_bench act TREE ITEMS`
+//! prints the microseconds of so many drawn items in a world. Without words it measures nothing.
 #![tactic(auto)]
 
+mod acts;
+mod steps;
 mod stores;
 
 use smi_tree::Tree;
@@ -18,6 +23,15 @@ fn main(rt: HostRuntime) -> io::Result<()> {
         words.push(word)?;
     }
     match words.as_slice() {
+        [_, what, tree, kind, count] if what.as_str() == "steps" => steps::print_steps(
+            &rt,
+            tree.as_str(),
+            kind.as_str(),
+            number(count.as_str()),
+        ),
+        [_, what, tree, items] if what.as_str() == "act" => {
+            acts::print_acts(&rt, tree.as_str(), number(items.as_str()))
+        }
         [_, path, rounds] => trees(&rt, path.as_str(), number(rounds.as_str())),
         [_, store, plain, saves, rows] => saves_in(
             &rt,

@@ -14,5 +14,7 @@ pub mod Ranges
 pub mod SendsInRange
 pub mod KeptObjects
 pub mod SoundDisplay
+pub mod DisplayStays
+pub mod ShowsInRange
 pub mod RowsRead
 pub mod RowsMean

@@ -5,7 +5,7 @@
 ghost use Rattle.std.specs.Prelude.{◌≡◌, [], ◌∷◌, ◌++◌, map, Some};
 ghost use Rattle.smi_grant.specs.declared.Command.TheVariants as command;
 ghost use Rattle.smi_rows.specs.Store.{saved};
-ghost use Rattle.smi_protocol.specs.Happening.{answer_command, mark};
+ghost use Rattle.smi_protocol.specs.Happening.{answer, answer_asked, answer_command, mark};
 ghost use Rattle.smi_protocol.specs.Opening.{first_opened, opening_entries};
 ghost use Rattle.smi_protocol.specs.Played.{Plays, turn_after, Deliver, StopAfter};
 ghost use Rattle.smi_protocol.specs.SavedRows.{key};
@@ -31,6 +31,13 @@ pub fn saved_but_not_told()
 /// A take, a drop, and the old take once more.
 pub fn take_and_drop()
     ensures { Plays worked_tree grants.take_and_drop }
+{}
+
+/// A record that ends a take and answers a question: what the link tells comes before what was asked.
+pub fn take_and_question()
+    ensures played { Plays worked_tree grants.take_and_question }
+    ensures answers { (turn_after worked_tree grants.taking_and_asking (Deliver 3)).out.answers
+        ≡ answer BOB (Take TPC) 0 ∷ answer_asked BOB TPC grants.held_by_BOB ∷ [] }
 {}
 
 /// The take that comes first is granted, the other is told who has it.

@@ -1,7 +1,7 @@
 //! What holds of every event at every station, as laws: each function does nothing.
 
 ghost use Rattle.std.specs.Prelude.{◌≡◌, ℕ, true, None};
-ghost use Rattle.smi_message.specs.Message.{Message, is_message};
+ghost use Rattle.smi_message.specs.Message.{Message, is_boot, is_message};
 ghost use Rattle.smi_message.specs.Spelling.{spelling, reading};
 ghost use Rattle.smi_tree.specs.Hierarchy.{Hierarchy};
 ghost use Rattle.smi_tree.specs.Lawful.{IsBetween, IsTree};
@@ -18,6 +18,8 @@ ghost use Rattle.smi_protocol.specs.Refusals.{is_keeper, refusal_of};
 ghost use Rattle.smi_rows.specs.Store.{Rows};
 ghost use Rattle.smi_protocol.specs.SavedRows.{domain_row, operator_row, saved_row};
 ghost use Rattle.smi_protocol.specs.Sound.{AllInRange, IsSayable, IsSound};
+ghost use Rattle.smi_protocol.specs.Opening.{first_display};
+ghost use Rattle.smi_protocol.specs.SoundDisplay.{IsDisplay, MayChange};
 ghost use Rattle.smi_protocol.specs.Step.{after, after_reading};
 
 /// The bytes of a datagram are heard as that datagram.
@@ -34,12 +36,25 @@ pub fn grants_stay_sound()
         → IsSayable what → refusal_of h number g what ≡ None → IsSound h (grant_step h number g what).grants }
 {}
 
-/// Whatever comes to a station whose grants are sound, each datagram that it then sends of them is in the ranges
-/// of its kind.
+/// What a station keeps of states and of watching can be told when it starts, and stays so whatever comes, forged or
+/// not, as long as each of its objects may change once more (specs/SoundDisplay.antt).
+pub fn displays_stay_sound()
+    ensures opens { (h : Hierarchy) (number : ℕ) → IsTree h → IsDisplay h number (first_display h number) }
+    ensures stays { (h : Hierarchy) (number : ℕ) (s : Station) (what : Happening) → IsTree h
+        → IsDisplay h number s.display → MayChange s.display → IsSayable what
+        → IsDisplay h number (after h number s what).station.display }
+{}
+
+/// Whatever comes to a sound station, forged or not, each datagram that it then sends is in the ranges of its kind:
+/// those of its grants, where these are sound, and all of them, where what it keeps of states is sound too.
 pub fn what_is_sent_is_in_range()
-    ensures { (h : Hierarchy) (number : ℕ) (g : Grants) (what : Happening) → IsTree h
+    ensures of_grants { (h : Hierarchy) (number : ℕ) (g : Grants) (what : Happening) → IsTree h
         → IsBetween 1 (station_count h) number → IsSound h g → IsSayable what → refusal_of h number g what ≡ None
         → AllInRange (grant_step h number g what).sends }
+    ensures whole { (h : Hierarchy) (number : ℕ) (s : Station) (what : Happening) → IsTree h
+        → IsBetween 1 (station_count h) number → IsSound h s.grants → IsDisplay h number s.display
+        → MayChange s.display → is_boot s.grants.boot ≡ true → IsSayable what
+        → AllInRange (after h number s what).out.datagrams }
 {}
 
 /// The rows of a station whose grants are sound read back: that of each domain that it keeps, and that of each of

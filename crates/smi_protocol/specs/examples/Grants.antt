@@ -1,11 +1,14 @@
 -- Worked examples of taking and giving back.
-use Rattle.std.specs.Prelude.{List, [], ◌∷◌, ◌++◌}
+use Rattle.std.specs.Prelude.{List, [], ◌∷◌, ◌++◌, Some}
 use Rattle.smi_grant.specs.declared.Command.TheVariants as command
 use Rattle.smi_grant.specs.declared.Holder.TheVariants.{Operator, Domain}
-use Rattle.smi_protocol.specs.Played.{Deliver, StopAfter, Line, line, sends, TAKE, DROP, RUN, TELL}
-use Rattle.smi_protocol.specs.declared.order.Order.TheVariants.{Take, Drop, Do, Include, Exclude}
+use Rattle.smi_grant.specs.declared.record.Phase.TheVariants as phase
+use Rattle.smi_grant.specs.Record.{Standing, standing}
+use Rattle.smi_protocol.specs.Happening.{told}
+use Rattle.smi_protocol.specs.Played.{Deliver, StopAfter, Line, line, sends, ASK, TAKE, DROP, RUN, TELL}
+use Rattle.smi_protocol.specs.declared.order.Order.TheVariants.{Ask, Take, Drop, Do, Include, Exclude}
 use Rattle.smi_protocol.specs.declared.entry.Entry.TheVariants.{Booted, Granted, Freed, Ordered, Ran, Learned, LetGo}
-use Rattle.smi_protocol.specs.declared.entry.Entry.TheVariants.{Settled}
+use Rattle.smi_protocol.specs.declared.entry.Entry.TheVariants.{Settled, Told}
 use Rattle.smi_protocol.specs.examples.WorkedTree.{A, B, ANN, BOB, DCS, TPC, OFF, STOP}
 use Rattle.smi_protocol.specs.examples.Words.{ann, bob, ann_told, bob_told, passed}
 
@@ -34,6 +37,26 @@ abbrev pub taken : List Line
 taken =
     granted
     ++ line (Deliver 2) (Learned (Operator BOB) TPC 1 ∷ bob_told (Take TPC) 0 ∷ []) []
+    ∷ []
+
+-- BOB holds TPC, and no command has run
+abbrev pub held_by_BOB : Standing
+held_by_BOB = standing 1 (Operator BOB) 0 phase.Settled 0
+
+-- BOB takes TPC and asks about it, and nothing was delivered yet
+abbrev pub taking_and_asking : List Line
+taking_and_asking =
+    line (bob (Take TPC)) [] (sends TAKE B B TPC ∷ [])
+    ∷ line (bob (Ask TPC)) [] (sends ASK B B TPC ∷ [])
+    ∷ line (Deliver 1) (Granted TPC 1 (Operator BOB) ∷ []) (sends TELL B B TPC ∷ [])
+    ∷ []
+
+-- A take and a question: the record that is told answers the take first, and then the question.
+abbrev pub take_and_question : List Line
+take_and_question =
+    taking_and_asking
+    ++ line (Deliver 3)
+    (Learned (Operator BOB) TPC 1 ∷ bob_told (Take TPC) 0 ∷ Told BOB (told (Ask TPC) 0 (Some held_by_BOB)) ∷ []) []
     ∷ []
 
 -- Take and drop; and the old take comes once more.

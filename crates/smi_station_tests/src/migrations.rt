@@ -1,0 +1,135 @@
+//! Migrations of rows of older schemas, also such that stop in the middle (docs/FORMATS.md, "Stable rows"): how many
+//! rows were saved anew, what the rows are then, and that another one saves the rest, and a third nothing.
+
+use crate::starts::{
+    A, B, BOOT, BOOT_1, HELD, HELD_1, HELD_2, Rows, SHORT_1, TAKEN, TAKEN_1, TREE, has, key,
+    rows_of, save_all,
+};
+use smi_protocol::OpenFault;
+use smi_rows::{MemoryStable, Plan, PlannedStable, StoreFault};
+use smi_station::migrate;
+use smi_tree::Tree;
+use std::alloc::Global;
+use std::test::Fail;
+
+type End = Result<u32, OpenFault>;
+
+/// Migrations of a station's rows: the first, whose save of this number fails so, and a second.
+#[derive(Clone, Copy)]
+struct Case {
+    station: u16,
+    fails: Option<(u64, Plan)>,
+    before: Rows,
+    first: End,
+    between: Rows,
+    second: End,
+    after: Rows,
+}
+
+/// Migrations of which none fails.
+fn whole(station: u16, before: Rows, count: u32, after: Rows) -> Case {
+    Case {
+        station,
+        fails: None,
+        before,
+        first: Ok(count),
+        between: after,
+        second: Ok(0),
+        after,
+    }
+}
+
+/// Migrations that are refused.
+fn refused(station: u16, rows: Rows, fault: OpenFault) -> Case {
+    Case {
+        station,
+        fails: None,
+        before: rows,
+        first: Err(fault),
+        between: rows,
+        second: Err(fault),
+        after: rows,
+    }
+}
+
+/// Migrations of station A's rows of schema 1, of which the first stops.
+fn stopped(nth: u64, plan: Plan, fault: StoreFault, between: Rows, left: u32) -> Case {
+    Case {
+        station: A,
+        fails: Some((nth, plan)),
+        before: rows_of(BOOT_1, TAKEN_1, HELD_1),
+        first: Err(OpenFault::Store(fault)),
+        between,
+        second: Ok(left),
+        after: rows_of(BOOT, TAKEN, HELD_1),
+    }
+}
+
+fn cases() -> [Case; 11] {
+    let none = rows_of(BOOT_1, TAKEN_1, HELD_1);
+    let one = rows_of(BOOT, TAKEN_1, HELD_1);
+    let both = rows_of(BOOT, TAKEN, HELD_1);
+    let short = rows_of(BOOT_1, SHORT_1, HELD_1);
+    let second = rows_of(BOOT, TAKEN, HELD_2);
+    [
+        whole(A, none, 2, both),
+        whole(B, none, 1, rows_of(BOOT_1, TAKEN_1, HELD)),
+        // Rows of schema 2: those of station A are in their newest, the operator's is not.
+        whole(A, second, 0, second),
+        whole(B, second, 1, rows_of(BOOT, TAKEN, HELD)),
+        stopped(1, Plan::Device, StoreFault::Device, none, 2),
+        stopped(1, Plan::After, StoreFault::Unsure, one, 1),
+        stopped(2, Plan::Device, StoreFault::Device, one, 1),
+        stopped(2, Plan::Before, StoreFault::Unsure, one, 1),
+        stopped(2, Plan::After, StoreFault::Unsure, both, 0),
+        // The fault of a later row is found before the first is saved.
+        refused(A, short, OpenFault::Row(key(A, 1, 0), 1)),
+        refused(3, short, OpenFault::NoSuchStation),
+    ]
+}
+
+/// Whether a case comes out as told.
+fn is_as_told(alloc: Global, tree: &Tree, case: &Case) -> Result<bool, StoreFault> {
+    let mut store = PlannedStable::new(MemoryStable::new(alloc));
+    save_all(&mut store, case.before)?;
+    if let Some((nth, plan)) = case.fails {
+        if nth > 0 {
+            store.plan(nth, plan);
+        }
+    }
+    let first = migrate(alloc, tree, case.station, &mut store);
+    let is_between = has(&mut store, case.between)?;
+    let second = migrate(alloc, tree, case.station, &mut store);
+    let is_after = has(&mut store, case.after)?;
+    let third = migrate(alloc, tree, case.station, &mut store);
+    let is_last = third == Ok(0) || third == case.second;
+    Ok(first == case.first && second == case.second && is_between && is_after && is_last)
+}
+
+/// How many cases, from the first on, come out as told.
+fn count_of(alloc: Global, tree: &Tree) -> Result<usize, StoreFault> {
+    let mut good = 0;
+    for case in &cases() {
+        if !is_as_told(alloc, tree, case)? {
+            return Ok(good);
+        }
+        good = good.wrapping_add(1);
+    }
+    Ok(good)
+}
+
+// One function owns the tree: whatever owns one is dear to prove.
+fn over_tree(alloc: Global) -> Result<usize, Fail> {
+    let tree = Tree::read(alloc, TREE)?;
+    match count_of(alloc, &tree) {
+        Ok(good) => Ok(good),
+        Err(_) => Err(Fail::from("the store failed")),
+    }
+}
+
+#[test]
+fn migrations_that_stop(rt: HostRuntime) -> Result<(), Fail> {
+    let good = over_tree(rt.alloc())?;
+    assert_eq!(rt; good, 11);
+    Ok(())
+}
