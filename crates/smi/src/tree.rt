@@ -1,6 +1,7 @@
 //! The tree file of a command line.
 
 use crate::file;
+use smi_limits::MOST_BYTES_OF_A_FILE;
 use smi_tools::status::{Status, no_memory, read_fault};
 use smi_tree::{Tree, TreeFault};
 use std::alloc::Global;
@@ -8,7 +9,7 @@ use std::io::{self, ErrorKind, Read, Write};
 use std::rt::Files;
 
 /// How much of a tree file is read, in bytes: one more than the most that it may have.
-const MOST_TREE_BYTES: u64 = 256 * 1024 + 1;
+const MOST_TREE_BYTES: u64 = MOST_BYTES_OF_A_FILE as u64 + 1;
 
 /// The bytes of a tree file, or as many as show that it is too long.
 pub fn tree_bytes<H: Files + AllocGlobal>(host: &H, path: &[u8]) -> io::Result<Vec<u8>> {

@@ -1,12 +1,13 @@
 -- Commands that are pending, and the places in which they lie.
 use Rattle.std.specs.Prelude.{ℕ, ◌≡◌, ◌≤◌, ◌-◌, ◌++◌, List, length, take, drop, replicate}
 use Rattle.std.proofs.Common.{ap, ◌∙◌, sym, take-append-drop, length-take-le, arith}
+use Rattle.smi_command.specs.declared.pending.TheConstants.{MOST_PENDING}
 use Rattle.smi_grant.specs.declared.command.Command.{Command}
 use Rattle.smi_grant.specs.declared.command.Command.TheVariants.{Do}
 
 -- so many commands of a grant may be pending at a time
 abbrev pub most_pending : ℕ
-most_pending = 8
+most_pending = MOST_PENDING
 
 -- the number before the oldest pending command's, where the newest command has this number
 abbrev pub base_of : ℕ → List Command → ℕ

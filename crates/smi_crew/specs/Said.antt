@@ -3,6 +3,7 @@ use Rattle.std.specs.Prelude.{ℕ, nat_lt, ◌==◌, ok_or, List, [], ◌∷◌,
 use Rattle.std.specs.Prelude.{None, Result, Ok, Err, if◌then◌else◌}
 use Rattle.std.specs.List.{list_any}
 use Rattle.std.specs.Str.{bytes_eq}
+use Rattle.smi_limits.specs.declared.trees.TheConstants.{MOST_BYTES_OF_A_LINE}
 use Rattle.smi_tree.specs.Fault.{◌>>=◌}
 use Rattle.smi_tree.specs.Text.{words}
 use Rattle.smi_tree.specs.File.{is_comment}
@@ -81,5 +82,5 @@ request_by h operators line (word ∷ more) =
 
 -- a line of over 200 bytes is refused first; one without words, or that begins with #, is skipped
 unfoldable pub request_in : Hierarchy → List ℕ → List ℕ → Result (Option Request) Fault
-request_in h operators line = if nat_lt 200 (length line) then Err LineTooLong
+request_in h operators line = if nat_lt MOST_BYTES_OF_A_LINE (length line) then Err LineTooLong
     else request_by h operators line (words line)

@@ -185,7 +185,7 @@ fn attend_line<J: BoardId, R: Wait + Clock, W: Write, F: Write>(
 }
 
 fn tell_fault<F: Write>(number: u64, fault: Fault, faults: &mut F) {
-    let _ = writeln!(faults, "line {number} fault {}", fault.number());
+    let _ = writeln!(faults, "line {number} fault {}", fault.code());
 }
 
 /// Reads lines, each answered before the next, up to the end of the input or to a fault, which is told.

@@ -5,6 +5,7 @@ ghost use Rattle.std.specs.Prelude.{◌≡◌};
 use crate::attending::{Post, attend};
 use crate::bell::Bell;
 use crate::opening::{link_fault, opening_fault, stopped};
+use smi_limits::MOST_OPERATORS_OF_A_STATION;
 use smi_link::UdpLink;
 use smi_node::{ServeFault, serve};
 use smi_operator::{Desk, open_seats};
@@ -20,9 +21,6 @@ use std::net::{Ipv4Addr, Net, SocketAddr, SocketAddrV4};
 use std::sync::{Arc, Wait};
 use std::thread::{Threads, spawn};
 use std::time::Clock;
-
-/// The most operators of a station.
-const MOST_OPERATORS: usize = 8;
 
 /// What a crew types into and reads: all of it goes to the thread that reads lines.
 #[derive(Drop)]
@@ -101,7 +99,7 @@ fn posted<J: BoardId, H: Net + AllocGlobal>(
     operators: &[u16],
     glance: Glance<J>,
 ) -> Result<(UdpLink, Desk, Post<J>), Halt> {
-    let count = operators.len().min(MOST_OPERATORS) + 1;
+    let count = operators.len().min(MOST_OPERATORS_OF_A_STATION) + 1;
     let (seats, desk) = open_seats(rt.alloc(), count)?;
     let operators = Vec::from_slice(rt.alloc(), operators)?;
     let (link, bell) = linked(rt, &plan.tree, plan.station)?;

@@ -6,9 +6,10 @@ ghost use Rattle.smi_tree.specs.Text.{words};
 ghost use Rattle.smi_crew.specs.Said as spec;
 
 use smi_item::{Deed, Item};
+use smi_limits::MOST_BYTES_OF_A_LINE;
 use smi_protocol::Order;
 use smi_schedule::read_item;
-use smi_tree::{Fault, MOST_BYTES_OF_A_LINE, Tree, first_word, is_comment, one_name};
+use smi_tree::{Fault, Tree, first_word, is_comment, one_name};
 
 /// What a line asks of a node.
 #[derive(Clone, Copy, Debug, PartialEq, Eq)]

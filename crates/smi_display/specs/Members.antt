@@ -1,6 +1,7 @@
 -- The members of a domain as a station lists them: their objects, and beside them their states.
 use Rattle.std.specs.Prelude.{ℕ, ◌≡◌, ◌≤◌, ◌==◌, ◌&&◌, Bool, true, false, if◌then◌else◌, List, [], ◌∷◌, ◌++◌, length}
 use Rattle.std.specs.Prelude.{map, Option}
+use Rattle.smi_display.specs.declared.members.TheConstants.{MOST_MEMBERS}
 use Rattle.smi_tree.specs.Hierarchy.{Hierarchy}
 use Rattle.smi_publish.specs.declared.condition.Condition.{Condition}
 use Rattle.smi_publish.specs.Publishing.{evaluated}
@@ -12,7 +13,7 @@ pub record Listed : Type 0 where
 
 -- so many members a domain may have: sixteen devices and sixteen children
 abbrev pub most_members : ℕ
-most_members = 32
+most_members = MOST_MEMBERS
 
 -- so many places, of which the first hold something
 pub record IsStored (places : List ℕ) (count : ℕ) : Type 0 where

@@ -1,5 +1,6 @@
 -- A sweep over what is due, one datagram after the other.
 use Rattle.std.specs.Prelude.{ℕ, ◌≤◌, ◌-◌, ◌==◌, ◌&&◌, not, if◌then◌else◌, Bool, List, [], ◌∷◌, map}
+use Rattle.smi_limits.specs.declared.trees.TheConstants.{MOST_DOMAINS, MOST_OBJECTS, MOST_OPERATORS}
 use Rattle.smi_grant.specs.declared.Holder.TheVariants.{Operator, Domain}
 use Rattle.smi_grant.specs.Record.{last_number}
 use Rattle.smi_tree.specs.Hierarchy.{Hierarchy}
@@ -53,10 +54,10 @@ offered s (x ∷ more) = offered (offered_one s x) more
 
 -- a place with numbers as a tree can have them
 abbrev pub IsPlace : Place → Type 0
-IsPlace (place.Child x) = x ≤ 128
+IsPlace (place.Child x) = x ≤ MOST_DOMAINS
 IsPlace (place.Link o d n) = n ≤ last_number
-IsPlace (place.Ask o) = o ≤ 32
-IsPlace (place.Watch x) = x ≤ 640
+IsPlace (place.Ask o) = o ≤ MOST_OPERATORS
+IsPlace (place.Watch x) = x ≤ MOST_OBJECTS
 
 -- where the next sweep begins
 abbrev pub place_after : Hierarchy → Sweep → Place

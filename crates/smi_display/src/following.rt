@@ -7,8 +7,9 @@ use crate::displayed::Displayed;
 use crate::members::Members;
 use smi_grant::Shown;
 use smi_grants::Kept;
+use smi_limits::LAST_SEQUENCE;
 use smi_out::Out;
-use smi_publish::{Changes, LAST_SEQUENCE};
+use smi_publish::Changes;
 
 /// Whether one of these objects has come to the last sequence, after which its station stops.
 fn is_spent(changes: &[Shown]) -> bool

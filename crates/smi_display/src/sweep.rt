@@ -3,8 +3,9 @@
 ghost use Rattle.std.specs.Prelude.{◌≡◌};
 ghost use Rattle.smi_protocol.specs.Ticking as ticking;
 
+use smi_limits::MOST_SENT;
 use smi_message::Datagram;
-use smi_out::{MOST_SENT, Out};
+use smi_out::Out;
 use smi_protocol::Place;
 use smi_tree::Tree;
 use std::marker::Model;

@@ -5,15 +5,12 @@ ghost use Rattle.smi_protocol.specs.Ticking as ticking;
 
 use crate::displayed::Displayed;
 use crate::sweep::Sweep;
-use smi_command::{Due, Link, due};
+use smi_command::{Due, Link, MOST_PENDING, due};
 use smi_grant::Holder;
 use smi_grants::Kept;
 use smi_out::{Out, ask, request, watch};
 use smi_protocol::Place;
 use smi_tables::{entry_of, is_keeper};
-
-/// So many commands of a link may be pending.
-const MOST_PENDING: usize = 8;
 
 /// A take and a drop have number 0, a command its own.
 fn number_of(due: Due) -> u32

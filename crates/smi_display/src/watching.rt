@@ -1,6 +1,7 @@
 //! Who watches what: watches and unwatches that come, and states that are told.
 
 ghost use Rattle.std.specs.Prelude.{◌≡◌, ◌≤◌, length, not, IfOk, OnOk, OnErr};
+ghost use Rattle.smi_limits.specs.declared.trees.TheConstants.{MOST_STATIONS};
 ghost use Rattle.smi_protocol.specs.Watching as watching;
 ghost use Rattle.smi_display.specs.Listening.{before_by};
 
@@ -24,7 +25,7 @@ fn listen(
     requires object_least { 1 ≤ object }
     requires object_most { object ≤ length watchers.old.lists }
     requires from_least { 1 ≤ from }
-    requires from_most { from ≤ 128 }
+    requires from_most { from ≤ MOST_STATIONS }
     ensures lists { OnOk result (watchers.new.lists
         ≡ watching.lists_after (before_by is_newer watchers.old.lists from) object from echo) }
     ensures room { IfOk result (λ room. room ≡ not

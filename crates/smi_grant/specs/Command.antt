@@ -1,5 +1,6 @@
 -- Commands, and the numbers that stand for them.
 use Rattle.std.specs.Prelude.{ℕ, ◌&&◌, ◌==◌, nat_le, Bool, if◌then◌else◌, Option, Some, None}
+use Rattle.smi_limits.specs.declared.trees.TheConstants.{MOST_ACTIONS, MOST_DOMAINS}
 use Rattle.smi_grant.specs.declared.command.Command.{Command}
 use Rattle.smi_grant.specs.declared.command.Command.TheVariants.{Do, Include, Exclude, Manual, Ignore}
 
@@ -25,11 +26,11 @@ command_of v n =
 
 -- actions are 1 to 64, targets are domains, 1 to 128
 abbrev pub most_argument : Command → ℕ
-most_argument (Do a) = 64
-most_argument (Include t) = 128
-most_argument (Exclude t) = 128
-most_argument (Manual t) = 128
-most_argument (Ignore t) = 128
+most_argument (Do a) = MOST_ACTIONS
+most_argument (Include t) = MOST_DOMAINS
+most_argument (Exclude t) = MOST_DOMAINS
+most_argument (Manual t) = MOST_DOMAINS
+most_argument (Ignore t) = MOST_DOMAINS
 
 abbrev pub is_in_range : Command → Bool
 is_in_range c = nat_le 1 (argument_of c) && nat_le (argument_of c) (most_argument c)

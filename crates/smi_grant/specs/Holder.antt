@@ -1,5 +1,6 @@
 -- Who may hold a domain, and the numbers that stand for it.
 use Rattle.std.specs.Prelude.{ℕ, ◌&&◌, ◌==◌, nat_le, Bool, true, false, if◌then◌else◌, Option, Some, None}
+use Rattle.smi_limits.specs.declared.trees.TheConstants.{MOST_DOMAINS, MOST_OPERATORS}
 use Rattle.smi_grant.specs.declared.holder.Holder.{Holder}
 use Rattle.smi_grant.specs.declared.holder.Holder.TheVariants.{Free, Operator, Domain}
 
@@ -23,8 +24,8 @@ odd_of (Domain n) = 1
 -- operators are 1 to 32, domains 1 to 128
 abbrev pub is_in_range : Holder → Bool
 is_in_range Free = true
-is_in_range (Operator n) = nat_le 1 n && nat_le n 32
-is_in_range (Domain n) = nat_le 1 n && nat_le n 128
+is_in_range (Operator n) = nat_le 1 n && nat_le n MOST_OPERATORS
+is_in_range (Domain n) = nat_le 1 n && nat_le n MOST_DOMAINS
 
 abbrev pub kind_of : Holder → ℕ
 kind_of Free = 0

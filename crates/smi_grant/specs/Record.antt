@@ -1,6 +1,8 @@
 -- Which records a keeper may have.
 use Rattle.std.specs.Prelude.{ℕ, ◌≡◌, ◌≤◌, ◌^◌, ◌%◌, ◌&&◌, ◌||◌, ◌==◌, nat_le, Bool, true, false, if◌then◌else◌}
 use Rattle.std.specs.Prelude.{Option, Some, None}
+use Rattle.smi_grant.specs.declared.command.TheConstants.{LAST_NUMBER}
+use Rattle.smi_grant.specs.declared.record.TheConstants.{LAST_EPOCH}
 use Rattle.smi_grant.specs.declared.holder.Holder.{Holder}
 use Rattle.smi_grant.specs.declared.holder.Holder.TheVariants.{Free}
 use Rattle.smi_grant.specs.declared.record.Phase.{Phase}
@@ -19,10 +21,10 @@ abbrev pub standing : ℕ → Holder → ℕ → Phase → ℕ → Standing
 standing e h n p x = record { epoch = e; holder = h; last = n; phase = p; outcome = x }
 
 abbrev pub last_epoch : ℕ
-last_epoch = 2 ^ 62
+last_epoch = LAST_EPOCH
 
 abbrev pub last_number : ℕ
-last_number = 1000000
+last_number = LAST_NUMBER
 
 abbrev pub is_settled : Phase → Bool
 is_settled Settled = true

@@ -1,3 +1,5 @@
+use smi_limits::{MOST_ACTIONS, MOST_DOMAINS};
+
 /// The greatest number of a command under one grant.
 pub const LAST_NUMBER: u32 = 1_000_000;
 
@@ -25,8 +27,8 @@ impl Command {
         ensures { result ≡ is_in_range self }
     {
         let most = match self {
-            Command::Do(_) => 64,
-            _ => 128,
+            Command::Do(_) => MOST_ACTIONS,
+            _ => MOST_DOMAINS,
         };
         1 <= self.argument() && self.argument() <= most
     }

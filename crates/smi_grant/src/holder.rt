@@ -1,3 +1,5 @@
+use smi_limits::{MOST_DOMAINS, MOST_OPERATORS};
+
 /// Who holds a domain: nobody, an operator, or the domain above it, each by its number.
 #[derive(Clone, Copy, Debug, PartialEq, Eq)]
 pub enum Holder {
@@ -16,8 +18,8 @@ impl Holder {
     {
         match self {
             Holder::Free => true,
-            Holder::Operator(number) => 1 <= number && number <= 32,
-            Holder::Domain(number) => 1 <= number && number <= 128,
+            Holder::Operator(number) => 1 <= number && number <= MOST_OPERATORS,
+            Holder::Domain(number) => 1 <= number && number <= MOST_DOMAINS,
         }
     }
 

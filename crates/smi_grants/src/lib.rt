@@ -22,6 +22,6 @@ pub use change::Change;
 pub use children::ChildChange;
 pub use kept::Kept;
 pub use links::Links;
-pub use refusal::{MOST_LINKS, is_report_here, refusal_of_message, speaks_for};
+pub use refusal::{is_report_here, refusal_of_message, speaks_for};
 pub use room::Room;
 pub use saving::{carry_out, save};

@@ -9,13 +9,11 @@ ghost use Rattle.smi_rows.specs.Known as known;
 use crate::kept::Kept;
 use smi_command::{Link, begin_drop, begin_take, issue};
 use smi_grant::{Command, Holder};
+use smi_limits::MOST_LINKS;
 use smi_message::{Body, Datagram};
 use smi_protocol::Order;
 use smi_tables::is_keeper;
 use smi_tree::Tree;
-
-/// So many links of an operator may be not out at a time.
-pub const MOST_LINKS: usize = 16;
 
 /// Why a station does not take a datagram: 7 it is of another tree, 8 for another station, 9 it names what the
 /// tree does not have, or not there.

@@ -14,13 +14,11 @@ ghost use Rattle.smi_load.specs.Starting.{IsNotOfStore, beginning_with, grants_a
 
 use crate::reading::{has_station, said_to};
 use smi_grants::Kept;
+use smi_limits::LAST_BOOT;
 use smi_protocol::OpenFault;
 use smi_rows::{Key, Row, SavedRow};
 use smi_tree::Tree;
 use std::alloc::Global;
-
-/// How often a station can start.
-const LAST_BOOT: u32 = 4_000_000_000;
 
 /// What a station keeps that starts with these rows, which stand by rising key: what they mean, and its boot raised
 /// by one. Rows of other stations are left alone.

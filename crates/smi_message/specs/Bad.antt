@@ -5,16 +5,16 @@ use Rattle.smi_message.specs.declared.bad.Bad.TheVariants as bad
 use Rattle.smi_message.specs.declared.refusal.Refusal.{Refusal}
 use Rattle.smi_message.specs.declared.refusal.Refusal.TheVariants as refusal
 
-abbrev pub code_of : Bad → ℕ
-code_of bad.Length = 1
-code_of bad.Magic = 2
-code_of bad.Layout = 3
-code_of bad.Kind = 4
-code_of bad.Range = 5
-code_of bad.Unused = 6
+abbrev pub bad_code : Bad → ℕ
+bad_code bad.Length = 1
+bad_code bad.Magic = 2
+bad_code bad.Layout = 3
+bad_code bad.Kind = 4
+bad_code bad.Range = 5
+bad_code bad.Unused = 6
 
 abbrev pub refusal_code : Refusal → ℕ
-refusal_code (refusal.Bad b) = code_of b
+refusal_code (refusal.Bad b) = bad_code b
 refusal_code refusal.OtherTree = 7
 refusal_code refusal.OtherStation = 8
 refusal_code refusal.Unknown = 9

@@ -1,5 +1,7 @@
 -- What a datagram says, and the ranges of its values.
 use Rattle.std.specs.Prelude.{ℕ, ◌≡◌, ◌≤◌, ◌%◌, ◌&&◌, ◌==◌, nat_le, Bool, true, false}
+use Rattle.smi_limits.specs.declared.trees.TheConstants.{MOST_DOMAINS, MOST_OBJECTS, MOST_STATES, MOST_STATIONS}
+use Rattle.smi_limits.specs.declared.numbers.TheConstants.{LAST_BOOT, LAST_SEQUENCE}
 use Rattle.smi_grant.specs.declared.Holder.{Holder}
 use Rattle.smi_grant.specs.declared.Version.{Version}
 use Rattle.smi_grant.specs.Holder as holder
@@ -19,19 +21,19 @@ abbrev pub is_between : ℕ → ℕ → ℕ → Bool
 is_between low high n = nat_le low n && nat_le n high
 
 abbrev pub is_domain : ℕ → Bool
-is_domain d = is_between 1 128 d
+is_domain d = is_between 1 MOST_DOMAINS d
 
 abbrev pub is_object : ℕ → Bool
-is_object x = is_between 1 640 x
+is_object x = is_between 1 MOST_OBJECTS x
 
 abbrev pub last_boot : ℕ
-last_boot = 4000000000
+last_boot = LAST_BOOT
 
 abbrev pub is_boot : ℕ → Bool
 is_boot b = is_between 1 last_boot b
 
 abbrev pub is_version : Version → Bool
-is_version v = is_boot v.boot && nat_le v.sequence 4000000000
+is_version v = is_boot v.boot && nat_le v.sequence LAST_SEQUENCE
 
 -- an operator or a domain that a tree can have
 abbrev pub is_party : Holder → Bool
@@ -50,18 +52,19 @@ is_body (body.Run d h e n c) =
     is_domain d && (is_party h && (is_grant_epoch e && (is_between 1 last_number n && command.is_in_range c)))
 is_body (body.Tell d r) = is_domain d && (holder.is_in_range r.holder && (is_outcome r.outcome && is_record r))
 is_body (body.Watch x echo) = is_object x && is_boot echo
-is_body (body.State x echo v s) = is_object x && (is_boot echo && (is_version v && is_between 1 64 s))
+is_body (body.State x echo v s) = is_object x && (is_boot echo && (is_version v && is_between 1 MOST_STATES s))
 is_body (body.Unwatch x echo) = is_object x && is_boot echo
 
 pub record IsMessage (m : Message) : Type 0 where
-  pub from : (1 ≤ m.from) × (m.from ≤ 128)
-  pub to : (1 ≤ m.to) × (m.to ≤ 128)
+  pub from : (1 ≤ m.from) × (m.from ≤ MOST_STATIONS)
+  pub to : (1 ≤ m.to) × (m.to ≤ MOST_STATIONS)
   pub tree : (1 ≤ m.tree) × (m.tree ≤ 65535)
   pub body : is_body m.body ≡ true
 
 -- stations are 1 to 128, trees 1 to 65,535
 abbrev pub is_addressed : ℕ → ℕ → ℕ → Bool
-is_addressed from to tree = is_between 1 128 from && (is_between 1 128 to && is_between 1 65535 tree)
+is_addressed from to tree =
+    is_between 1 MOST_STATIONS from && (is_between 1 MOST_STATIONS to && is_between 1 65535 tree)
 
 -- the same as a test
 abbrev pub is_message : Message → Bool

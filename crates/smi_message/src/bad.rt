@@ -25,11 +25,11 @@ pub enum Bad {
 
 impl Bad {
     ghost use Rattle.std.specs.Prelude.{◌≡◌};
-    ghost use Rattle.smi_message.specs.Bad.{code_of};
+    ghost use Rattle.smi_message.specs.Bad.{bad_code};
 
     /// The number of the test, 1 to 6.
     pub fn code(self) -> u16
-        ensures { result ≡ code_of self }
+        ensures { result ≡ bad_code self }
     {
         u16::from(self as u8)
     }

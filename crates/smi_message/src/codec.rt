@@ -7,6 +7,7 @@ ghost use Rattle.smi_message.specs.Spelling.{spelling, reading, message_at, mess
 use crate::kinds::{drop_at, fields_of, is_body, is_rest_zero, run_at, state_at, take_at, tell_at};
 use crate::layout::{Spelled, write_fields};
 use crate::{Bad, Body, Datagram};
+use smi_limits::MOST_STATIONS;
 
 /// The one spelling of a datagram.
 pub fn encode(datagram: &Datagram) -> [u8; 44]
@@ -84,5 +85,9 @@ fn checked(f: &Spelled<'_>, said: Option<Body>) -> Result<Datagram, Bad>
 fn is_addressed(f: &Spelled<'_>) -> bool
     ensures { result ≡ message.is_addressed f.now.from f.now.to f.now.tree }
 {
-    1 <= f.from() && f.from() <= 128 && 1 <= f.to() && f.to() <= 128 && 1 <= f.tree()
+    1 <= f.from()
+        && f.from() <= MOST_STATIONS
+        && 1 <= f.to()
+        && f.to() <= MOST_STATIONS
+        && 1 <= f.tree()
 }

@@ -49,16 +49,17 @@ impl Model for Datagram {
 
 impl Datagram {
     ghost use Rattle.std.specs.Prelude.{◌≡◌, ◌≤◌, true};
+    ghost use Rattle.smi_limits.specs.declared.trees.TheConstants.{MOST_DOMAINS, MOST_STATIONS};
     ghost use Rattle.smi_grant.specs.Holder.{is_in_range};
     ghost use Rattle.smi_grant.specs.Record.{is_outcome};
     ghost use Rattle.smi_message.specs.Message.{tell};
 
     /// The datagram that tells how a domain stands, a record whose holder and outcome are in range.
     pub fn tell(from: u16, to: u16, tree: u16, domain: u16, told: Record) -> Datagram
-        requires from { (1 ≤ from) × (from ≤ 128) }
-        requires to { (1 ≤ to) × (to ≤ 128) }
+        requires from { (1 ≤ from) × (from ≤ MOST_STATIONS) }
+        requires to { (1 ≤ to) × (to ≤ MOST_STATIONS) }
         requires tree { (1 ≤ tree) × (tree ≤ 65535) }
-        requires domain { (1 ≤ domain) × (domain ≤ 128) }
+        requires domain { (1 ≤ domain) × (domain ≤ MOST_DOMAINS) }
         requires holder { is_in_range told.holder ≡ true }
         requires outcome { is_outcome told.outcome ≡ true }
         ensures { result ≡ tell from to tree domain told }

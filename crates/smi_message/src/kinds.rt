@@ -8,9 +8,9 @@ use crate::Body;
 use crate::fields::Fields;
 use crate::layout::Spelled;
 use smi_grant::{Command, Holder, LAST_EPOCH, LAST_NUMBER, Phase, Record, Version, is_outcome};
+use smi_limits::{LAST_BOOT, LAST_SEQUENCE, MOST_DOMAINS, MOST_OBJECTS, MOST_STATES};
 
 /// The greatest boot and the greatest sequence.
-const LAST_BOOT: u32 = 4_000_000_000;
 
 // ---- the fields of what is said
 
@@ -210,7 +210,7 @@ pub fn is_body(body: &Body) -> bool
             is_object(object)
                 && is_boot(echo)
                 && is_version(version)
-                && is_between(1, 64, u32::from(state))
+                && is_between(1, u32::from(MOST_STATES), u32::from(state))
         }
     }
 }
@@ -218,13 +218,13 @@ pub fn is_body(body: &Body) -> bool
 fn is_domain(number: u16) -> bool
     ensures { result ≡ message.is_domain number }
 {
-    1 <= number && number <= 128
+    1 <= number && number <= MOST_DOMAINS
 }
 
 fn is_object(number: u16) -> bool
     ensures { result ≡ message.is_object number }
 {
-    1 <= number && number <= 640
+    1 <= number && number <= MOST_OBJECTS
 }
 
 fn is_boot(number: u32) -> bool
@@ -236,7 +236,7 @@ fn is_boot(number: u32) -> bool
 fn is_version(version: Version) -> bool
     ensures { result ≡ message.is_version version }
 {
-    is_boot(version.boot) && version.sequence <= LAST_BOOT
+    is_boot(version.boot) && version.sequence <= LAST_SEQUENCE
 }
 
 fn is_party(holder: Holder) -> bool

@@ -1,6 +1,7 @@
 -- What a step hands out, one after the other, in places of its own.
 use Rattle.std.specs.Prelude.{ℕ, ◌≡◌, ◌≤◌, ◌&&◌, nat_le, nat_lt, Bool, List, [], ◌∷◌, length, ◌++◌, if◌then◌else◌}
 use Rattle.std.specs.Option.{option_or}
+use Rattle.smi_out.specs.declared.handed.TheConstants.{MOST_ANSWERS}
 use Rattle.smi_grant.specs.Command as command
 use Rattle.smi_grant.specs.Record.{last_epoch, last_number}
 use Rattle.smi_command.specs.declared.Due.{Due}
@@ -13,7 +14,7 @@ use Rattle.smi_protocol.specs.declared.Answer.{Answer}
 
 -- a step is answered at most so often: eight commands of one operator, or as many questions as operators
 abbrev pub most_answers : ℕ
-most_answers = 16
+most_answers = MOST_ANSWERS
 
 -- so many places, of which the first hold something
 pub record IsStored {X : Type 0} (most : ℕ) (places : List X) (count : ℕ) : Type 0 where

@@ -1,10 +1,8 @@
 use smi_grant::Shown;
+use smi_limits::MOST_SENT;
 use smi_message::{Body, Datagram};
 use smi_protocol::{Answer, Mark, Order, Told};
 use std::marker::Model;
-
-/// How many datagrams one step sends at most.
-pub const MOST_SENT: usize = 64;
 
 /// How many answers one step gives at most.
 pub const MOST_ANSWERS: usize = 16;

@@ -9,5 +9,5 @@
 mod handed;
 mod says;
 
-pub use handed::{MOST_ANSWERS, MOST_SENT, Out};
+pub use handed::{MOST_ANSWERS, Out};
 pub use says::{ask, object_home, request, show, tell, unwatch, watch};

@@ -8,13 +8,10 @@ ghost use Rattle.smi_protocol.specs.Messages as messages;
 ghost use Rattle.smi_tree.specs.Lawful.{IsBetween};
 ghost use Rattle.smi_tree.specs.Lookups.{domain_count, station_count};
 
-use smi_command::{Due, Link, due};
+use smi_command::{Due, Link, MOST_PENDING, due};
 use smi_grant::Holder;
 use smi_out::{Out, request};
 use smi_tree::Tree;
-
-/// So many commands of a link may be pending.
-const MOST_PENDING: usize = 8;
 
 /// What a holder's link is due, if anything.
 fn send_if_due(

@@ -1,8 +1,8 @@
 -- Whatever comes, what a station keeps of states and of watching stays sound.
-use Rattle.std.proofs.Common.{ℕ, ◌≡◌, ◌≤◌, ◌<◌, ◌+◌, ◌-◌, Bool, true, false, Option, Some, None, refl, sym, ap, ◌∙◌}
-use Rattle.std.proofs.Common.{subst, arith}
+use Rattle.std.proofs.Common.{ℕ, ◌≡◌, ◌≤◌, ◌+◌, ◌-◌, Bool, true, false, List, [], ◌∷◌, inl, inr, Option, Some}
+use Rattle.std.proofs.Common.{None, refl, sym, ap, ◌∙◌, subst, arith}
 use Rattle.std.specs.Prelude.{◌==◌, nat_le, nat_lt, not, map, option_map, IfSome, if◌then◌else◌}
-use Rattle.std.proofs.lemmas.Bool.{and_parts, eqb-true, leb-true}
+use Rattle.std.proofs.lemmas.Bool.{and_parts, leb-true}
 use Rattle.std.proofs.lemmas.Bool.Decides.{nat_tests}
 use Rattle.smi_grant.specs.declared.Command.{Command}
 use Rattle.smi_grant.specs.declared.Command.TheVariants.{Do, Include, Exclude, Manual, Ignore}
@@ -14,7 +14,7 @@ use Rattle.smi_message.specs.Message.{is_body, is_boot, is_object}
 use Rattle.smi_tree.specs.declared.row.Device.{Device as DeviceRow}
 use Rattle.smi_tree.specs.Hierarchy.{Hierarchy, entry}
 use Rattle.smi_tree.specs.Lawful.{IsBetween, IsTree}
-use Rattle.smi_tree.specs.Lookups.{accepts, devices_of, domain_count, device_count, operator_station_of, parent_of}
+use Rattle.smi_tree.specs.Lookups.{accepts, devices_of, domain_count, device_count, operator_station_of}
 use Rattle.smi_tree.specs.Lookups.{state_count, station_count}
 use Rattle.smi_publish.specs.declared.condition.Condition.{Condition}
 use Rattle.smi_publish.specs.Published.{HasRoom}
@@ -31,7 +31,7 @@ use Rattle.smi_protocol.specs.Grants.{Grants, put}
 use Rattle.smi_protocol.specs.GrantsOf.{grant_step}
 use Rattle.smi_protocol.specs.Happening.{Happening, Comes, Orders, Reports, Ticks, answer}
 use Rattle.smi_protocol.specs.Messages.{object_home, unwatches}
-use Rattle.smi_protocol.specs.Refusals.{has_domain, is_body_of, is_keeper, is_order_here, is_order_of, is_report_here}
+use Rattle.smi_protocol.specs.Refusals.{is_body_of, is_keeper, is_order_here, is_order_of, is_report_here}
 use Rattle.smi_protocol.specs.Refusals.{refusal_by_link, refusal_of}
 use Rattle.smi_protocol.specs.Showing.{domain_of_body, domain_of_happening, followed, members_of, moved_by}
 use Rattle.smi_protocol.specs.Showing.{moved_by_body, moved_by_command, same_members, Member}
@@ -44,7 +44,7 @@ use Rattle.smi_protocol.specs.Watching.{watch_comes}
 use Rattle.smi_protocol.specs.declared.order.Order.{Order}
 use Rattle.smi_protocol.specs.declared.order.Order.TheVariants as order
 use Rattle.smi_protocol.proofs.Lists.{In, from_mapped, in_any, numbers_above}
-use Rattle.smi_protocol.proofs.Ranges.{is_within, kept_there, number_within}
+use Rattle.smi_protocol.proofs.Ranges.{is_within, kept_there}
 use Rattle.smi_protocol.proofs.SoundDisplay.{Conditions, acted_sound, answered_sound, asked_sound, conditions_sound}
 use Rattle.smi_protocol.proofs.SoundDisplay.{evaluated_sound, named_sound, reported_sound, unwatch_sound, watch_sound}
 use Rattle.smi_protocol.proofs.SoundSteps.{body_here, sender_here}
@@ -214,7 +214,8 @@ module _ (h : Hierarchy) (tree : IsTree h) (number : ℕ) (cs : ℕ → Option C
       most : d ≤ domain_count h
       most = rowed (entry h.devices (domain_count h + device - domain_count h)) refl
           (sym (ap (λ b. if b then Some (domain_count h + device)
-          else option_map (λ (row : DeviceRow). row.domain) (entry h.devices (domain_count h + device - domain_count h)))
+          else option_map (λ (row : DeviceRow). row.domain)
+          (entry h.devices (domain_count h + device - domain_count h)))
           (device_first (domain_count h) device least)) ∙ is)
 
       other : (n m k : ℕ) → n ≤ m → 1 ≤ k → (n == m + k) ≡ false

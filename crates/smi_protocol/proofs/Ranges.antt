@@ -123,7 +123,8 @@ number_within rows (suc n) row at = let less : n < length rows = within n (rw (p
         back n = omega arith
 
 -- what has its place is there
-row_there : {X : Type 0} (rows : List X) (n : ℕ) → IsBetween 1 (length rows) n → (row : X) × (entry rows n ≡ Some row)
+pub row_there : {X : Type 0} (rows : List X) (n : ℕ) → IsBetween 1 (length rows) n
+    → (row : X) × (entry rows n ≡ Some row)
 row_there rows zero within = let wrong : ⊥ = omega (arith, within.least) in absurd wrong
 row_there {X = X} rows (suc n) within =
     let less : n < length rows = omega (arith, within.most) in

@@ -1,5 +1,5 @@
 -- Whatever comes, all that a station then sends is in the ranges of its kind.
-use Rattle.std.proofs.Common.{ℕ, zero, suc, ◌≡◌, ◌≤◌, ◌<◌, ◌+◌, ◌-◌, Bool, true, false, List, [], ◌∷◌, ◌++◌, inl, inr}
+use Rattle.std.proofs.Common.{ℕ, zero, suc, ◌≡◌, ◌<◌, ◌+◌, ◌-◌, Bool, true, false, List, [], ◌∷◌, ◌++◌, inl, inr}
 use Rattle.std.proofs.Common.{Option, Some, None, refl, sym, ap, ◌∙◌, subst, arith}
 use Rattle.std.specs.Prelude.{◌==◌, nat_le, nat_lt, not, map, filter, take, option_and_then, option_map, unwrap_or}
 use Rattle.std.specs.Prelude.{IfSome, if◌then◌else◌}
@@ -11,19 +11,19 @@ use Rattle.smi_grant.specs.declared.Holder.TheVariants.{Operator, Domain}
 use Rattle.smi_grant.specs.declared.Shown.{Shown}
 use Rattle.smi_message.specs.declared.Body.{Body}
 use Rattle.smi_message.specs.declared.Body.TheVariants as body
-use Rattle.smi_message.specs.Message.{Message, is_body, is_boot, is_message, is_object, is_party, is_version, is_between}
+use Rattle.smi_message.specs.Message.{Message, is_body, is_boot, is_message, is_object, is_party}
 use Rattle.smi_tree.specs.declared.row.Device.{Device as DeviceRow}
 use Rattle.smi_tree.specs.Hierarchy.{Hierarchy, entry}
 use Rattle.smi_tree.specs.Lawful.{IsBetween, IsTree}
-use Rattle.smi_tree.specs.Lookups.{domain_count, device_count, operators_of, operator_station_of, parent_of, station_count}
-use Rattle.smi_tree.specs.Lookups.{station_of}
+use Rattle.smi_tree.specs.Lookups.{domain_count, device_count, operators_of, operator_station_of, parent_of}
+use Rattle.smi_tree.specs.Lookups.{station_count, station_of}
 use Rattle.smi_command.specs.declared.Due.{Due}
 use Rattle.smi_command.specs.declared.Link.{Link}
 use Rattle.smi_command.specs.Link.{due_of}
 use Rattle.smi_command.specs.Pending.{most_pending}
 use Rattle.smi_command.proofs.Heard.{choose}
 use Rattle.smi_publish.specs.declared.condition.Condition.{Condition}
-use Rattle.smi_publish.specs.Published.{changes_at, shown_at}
+use Rattle.smi_publish.specs.Published.{shown_at}
 use Rattle.smi_publish.specs.Publishing.{device_objects}
 use Rattle.smi_rows.specs.Known.{is_number}
 use Rattle.smi_view.specs.declared.Acceptance.{Acceptance}
@@ -35,7 +35,8 @@ use Rattle.smi_protocol.specs.Display.{Display, Station}
 use Rattle.smi_protocol.specs.Grants.{Grants, put}
 use Rattle.smi_protocol.specs.GrantsOf.{grant_step}
 use Rattle.smi_protocol.specs.Happening.{Happening, Comes, Orders, Reports, Ticks, answer}
-use Rattle.smi_protocol.specs.Messages.{all_due, asks_about, home, if_any, object_home, requests, shows, unwatches, watches}
+use Rattle.smi_protocol.specs.Messages.{all_due, asks_about, home, if_any, object_home, requests, shows, unwatches}
+use Rattle.smi_protocol.specs.Messages.{watches}
 use Rattle.smi_protocol.specs.Opening.{object_count}
 use Rattle.smi_protocol.specs.Refusals.{is_keeper, is_order_here, is_order_of, refusal_by_link, refusal_of}
 use Rattle.smi_protocol.specs.Showing.{domain_of_happening, passed_in, shown_to_all}
@@ -49,7 +50,6 @@ use Rattle.smi_protocol.specs.Watching.{order_noticed, showed_if, state_comes, t
 use Rattle.smi_protocol.specs.Watching.{watch_comes}
 use Rattle.smi_protocol.specs.declared.order.Order.{Order}
 use Rattle.smi_protocol.specs.declared.order.Order.TheVariants as order
-use Rattle.smi_protocol.specs.declared.place.Place.{Place}
 use Rattle.smi_protocol.specs.declared.place.Place.TheVariants as place
 use Rattle.smi_protocol.proofs.DisplayStays.{conditions_stay, notice_sound}
 use Rattle.smi_protocol.proofs.Lists.{In, in_both, from_chosen, from_flat, from_mapped, from_range}
@@ -252,7 +252,7 @@ module _ (h : Hierarchy) (tree : IsTree h) (number : ℕ) (here : IsBetween 1 (s
 
   child_owed : (g : Grants) (x : ℕ) → IsSound h g → IsBetween 1 (domain_count h) x → (above : Option ℕ)
       → AllOwed (owed_to_child h number g x above)
-  child_owed g x sound within None y a = absurd a
+  child_owed g x sound within None = λ y a. absurd a
   child_owed g x sound within (Some p) =
       choose AllOwed (is_keeper h number p)
       (map (λ due. owed (place.Child x) (requests h number (Domain p) x due)) (all_due (g.links (Domain p) x))) []
@@ -274,7 +274,8 @@ module _ (h : Hierarchy) (tree : IsTree h) (number : ℕ) (here : IsBetween 1 (s
       (operator_there h tree number o
       (ap (λ z. is_number z number) (operator_ours h number o ours) ∙ number_self number)) (sound.own o d) b.0 b.1
 
-  question_owed : (o : ℕ) (q : Option ℕ) → IfSome q (IsBetween 1 (domain_count h)) → AllOwed (owed_question h number o q)
+  question_owed : (o : ℕ) (q : Option ℕ) → IfSome q (IsBetween 1 (domain_count h))
+      → AllOwed (owed_question h number o q)
   question_owed o None within y a = absurd a
   question_owed o (Some d) within y (inl is) = ap (λ (z : Owed). is_message z.message) is ∙ asks_in d within
   question_owed o (Some d) within y (inr a) = absurd a
@@ -296,18 +297,19 @@ module _ (h : Hierarchy) (tree : IsTree h) (number : ℕ) (here : IsBetween 1 (s
   all_in : (g : Grants) (s : Display) → IsSound h g → IsDisplay h number s → is_boot g.boot ≡ true
       → AllOwed (all_owed h number g s)
   all_in g s grants sound begun =
-      owed_both (flat_map (λ x. owed_to_child h number g x (parent_of h x)) (domains_of h)) _
+      owed_both _ (flat_map (owed_watch h number g.boot s) (range_with_len 1 (domain_count h + device_count h)))
+      (owed_both _ (flat_map (λ o. owed_question h number o (s.asks o)) (operators_of h number))
+      (owed_both (flat_map (λ x. owed_to_child h number g x (parent_of h x)) (domains_of h))
+      (flat_map (λ o. flat_map (owed_to_domain h number g o) (domains_of h)) (operators_of h number))
       (owed_flat (λ x. owed_to_child h number g x (parent_of h x)) (domains_of h)
       (λ x a. child_owed g x grants (number_in x (domain_count h) a) (parent_of h x)))
-      (owed_both (flat_map (λ o. flat_map (owed_to_domain h number g o) (domains_of h)) (operators_of h number)) _
       (owed_flat (λ o. flat_map (owed_to_domain h number g o) (domains_of h)) (operators_of h number)
       (λ o ours. owed_flat (owed_to_domain h number g o) (domains_of h)
-      (λ d a. domain_owed g o d grants ours (number_in d (domain_count h) a))))
-      (owed_both (flat_map (λ o. owed_question h number o (s.asks o)) (operators_of h number)) _
+      (λ d a. domain_owed g o d grants ours (number_in d (domain_count h) a)))))
       (owed_flat (λ o. owed_question h number o (s.asks o)) (operators_of h number)
-      (λ o ours. question_owed o (s.asks o) (sound.asks o)))
+      (λ o ours. question_owed o (s.asks o) (sound.asks o))))
       (owed_flat (owed_watch h number g.boot s) (range_with_len 1 (domain_count h + device_count h))
-      (λ x a. watch_owed g.boot s x begun (number_in x (domain_count h + device_count h) a)))))
+      (λ x a. watch_owed g.boot s x begun (number_in x (domain_count h + device_count h) a)))
 
   tick_in : (g : Grants) (s : Display) → IsSound h g → IsDisplay h number s → is_boot g.boot ≡ true
       → AllInRange (tick_noticed h number g s).sends
@@ -369,12 +371,13 @@ module _ (h : Hierarchy) (tree : IsTree h) (number : ℕ) (here : IsBetween 1 (s
       by : (o : Option ℕ) → refusal_of h number s.grants what ≡ o
           → AllInRange (answered_or h number s what o).out.datagrams
       by (Some code) is = none_in
-      by None is m a =
-          both_in (grant_step h number s.grants what).sends _ (sends_in h tree number here s.grants what grants fits is)
-          (both_in (notice h number s.grants s.display what).sends _
-          (notice_in s.grants s.display what grants sound begun fits is)
+      by None is = λ m a.
+          both_in _ (flat_map (shown_to_all h number next.watchers) passed)
+          (both_in (grant_step h number s.grants what).sends (notice h number s.grants s.display what).sends
+          (sends_in h tree number here s.grants what grants fits is)
+          (notice_in s.grants s.display what grants sound begun fits is))
           (shown_in_range next.watchers (notice_sound h number s.display sound s.grants what fits is).watchers passed
           (passed_sound s.grants.boot s.display.conditions now
           (conditions_stay h tree number s (grant_step h number s.grants what).grants next what sound room is) begun
-          (domain_of_happening h what)))) m
+          (domain_of_happening h what))) m
           (from_taken most_sent m _ a)

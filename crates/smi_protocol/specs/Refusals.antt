@@ -3,6 +3,7 @@ use Rattle.std.specs.Prelude.{ℕ, ◌+◌, ◌==◌, ◌&&◌, nat_le, not, Boo
 use Rattle.std.specs.Prelude.{Ok, Err, count_by}
 use Rattle.std.specs.Option.{option_or}
 use Rattle.std.specs.List.{range_with_len}
+use Rattle.smi_limits.specs.declared.numbers.TheConstants.{MOST_LINKS}
 use Rattle.smi_grant.specs.declared.Command.{Command}
 use Rattle.smi_grant.specs.declared.Holder.{Holder}
 use Rattle.smi_grant.specs.declared.Holder.TheVariants.{Operator}
@@ -89,7 +90,7 @@ is_report_here h number device s =
 
 -- so many links of an operator may be not out at a time
 abbrev pub most_links : ℕ
-most_links = 16
+most_links = MOST_LINKS
 
 -- how many links of an operator are not out
 abbrev pub links_in_use : Hierarchy → Grants → ℕ → ℕ

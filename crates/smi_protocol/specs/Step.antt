@@ -5,7 +5,7 @@ use Rattle.smi_grant.specs.declared.Shown.{Shown}
 use Rattle.smi_message.specs.declared.Bad.{Bad}
 use Rattle.smi_message.specs.declared.Body.{Body}
 use Rattle.smi_message.specs.declared.Body.TheVariants as body
-use Rattle.smi_message.specs.Bad.{code_of}
+use Rattle.smi_message.specs.Bad.{bad_code}
 use Rattle.smi_message.specs.Message.{Message}
 use Rattle.smi_message.specs.Spelling.{reading}
 use Rattle.smi_tree.specs.Hierarchy.{Hierarchy}
@@ -161,7 +161,7 @@ after h number s what = answered_or h number s what (refusal_of h number s.grant
 -- bytes that are no datagram are refused by the first test that they fail
 abbrev pub after_reading : Hierarchy → ℕ → Station → Result Message Bad → Outcome
 after_reading h number s (Ok m) = after h number s (Comes m)
-after_reading h number s (Err bad) = refused s (code_of bad) []
+after_reading h number s (Err bad) = refused s (bad_code bad) []
 
 -- an order that holds a report is that report
 abbrev pub ordered_or_reported : ℕ → Order → Happening

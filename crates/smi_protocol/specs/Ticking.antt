@@ -2,6 +2,7 @@
 use Rattle.std.specs.Prelude.{ℕ, ◌+◌, ◌-◌, ◌==◌, ◌&&◌, ◌||◌, nat_lt, nat_le, not, Bool, false, if◌then◌else◌, List}
 use Rattle.std.specs.Prelude.{[], ◌∷◌, ◌++◌, map, filter, take, Option, Some, None}
 use Rattle.std.specs.List.{flat_map, range_with_len}
+use Rattle.smi_limits.specs.declared.numbers.TheConstants.{MOST_SENT}
 use Rattle.smi_grant.specs.declared.Holder.TheVariants.{Operator, Domain}
 use Rattle.smi_message.specs.Message.{Message}
 use Rattle.smi_tree.specs.Hierarchy.{Hierarchy}
@@ -18,7 +19,7 @@ use Rattle.smi_protocol.specs.declared.place.Place.TheVariants as place
 
 -- a step sends at most so many datagrams
 abbrev pub most_sent : ℕ
-most_sent = 64
+most_sent = MOST_SENT
 
 -- Places stand in the order of their kinds, and then of their numbers.
 

@@ -2,6 +2,7 @@
 use Rattle.std.specs.Prelude.{ℕ, ◌≡◌, ◌<◌, ◌≤◌, ◌==◌, not, if◌then◌else◌, Bool, false, List, length, Option, Some}
 use Rattle.std.specs.Prelude.{None, option_and_then, option_map, IfSome}
 use Rattle.std.specs.List.{filter_map}
+use Rattle.smi_limits.specs.declared.numbers.TheConstants.{LAST_SEQUENCE}
 use Rattle.smi_grant.specs.declared.state.Shown.{Shown}
 use Rattle.smi_tree.specs.Hierarchy.{entry}
 use Rattle.smi_publish.specs.declared.condition.Condition.{Condition}
@@ -34,7 +35,7 @@ shown_at boot conditions object = option_map (shown boot object) (conditions obj
 
 -- the largest sequence
 abbrev pub last_sequence : ℕ
-last_sequence = 4000000000
+last_sequence = LAST_SEQUENCE
 
 -- the object may change once more
 abbrev pub HasRoom : (ℕ → Option Condition) → ℕ → Type 0

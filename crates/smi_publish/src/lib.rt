@@ -18,7 +18,7 @@ mod opening;
 mod publisher;
 
 pub use changes::{Changes, MOST_CHANGES};
-pub use publisher::{LAST_SEQUENCE, Publisher};
+pub use publisher::Publisher;
 
 #[cfg(test)]
 mod tests;

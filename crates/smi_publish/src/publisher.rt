@@ -2,13 +2,10 @@ use crate::changes::Changes;
 use crate::condition::{Condition, condition_in};
 use crate::opening::first_condition;
 use smi_grant::Shown;
+use smi_limits::LAST_SEQUENCE;
 use smi_tree::Tree;
 use std::alloc::{AllocError, Global};
 use std::marker::Model;
-
-/// The largest sequence that an object may come to, after which its station stops until it is started
-/// again.
-pub const LAST_SEQUENCE: u32 = 4_000_000_000;
 
 /// The states and versions of the objects that a station keeps, since its start.
 ///

@@ -3,8 +3,8 @@ use Rattle.std.specs.Prelude.{ℕ}
 use Rattle.smi_rows.specs.declared.fault.Fault.{Fault}
 use Rattle.smi_rows.specs.declared.fault.Fault.TheVariants.{Length, Schema, Range, Unknown}
 
-abbrev pub fault_number : Fault → ℕ
-fault_number Length = 1
-fault_number Schema = 2
-fault_number Range = 3
-fault_number Unknown = 4
+abbrev pub fault_code : Fault → ℕ
+fault_code Length = 1
+fault_code Schema = 2
+fault_code Range = 3
+fault_code Unknown = 4

@@ -2,6 +2,8 @@
 use Rattle.std.specs.Prelude.{ℕ, ◌%◌, ◌&&◌, ◌==◌, nat_le, nat_lt, not, Bool, true, false, if◌then◌else◌, List, []}
 use Rattle.std.specs.Prelude.{◌∷◌, length, count_by}
 use Rattle.std.specs.List.{list_all, list_any}
+use Rattle.smi_limits.specs.declared.trees.TheConstants.{MOST_DOMAINS}
+use Rattle.smi_limits.specs.declared.numbers.TheConstants.{LAST_BOOT, MOST_LINKS}
 use Rattle.smi_grant.specs.declared.Command.{Command}
 use Rattle.smi_grant.specs.Command.{is_in_range, verb_of}
 use Rattle.smi_grant.specs.Holder as holder
@@ -63,7 +65,7 @@ abbrev pub is_mode_in : Schema → Link → Mode → Bool
 is_mode_in s l m = if is_included m then true else (has_modes s && is_held l)
 
 abbrev pub is_link_in : Schema → StoredLink → Bool
-is_link_in s x = is_between 1 128 x.domain && (is_grant_in s x.link && is_mode_in s x.link x.mode)
+is_link_in s x = is_between 1 MOST_DOMAINS x.domain && (is_grant_in s x.link && is_mode_in s x.link x.mode)
 
 -- the links stand by rising domain
 abbrev pub rises_above : ℕ → List StoredLink → Bool
@@ -77,14 +79,14 @@ abbrev pub are_links_in : Schema → List StoredLink → Bool
 are_links_in s links = rises_above 0 links && each_link_in s links
 
 abbrev pub is_boot : ℕ → Bool
-is_boot boot = is_between 1 4000000000 boot
+is_boot boot = is_between 1 LAST_BOOT boot
 
 abbrev pub count_not_out : List StoredLink → ℕ
 count_not_out links = count_by (λ x. not (is_out x.link)) links
 
 -- an operator has at most sixteen links that are not out
 abbrev pub is_operator_in : Schema → List StoredLink → Bool
-is_operator_in s links = are_links_in s links && nat_le (count_not_out links) 16
+is_operator_in s links = are_links_in s links && nat_le (count_not_out links) MOST_LINKS
 
 -- a record of holders and outcomes that a tree can have
 abbrev pub is_standing : Standing → Bool

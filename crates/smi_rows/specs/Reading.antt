@@ -21,7 +21,7 @@ use Rattle.smi_rows.specs.declared.row.StoredLink.{StoredLink}
 use Rattle.smi_rows.specs.declared.row.Row.{Row}
 use Rattle.smi_rows.specs.declared.row.Row.TheVariants as row
 use Rattle.smi_rows.specs.declared.schema.Schema.{Schema}
-use Rattle.smi_rows.specs.Fault.{fault_number}
+use Rattle.smi_rows.specs.Fault.{fault_code}
 use Rattle.smi_rows.specs.Key.{kind_of}
 use Rattle.smi_rows.specs.Known.{is_known}
 use Rattle.smi_rows.specs.Layout.{row_bytes, u16_at, u32_at, u64_at}
@@ -140,7 +140,7 @@ abbrev pub said_at : Schema → List ℕ → Option Row
 said_at s b = option_and_then (where_said s b) (row_at s.kind s b)
 
 abbrev pub refused : {X : Type 0} → Fault → Result X RowFault
-refused f = Err (Code (fault_number f))
+refused f = Err (Code (fault_code f))
 
 abbrev pub known_row : Hierarchy → Key → Option Row → Result Row RowFault
 known_row h k None = refused fault.Range
@@ -169,4 +169,4 @@ Reads (Err (Code n)) reading = reading ≡ Err (Code n)
 abbrev pub Gives : {X Y : Type 0} → (X → Y) → Option Y → Result X RowFault → Type 0
 Gives view said (Ok x) = said ≡ Some (view x)
 Gives view said (Err Memory) = Unit {0}
-Gives view said (Err (Code n)) = (said ≡ None) × (n ≡ fault_number fault.Range)
+Gives view said (Err (Code n)) = (said ≡ None) × (n ≡ fault_code fault.Range)

@@ -21,11 +21,11 @@ pub enum Fault {
 
 impl Fault {
     ghost use Rattle.std.specs.Prelude.{◌≡◌};
-    ghost use Rattle.smi_rows.specs.Fault.{fault_number};
+    ghost use Rattle.smi_rows.specs.Fault.{fault_code};
 
     /// The number of the test, 1 to 4.
-    pub fn number(self) -> u16
-        ensures { result ≡ fault_number self }
+    pub fn code(self) -> u16
+        ensures { result ≡ fault_code self }
     {
         u16::from(self as u8)
     }
@@ -45,12 +45,12 @@ pub enum RowFault {
 impl From<Fault> for RowFault {
     ghost use Rattle.std.specs.Prelude.{◌≡◌};
     ghost use Rattle.smi_rows.specs.declared.fault.RowFault.TheVariants as row_fault;
-    ghost use Rattle.smi_rows.specs.Fault.{fault_number};
+    ghost use Rattle.smi_rows.specs.Fault.{fault_code};
 
-    ghost from_gives = { λ fault row. row ≡ row_fault.Code (fault_number fault) };
+    ghost from_gives = { λ fault row. row ≡ row_fault.Code (fault_code fault) };
 
     fn from(fault: Fault) -> RowFault {
-        RowFault::Code(fault.number())
+        RowFault::Code(fault.code())
     }
 }
 

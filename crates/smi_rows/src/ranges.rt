@@ -10,12 +10,7 @@ use crate::row::{DomainRow, OperatorRow, Row, StoredLink};
 use crate::schema::Schema;
 use smi_command::{Link, Pending};
 use smi_grant::{Command, LAST_EPOCH, LAST_NUMBER, Phase, Record, is_outcome};
-
-/// The greatest boot.
-const LAST_BOOT: u32 = 4_000_000_000;
-
-/// How many links of an operator may be other than out.
-const MOST_NOT_OUT: usize = 16;
+use smi_limits::{LAST_BOOT, MOST_DOMAINS, MOST_LINKS};
 
 /// Whether rows of the schema can say this.
 pub(crate) fn is_row_in(schema: Schema, row: &Row) -> bool
@@ -32,7 +27,7 @@ pub(crate) fn is_row_in(schema: Schema, row: &Row) -> bool
 fn is_operator_in(schema: Schema, operator: &OperatorRow) -> bool
     ensures { result ≡ spec.is_operator_in schema operator.now }
 {
-    are_links_in(schema, &operator.links) && count_not_out(&operator.links) <= MOST_NOT_OUT
+    are_links_in(schema, &operator.links) && count_not_out(&operator.links) <= MOST_LINKS
 }
 
 fn count_not_out(links: &[StoredLink]) -> usize
@@ -118,7 +113,7 @@ fn is_link_in(schema: Schema, stored: &StoredLink) -> bool
     ensures { result ≡ spec.is_link_in schema stored.now }
 {
     1 <= stored.domain
-        && stored.domain <= 128
+        && stored.domain <= MOST_DOMAINS
         && is_grant_in(schema, &stored.link)
         && is_mode_in(schema, &stored.link, stored.mode)
 }

@@ -26,7 +26,7 @@ const OPERATOR_FRONT: usize = 4;
 impl Row {
     ghost use Rattle.std.specs.Prelude.{◌≡◌, IfOk, Ok, Err, false};
     ghost use Rattle.smi_rows.specs.declared.row.Row.{Row as Said};
-    ghost use Rattle.smi_rows.specs.Fault.{fault_number};
+    ghost use Rattle.smi_rows.specs.Fault.{fault_code};
     ghost use Rattle.smi_rows.specs.Known.{is_known};
     ghost use Rattle.smi_rows.specs.Reading.{Reads, row_of, refused};
     ghost use Rattle.smi_rows.specs.Written.{IsWritten, IsRow};

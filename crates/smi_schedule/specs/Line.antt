@@ -1,6 +1,7 @@
 -- What a line of a schedule lets happen.
 use Rattle.std.specs.Prelude.{ℕ, nat_lt, ok_or, List, [], ◌∷◌, length, Option, Some, None, Result, Ok, Err}
 use Rattle.std.specs.Prelude.{if◌then◌else◌}
+use Rattle.smi_limits.specs.declared.trees.TheConstants.{MOST_BYTES_OF_A_LINE}
 use Rattle.smi_tree.specs.Fault.{◌>>=◌}
 use Rattle.smi_tree.specs.Text.{words}
 use Rattle.smi_tree.specs.File.{is_comment}
@@ -25,4 +26,4 @@ item_by h (word ∷ more) =
 
 -- no line is longer than 200 bytes
 unfoldable pub item_in : Hierarchy → List ℕ → Result (Option Item) Fault
-item_in h line = if nat_lt 200 (length line) then Err LineTooLong else item_by h (words line)
+item_in h line = if nat_lt MOST_BYTES_OF_A_LINE (length line) then Err LineTooLong else item_by h (words line)

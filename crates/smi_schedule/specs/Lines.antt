@@ -2,6 +2,7 @@
 use Rattle.std.specs.Prelude.{ℕ, ◌≡◌, ◌<◌, List, [], ◌∷◌, length, Option, Some, None, IfSome}
 use Rattle.std.specs.Str.Lines.{lines}
 use Rattle.std.specs.Io.KnownBytes.{prepend_known}
+use Rattle.smi_limits.specs.declared.trees.TheConstants.{MOST_BYTES_OF_A_LINE}
 use Rattle.smi_schedule.specs.declared.lines.Cut.{Cut}
 use Rattle.smi_schedule.specs.declared.lines.Cut.TheVariants as cut
 
@@ -21,7 +22,7 @@ abbrev pub CutsText : Cut → List ℕ → List ℕ → Option (List ℕ) → Ty
 CutsText cut.Line text line None = ⊥
 CutsText cut.Line text line (Some later) = lines text ≡ line ∷ lines later
 CutsText cut.TooLong text line later = (first : List ℕ) × (more : List (List ℕ)) × (lines text ≡ first ∷ more)
-    × (200 < length first)
+    × (MOST_BYTES_OF_A_LINE < length first)
 CutsText cut.End text line later = lines text ≡ []
 CutsText cut.ReadFault text line later = Unit {0}
 CutsText cut.Memory text line later = Unit {0}

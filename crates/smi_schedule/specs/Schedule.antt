@@ -3,7 +3,8 @@ use Rattle.std.specs.Prelude.{ℕ, ◌≡◌, ◌+◌, nat_lt, List, [], ◌∷�
 use Rattle.std.specs.Prelude.{if◌then◌else◌}
 use Rattle.std.specs.Option.{option_to_list}
 use Rattle.std.specs.Str.Lines.{lines}
-use Rattle.smi_tree.specs.Fault.{fault_number}
+use Rattle.smi_limits.specs.declared.trees.TheConstants.{MOST_BYTES_OF_A_FILE}
+use Rattle.smi_tree.specs.Fault.{fault_code}
 use Rattle.smi_tree.specs.Hierarchy.{Hierarchy}
 use Rattle.smi_tree.specs.declared.fault.Fault.{Fault}
 use Rattle.smi_tree.specs.declared.fault.Fault.TheVariants.{FileTooLong}
@@ -25,7 +26,7 @@ items_before_fault h (line ∷ more) = items_on (item_in h line) (items_before_f
 
 -- the fault of the line of this number
 abbrev pub at_line : ℕ → Fault → ScheduleFault
-at_line number fault = Line number (fault_number fault)
+at_line number fault = Line number (fault_code fault)
 
 -- the fault of a line, or else that of the lines after it
 abbrev pub fault_or : ℕ → Result (Option Item) Fault → Option ScheduleFault → Option ScheduleFault
@@ -49,7 +50,7 @@ items_of h ls = unless_faulty (first_fault 1 h ls) (items_before_fault h ls)
 -- the items of a schedule, or its first fault
 unfoldable pub schedule_of : Hierarchy → List ℕ → Result (List Item) ScheduleFault
 schedule_of h bytes =
-    if nat_lt 262144 (length bytes) then Err (at_line 0 FileTooLong)
+    if nat_lt MOST_BYTES_OF_A_FILE (length bytes) then Err (at_line 0 FileTooLong)
     else items_of h (lines bytes)
 
 -- A result, seen by view, is what reading gives, unless memory ran out.
@@ -64,4 +65,4 @@ abbrev pub ReadsLine : {X : Type 0} → List Item → Result (Option Item) Fault
 ReadsLine old said number (Ok done) new = (item : Option Item) × (said ≡ Ok item) × (new ≡ old ++ option_to_list item)
 ReadsLine old said number (Err Memory) new = Unit {0}
 ReadsLine old said number (Err (Line place code)) new =
-    (fault : Fault) × (said ≡ Err fault) × (place ≡ number) × (code ≡ fault_number fault)
+    (fault : Fault) × (said ≡ Err fault) × (place ≡ number) × (code ≡ fault_code fault)

@@ -7,7 +7,8 @@ use crate::known::known;
 use crate::said::said_of;
 use crate::words::LineWord;
 use smi_item::Item;
-use smi_tree::{Fault, MOST_BYTES_OF_A_LINE, Tree, first_word, is_comment};
+use smi_limits::MOST_BYTES_OF_A_LINE;
+use smi_tree::{Fault, Tree, first_word, is_comment};
 
 /// What a line of a schedule lets happen; nothing where it has no words or is a comment.
 ///

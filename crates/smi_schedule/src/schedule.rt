@@ -7,12 +7,10 @@ ghost use Rattle.smi_schedule.specs.Schedule.{Reads, ReadsLine, items_of, schedu
 
 use crate::line::read_item;
 use smi_item::Item;
+use smi_limits::MOST_BYTES_OF_A_FILE;
 use smi_tree::{Fault, Tree, first_line};
 use std::alloc::{AllocError, AllocFailed, Global};
 use thiserror::Error;
-
-/// The most bytes of a schedule that is read as a whole.
-const MOST_BYTES: usize = 256 * 1024;
 
 /// Why a schedule was not read.
 #[derive(Clone, Copy, Debug, PartialEq, Eq, Error)]
@@ -63,7 +61,7 @@ fn read_line(
             Ok(())
         }
         Ok(None) => Ok(()),
-        Err(fault) => Err(ScheduleFault::Line(number, fault.number())),
+        Err(fault) => Err(ScheduleFault::Line(number, fault.code())),
     }
 }
 
@@ -91,8 +89,8 @@ fn read_lines(alloc: Global, tree: &Tree, bytes: &[u8]) -> Result<Vec<Item>, Sch
 pub fn read_schedule(alloc: Global, tree: &Tree, bytes: &[u8]) -> Result<Vec<Item>, ScheduleFault>
     ensures { Reads (λ items. items.items) result (schedule_of tree.now bytes.now) }
 {
-    if bytes.len() > MOST_BYTES {
-        return Err(ScheduleFault::Line(0, Fault::FileTooLong.number()));
+    if bytes.len() > MOST_BYTES_OF_A_FILE {
+        return Err(ScheduleFault::Line(0, Fault::FileTooLong.code()));
     }
     read_lines(alloc, tree, bytes)
 }

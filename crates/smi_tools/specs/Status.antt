@@ -3,9 +3,9 @@ use Rattle.std.specs.Prelude.{ℕ}
 use Rattle.smi_tools.specs.declared.status.Status.{Status}
 use Rattle.smi_tools.specs.declared.status.Status.TheVariants.{Done, Refused, WrongLine, Fault, NoMemory}
 
-abbrev pub code_of : Status → ℕ
-code_of Done = 0
-code_of Refused = 1
-code_of WrongLine = 2
-code_of Fault = 3
-code_of NoMemory = 4
+abbrev pub status_code : Status → ℕ
+status_code Done = 0
+status_code Refused = 1
+status_code WrongLine = 2
+status_code Fault = 3
+status_code NoMemory = 4

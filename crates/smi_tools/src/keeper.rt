@@ -1,6 +1,7 @@
 //! The keeper of one domain that stands alone.
 
 ghost use Rattle.std.specs.Prelude.{◌≡◌, ◌≤◌, true, MatchResult, Ok, Err};
+ghost use Rattle.smi_limits.specs.declared.trees.TheConstants.{MOST_STATIONS};
 ghost use Rattle.smi_message.specs.Message.{is_body, tell};
 ghost use Rattle.smi_tools.specs.Keeper as spec;
 
@@ -80,7 +81,7 @@ impl Keeper {
     }
 
     fn tell(&self, to: u16) -> Datagram
-        requires { (1 ≤ to) × (to ≤ 128) }
+        requires { (1 ≤ to) × (to ≤ MOST_STATIONS) }
         ensures { result ≡ tell STATION to TREE DOMAIN self.now }
     {
         Datagram::tell(STATION, to, TREE, DOMAIN, self.record)

@@ -19,11 +19,11 @@ pub enum Status {
 
 impl Status {
     ghost use Rattle.std.specs.Prelude.{◌≡◌};
-    ghost use Rattle.smi_tools.specs.Status.{code_of};
+    ghost use Rattle.smi_tools.specs.Status.{status_code};
 
     /// The exit status, 0 to 4.
     pub fn code(self) -> u8
-        ensures { result ≡ code_of self }
+        ensures { result ≡ status_code self }
     {
         self as u8
     }

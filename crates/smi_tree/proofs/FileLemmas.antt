@@ -4,7 +4,7 @@ use Rattle.std.proofs.Common.{Err, refl, ap, ◌∙◌, sym, subst, ◌⊎◌, i
 use Rattle.std.proofs.lemmas.Bool.Decides.{nat_tests}
 use Rattle.std.specs.Prelude.{nat_lt}
 use Rattle.std.specs.Str.Lines.{lines}
-use Rattle.smi_tree.specs.Fault.{fault_number}
+use Rattle.smi_tree.specs.Fault.{fault_code}
 use Rattle.smi_tree.specs.Hierarchy.{Hierarchy, undeclared}
 use Rattle.smi_tree.specs.File.{with_line, with_lines, go_on, at_line, is_complete, ended, tree_of}
 use Rattle.smi_tree.specs.TreeFile.{Makes, IsTreeFile, HasFaultyLine, IsIncomplete}
@@ -32,7 +32,7 @@ of-made (line ∷ more) number h end made = rw made.1 (of-made more (number + 1)
 
 record FaultFrom (number : ℕ) (h : Hierarchy) (ls : List (List ℕ)) (n code : ℕ) : Type 0 where
   pub fault : Fault
-  pub coded : code ≡ fault_number fault
+  pub coded : code ≡ fault_code fault
   pub above : List (List ℕ)
   pub line : List ℕ
   pub below : List (List ℕ)
@@ -69,10 +69,10 @@ fault-of (line ∷ more) number h n code is =
           faulty = f.faulty;
         }
     go (Err fault) stands is later =
-        let same : Line number (fault_number fault) ≡ Line n code = cc in
+        let same : Line number (fault_code fault) ≡ Line n code = cc in
         record {
           fault = fault;
-          coded = (let e : fault_number fault ≡ code = cc in sym e);
+          coded = (let e : fault_code fault ≡ code = cc in sym e);
           above = [];
           line = line;
           below = more;

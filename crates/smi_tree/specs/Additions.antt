@@ -3,6 +3,11 @@
 use Rattle.std.specs.Prelude.{ℕ, ◌-◌, ◌==◌, ◌&&◌, ◌||◌, nat_lt, Bool, true, List, [], ◌∷◌, ◌++◌, length, count_by}
 use Rattle.std.specs.Prelude.{is_some, slice_set, ok_or, Option, Some, None, Result, Ok, Err, if◌then◌else◌}
 use Rattle.std.specs.List.{list_any}
+use Rattle.smi_limits.specs.declared.trees.TheConstants.{MOST_DEVICES, MOST_DEVICES_OF_A_DOMAIN}
+use Rattle.smi_limits.specs.declared.trees.TheConstants.{MOST_CHILDREN, MOST_CLASSES, MOST_DOMAINS, MOST_LEVELS}
+use Rattle.smi_limits.specs.declared.trees.TheConstants.{MOST_RULES_OF_A_CLASS}
+use Rattle.smi_limits.specs.declared.trees.TheConstants.{MOST_ACTIONS, MOST_OPERATORS, MOST_STATES, MOST_STATIONS}
+use Rattle.smi_limits.specs.declared.trees.TheConstants.{MOST_OPERATORS_OF_A_STATION}
 use Rattle.smi_tree.specs.Fault.{◌>>=◌}
 use Rattle.smi_tree.specs.Declaration.{declaration_of}
 use Rattle.smi_tree.specs.declared.declaration.Keyword.{Keyword}
@@ -36,17 +41,17 @@ is_taken h name =
 
 unfoldable pub with_state : Hierarchy → List ℕ → Result Hierarchy Fault
 with_state h name = do
-  names ← added 64 h.state_names name
+  names ← added MOST_STATES h.state_names name
   Ok (record h { state_names = names })
 
 unfoldable pub with_action : Hierarchy → List ℕ → Result Hierarchy Fault
 with_action h name = do
-  names ← added 64 h.action_names name
+  names ← added MOST_ACTIONS h.action_names name
   Ok (record h { action_names = names })
 
 unfoldable pub with_station : Hierarchy → List ℕ → Address → Result Hierarchy Fault
 with_station h name address = do
-  names ← added 128 h.station_names name
+  names ← added MOST_STATIONS h.station_names name
   Ok (record h { station_names = names; addresses = h.addresses ++ address ∷ [] })
 
 -- at most eight operators of a station
@@ -54,14 +59,15 @@ unfoldable pub with_operator : Hierarchy → List ℕ → List ℕ → Result Hi
 with_operator h name station = do
   home ← known h.station_names station
   if is_taken h name then Err Twice
-      else (if nat_lt (length h.operator_names) 32 && nat_lt (count_by (λ other. other == home) h.homes) 8
+      else (if nat_lt (length h.operator_names) MOST_OPERATORS
+      && nat_lt (count_by (λ other. other == home) h.homes) MOST_OPERATORS_OF_A_STATION
       then Ok (record h { operator_names = h.operator_names ++ name ∷ []; homes = h.homes ++ home ∷ [] })
       else Err OverLimit)
 
 unfoldable pub with_class : Hierarchy → ClassKind → List ℕ → List ℕ → Result Hierarchy Fault
 with_class h which name first = do
   state ← known h.state_names first
-  names ← added 32 h.class_names name
+  names ← added MOST_CLASSES h.class_names name
   Ok (record h { class_names = names; classes = h.classes ++ class_table which state ∷ [] })
 
 -- one row for each state and action of a device class
@@ -95,7 +101,7 @@ with_rule h which class state target = do
   of ← known h.state_names state
   to ← known h.state_names target
   if is_kind found.1.kind kind.Unit
-      then (if nat_lt (length found.1.rules) 32
+      then (if nat_lt (length found.1.rules) MOST_RULES_OF_A_CLASS
       then Ok (record h {
         classes = slice_set h.classes (found.0 - 1)
             (record found.1 { rules = found.1.rules ++ record { quantifier = which; state = of; target = to } ∷ [] });
@@ -114,7 +120,7 @@ known_parent h (Some name) = do
 unfoldable pub has_room : Hierarchy → Option ℕ → Bool
 has_room h None = true
 has_room h (Some parent) =
-    nat_lt (count_by (is_child_of parent) h.domains) 16 && nat_lt (depth_in h.domains parent) 8
+    nat_lt (count_by (is_child_of parent) h.domains) MOST_CHILDREN && nat_lt (depth_in h.domains parent) MOST_LEVELS
 
 unfoldable pub with_domain : Hierarchy → List ℕ → List ℕ → List ℕ → Option (List ℕ) → Result Hierarchy Fault
 with_domain h name station class parent = do
@@ -123,7 +129,7 @@ with_domain h name station class parent = do
   above ← known_parent h parent
   if is_taken h name then Err Twice
       else (if is_kind found.1.kind kind.Unit
-      then (if nat_lt (length h.domain_names) 128 && has_room h above
+      then (if nat_lt (length h.domain_names) MOST_DOMAINS && has_room h above
       then Ok (record h {
         domain_names = h.domain_names ++ name ∷ [];
         domains = h.domains ++ record { station = keeper; class = found.0; parent = above } ∷ [];
@@ -138,7 +144,8 @@ with_device h name domain class = do
   found ← known_class h class
   if is_taken h name then Err Twice
       else (if is_kind found.1.kind kind.Device
-      then (if nat_lt (length h.device_names) 512 && nat_lt (count_by (is_device_of place) h.devices) 16
+      then (if nat_lt (length h.device_names) MOST_DEVICES
+      && nat_lt (count_by (is_device_of place) h.devices) MOST_DEVICES_OF_A_DOMAIN
       then Ok (record h {
         device_names = h.device_names ++ name ∷ [];
         devices = h.devices ++ record { domain = place; class = found.0 } ∷ [];

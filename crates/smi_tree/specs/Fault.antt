@@ -8,19 +8,19 @@ use Rattle.smi_tree.specs.declared.fault.Refusal.{Refusal}
 use Rattle.smi_tree.specs.declared.fault.Refusal.TheVariants.{Memory, Faulty}
 
 -- the number that stands for a fault
-abbrev pub fault_number : Fault → ℕ
-fault_number UnknownWord = 1
-fault_number WordCount = 2
-fault_number Malformed = 3
-fault_number Twice = 4
-fault_number UnknownName = 5
-fault_number OverLimit = 6
-fault_number TreeLine = 7
-fault_number BadAddress = 8
-fault_number OtherKind = 9
-fault_number LineTooLong = 10
-fault_number FileTooLong = 11
-fault_number Incomplete = 12
+abbrev pub fault_code : Fault → ℕ
+fault_code UnknownWord = 1
+fault_code WordCount = 2
+fault_code Malformed = 3
+fault_code Twice = 4
+fault_code UnknownName = 5
+fault_code OverLimit = 6
+fault_code TreeLine = 7
+fault_code BadAddress = 8
+fault_code OtherKind = 9
+fault_code LineTooLong = 10
+fault_code FileTooLong = 11
+fault_code Incomplete = 12
 
 -- the next step, unless there was a fault
 infixl 10 ◌>>=◌

@@ -3,8 +3,9 @@ use Rattle.std.specs.Prelude.{ℕ, ◌≡◌, ◌+◌, ◌==◌, ◌&&◌, nat_l
 use Rattle.std.specs.Prelude.{codes, Result, Ok, Err, if◌then◌else◌}
 use Rattle.std.specs.Str.{bytes_eq}
 use Rattle.std.specs.Str.Lines.{lines}
+use Rattle.smi_limits.specs.declared.trees.TheConstants.{MOST_BYTES_OF_A_FILE, MOST_BYTES_OF_A_LINE}
 use Rattle.smi_tree.specs.Text.{words}
-use Rattle.smi_tree.specs.Fault.{◌>>=◌, fault_number}
+use Rattle.smi_tree.specs.Fault.{◌>>=◌, fault_code}
 use Rattle.smi_tree.specs.Declaration.{keyword_of}
 use Rattle.smi_tree.specs.Hierarchy.{Hierarchy, undeclared}
 use Rattle.smi_tree.specs.Additions.{with_words_of}
@@ -44,11 +45,11 @@ with_words h (word ∷ more) =
 
 -- no line is longer than 200 bytes
 unfoldable pub with_line : Hierarchy → List ℕ → Result Hierarchy Fault
-with_line h line = if nat_lt 200 (length line) then Err LineTooLong else with_words h (words line)
+with_line h line = if nat_lt MOST_BYTES_OF_A_LINE (length line) then Err LineTooLong else with_words h (words line)
 
 -- a fault of the line of this number
 abbrev pub at_line : ℕ → Fault → TreeFault
-at_line number fault = Line number (fault_number fault)
+at_line number fault = Line number (fault_code fault)
 
 -- the refusal of the line of this number
 abbrev pub refused_at : ℕ → Refusal → TreeFault
@@ -83,7 +84,8 @@ ended (Err fault) = Err fault
 -- the hierarchy of a tree file, or its first fault
 unfoldable pub tree_of : List ℕ → Result Hierarchy TreeFault
 tree_of bytes =
-    if nat_lt 262144 (length bytes) then Err (at_line 0 FileTooLong) else ended (with_lines 1 undeclared (lines bytes))
+    if nat_lt MOST_BYTES_OF_A_FILE (length bytes) then Err (at_line 0 FileTooLong)
+    else ended (with_lines 1 undeclared (lines bytes))
 
 -- A result is what reading gives, unless memory ran out.
 abbrev pub Reads : Result Hierarchy TreeFault → Result Hierarchy TreeFault → Type 0

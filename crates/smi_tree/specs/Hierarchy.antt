@@ -2,6 +2,7 @@
 use Rattle.std.specs.Prelude.{ℕ, ◌≡◌, ◌<◌, ◌≤◌, suc, zero, ◌-◌, ◌==◌, ◌&&◌, Bool, false, List, [], ◌∷◌, length, find}
 use Rattle.std.specs.Prelude.{slice_get, Option, Some, None, option_and_then, if◌then◌else◌}
 use Rattle.std.specs.Option.{option_map_or}
+use Rattle.smi_limits.specs.declared.trees.TheConstants.{MOST_LEVELS}
 use Rattle.smi_tree.specs.declared.number.Address.{Address}
 use Rattle.smi_tree.specs.declared.row.Move.{Move}
 use Rattle.smi_tree.specs.declared.row.Domain.{Domain}
@@ -47,7 +48,7 @@ ancestors (suc more) domains domain =
 
 -- how deep a domain lies: a root at 1
 abbrev pub depth_in : List Domain → ℕ → ℕ
-depth_in domains domain = suc (length (ancestors 8 domains domain))
+depth_in domains domain = suc (length (ancestors MOST_LEVELS domains domain))
 
 abbrev pub is_child_of : ℕ → Domain → Bool
 is_child_of parent row = option_map_or (λ above. above == parent) row.parent false

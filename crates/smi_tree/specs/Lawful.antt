@@ -1,6 +1,11 @@
 -- Which hierarchies a tree may be: everything within its limits, every number one that is there.
 use Rattle.std.specs.Prelude.{ℕ, ◌≡◌, ◌<◌, ◌≤◌, ◌==◌, List, length, count_by, Option, Some, option_map}
 use Rattle.std.specs.List.{AllByRecursion}
+use Rattle.smi_limits.specs.declared.trees.TheConstants.{MOST_DEVICES, MOST_DEVICES_OF_A_DOMAIN}
+use Rattle.smi_limits.specs.declared.trees.TheConstants.{MOST_CHILDREN, MOST_CLASSES, MOST_DOMAINS, MOST_LEVELS}
+use Rattle.smi_limits.specs.declared.trees.TheConstants.{MOST_RULES_OF_A_CLASS}
+use Rattle.smi_limits.specs.declared.trees.TheConstants.{MOST_ACTIONS, MOST_OPERATORS, MOST_STATES, MOST_STATIONS}
+use Rattle.smi_limits.specs.declared.trees.TheConstants.{MOST_OPERATORS_OF_A_STATION}
 use Rattle.smi_tree.specs.ClassTable.{ClassTable}
 use Rattle.smi_tree.specs.Hierarchy.{Hierarchy, entry, is_child_of, is_device_of, depth_in}
 use Rattle.smi_tree.specs.Named.{IsNamed}
@@ -20,10 +25,10 @@ kind_in classes class = option_map (λ table. table.kind) (entry classes class)
 
 -- at most 32 operators, each at a station, of which none has more than eight
 pub record AreOperators (stations : ℕ) (names : List (List ℕ)) (homes : List ℕ) : Type 0 where
-  pub most : length names ≤ 32
+  pub most : length names ≤ MOST_OPERATORS
   pub rows : length homes ≡ length names
   pub each : (operator home : ℕ) → entry homes operator ≡ Some home → IsBetween 1 stations home
-  pub of_station : (station : ℕ) → count_by (λ home. home == station) homes ≤ 8
+  pub of_station : (station : ℕ) → count_by (λ home. home == station) homes ≤ MOST_OPERATORS_OF_A_STATION
 
 pub record IsRule (states : ℕ) (rule : Rule) : Type 0 where
   pub state : IsBetween 1 states rule.state
@@ -33,11 +38,11 @@ pub record IsClass (states actions : ℕ) (table : ClassTable) : Type 0 where
   pub first : IsBetween 1 states table.first
   pub accepted : AllByRecursion (IsBetween 1 actions) table.accepted
   pub rules : AllByRecursion (IsRule states) table.rules
-  pub most : length table.rules ≤ 32
+  pub most : length table.rules ≤ MOST_RULES_OF_A_CLASS
 
 -- at most 32 classes
 pub record AreClasses (states actions : ℕ) (names : List (List ℕ)) (classes : List ClassTable) : Type 0 where
-  pub most : length names ≤ 32
+  pub most : length names ≤ MOST_CLASSES
   pub rows : length classes ≡ length names
   pub each : (class : ℕ) (table : ClassTable) → entry classes class ≡ Some table → IsClass states actions table
 
@@ -56,11 +61,11 @@ pub record IsDomain (stations : ℕ) (classes : List ClassTable) (domain : ℕ) 
 -- at most 128 domains, none with more than 16 children, none deeper than 8
 pub record AreDomains (stations : ℕ) (classes : List ClassTable) (names : List (List ℕ)) (domains : List Domain)
     : Type 0 where
-  pub most : length names ≤ 128
+  pub most : length names ≤ MOST_DOMAINS
   pub rows : length domains ≡ length names
   pub each : (domain : ℕ) (row : Domain) → entry domains domain ≡ Some row → IsDomain stations classes domain row
-  pub children : (parent : ℕ) → count_by (is_child_of parent) domains ≤ 16
-  pub depth : (domain : ℕ) → depth_in domains domain ≤ 8
+  pub children : (parent : ℕ) → count_by (is_child_of parent) domains ≤ MOST_CHILDREN
+  pub depth : (domain : ℕ) → depth_in domains domain ≤ MOST_LEVELS
 
 pub record IsDevice (domains : ℕ) (classes : List ClassTable) (row : Device) : Type 0 where
   pub domain : IsBetween 1 domains row.domain
@@ -69,18 +74,18 @@ pub record IsDevice (domains : ℕ) (classes : List ClassTable) (row : Device) :
 -- at most 512 devices, none of the domains with more than 16
 pub record AreDevices (domains : ℕ) (classes : List ClassTable) (names : List (List ℕ)) (devices : List Device)
     : Type 0 where
-  pub most : length names ≤ 512
+  pub most : length names ≤ MOST_DEVICES
   pub rows : length devices ≡ length names
   pub each : (device : ℕ) (row : Device) → entry devices device ≡ Some row → IsDevice domains classes row
-  pub of_domain : (domain : ℕ) → count_by (is_device_of domain) devices ≤ 16
+  pub of_domain : (domain : ℕ) → count_by (is_device_of domain) devices ≤ MOST_DEVICES_OF_A_DOMAIN
 
 -- a hierarchy within its limits
 pub record IsLawful (h : Hierarchy) : Type 0 where
   pub number : h.number ≤ 65535
   pub begun : 1 ≤ length h.station_names → 1 ≤ h.number
-  pub states : length h.state_names ≤ 64
-  pub actions : length h.action_names ≤ 64
-  pub stations : length h.station_names ≤ 128
+  pub states : length h.state_names ≤ MOST_STATES
+  pub actions : length h.action_names ≤ MOST_ACTIONS
+  pub stations : length h.station_names ≤ MOST_STATIONS
   pub addresses : length h.addresses ≡ length h.station_names
   pub operators : AreOperators (length h.station_names) h.operator_names h.homes
   pub classes : AreClasses (length h.state_names) (length h.action_names) h.class_names h.classes

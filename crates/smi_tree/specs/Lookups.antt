@@ -3,6 +3,7 @@ use Rattle.std.specs.Prelude.{ℕ, suc, zero, ◌+◌, ◌-◌, ◌==◌, nat_le
 use Rattle.std.specs.Prelude.{None, option_and_then, option_map, if◌then◌else◌}
 use Rattle.std.specs.Option.{option_map_or, option_or}
 use Rattle.std.specs.List.{list_any}
+use Rattle.smi_limits.specs.declared.trees.TheConstants.{MOST_LEVELS}
 use Rattle.smi_tree.specs.Name.{number_of}
 use Rattle.smi_tree.specs.Rules.{state_by}
 use Rattle.smi_tree.specs.ClassTable.{ClassTable}
@@ -56,7 +57,7 @@ operator_station_of h operator = entry h.homes operator
 
 -- one domain is below another where a chain of parents leads from it to the other
 abbrev pub is_below : Hierarchy → ℕ → ℕ → Bool
-is_below h target domain = list_any (λ above. above == domain) (ancestors 8 h.domains target)
+is_below h target domain = list_any (λ above. above == domain) (ancestors MOST_LEVELS h.domains target)
 
 -- the last domain before `domain` on the way up from `target`
 unfoldable pub towards : ℕ → List Domain → ℕ → ℕ → Option ℕ
@@ -67,7 +68,7 @@ towards (suc more) domains domain target =
 
 -- the child of a domain that a target is below or is, where it is below the domain
 abbrev pub child_towards : Hierarchy → ℕ → ℕ → Option ℕ
-child_towards h domain target = towards 8 h.domains domain target
+child_towards h domain target = towards MOST_LEVELS h.domains domain target
 
 -- an object is a unit, numbered as its domain, or a device, numbered after all domains
 abbrev pub object_named : Hierarchy → List ℕ → Option ℕ

@@ -3,6 +3,7 @@ use Rattle.std.specs.Prelude.{ℕ, ◌==◌, ◌||◌, ◌&&◌, nat_le, Bool, f
 use Rattle.std.specs.Prelude.{if◌then◌else◌, is_some, Result, Ok, Err, nat_lt, ◌++◌}
 use Rattle.std.specs.List.{list_all, position_from}
 use Rattle.std.specs.Str.{bytes_eq}
+use Rattle.smi_limits.specs.declared.trees.TheConstants.{MOST_BYTES_OF_A_NAME}
 use Rattle.smi_tree.specs.declared.fault.Fault.{Fault}
 use Rattle.smi_tree.specs.declared.fault.Fault.TheVariants.{Twice, OverLimit}
 
@@ -21,7 +22,7 @@ begins_with_letter (b ∷ bs) = is_letter b
 
 -- a name: 1 to 16 bytes of A to Z, 0 to 9 and _, the first a letter
 abbrev pub is_name : List ℕ → Bool
-is_name word = nat_le (length word) 16 && (begins_with_letter word && list_all is_name_byte word)
+is_name word = nat_le (length word) MOST_BYTES_OF_A_NAME && (begins_with_letter word && list_all is_name_byte word)
 
 abbrev pub name_of : List ℕ → Option (List ℕ)
 name_of word = if is_name word then Some word else None

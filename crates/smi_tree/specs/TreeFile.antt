@@ -1,7 +1,8 @@
 -- Which files are tree files, and where the others are faulty, told line by line.
 use Rattle.std.specs.Prelude.{ℕ, ◌≡◌, ◌+◌, ◌≤◌, true, false, List, [], ◌∷◌, ◌++◌, length, Ok, Err}
 use Rattle.std.specs.Str.Lines.{lines}
-use Rattle.smi_tree.specs.Fault.{fault_number}
+use Rattle.smi_limits.specs.declared.trees.TheConstants.{MOST_BYTES_OF_A_FILE}
+use Rattle.smi_tree.specs.Fault.{fault_code}
 use Rattle.smi_tree.specs.Hierarchy.{Hierarchy, undeclared}
 use Rattle.smi_tree.specs.File.{with_line, is_complete}
 use Rattle.smi_tree.specs.declared.fault.Fault.{Fault}
@@ -13,7 +14,7 @@ Makes h (line ∷ more) end = (next : Hierarchy) × (with_line h line ≡ Ok nex
 
 -- a tree file of a hierarchy: short enough, each line stands, and one of each kind is there
 pub record IsTreeFile (bytes : List ℕ) (h : Hierarchy) : Type 0 where
-  pub short : length bytes ≤ 262144
+  pub short : length bytes ≤ MOST_BYTES_OF_A_FILE
   pub made : Makes undeclared (lines bytes) h
   pub complete : is_complete h ≡ true
 
@@ -31,13 +32,13 @@ pub record HasFault (h : Hierarchy) (ls : List (List ℕ)) (number : ℕ) (fault
 -- the first faulty line of a file, with the number of its first fault
 pub record HasFaultyLine (bytes : List ℕ) (number code : ℕ) : Type 0 where
   pub fault : Fault
-  pub coded : code ≡ fault_number fault
-  pub short : length bytes ≤ 262144
+  pub coded : code ≡ fault_code fault
+  pub short : length bytes ≤ MOST_BYTES_OF_A_FILE
   pub first : HasFault undeclared (lines bytes) number fault
 
 -- every line stands, and something that each tree has is missing
 pub record IsIncomplete (bytes : List ℕ) : Type 0 where
-  pub short : length bytes ≤ 262144
+  pub short : length bytes ≤ MOST_BYTES_OF_A_FILE
   pub made : Hierarchy
   pub stand : Makes undeclared (lines bytes) made
   pub missing : is_complete made ≡ false

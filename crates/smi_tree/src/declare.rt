@@ -12,31 +12,12 @@ use crate::names::Names;
 use crate::number::Address;
 use crate::row::{Class, Device, Domain, Move, Rule, entry};
 use crate::tables::Tables;
+use smi_limits::{
+    MOST_ACTIONS, MOST_CHILDREN, MOST_CLASSES, MOST_DEVICES, MOST_DEVICES_OF_A_DOMAIN,
+    MOST_DOMAINS, MOST_LEVELS, MOST_OPERATORS, MOST_OPERATORS_OF_A_STATION, MOST_RULES_OF_A_CLASS,
+    MOST_STATES, MOST_STATIONS,
+};
 use std::alloc::Global;
-
-const MOST_STATES: usize = 64;
-
-const MOST_ACTIONS: usize = 64;
-
-const MOST_STATIONS: usize = 128;
-
-const MOST_OPERATORS: usize = 32;
-
-const MOST_OPERATORS_OF_A_STATION: usize = 8;
-
-const MOST_CLASSES: usize = 32;
-
-const MOST_RULES_OF_A_CLASS: usize = 32;
-
-const MOST_DOMAINS: usize = 128;
-
-const MOST_CHILDREN: usize = 16;
-/// A root lies at the first.
-const MOST_LEVELS: usize = 8;
-
-const MOST_DEVICES: usize = 512;
-
-const MOST_DEVICES_OF_A_DOMAIN: usize = 16;
 
 /// What stands before the first row.
 const NO_MOVE: Move = Move {
@@ -205,21 +186,21 @@ impl Tables {
     fn add_state(&mut self, name: &Name) -> Result<(), Refusal>
         ensures { Becomes self.new result (with_state self.old name.now) }
     {
-        self.state_names.add(name, MOST_STATES)
+        self.state_names.add(name, usize::from(MOST_STATES))
     }
 
     #[tactic(auto, unfolding(crate::specs::Additions::with_action))]
     fn add_action(&mut self, name: &Name) -> Result<(), Refusal>
         ensures { Becomes self.new result (with_action self.old name.now) }
     {
-        self.action_names.add(name, MOST_ACTIONS)
+        self.action_names.add(name, usize::from(MOST_ACTIONS))
     }
 
     #[tactic(auto, unfolding(crate::specs::Additions::with_station))]
     fn add_station(&mut self, name: &Name, address: Address) -> Result<(), Refusal>
         ensures { Becomes self.new result (with_station self.old name.now address) }
     {
-        self.station_names.add(name, MOST_STATIONS)?;
+        self.station_names.add(name, usize::from(MOST_STATIONS))?;
         self.addresses.push(address)?;
         Ok(())
     }
@@ -232,7 +213,7 @@ impl Tables {
         if self.is_taken(name) {
             return Err(Refusal::Faulty(Fault::Twice));
         }
-        if self.operator_names.len() >= MOST_OPERATORS
+        if self.operator_names.len() >= usize::from(MOST_OPERATORS)
             || count_of(&self.homes, home) >= MOST_OPERATORS_OF_A_STATION
         {
             return Err(Refusal::Faulty(Fault::OverLimit));
@@ -253,7 +234,7 @@ impl Tables {
         ensures { Becomes self.new result (with_class self.old kind name.now first.now) }
     {
         let first = known(&self.state_names, first)?;
-        self.class_names.add(name, MOST_CLASSES)?;
+        self.class_names.add(name, usize::from(MOST_CLASSES))?;
         self.classes.push(Class::new(alloc, kind, first))?;
         Ok(())
     }
@@ -391,7 +372,7 @@ impl Tables {
         if kind != ClassKind::Unit {
             return Err(Refusal::Faulty(Fault::OtherKind));
         }
-        if self.domain_names.len() >= MOST_DOMAINS || !self.has_room(parent) {
+        if self.domain_names.len() >= usize::from(MOST_DOMAINS) || !self.has_room(parent) {
             return Err(Refusal::Faulty(Fault::OverLimit));
         }
         self.domain_names.push(name)?;
@@ -416,7 +397,7 @@ impl Tables {
         if kind != ClassKind::Device {
             return Err(Refusal::Faulty(Fault::OtherKind));
         }
-        if self.device_names.len() >= MOST_DEVICES
+        if self.device_names.len() >= usize::from(MOST_DEVICES)
             || self.devices.count_in(domain) >= MOST_DEVICES_OF_A_DOMAIN
         {
             return Err(Refusal::Faulty(Fault::OverLimit));

@@ -49,11 +49,11 @@ pub enum Fault {
 
 impl Fault {
     ghost use Rattle.std.specs.Prelude.{◌≡◌};
-    ghost use Rattle.smi_tree.specs.Fault.{fault_number};
+    ghost use Rattle.smi_tree.specs.Fault.{fault_code};
 
     /// The number that stands for the fault.
-    pub fn number(self) -> u16
-        ensures { result ≡ fault_number self }
+    pub fn code(self) -> u16
+        ensures { result ≡ fault_code self }
     {
         match self {
             Fault::UnknownWord => 1,
@@ -135,7 +135,7 @@ impl Refusal {
         ensures { result ≡ refused_at number self }
     {
         match self {
-            Refusal::Faulty(fault) => TreeFault::Line(number, fault.number()),
+            Refusal::Faulty(fault) => TreeFault::Line(number, fault.code()),
             Refusal::Memory => TreeFault::Memory,
         }
     }

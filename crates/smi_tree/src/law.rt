@@ -1,6 +1,7 @@
 //! What a tree file is, line by line, beside the function that [`Tree::read`](crate::Tree::read) computes.
 
 ghost use Rattle.std.specs.Prelude.{ℕ, List, Ok, Err, length, ◌≡◌, ◌<◌, ◌≤◌, ◌⊎◌, ◌↔◌};
+ghost use Rattle.smi_limits.specs.declared.trees.TheConstants.{MOST_BYTES_OF_A_FILE};
 ghost use Rattle.smi_tree.specs.declared.fault.TreeFault.TheVariants.{Line};
 ghost use Rattle.smi_tree.specs.Hierarchy.{Hierarchy};
 ghost use Rattle.smi_tree.specs.File.{tree_of};
@@ -20,5 +21,5 @@ pub fn the_first_faulty_line_is_told()
 /// A fault of the whole file is that it is too long, or that every line stands and yet it is no tree.
 pub fn a_fault_without_a_line_is_the_files()
     ensures { (bytes : List ℕ) (code : ℕ) → tree_of bytes ≡ Err (Line 0 code) →
-        ((code ≡ 11) × (262144 < length bytes)) ⊎ ((code ≡ 12) × IsIncomplete bytes) }
+        ((code ≡ 11) × (MOST_BYTES_OF_A_FILE < length bytes)) ⊎ ((code ≡ 12) × IsIncomplete bytes) }
 {}

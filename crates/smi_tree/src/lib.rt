@@ -36,7 +36,7 @@ pub use declaration::{one_name, one_word, two_names};
 pub use fault::{Fault, TreeFault};
 pub use name::Name;
 pub use number::{Address, number_within};
-pub use read::{MOST_BYTES_OF_A_LINE, is_comment};
+pub use read::is_comment;
 pub use row::{Device, Domain};
 pub use text::{Word, first_line, first_word, length_of_line, without_return};
 pub use tree::Tree;

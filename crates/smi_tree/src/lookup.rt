@@ -1,6 +1,7 @@
 //! What a tree says of its domains, devices, operators and stations. No look-up takes memory.
 
 ghost use Rattle.std.specs.Prelude.{◌≡◌};
+ghost use Rattle.smi_limits.specs.declared.trees.TheConstants.{MOST_LEVELS};
 ghost use Rattle.smi_tree.specs.Lookups.{towards};
 
 use crate::declare::parent_in;
@@ -8,16 +9,14 @@ use crate::number::Address;
 use crate::row::{Class, Device, Domain, entry};
 use crate::rule::state_by;
 use crate::tree::Tree;
-
-/// The most steps from a domain up to a root.
-const MOST_STEPS: usize = 8;
+use smi_limits::MOST_LEVELS;
 
 /// The last domain before `domain` on the way up from `target`.
 fn towards(domains: &[Domain], domain: u16, target: u16) -> Option<u16>
-    ensures { result ≡ towards 8 domains.now domain target }
+    ensures { result ≡ towards MOST_LEVELS domains.now domain target }
 {
     let mut at = target;
-    for _ in 0..MOST_STEPS {
+    for _ in 0..MOST_LEVELS {
         match parent_in(domains, at) {
             Some(parent) => {
                 if parent == domain {

@@ -10,11 +10,9 @@ ghost use Rattle.std.proofs.Common.{rules};
 use crate::text::Word;
 use arrayvec::ArrayVec;
 use indexmap::Equivalent;
+use smi_limits::MOST_BYTES_OF_A_NAME;
 use std::hash::{Hash, Hasher};
 use std::marker::Model;
-
-/// The most bytes of a name.
-const MOST_BYTES: usize = 16;
 
 /// A name as a file has it.
 #[derive(Drop)]
@@ -24,12 +22,13 @@ pub struct Name<'a> {
 
 impl<'a> Model for Name<'a> {
     ghost use Rattle.std.specs.Prelude.{ℕ, List, length, ◌≤◌};
+    ghost use Rattle.smi_limits.specs.declared.trees.TheConstants.{MOST_BYTES_OF_A_NAME};
 
     ghost Value = { List ℕ };
 
     ghost view = { λ n. n.text.now };
 
-    ghost invariant = { λ n. length n.text.now ≤ 16 };
+    ghost invariant = { λ n. length n.text.now ≤ MOST_BYTES_OF_A_NAME };
 }
 
 /// A text that is looked up among names.
@@ -49,7 +48,7 @@ impl<'a> Model for Sought<'a> {
 /// A name that is kept, in the value itself.
 #[derive(Debug, Drop)]
 pub(crate) struct NameBuf {
-    text: ArrayVec<u8, MOST_BYTES>,
+    text: ArrayVec<u8, MOST_BYTES_OF_A_NAME>,
 }
 
 impl Model for NameBuf {
@@ -202,7 +201,7 @@ ghost use Rattle.smi_tree.specs.Name.{is_name, is_name_byte, is_letter, begins_w
 fn is_name(word: &Word) -> bool
     ensures { result ≡ is_name word.now }
 {
-    word.text().len() <= MOST_BYTES
+    word.text().len() <= MOST_BYTES_OF_A_NAME
         && begins_with_letter(word.text())
         && word.has_name_bytes_alone()
 }

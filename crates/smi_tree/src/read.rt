@@ -10,10 +10,8 @@ use crate::fault::{Fault, Refusal, TreeFault};
 use crate::names::Names;
 use crate::tables::Tables;
 use crate::text::{first_line, first_word};
+use smi_limits::MOST_BYTES_OF_A_LINE;
 use std::alloc::Global;
-
-/// The most bytes of a line, without its line feed and the carriage return before it.
-pub const MOST_BYTES_OF_A_LINE: usize = 200;
 
 /// Whether a line that begins with this word is a comment.
 pub fn is_comment(word: &[u8]) -> bool

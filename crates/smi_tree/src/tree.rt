@@ -5,11 +5,9 @@ use crate::groups::grouped;
 use crate::name::Sought;
 use crate::read::read_lines;
 use crate::tables::Tables;
+use smi_limits::MOST_BYTES_OF_A_FILE;
 use std::alloc::{AllocError, Global};
 use std::marker::Model;
-
-/// The most bytes of a tree file.
-const MOST_BYTES: usize = 256 * 1024;
 
 /// A hierarchy of domains, as a tree file declares it.
 ///
@@ -85,12 +83,12 @@ impl Tree {
         ensures exact { Reads result (tree_of bytes.now) }
         ensures lawful { IfOk result IsTree }
     {
-        if bytes.len() > MOST_BYTES {
-            return Err(TreeFault::Line(0, Fault::FileTooLong.number()));
+        if bytes.len() > MOST_BYTES_OF_A_FILE {
+            return Err(TreeFault::Line(0, Fault::FileTooLong.code()));
         }
         let tables = read_lines(alloc, bytes)?;
         if !tables.is_complete() {
-            return Err(TreeFault::Line(0, Fault::Incomplete.number()));
+            return Err(TreeFault::Line(0, Fault::Incomplete.code()));
         }
         Ok(Tree::new(alloc, tables)?)
     }

@@ -3,13 +3,14 @@ use Rattle.std.specs.Prelude.{ℕ, ◌≡◌, ◌≢◌, ◌≤◌, ◌-◌, ◌
 use Rattle.std.specs.Prelude.{[], ◌∷◌, length, AllPairs, filter, find, map, slice_get, slice_set, count_by, sum_by}
 use Rattle.std.specs.Prelude.{Option, Some, None, unwrap_or}
 use Rattle.std.specs.List.{slice_index_or}
+use Rattle.smi_watchers.specs.declared.watchers.TheConstants.{MOST_WATCHERS}
 use Rattle.smi_watchers.specs.declared.watcher.Watcher.{Watcher}
 use Rattle.smi_watchers.specs.declared.answer.WatchAnswer.{WatchAnswer}
 use Rattle.smi_watchers.specs.declared.answer.WatchAnswer.TheVariants.{Added, Replaced, Present, Older}
 
 -- so many stations may watch an object at a time
 abbrev pub most_watchers : ℕ
-most_watchers = 64
+most_watchers = MOST_WATCHERS
 
 abbrev pub watcher : ℕ → ℕ → Watcher
 watcher station echo = record { station = station; echo = echo }

@@ -26,11 +26,11 @@ pub enum WatchFault {
 
 impl WatchFault {
     ghost use Rattle.std.specs.Prelude.{◌≡◌};
-    ghost use Rattle.smi_watchers.specs.Fault.{code_of};
+    ghost use Rattle.smi_watchers.specs.Fault.{answer_code};
 
     /// The number of the fault, 1 or 2.
     pub fn code(self) -> u16
-        ensures { result ≡ code_of self }
+        ensures { result ≡ answer_code self }
     {
         u16::from(self as u8)
     }

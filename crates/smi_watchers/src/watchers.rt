@@ -70,6 +70,7 @@ impl Watchers {
       OnOk,
       OnErr,
     };
+    ghost use Rattle.smi_limits.specs.declared.trees.TheConstants.{MOST_STATIONS};
     ghost use Rattle.smi_watchers.specs.Listing.{Listing};
     ghost use Rattle.smi_watchers.specs.Watching.{
       IsAudience,
@@ -108,7 +109,7 @@ impl Watchers {
         requires object_least { 1 ≤ object }
         requires object_most { object ≤ length self.old.lists }
         requires station_least { 1 ≤ station }
-        requires station_most { station ≤ 128 }
+        requires station_most { station ≤ MOST_STATIONS }
         ensures answer { IfOk result (λ answer. answer ≡ answer_in (listed self.old.lists object) station echo) }
         ensures lists { OnOk result (self.new.lists ≡ watched self.old.lists object station echo) }
         ensures full { (result ≡ Err WatchFault.Full) ↔ IsFullFor station (listed self.old.lists object) }
@@ -137,7 +138,7 @@ impl Watchers {
         requires object_least { 1 ≤ object }
         requires object_most { object ≤ length self.old.lists }
         requires station_least { 1 ≤ station }
-        requires station_most { station ≤ 128 }
+        requires station_most { station ≤ MOST_STATIONS }
         ensures answer { IfOk result (λ answer. answer ≡ WatchAnswer.Added) }
         ensures lists { OnOk result (self.new.lists ≡ renewed self.old.lists object station echo) }
         ensures room { OnOk result (length (others_of station (listed self.old.lists object)) < most_watchers) }
@@ -173,7 +174,7 @@ impl Watchers {
     fn add(&mut self, room: Vacant<Cell, Global>, object: u16, station: u16, echo: u32)
         requires object_least { 1 ≤ object }
         requires object_most { object ≤ length self.old.lists }
-        requires station { station ≤ 128 }
+        requires station { station ≤ MOST_STATIONS }
         requires absent { position (is_of station) (listed self.old.lists object) ≡ None }
         requires few { length (listed self.old.lists object) < most_watchers }
         ensures { self.new ≡ record { lists = watched self.old.lists object station echo; visits = self.old.visits } }
@@ -194,7 +195,7 @@ impl Watchers {
         requires object_least { 1 ≤ object }
         requires object_most { object ≤ length self.old.lists }
         requires station_least { 1 ≤ station }
-        requires station_most { station ≤ 128 }
+        requires station_most { station ≤ MOST_STATIONS }
         ensures lists { self.new.lists ≡ unwatched self.old.lists object station echo }
         ensures objects { length self.new.lists ≡ length self.old.lists }
         ensures visits { self.new.visits ≡ self.old.visits }
@@ -212,7 +213,7 @@ impl Watchers {
     /// cell anew: [`Watchers::visits`] tells how many they were.
     pub fn leave(&mut self, station: u16) -> usize
         requires station_least { 1 ≤ station }
-        requires station_most { station ≤ 128 }
+        requires station_most { station ≤ MOST_STATIONS }
         ensures lists { self.new.lists ≡ left_by station self.old.lists }
         ensures gone { result ≡ entries_of station self.old.lists }
         ensures objects { length self.new.lists ≡ length self.old.lists }

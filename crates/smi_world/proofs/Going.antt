@@ -8,7 +8,7 @@ use Rattle.std.proofs.KnownBytes.{Appends-trans}
 use Rattle.std.proofs.lemmas.List.{take_at}
 use Rattle.std.proofs.lemmas.Grind.{flat_map-append}
 use Rattle.std.proofs.lemmas.Bool.Decides.{nat_tests}
-use Rattle.smi_tree.specs.Fault.{fault_number}
+use Rattle.smi_tree.specs.Fault.{fault_code}
 use Rattle.smi_tree.specs.Hierarchy.{Hierarchy}
 use Rattle.smi_tree.specs.declared.fault.Fault.{Fault}
 use Rattle.smi_tree.specs.declared.fault.Fault.TheVariants.{LineTooLong}
@@ -163,7 +163,7 @@ module _ (h : Hierarchy) (w : World) (input : Bytes) (number : ℕ) (x : Held) (
 
   -- the next line has a fault
   pub gone_faulty : (line : Bytes) (more : List Bytes) (fault : Fault) → lines later ≡ line ∷ more
-      → item_in h line ≡ Err fault → Comes (streamed.Faulty number (fault_number fault))
+      → item_in h line ≡ Err fault → Comes (streamed.Faulty number (fault_code fault))
   gone_faulty line more fault cuts is = (
     sym (ap ended_by (gone.ending ∙ ap (λ (ls : List Bytes). first_fault number h ls) cuts
         ∙ fault_line h number line more ∙ ap (λ r. fault_or number r (first_fault (number + 1) h more)) is)),
@@ -173,7 +173,7 @@ module _ (h : Hierarchy) (w : World) (input : Bytes) (number : ℕ) (x : Held) (
   )
 
   -- the next line is too long
-  pub gone_long : (line : Bytes) (more : List Bytes) (code : ℕ) → code ≡ fault_number LineTooLong
+  pub gone_long : (line : Bytes) (more : List Bytes) (code : ℕ) → code ≡ fault_code LineTooLong
       → lines later ≡ line ∷ more → 200 < length line → Comes (streamed.Faulty number code)
   gone_long line more code is cuts long = subst (λ (n : ℕ). Comes (streamed.Faulty number n)) (sym is)
       (gone_faulty line more LineTooLong cuts (long_line h line
@@ -292,7 +292,7 @@ module _ (h : Hierarchy) (w : World) (input : Bytes) (number : ℕ) (x : Held) (
       → CutsText how going.later line after
   cut_so how line after cuts = subst (λ (t : Option Bytes). Cuts how t line after) going.left cuts
 
-  pub ends_long : (line : Bytes) (after : Option Bytes) (code : ℕ) → code ≡ fault_number LineTooLong
+  pub ends_long : (line : Bytes) (after : Option Bytes) (code : ℕ) → code ≡ fault_code LineTooLong
       → Cuts cut.TooLong text line after → Ends (streamed.Faulty number code) now
   ends_long line after code is cuts = by (cut_so cut.TooLong line after cuts)
     where

@@ -1,6 +1,6 @@
 -- The trace of a schedule that is read line by line.
 use Rattle.std.specs.Prelude.{ℕ, ◌≡◌, List, [], Option, Some, None, Result, Ok, Err}
-use Rattle.smi_tree.specs.Fault.{fault_number}
+use Rattle.smi_tree.specs.Fault.{fault_code}
 use Rattle.smi_tree.specs.Hierarchy.{Hierarchy}
 use Rattle.smi_tree.specs.declared.fault.Fault.{Fault}
 use Rattle.smi_item.specs.declared.item.Item.{Item}
@@ -51,4 +51,4 @@ lines_after h w (Err fault) = []
 -- the line of this number has that fault
 abbrev pub IsFault : ℕ → Result (Option Item) Fault → Streamed → Type 0
 IsFault number (Ok x) how = ⊥
-IsFault number (Err fault) how = how ≡ streamed.Faulty number (fault_number fault)
+IsFault number (Err fault) how = how ≡ streamed.Faulty number (fault_code fault)

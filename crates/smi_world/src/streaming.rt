@@ -128,7 +128,7 @@ fn stream_line<W: Write>(
             Err(fault) => Some(unwritten(fault)),
         },
         Ok(None) => None,
-        Err(fault) => Some(Streamed::Faulty(number, fault.number())),
+        Err(fault) => Some(Streamed::Faulty(number, fault.code())),
     }
 }
 
@@ -163,7 +163,7 @@ fn stream_on<R: Read, W: Write>(
     for number in 1..u64::MAX {
         match cutter.cut(reader) {
             Cut::Line => {}
-            Cut::TooLong => return Streamed::Faulty(number, Fault::LineTooLong.number()),
+            Cut::TooLong => return Streamed::Faulty(number, Fault::LineTooLong.code()),
             Cut::End => return Streamed::Ended,
             Cut::ReadFault => return Streamed::ReadFault,
             Cut::Memory => return Streamed::Memory,

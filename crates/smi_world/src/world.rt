@@ -12,6 +12,7 @@ use crate::opening::first_posts;
 use crate::post::Post;
 use crate::turning::turn;
 use smi_item::Item;
+use smi_limits::MOST_SENT;
 use smi_message::Datagram;
 use smi_tree::Tree;
 use std::alloc::{AllocError, Global};
@@ -47,9 +48,6 @@ pub enum ActFault {
     #[error("out of memory")]
     Memory,
 }
-
-/// The most datagrams that one item sends.
-const MOST_SENT: usize = 64;
 
 /// Makes an item.
 fn act_at(
