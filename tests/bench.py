@@ -2,8 +2,8 @@
 
 Answers are measured beside a bare pipe and beside the same program in plain Rust, or in C where there is no rustc
 (tests/peer): in turn, medians of seven rounds after one that does not count; and in instructions a datagram where
-valgrind is installed. Drawn schedules have the median of as many rounds, with nothing beside them. Of stores each figure is the best of five rounds, of trees the best of twenty, of the program and
-of the plain measure alike.
+valgrind is installed. Drawn schedules have the median of as many rounds, with nothing beside them. Of stores each
+figure is the best of five rounds, of trees the best of twenty, of the program and of the plain measure alike.
 
 usage: bench.py SMI SMI_BENCH SMI_TRIAL
 """
@@ -161,11 +161,13 @@ def trees(bench, folder):
     for size, times in [(256 * 1024, 25), (64 * 1024, 100)]:
         path = os.path.join(folder, "tree")
         write_tree(path, size)
-        runs = [subprocess.run([bench, path, str(times)], stdout=subprocess.PIPE, stderr=subprocess.DEVNULL, check=True).stdout.split()
+        runs = [subprocess.run([bench, path, str(times)], stdout=subprocess.PIPE, stderr=subprocess.DEVNULL,
+                               check=True).stdout.split()
                 for _ in range(TREE_ROUNDS)]
         read, plain = min(int(words[3]) for words in runs), min(int(words[7]) for words in runs)
         reading.append(read)
-        print("tree: %d bytes, read %d us, plain loop %d us, %.1f times as long" % (int(runs[0][0]), read, plain, read / plain))
+        print("tree: %d bytes, read %d us, plain loop %d us, %.1f times as long"
+              % (int(runs[0][0]), read, plain, read / plain))
     print("tree: the longer file takes %.1f times as long" % (reading[0] / reading[1]))
 
 
@@ -184,7 +186,8 @@ def check_store(path, kept):
         whole = file.execute("PRAGMA integrity_check").fetchall()
     file.close()
     assert whole == [("ok",)], whole
-    assert rows == [(place // 128 + 1, place % 128 + 1, 0, row_bytes(save)) for place, save in sorted(last.items())], path
+    assert rows == [(place // 128 + 1, place % 128 + 1, 0, row_bytes(save))
+                    for place, save in sorted(last.items())], path
 
 
 def counting(folder):
@@ -218,7 +221,8 @@ def saves_over(bench, kept):
             count = int(file.read()) - SAVES
         by_c, other = c_saves(folder), 0
         if by_c:
-            told = subprocess.run([by_c, os.path.join(folder, "c_store"), str(SAVES), str(kept)], stdout=subprocess.PIPE,
+            told = subprocess.run([by_c, os.path.join(folder, "c_store"), str(SAVES), str(kept)],
+                                  stdout=subprocess.PIPE,
                                   check=True).stdout.split()
             check_store(os.path.join(folder, "c_store"), kept)
             other = SAVES * 1e6 / int(told[2])
@@ -230,8 +234,10 @@ def saves(bench):
     for kept in KEPT:
         runs = [saves_over(bench, kept) for _ in range(ROUNDS)]
         stored, written, syncs, by_c = ([run[place] for run in runs] for place in range(4))
-        print("stable rows: %d saves to %d rows, %.0f a second (least %.0f); plain writes %.0f (least %.0f); ratio %.2f; %.2f syncs a save"
-              % (SAVES, kept, max(stored), min(stored), max(written), min(written), max(stored) / max(written), max(syncs)))
+        print("stable rows: %d saves to %d rows, %.0f a second (least %.0f); plain writes %.0f (least %.0f); "
+              "ratio %.2f; %.2f syncs a save"
+              % (SAVES, kept, max(stored), min(stored), max(written), min(written), max(stored) / max(written),
+                 max(syncs)))
         if max(by_c):
             print("stable rows: C's SQLite, with a log and full syncs too, %.0f a second (least %.0f); ratio %.2f"
                   % (max(by_c), min(by_c), max(stored) / max(by_c)))
@@ -243,7 +249,8 @@ LAYERS = [["board", "1", "2000000"], ["board", "3", "2000000"], ["link", "20000"
 def layers(trial):
     """How fast the board, two links over UDP and the watcher lists are: every run."""
     for words in LAYERS:
-        lines = [subprocess.run([trial] + words, stdout=subprocess.PIPE, stderr=subprocess.DEVNULL, check=True).stdout.decode().strip()
+        lines = [subprocess.run([trial] + words, stdout=subprocess.PIPE, stderr=subprocess.DEVNULL,
+                                check=True).stdout.decode().strip()
                  for _ in range(ROUNDS)]
         print("\n".join(lines))
 
@@ -284,7 +291,8 @@ def best_of(command):
 def steps(bench, folder):
     """How many steps a station makes in a second, and how many items a world, without text."""
     paths = {name: os.path.join(folder, name + ".tree") for name in ("full", "levels")}
-    paths["worked"], paths["detector"] = (os.path.join(HERE, "..", "examples", name + ".tree") for name in ("worked", "detector"))
+    paths["worked"], paths["detector"] = (os.path.join(HERE, "..", "examples", name + ".tree")
+                                          for name in ("worked", "detector"))
     for name, text in [("full", tree_files.full()), ("levels", LEVELS)]:
         with open(paths[name], "w", encoding="ascii") as file:
             file.write(text)
@@ -293,11 +301,13 @@ def steps(bench, folder):
         made, took, good, sent, changes = (int(words[place]) for place in (0, 2, 4, 6, 8))
         # Nothing was refused, each told state has changed the unit, and where nothing is due nothing is sent.
         assert good == made and (kind != "state" or changes == count) and (kind != "tick" or sent == 0), words
-        print("steps: %s over the %s tree, %.0f a second, %.2f datagrams each" % (kind, name, made * 1e6 / took, sent / made))
+        print("steps: %s over the %s tree, %.0f a second, %.2f datagrams each"
+              % (kind, name, made * 1e6 / took, sent / made))
     for name in ("worked", "detector"):
         words = best_of([bench, "act", paths[name], str(ITEMS)])
         assert int(words[0]) == ITEMS, words
-        print("act: %d drawn items over the %s tree, without text, %.0f a second" % (ITEMS, name, ITEMS * 1e6 / int(words[2])))
+        print("act: %d drawn items over the %s tree, without text, %.0f a second"
+              % (ITEMS, name, ITEMS * 1e6 / int(words[2])))
 
 
 def main():

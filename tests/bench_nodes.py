@@ -2,12 +2,12 @@
 
 usage: bench_nodes.py SMI
 
-A node whose operator is on the same machine takes a domain and drops it, again and again. Each of the two has three saves
-(the operator's row, the domain's, the operator's), each handed to the device once, and two datagrams beside the one that
-wakes the station. The floor is a program in C that makes as many plain writes of a page, where a save adds three to the
-log, each handed to the device, and as many datagrams to its own socket (tests/peer/floor.c). Both are run in turn, and each
-figure is the median of the rounds. Then the time from an order to its answer is measured through the pipes of a console,
-of a node at rest and of one that is sent datagrams all along.
+A node whose operator is on the same machine takes a domain and drops it, again and again. Each of the two has three
+saves (the operator's row, the domain's, the operator's), each handed to the device once, and two datagrams beside the
+one that wakes the station. The floor is a program in C that makes as many plain writes of a page, where a save adds
+three to the log, each handed to the device, and as many datagrams to its own socket (tests/peer/floor.c). Both are run
+in turn, and each figure is the median of the rounds. Then the time from an order to its answer is measured through the
+pipes of a console, of a node at rest and of one that is sent datagrams all along.
 """
 
 import os
@@ -62,7 +62,8 @@ def pairs(program, floor, folder):
         told = subprocess.run(list(map(str, command)), stdout=subprocess.PIPE, check=True).stdout
         least.append(PAIRS * 1e6 / int(told))
     ours, least = statistics.median(ours), statistics.median(least)
-    print("node: %.0f takes with their drops a second; the same saves and datagrams in C %.0f; ratio %.2f" % (ours, least, ours / least))
+    print("node: %.0f takes with their drops a second; the same saves and datagrams in C %.0f; ratio %.2f"
+          % (ours, least, ours / least))
 
 
 def orders(program, folder):
@@ -109,7 +110,8 @@ def answers(program, folder):
         if state == "busy":
             other.join()
         node.kill()
-        print("node %s: an order that saves nothing is answered in %.2f ms (99 %%: %.2f); a command, with its three saves, in %.2f ms (99 %%: %.2f)"
+        print("node %s: an order that saves nothing is answered in %.2f ms (99 %%: %.2f); a command, with its three "
+              "saves, in %.2f ms (99 %%: %.2f)"
               % (state, *plain, *saved))
 
 

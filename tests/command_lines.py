@@ -10,11 +10,12 @@ for the path of the worked tree file and for a path where there is none.
 
 After the table, a take is tried with other values in its fields, at the ends of their ranges and beyond, and in other
 lengths, against the layout in layout.py, each tree file of trees.py is checked, each store of stores.py listed, a store
-that SMI_TRIAL saved is read by others, and each growth of some runs, and of the layers' objects in SMI_TRIAL, is refused
-in turn (growths.py). Words that are no text and stores that may only be read are tried (paths.py), and each layer at its
-limits (limits.py). Watcher lists answer random calls as plain lists do (random_calls.py), schedules leave what is said
-of them (schedules.py), and stations over each store do the same (plays.py). With a TEXT only the cases are run whose
-name has it; the growths of a run or a layer go together, under its name. The last line is 'N passed, M failed'.
+that SMI_TRIAL saved is read by others, and each growth of some runs, and of the layers' objects in SMI_TRIAL, is
+refused in turn (growths.py). Words that are no text and stores that may only be read are tried (paths.py), and each
+layer at its limits (limits.py). Watcher lists answer random calls as plain lists do (random_calls.py), schedules leave
+what is said of them (schedules.py), and stations over each store do the same (plays.py). With a TEXT only the cases are
+run whose name has it; the growths of a run or a layer go together, under its name. The last line is 'N passed, M
+failed'.
 """
 
 import os
@@ -77,11 +78,13 @@ def run(program, case):
         if case.get("from") == "directory":
             place = os.open(HERE, os.O_RDONLY)
             try:
-                done = subprocess.run([program] + case["args"], stdin=place, stdout=stdout, stderr=subprocess.PIPE, check=False)
+                done = subprocess.run([program] + case["args"], stdin=place, stdout=stdout, stderr=subprocess.PIPE,
+                                      check=False)
             finally:
                 os.close(place)
         else:
-            done = subprocess.run([program] + case["args"], input=case["in"], stdout=stdout, stderr=subprocess.PIPE, check=False)
+            done = subprocess.run([program] + case["args"], input=case["in"], stdout=stdout, stderr=subprocess.PIPE,
+                                  check=False)
     return done.stdout or b"", done.stderr.decode(), done.returncode
 
 
@@ -143,13 +146,15 @@ def tree_cases(folder):
         path = os.path.join(folder, str(place))
         with open(path, "wb") as file:
             file.write(data)
-        yield {"name": "tree: " + name, "args": ["check", path], "in": b"", "out": out.encode(), "err": err, "status": status}
+        yield {"name": "tree: " + name, "args": ["check", path], "in": b"", "out": out.encode(), "err": err,
+               "status": status}
 
 
 def store_cases(folder):
     """What `smi rows` says of each store."""
     for name, path, out, err, status in stores.all_stores(folder):
-        yield {"name": "store: " + name, "args": ["rows", path], "in": b"", "out": out.encode(), "err": err, "status": status}
+        yield {"name": "store: " + name, "args": ["rows", path], "in": b"", "out": out.encode(), "err": err,
+               "status": status}
 
 
 def room(folder, name):

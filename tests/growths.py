@@ -1,8 +1,8 @@
 """Each growth of a run refused in turn: first the growths are counted, and then each of them is refused.
 
 The program says so and ends with status 4, and a store that it lists is left as it was; or it does without that growth
-and does all that it does otherwise. A layer's object is after each as it was before, and the same call then does what it
-does otherwise (crates/smi_trial).
+and does all that it does otherwise. A layer's object is after each as it was before, and the same call then does what
+it does otherwise (crates/smi_trial).
 """
 
 import os

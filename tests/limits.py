@@ -1,4 +1,5 @@
-"""Each layer at its limits, with ample memory: what smi_trial says of it, and what the program does over long inputs."""
+"""Each layer at its limits, with ample memory: what smi_trial says of it, and what the program does over long
+inputs."""
 
 import os
 import subprocess
@@ -15,7 +16,8 @@ MANY = 5_000_000
 
 
 def layer_cases(trial, folder, only=""):
-    """Of each layer: a name, and whether it does as it should at its limits; of those alone in whose name the word is."""
+    """Of each layer: a name, and whether it does as it should at its limits; of those alone in whose name the word
+    is."""
     tree = os.path.join(folder, "full.tree")
     with open(tree, "w", encoding="ascii") as file:
         file.write(trees.full())
@@ -39,7 +41,8 @@ def answer_case(program, folder, take, answered, only=""):
     with open(source, "rb") as file, open(result, "wb") as out:
         done = subprocess.run([program, "answer"], stdin=file, stdout=out, stderr=subprocess.PIPE, check=False)
     with open(result, "rb") as file:
-        whole = all(file.read(block * len(answered)) == answered * block for _ in range(MANY // block)) and not file.read(1)
+        whole = all(file.read(block * len(answered)) == answered * block
+                    for _ in range(MANY // block)) and not file.read(1)
     os.remove(source)
     os.remove(result)
     yield name, (whole, done.stderr, done.returncode) == (True, b"", 0)

@@ -1,4 +1,5 @@
-"""Nodes as processes: what each prints and how it ends, three of them over UDP, and what a store or an address does to one.
+"""Nodes as processes: what each prints and how it ends, three of them over UDP, and what a store or an address does to
+one.
 
 usage: nodes.py SMI [TEXT]
 
@@ -68,7 +69,8 @@ class Node:
 
     def __init__(self, program, words, **how):
         self.begun = time.monotonic()
-        self.child = subprocess.Popen([program, "node", *map(str, words)], stdin=subprocess.PIPE, stdout=subprocess.PIPE,
+        self.child = subprocess.Popen([program, "node", *map(str, words)], stdin=subprocess.PIPE,
+                                      stdout=subprocess.PIPE,
                                       stderr=subprocess.PIPE, text=True, **how)
         self.lines, self.out, self.err = queue.Queue(), [], []
         self.readers = [threading.Thread(target=self.take, args=it, daemon=True)
@@ -149,7 +151,8 @@ def killed_case(program, folder):
     node.kill()
     node = Node(program, words[:-1] + [100])
     told += [node.ask("order ANN " + order) for order in ("take DCS", "do DCS START", "ask DCS", "drop DCS")]
-    wanted = ["take DCS 0", "do DCS CONFIGURE 0", "take DCS 23", "do DCS START 0", "ask DCS ANN 1 2 settled 0", "drop DCS 0"]
+    wanted = ["take DCS 0", "do DCS CONFIGURE 0", "take DCS 23", "do DCS START 0", "ask DCS ANN 1 2 settled 0",
+              "drop DCS 0"]
     yield "a killed node goes on", told == ["told ANN " + line for line in wanted]
     yield "a killed node ends well", node.end() == (["told ANN " + line for line in wanted[2:]], [], 0)
     yield "a killed node has started twice", ((1, 0, 0), "0200000000000002") in stores.rows_in(words[2])
@@ -194,14 +197,16 @@ def line_cases(program, folder):
     """A line after the other, good and bad ones, each answered before the next; and the same all at once."""
     tree = write_tree(folder, free_ports(2))
     answers = [answer for _, answer in LINES if answer]
-    told = [line for line in answers if not line.startswith("line")], [line for line in answers if line.startswith("line")], 0
+    faults = [line for line in answers if line.startswith("line")]
+    told = [line for line in answers if not line.startswith("line")], faults, 0
     given = "\n".join(line for line, _ in LINES)
     yield "lines of a crew", ran(program, [tree, "A", os.path.join(folder, "store"), "--turns", 300], given) == told
     # Of a station with a device, its reports and what it shows of itself: nothing, for it watches no object of its own.
     given = "report HV READY\nreport HV ERROR\norder BOB take TPC\norder BOB do TPC CONFIGURE\nshow HV\nshow TPC"
     wanted = ["told report HV READY 0", "told report HV ERROR 0", "told BOB take TPC 0", "told BOB do TPC CONFIGURE 0",
               "board HV none", "board TPC none"]
-    yield "lines with reports", ran(program, [tree, "B", os.path.join(folder, "other"), "--turns", 300], given) == (wanted, [], 0)
+    yield "lines with reports", ran(program, [tree, "B", os.path.join(folder, "other"), "--turns", 300],
+                                    given) == (wanted, [], 0)
 
 
 def shown_case(program, folder):
@@ -229,7 +234,8 @@ def shown_case(program, folder):
         answers.append(other.ask("show TPC"))
     keeper.kill()
     other.kill()
-    yield "a board of a station that was started again", sorted(set(answers)) == ["board TPC 1.2 RUNNING", "board TPC 2.0 OFF"] \
+    boards = ["board TPC 1.2 RUNNING", "board TPC 2.0 OFF"]
+    yield "a board of a station that was started again", sorted(set(answers)) == boards \
         and answers == sorted(answers)
 
 
@@ -253,7 +259,8 @@ def store_cases(program, folder):
         file.write(b"This is no database, and long enough to be seen as none.\n" * 20)
     yield "a store that is a text", begun(path("text")) == STORE_FAULT
     with open(path("text"), "rb") as file:
-        yield "a store that is a text is left", file.read() == b"This is no database, and long enough to be seen as none.\n" * 20
+        text = b"This is no database, and long enough to be seen as none.\n" * 20
+        yield "a store that is a text is left", file.read() == text
     other = stores.store(path("other"), stores.TABLE.replace(" STRICT", ""), stores.ROWS)
     yield "a store with another table", begun(other) == STORE_FAULT and stores.rows_in(other) == stores.ROWS
     locked = stores.store(path("locked"), stores.TABLE, [])
@@ -293,14 +300,16 @@ def second_case(program, folder):
     yield "a second node on a store", ran(program, words) == STORE_FAULT
     told += [node.ask("order ANN do DCS CONFIGURE"), node.ask("order ANN drop DCS")]
     node.kill()
-    yield "the first node goes on", told == ["told ANN take DCS 0", "told ANN do DCS CONFIGURE 0", "told ANN drop DCS 0"]
+    yield "the first node goes on", told == ["told ANN take DCS 0", "told ANN do DCS CONFIGURE 0",
+                                             "told ANN drop DCS 0"]
 
 
 BOOT = (1, 0, 0)
 
 
 def row_cases(program, folder):
-    """What rows do to a node that begins: refused ones, a spent boot, and such as are brought into their newest schema."""
+    """What rows do to a node that begins: refused ones, a spent boot, and such as are brought into their newest
+    schema."""
     tree = write_tree(folder, free_ports(2))
 
     def begun(name, rows):
@@ -308,10 +317,12 @@ def row_cases(program, folder):
         return ran(program, [tree, "A", path, "--turns", FEW]), stores.rows_in(path)
 
     for name, rows, told in [
-        ("a row that is too short", [((1, 1, 0), "0201000200000000000000010000000000000000000000")], "row 1 1 0 fault 1"),
+        ("a row that is too short", [((1, 1, 0), "0201000200000000000000010000000000000000000000")],
+         "row 1 1 0 fault 1"),
         ("a row of no schema", [(BOOT, "0900000000000001")], "row 1 0 0 fault 2"),
         ("a boot of 0", [(BOOT, "0200000000000000")], "row 1 0 0 fault 3"),
-        ("a row of both a domain and an operator", [(BOOT, "0200000000000001"), ((1, 1, 1), "00")], "row 1 1 1 fault 4"),
+        ("a row of both a domain and an operator", [(BOOT, "0200000000000001"), ((1, 1, 1), "00")],
+         "row 1 1 1 fault 4"),
         ("two rows that are refused", [((1, 1, 0), ""), ((1, 0, 1), "00")], "row 1 0 1 fault 2"),
     ]:
         yield name, begun(name, rows) == (([], [told], 1), sorted(rows))
@@ -319,8 +330,10 @@ def row_cases(program, folder):
     yield "boots that are spent", begun("spent", spent) == (([], ["boots spent"], 3), spent)
     yield "the last boot", begun("last", [(BOOT, "02000000ee6b27ff")]) == (([], [], 0), spent)
     # BOB's row is another station's and is left alone, whatever it says.
-    old = [(BOOT, "0100000000000002"), ((1, 1, 0), "010100010000000000000001000000000000000000000000"), ((2, 0, 2), "99")]
-    new = [(BOOT, "0200000000000003"), ((1, 1, 0), "020100010000000000000001000000000000000000000000"), ((2, 0, 2), "99")]
+    old = [(BOOT, "0100000000000002"), ((1, 1, 0), "010100010000000000000001000000000000000000000000"),
+           ((2, 0, 2), "99")]
+    new = [(BOOT, "0200000000000003"), ((1, 1, 0), "020100010000000000000001000000000000000000000000"),
+           ((2, 0, 2), "99")]
     yield "rows of the first schema", begun("old", old) == (([], [], 0), new)
 
 
@@ -348,12 +361,15 @@ def address_cases(program, folder):
     with open(path, "w", encoding="ascii") as file:
         file.write("tree 17\nstation A\n")
     yield "faults in order: a faulty tree file", ran(program, [path, "Z", none]) == ([], ["tree line 2 fault 2"], 1)
-    for words in [[], [tree], [tree, "A"], [tree, "A", store, "B"], [tree, "A", store, "--turns"], [tree, "A", store, "--help"],
+    for words in [[], [tree], [tree, "A"], [tree, "A", store, "B"], [tree, "A", store, "--turns"],
+                  [tree, "A", store, "--help"],
                   ["help"], [tree, "A", store, "--turns", "5", "--turns", "5"], [tree, "A", store, "--steps", "5"],
                   [tree, "A", store, "--", "--turns", "5"]] + [
-                      [tree, "A", store, "--turns", turns] for turns in ("0", "1000001", "-1", "1.5", "x", "", "00000000001")]:
+                      [tree, "A", store, "--turns", turns] for turns in ("0", "1000001", "-1", "1.5", "x", "",
+                                                                         "00000000001")]:
         yield "a node's words: %s" % words[1:], ran(program, words) == wrong
-    for words in [["--turns", FEW, tree, "A", store], [tree, "--turns=%d" % FEW, "A", store], [tree, "A", store, "--turns", "0000000003"]]:
+    for words in [["--turns", FEW, tree, "A", store], [tree, "--turns=%d" % FEW, "A", store],
+                  [tree, "A", store, "--turns", "0000000003"]]:
         yield "a node's words: %s" % words[-3:-1], ran(program, words) == ([], [], 0)
 
 
@@ -386,7 +402,8 @@ def hostile_case(program, folder):
     told = [node.ask("order ANN take DCS")]
     take = bytes.fromhex("534d01020002000100010100000200000000000000000001000000000000" + "0011" + "00" * 12)
     with socket.socket(socket.AF_INET, socket.SOCK_DGRAM) as other:
-        for data in [b"", b"x", take[:-1], take + b"x", bytes(44), b"\xff" * 44, bytes(2000), take[:-13] + b"\x12" + bytes(12), take]:
+        for data in [b"", b"x", take[:-1], take + b"x", bytes(44), b"\xff" * 44, bytes(2000),
+                     take[:-13] + b"\x12" + bytes(12), take]:
             for _ in range(20):
                 other.sendto(data, ("127.0.0.1", ports[0]))
     told += [node.ask("order ANN do DCS CONFIGURE"), node.ask("order ANN ask DCS")]
@@ -421,8 +438,8 @@ def rest_case(program, folder):
 
 
 def growth_cases(program, folder):
-    """Growths of a node refused, one in each run: it says so, or its reading thread does, or the order is told so, or it
-    does without. Every eighth growth is tried."""
+    """Growths of a node refused, one in each run: it says so, or its reading thread does, or the order is told so, or
+    it does without. Every eighth growth is tried."""
     refusing = growths.library(folder)
     tree, given = write_tree(folder, free_ports(2)), os.path.join(folder, "given")
     with open(given, "w", encoding="ascii") as file:
@@ -438,12 +455,14 @@ def growth_cases(program, folder):
         out, err, status = growths.run(program, words(growth), given, {"LD_PRELOAD": refusing, "REFUSE": str(growth)})
         told += (out, err, status) != whole
         yield "growths of a node: %d" % growth, (out, err, status) == whole or (out, err, status) == (
-            whole[0].replace(b"DCS 0", b"DCS 33"), b"", 0) or whole[0].startswith(out) and err == b"no memory\n" and status in (0, 4)
+            whole[0].replace(b"DCS 0", b"DCS 33"), b"",
+            0) or whole[0].startswith(out) and err == b"no memory\n" and status in (0, 4)
     yield "growths of a node: %d of them needed" % told, told > 0
 
 
 # These run side by side, and those after them.
-CASES = [three_case, killed_case, line_cases, shown_case, store_cases, second_case, row_cases, address_cases, console_cases,
+CASES = [three_case, killed_case, line_cases, shown_case, store_cases, second_case, row_cases, address_cases,
+         console_cases,
          hostile_case, growth_cases]
 ALONE = [rest_case]
 

@@ -15,7 +15,8 @@ ODD = b"\xff\xfe"
 def run(program, *words):
     """Standard output, standard error and status; none of them where it does not end."""
     try:
-        done = subprocess.run([program, *words], stdin=subprocess.DEVNULL, stdout=subprocess.PIPE, stderr=subprocess.PIPE,
+        done = subprocess.run([program, *words], stdin=subprocess.DEVNULL, stdout=subprocess.PIPE,
+                              stderr=subprocess.PIPE,
                               timeout=30, check=False)
     except subprocess.TimeoutExpired:
         return None
@@ -138,7 +139,8 @@ def crowd_case(program, folder):
     writer = threading.Thread(target=write_on, args=(path, written, is_over))
     writer.start()
     before = written[0]
-    listings = [subprocess.Popen([program, "rows", path], stdout=subprocess.PIPE, stderr=subprocess.PIPE) for _ in range(40)]
+    listings = [subprocess.Popen([program, "rows", path], stdout=subprocess.PIPE, stderr=subprocess.PIPE)
+                for _ in range(40)]
     done = [(listing.communicate(), listing.returncode) for listing in listings]
     # The row that is being saved may be there before it is counted.
     after = written[0] + 1

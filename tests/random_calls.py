@@ -11,7 +11,8 @@ CALLS = 1_000_000
 # Every kind of answer comes, so that none is compared with nothing.
 WHOLE = re.compile(rb"whole: (\d+) added, (\d+) replaced, (\d+) present, (\d+) older, (\d+) full, (\d+) gone\n")
 
-VALGRIND = ["valgrind", "--quiet", "--leak-check=full", "--show-leak-kinds=all", "--errors-for-leak-kinds=all", "--error-exitcode=9"]
+VALGRIND = ["valgrind", "--quiet", "--leak-check=full", "--show-leak-kinds=all", "--errors-for-leak-kinds=all",
+            "--error-exitcode=9"]
 
 
 def is_whole(words):

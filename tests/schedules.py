@@ -1,7 +1,7 @@
 """Schedules as `smi sim` runs them: the plays of schedules.txt line by line, faulty lines, and drawn schedules.
 
-What a line of a schedule leaves is what the program prints for the lines up to it beyond what it prints for those before
-it, since it runs line after line.
+What a line of a schedule leaves is what the program prints for the lines up to it beyond what it prints for those
+before it, since it runs line after line.
 """
 
 import os
@@ -39,7 +39,8 @@ def sim(program, words, folder=None, text=None):
         with open(path, "wb") as file:
             file.write(text)
         words = [path]
-    done = subprocess.run([program, "sim", TREE] + words, stdout=subprocess.PIPE, stderr=subprocess.PIPE, timeout=120, check=False)
+    done = subprocess.run([program, "sim", TREE] + words, stdout=subprocess.PIPE, stderr=subprocess.PIPE, timeout=120,
+                          check=False)
     return done.stdout, done.stderr, done.returncode
 
 
@@ -74,7 +75,8 @@ def text_cases(program, folder):
     table = [
         ("an empty schedule", b"", OPENING, b"", 0),
         ("comments and empty lines", b"# one\n\n \t\n#two", OPENING, b"", 0),
-        ("a line that is faulty behind one that stands", b"order BOB take TPC\ndelivr 1\n", OPENING + take, b"schedule line 2 fault 1\n", 1),
+        ("a line that is faulty behind one that stands", b"order BOB take TPC\ndelivr 1\n", OPENING + take,
+         b"schedule line 2 fault 1\n", 1),
         ("a last line without its line feed", b"order BOB take TPC", OPENING + take, b"", 0),
         ("carriage returns", b"order BOB take TPC\r\n\r\n", OPENING + take, b"", 0),
         ("a line of 200 bytes", b"#" + b"x" * 199 + b"\n", OPENING, b"", 0),
@@ -82,13 +84,17 @@ def text_cases(program, folder):
         ("a datagram that was never sent", b"deliver 1\nrecent 0\n", OPENING, b"", 0),
     ]
     faults = [
-        (b"walk A", 1), (b"stop A now tick A", 1), (b"stop A after restart A", 1), (b"stop A after fail A device tick A", 1),
+        (b"walk A", 1), (b"stop A now tick A", 1), (b"stop A after restart A", 1),
+        (b"stop A after fail A device tick A", 1),
         (b"fail A never tick A", 1), (b"fail A device restart A", 1), (b"fail A device stop A after tick A", 1),
-        (b"order BOB keep TPC", 1), (b"tick", 2), (b"tick A B", 2), (b"order BOB take", 2), (b"deliver 0", 3), (b"deliver x", 3),
+        (b"order BOB keep TPC", 1), (b"tick", 2), (b"tick A B", 2), (b"order BOB take", 2), (b"deliver 0", 3),
+        (b"deliver x", 3),
         (b"tick C", 5), (b"order CAT take TPC", 5), (b"order BOB take HV", 5), (b"order BOB do TPC WALK", 5),
-        (b"report TPC READY", 5), (b"report HV BLUE", 5), (b"restart DCS", 5), (b"stop C after tick A", 5), (b"walk", 1), (b"tick C A", 2),
+        (b"report TPC READY", 5), (b"report HV BLUE", 5), (b"restart DCS", 5), (b"stop C after tick A", 5),
+        (b"walk", 1), (b"tick C A", 2),
     ]
-    table += [("the fault of `%s`" % line.decode(), line + b"\n", OPENING, b"schedule line 1 fault %d\n" % code, 1) for line, code in faults]
+    table += [("the fault of `%s`" % line.decode(), line + b"\n", OPENING, b"schedule line 1 fault %d\n" % code, 1)
+              for line, code in faults]
     return [(name, sim(program, [], folder, text) == (out, err, status)) for name, text, out, err, status in table]
 
 
@@ -98,16 +104,22 @@ def words_cases(program, folder):
     with open(schedule, "wb"):
         pass
     wrong = [
-        [], [schedule, schedule], ["--seed", "1"], ["--steps", "1"], [schedule, "--seed", "1"], [schedule, "--steps", "1"],
-        [schedule, "--seed", "1", "--steps", "1"], ["--seed", "x", "--steps", "1"], ["--seed", "+1", "--steps", "1"], ["--seed", "", "--steps", "1"],
-        ["--seed", "18446744073709551616", "--steps", "1"], ["--seed", "1", "--steps", "1000001"], ["--seed", "1", "--seed", "1", "--steps", "1"], ["--", schedule],
+        [], [schedule, schedule], ["--seed", "1"], ["--steps", "1"], [schedule, "--seed", "1"],
+        [schedule, "--steps", "1"],
+        [schedule, "--seed", "1", "--steps", "1"], ["--seed", "x", "--steps", "1"], ["--seed", "+1", "--steps", "1"],
+        ["--seed", "", "--steps", "1"],
+        ["--seed", "18446744073709551616", "--steps", "1"], ["--seed", "1", "--steps", "1000001"],
+        ["--seed", "1", "--seed", "1", "--steps", "1"], ["--", schedule],
     ]
-    right = [["--seed", "0", "--steps", "0"], ["--steps", "00", "--seed", "18446744073709551615"], ["--seed=1", "--steps=0"]]
+    right = [["--seed", "0", "--steps", "0"], ["--steps", "00", "--seed", "18446744073709551615"],
+             ["--seed=1", "--steps=0"]]
     cases = [("sim with the words %s" % words, sim(program, words) == (b"", b"wrong line\n", 2)) for words in wrong]
     cases += [("sim with the words %s" % words, sim(program, words) == (OPENING, b"", 0)) for words in right]
-    cases.append(("sim of a schedule that is nowhere", sim(program, [os.path.join(folder, "no such file")]) == (b"", b"read fault\n", 3)))
+    cases.append(("sim of a schedule that is nowhere", sim(program, [os.path.join(folder, "no such file")])
+                  == (b"", b"read fault\n", 3)))
     cases.append(("sim of a schedule that is a folder", sim(program, [folder]) == (OPENING, b"read fault\n", 3)))
-    options_first = subprocess.run([program, "sim", "--seed", "0", TREE, "--steps", "0"], stdout=subprocess.PIPE, check=False)
+    options_first = subprocess.run([program, "sim", "--seed", "0", TREE, "--steps", "0"], stdout=subprocess.PIPE,
+                                   check=False)
     cases.append(("options before the tree", (options_first.stdout, options_first.returncode) == (OPENING, 0)))
     with open("/dev/full", "wb") as full:
         done = subprocess.run([program, "sim", TREE, schedule], stdout=full, stderr=subprocess.PIPE, check=False)
@@ -116,7 +128,8 @@ def words_cases(program, folder):
 
 
 def long_cases(program, folder):
-    """Long schedules, which are streamed: past the size of a file that is read whole, and to a writer that goes away."""
+    """Long schedules, which are streamed: past the size of a file that is read whole, and to a writer that goes
+    away."""
     text = b"tick A\n" * 43000
     out, err, status = sim(program, [], folder, text)
     # each of them asks for the state of the child's unit
@@ -124,7 +137,8 @@ def long_cases(program, folder):
     cases = [("43,000 ticks", (out, err, status) == (OPENING + asked, b"", 0))]
     # words of drawn items say what they are: the first so many of one seed are a prefix of more of them
     some, many = (sim(program, ["--seed", "1", "--steps", steps])[0] for steps in ("1000", "2000"))
-    cases.append(("drawn items are a prefix of more", some.startswith(OPENING) and many.startswith(some) and len(many) > len(some)))
+    cases.append(("drawn items are a prefix of more", some.startswith(OPENING) and many.startswith(some)
+                  and len(many) > len(some)))
     path = os.path.join(folder, "schedule")
     with open(path, "wb") as file:
         file.write(b"order BOB take TPC\ndeliver 1\n" * 200000)
@@ -132,7 +146,8 @@ def long_cases(program, folder):
     begun = child.stdout.read(1000)
     child.stdout.close()
     told = child.stderr.read()
-    cases.append(("a reader that goes away", begun.startswith(OPENING) and (told, child.wait()) == (b"write fault\n", 3)))
+    cases.append(("a reader that goes away", begun.startswith(OPENING) and (told, child.wait())
+                  == (b"write fault\n", 3)))
     return cases
 
 

@@ -8,11 +8,11 @@ now and then one of long ago is sent again. --kills is how often a second one of
 the seed, but threads and processes run as they like. At the end it prints what it did and each violation; the last line
 is 'N passed, M failed'.
 
-What has to hold: no two operators have a domain at once, by what they were told, from the moment at which one reads that
-a take is done to the moment at which the same gives it up; no row goes back, neither a boot, nor the epoch and the last
-command of a domain, nor the epoch that an operator knows of; once all nodes are killed, each record's holder knows of its
-grant, and each held link's record is that link's, with as many commands as were issued and are not pending; and no node
-ends by itself, or tells a fault.
+What has to hold: no two operators have a domain at once, by what they were told, from the moment at which one reads
+that a take is done to the moment at which the same gives it up; no row goes back, neither a boot, nor the epoch and the
+last command of a domain, nor the epoch that an operator knows of; once all nodes are killed, each record's holder knows
+of its grant, and each held link's record is that link's, with as many commands as were issued and are not pending; and
+no node ends by itself, or tells a fault.
 """
 
 import argparse
@@ -39,10 +39,12 @@ LATEST = 0.3
 
 
 def tree_lines(ports, of):
-    """The tree as the node of a station reads it: its own port, and for each other one the proxy's port between the two."""
+    """The tree as the node of a station reads it: its own port, and for each other one the proxy's port between the
+    two."""
     lines = nodes.tree_lines([of(name) for name in STATIONS])
     at = lines.index("operator BOB B")
-    return lines[:at] + ["operator DAN A"] + lines[at:at + 1] + ["operator CAT C"] + lines[at + 1:] + ["device GAS MUON DEV"]
+    middle = ["operator DAN A"] + lines[at:at + 1] + ["operator CAT C"]
+    return lines[:at] + middle + lines[at + 1:] + ["device GAS MUON DEV"]
 
 
 class Proxy(threading.Thread):
@@ -117,7 +119,8 @@ class Soak:
         self.orders = self.told = self.kills = self.samples = 0
         self.seen = {}
         for name in STATIONS:
-            lines = tree_lines(self.ports, lambda other, name=name: self.ports[name] if other == name else self.proxy.ports[name, other])
+            lines = tree_lines(self.ports, lambda other, name=name: self.ports[name] if other == name
+                               else self.proxy.ports[name, other])
             with open(self.path("tree", name), "w", encoding="ascii") as file:
                 file.write("\n".join(lines) + "\n")
 
@@ -141,20 +144,24 @@ class Soak:
     def order(self, draw, operator):
         """A random order of an operator, as it is written."""
         domain = draw.choice(list(DOMAINS))
-        kind = draw.choice(["take", "take", "take", "drop", "drop", "do", "do", "do", "include", "exclude", "manual", "ignore", "ask",
+        kind = draw.choice(["take", "take", "take", "drop", "drop", "do", "do", "do", "include", "exclude", "manual",
+                            "ignore", "ask",
                             "watch", "unwatch"])
-        more = {"do": ACTIONS, "include": CHILDREN, "exclude": CHILDREN, "manual": CHILDREN, "ignore": CHILDREN}.get(kind)
+        more = {"do": ACTIONS, "include": CHILDREN, "exclude": CHILDREN, "manual": CHILDREN,
+                "ignore": CHILDREN}.get(kind)
         return " ".join([kind, domain] + ([draw.choice(more)] if more else []))
 
     def operate(self, name):
-        """Gives orders to a node, each after the answer of the one before; where the node is killed, to the next one."""
+        """Gives orders to a node, each after the answer of the one before; where the node is killed, to the next
+        one."""
         draw = random.Random("%d %s" % (self.said.seed, name))
         node = self.start(name)
         while not self.is_over.is_set():
             operator = draw.choice(OPERATORS[name])
             order = self.order(draw, operator)
             if draw.random() < 0.1:
-                line = draw.choice(["show TPC", "show HV", "report HV READY", "report GAS ERROR", "report HV OFF", "no line"])
+                line = draw.choice(["show TPC", "show HV", "report HV READY", "report GAS ERROR", "report HV OFF",
+                                    "no line"])
             else:
                 line = "order %s %s" % (operator, order)
             self.note("ordered", operator, order) if line.startswith("order") else None
@@ -213,7 +220,8 @@ class Soak:
         """The rows of a store, by key, as `smi rows` lists them; nothing where it can't be read just then."""
         if not os.path.exists(self.path("store", name)):
             return {}
-        done = subprocess.run([self.program, "rows", self.path("store", name)], stdout=subprocess.PIPE, stderr=subprocess.DEVNULL, check=False)
+        done = subprocess.run([self.program, "rows", self.path("store", name)], stdout=subprocess.PIPE,
+                              stderr=subprocess.DEVNULL, check=False)
         lines = [line.split() for line in done.stdout.decode().splitlines()]
         return {tuple(map(int, line[:3])): bytes.fromhex(line[3]) for line in lines} if done.returncode == 0 else {}
 
@@ -299,7 +307,8 @@ def ranks(key, value):
 
 
 def commanders(events):
-    """Each moment at which an operator is told to have a domain that another one was told to have, and has not given up."""
+    """Each moment at which an operator is told to have a domain that another one was told to have, and has not given
+    up."""
     has, found = {}, []
     for _, what, operator, order, *answer in sorted(events, key=lambda it: it[0]):
         kind, domain = order.split()[:2]
@@ -321,7 +330,8 @@ def unknown_grants(rows):
     for domain, (kind, holder, epoch, _, _, _) in records.items():
         form, known, _, _ = links.get((kind, holder), {}).get(domain, (0, 0, 0, 0))
         if kind and not (form == 1 and known + 1 == epoch or form in (2, 3, 4, 5) and known == epoch):
-            found.append("domain %d is held by %s at epoch %d, who has form %d at %d" % (domain, (kind, holder), epoch, form, known))
+            found.append("domain %d is held by %s at epoch %d, who has form %d at %d"
+                         % (domain, (kind, holder), epoch, form, known))
     for who, of in links.items():
         for domain, (form, epoch, number, pending) in of.items():
             if form not in (2, 3, 5):
@@ -331,7 +341,8 @@ def unknown_grants(rows):
             if record[:3] != (*who, epoch):
                 found.append("%s holds domain %d at epoch %d, whose record is %s" % (who, domain, epoch, record[:3]))
             elif not number - pending <= last <= number or last == number - pending and busy:
-                found.append("%s has issued %d commands to domain %d, %d of them pending, and the last run is %d" % (who, number, domain, pending, last))
+                found.append("%s has issued %d commands to domain %d, %d of them pending, and the last run is %d"
+                             % (who, number, domain, pending, last))
     return found
 
 

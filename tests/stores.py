@@ -20,7 +20,8 @@ def store(path, table, rows):
     """A file with a table and rows in it."""
     with sqlite3.connect(path) as file:
         file.execute(table)
-        file.executemany("INSERT INTO stable_rows VALUES (?, ?, ?, ?)", [key + (bytes.fromhex(text),) for key, text in rows])
+        file.executemany("INSERT INTO stable_rows VALUES (?, ?, ?, ?)",
+                         [key + (bytes.fromhex(text),) for key, text in rows])
     file.close()
     return path
 
@@ -49,7 +50,8 @@ def ours(program, trial, folder):
     line = shutil.which("sqlite3")
     if line:
         query = "SELECT station, domain, operator, lower(hex(bytes)) FROM stable_rows ORDER BY 1, 2, 3"
-        read = subprocess.run([line, "-separator", " ", path, query], stdout=subprocess.PIPE, check=False).stdout.decode()
+        read = subprocess.run([line, "-separator", " ", path, query], stdout=subprocess.PIPE,
+                              check=False).stdout.decode()
         yield "our store: read by the command line of sqlite3", read == listing(ROWS)
 
 

@@ -27,7 +27,8 @@ domain TPC B UNIT DCS
 device HV TPC DEV
 """
 
-HEAD = ["tree 17", "state S1", "action A1", "station W 1.2.3.4:5", "operator O1 W", "devclass DEV S1", "unitclass UNIT S1"]
+HEAD = ["tree 17", "state S1", "action A1", "station W 1.2.3.4:5", "operator O1 W", "devclass DEV S1",
+        "unitclass UNIT S1"]
 ROOT = "domain D1 W UNIT -"
 
 
@@ -64,22 +65,29 @@ def worked():
     yield refused("a device of an unknown domain", with_line(25, "device HV TPX DEV"), 25, 5)
     yield accepted("carriage returns", WORKED.replace("\n", "\r\n"), (17, 2, 2, 2, 1))
     yield accepted("no last line feed", WORKED[:-1], (17, 2, 2, 2, 1))
-    yield accepted("blank lines and comments", WORKED.replace("state OFF", "# states\n\n \t \nstate\tOFF  "), (17, 2, 2, 2, 1))
-    yield accepted("zeros before numbers", WORKED.replace("tree 17", "tree 0000000017").replace("127.0.0.1:9001", "127.00.000.01:0009001"), (17, 2, 2, 2, 1))
+    yield accepted("blank lines and comments", WORKED.replace("state OFF", "# states\n\n \t \nstate\tOFF  "),
+                   (17, 2, 2, 2, 1))
+    zeros = WORKED.replace("tree 17", "tree 0000000017").replace("127.0.0.1:9001", "127.00.000.01:0009001")
+    yield accepted("zeros before numbers", zeros, (17, 2, 2, 2, 1))
+    shared = WORKED.replace("device HV", "device OFF").replace("domain DCS A UNIT -", "domain A A UNIT -")
     yield accepted("a device and a domain with the names of a state and a station",
-                   WORKED.replace("device HV", "device OFF").replace("domain DCS A UNIT -", "domain A A UNIT -").replace("UNIT DCS", "UNIT A"), (17, 2, 2, 2, 1))
+                   shared.replace("UNIT DCS", "UNIT A"), (17, 2, 2, 2, 1))
 
 
 def faults():
-    for fault, line in [(1, "stat X"), (2, "state"), (2, "state X Y"), (3, "state x"), (3, "state 1X"), (3, "state X-Y"),
+    for fault, line in [(1, "stat X"), (2, "state"), (2, "state X Y"), (3, "state x"), (3, "state 1X"),
+                        (3, "state X-Y"),
                         (3, "state ABCDEFGHIJKLMNOPQ"), (7, "tree 17"), (7, "tree"), (10, "state " + 195 * "X"),
-                        (10, "# " + 199 * "x"), (10, 201 * " "), (3, "state X\x0b"), (1, "\x0b"), (3, "state X\r\r"), (3, "state \xc4")]:
+                        (10, "# " + 199 * "x"), (10, 201 * " "), (3, "state X\x0b"), (1, "\x0b"), (3, "state X\r\r"),
+                        (3, "state \xc4")]:
         yield refused("a second line: %r" % line[:20], with_line(2, line), 2, fault)
     for fault, line in [(7, "tree 0"), (7, "state OFF")]:
         yield refused("a first line: %s" % line, with_line(1, line), 1, 3 if line == "tree 0" else fault)
-    for text, fault in [("tree 65536", 3), ("tree -1", 3), ("tree +1", 3), ("tree 00000000017", 3), ("tree", 2), ("tree 1 2", 2)]:
+    for text, fault in [("tree 65536", 3), ("tree -1", 3), ("tree +1", 3), ("tree 00000000017", 3), ("tree", 2),
+                        ("tree 1 2", 2)]:
         yield refused("a first line: %s" % text, with_line(1, text), 1, fault)
-    for address in ["1.2.3.4", "1.2.3:4", "256.1.1.1:1", "1.1.1.1:0", "1.1.1.1:65536", "1.1.1.1.1:1", "a.1.1.1:1", "1.1.1.1:1:1", "-"]:
+    for address in ["1.2.3.4", "1.2.3:4", "256.1.1.1:1", "1.1.1.1:0", "1.1.1.1:65536", "1.1.1.1.1:1", "a.1.1.1:1",
+                    "1.1.1.1:1:1", "-"]:
         yield refused("an address: %s" % address, with_line(9, "station A %s" % address), 9, 8)
     yield refused("a state twice", with_line(3, "state OFF"), 3, 4)
     yield refused("an operator of an unknown station", with_line(11, "operator ANN C"), 11, 5)
@@ -87,7 +95,8 @@ def faults():
     yield refused("a class with an unknown state", with_line(13, "devclass DEV ON"), 13, 5)
     yield refused("a unit class with the name of a device class", with_line(16, "unitclass DEV OFF"), 16, 4)
     yield refused("a move twice", with_line(15, "move DEV OFF CONFIGURE RUNNING"), 15, 4)
-    yield refused("a move of a unit class", WORKED.replace("accept UNIT START", "move UNIT OFF START OFF").splitlines(), 18, 9)
+    yield refused("a move of a unit class", WORKED.replace("accept UNIT START", "move UNIT OFF START OFF").splitlines(),
+                  18, 9)
     yield refused("an action of a device class", with_line(17, "accept DEV CONFIGURE"), 17, 9)
     yield refused("an action twice", with_line(18, "accept UNIT CONFIGURE"), 18, 4)
     yield refused("a rule of a device class", with_line(19, "any DEV ERROR ERROR"), 19, 9)
@@ -117,8 +126,10 @@ def limits():
     yield accepted("8 operators of a station", after_head(*numbered("operator O%d W", 2, 8)), (17, 1, 8, 1, 0))
     yield refused("9 operators of a station", after_head(*numbered("operator O%d W", 2, 9)), root + 8, 6)
     stations = numbered("station W%d 1.1.1.1:1", 1, 4)
-    yield accepted("32 operators", after_head(*stations, *["operator P%d W%d" % (n, n % 4 + 1) for n in range(31)]), (17, 5, 32, 1, 0))
-    yield refused("33 operators", after_head(*stations, *["operator P%d W%d" % (n, n % 4 + 1) for n in range(32)]), root + 4 + 32, 6)
+    yield accepted("32 operators", after_head(*stations, *["operator P%d W%d" % (n, n % 4 + 1) for n in range(31)]),
+                   (17, 5, 32, 1, 0))
+    yield refused("33 operators", after_head(*stations, *["operator P%d W%d" % (n, n % 4 + 1) for n in range(32)]),
+                  root + 4 + 32, 6)
     yield accepted("32 classes", after_head(*numbered("devclass C%d S1", 3, 32)), (17, 1, 1, 1, 0))
     yield refused("33 classes", after_head(*numbered("unitclass C%d S1", 3, 33)), root + 31, 6)
     yield accepted("32 rules", after_head(*["any UNIT S1 S1"] * 32), (17, 1, 1, 1, 0))
@@ -132,8 +143,10 @@ def limits():
     yield accepted("128 domains", after_head(*numbered("domain D%d W UNIT -", 2, 128)), (17, 1, 1, 128, 0))
     yield refused("129 domains", after_head(*numbered("domain D%d W UNIT -", 2, 129)), root + 128, 6)
     domains = numbered("domain D%d W UNIT -", 2, 33)
-    yield accepted("512 devices", after_head(*domains, *["device V%d D%d DEV" % (n, n % 33 + 1) for n in range(512)]), (17, 1, 1, 33, 512))
-    yield refused("513 devices", after_head(*domains, *["device V%d D%d DEV" % (n, n % 33 + 1) for n in range(513)]), root + 32 + 513, 6)
+    yield accepted("512 devices", after_head(*domains, *["device V%d D%d DEV" % (n, n % 33 + 1) for n in range(512)]),
+                   (17, 1, 1, 33, 512))
+    yield refused("513 devices", after_head(*domains, *["device V%d D%d DEV" % (n, n % 33 + 1) for n in range(513)]),
+                  root + 32 + 513, 6)
     yield accepted("every limit at once", full(), (17, 128, 32, 128, 512))
     room = 262_144 - len(WORKED)
     filler = "#" + 98 * "x" + "\n"
@@ -166,7 +179,8 @@ def full():
 
 def pairs():
     """Lines with two faults: the one that is tested first is answered."""
-    begun = ["tree 1", "state S", "state T", "action A", "station P 10.0.0.1:1", "operator O P", "devclass D S", "move D S A T",
+    begun = ["tree 1", "state S", "state T", "action A", "station P 10.0.0.1:1", "operator O P", "devclass D S",
+             "move D S A T",
              "unitclass U S", "accept U A", "domain M P U -"]
     behind = len(begun) + 1
     long = 200 * " "
@@ -175,13 +189,17 @@ def pairs():
             (10, 5, "operator N Q"), (10, 4, "state S"), (10, 9, "accept D A")]:
         yield refused("%d before %d" % (first, second), begun + [line + long], behind, first)
     for first, second, line in [
-            (7, 2, "tree 2 3"), (7, 3, "tree x"), (2, 3, "state x y"), (2, 8, "station Q 1.2.3:4 Z"), (2, 5, "operator N Q Z"),
-            (2, 4, "state S S"), (2, 9, "accept D A A"), (3, 8, "station q 1.2.3:4"), (3, 5, "operator N q"), (3, 5, "operator n Q"),
+            (7, 2, "tree 2 3"), (7, 3, "tree x"), (2, 3, "state x y"), (2, 8, "station Q 1.2.3:4 Z"),
+            (2, 5, "operator N Q Z"),
+            (2, 4, "state S S"), (2, 9, "accept D A A"), (3, 8, "station q 1.2.3:4"), (3, 5, "operator N q"),
+            (3, 5, "operator n Q"),
             (3, 4, "device O M d"), (3, 9, "move U S A t"), (8, 4, "station P 1.2.3:4"), (5, 4, "operator O Q"),
-            (5, 4, "move D S A X"), (5, 4, "domain M Q U -"), (5, 4, "domain M P U X"), (5, 9, "move U S A X"), (5, 9, "any D X T"),
+            (5, 4, "move D S A X"), (5, 4, "domain M Q U -"), (5, 4, "domain M P U X"), (5, 9, "move U S A X"),
+            (5, 9, "any D X T"),
             (5, 9, "domain N P D X"), (5, 9, "device N X U"), (4, 9, "device O M U"), (4, 9, "domain O P D -")]:
         yield refused("%d before %d: %s" % (first, second, line), begun + [line], behind, first)
-    for first, second, line in [(7, 1, "stat"), (7, 2, "state"), (7, 3, "state x"), (7, 8, "station Q 1.2.3:4"), (7, 5, "operator N Q")]:
+    for first, second, line in [(7, 1, "stat"), (7, 2, "state"), (7, 3, "state x"), (7, 8, "station Q 1.2.3:4"),
+                                (7, 5, "operator N Q")]:
         yield refused("a first line, %d before %d" % (first, second), [line], 1, first)
     states = begun + numbered("state S%d", 3, 64)
     domains = begun + numbered("domain M%d P U -", 2, 128)
@@ -189,12 +207,15 @@ def pairs():
     operators = begun + numbered("operator O%d P", 2, 8)
     rules = begun + ["any U S T"] * 32
     for full, first, line in [
-            (states, 10, "state X" + long), (states, 7, "tree 2"), (states, 2, "state X Y"), (states, 3, "state x"), (states, 4, "state S"),
+            (states, 10, "state X" + long), (states, 7, "tree 2"), (states, 2, "state X Y"), (states, 3, "state x"),
+            (states, 4, "state S"),
             (domains, 5, "domain N P U X"), (domains, 4, "domain M P U -"), (domains, 9, "domain N P D -"),
             (devices, 5, "device N M X"), (devices, 4, "device O M D"), (devices, 9, "device N M U"),
-            (operators, 5, "operator N Q"), (operators, 4, "operator M P"), (rules, 5, "all U S X"), (rules, 3, "all U S x")]:
+            (operators, 5, "operator N Q"), (operators, 4, "operator M P"), (rules, 5, "all U S X"),
+            (rules, 3, "all U S x")]:
         yield refused("%d before 6: %s" % (first, line[:20]), full + [line], len(full) + 1, first)
-    for full, line in [(states, "state X"), (domains, "domain N P U -"), (devices, "device N M D"), (operators, "operator N P"), (rules, "all U S T")]:
+    for full, line in [(states, "state X"), (domains, "domain N P U -"), (devices, "device N M D"),
+                       (operators, "operator N P"), (rules, "all U S T")]:
         yield refused("6: %s" % line, full + [line], len(full) + 1, 6)
     stations = begun + numbered("station P%d 1.1.1.1:1", 2, 128)
     yield refused("8 before 6", stations + ["station Q 1.2.3:4"], len(stations) + 1, 8)

@@ -2,8 +2,8 @@
 
 usage: words.py
 
-Sources are read line by line; a line that is long for a text in quotes alone may be. Words are looked for in comments and
-in documents (docs/GLOSSARY.md, "Ordinary words"). The last line is 'N passed, M failed'; each file is a case.
+Sources are read line by line; a line that is long for a text in quotes alone may be. Words are looked for in comments
+and in documents (docs/GLOSSARY.md, "Ordinary words"). The last line is 'N passed, M failed'; each file is a case.
 """
 
 import glob
@@ -13,8 +13,8 @@ import sys
 
 ROOT = os.path.join(os.path.dirname(os.path.abspath(__file__)), "..")
 WIDTH = 120
-COMMENTS = {".rt": re.compile(r"\s*//"), ".antt": re.compile(r"\s*--")}
-SOURCES = ["crates/*/src/**/*.rt", "crates/*/specs/**/*.antt", "crates/*/proofs/**/*.antt"]
+COMMENTS = {".rt": re.compile(r"\s*//"), ".antt": re.compile(r"\s*--"), ".py": re.compile(r"\s*#")}
+SOURCES = ["crates/*/src/**/*.rt", "crates/*/specs/**/*.antt", "crates/*/proofs/**/*.antt", "tests/*.py", "tools/*.py"]
 DOCUMENTS = ["README.md", "CONTRIBUTING.md", "CHANGELOG.md", "docs/*.md"]
 # The ordinary word for each: allocation, out of memory, unchanged, after, k-th.
 UNUSUAL = re.compile(r"\b(growths?|want of memory|(?:stays?|is|are|stayed) as (?:it was|they were)(?! found)|so-manieth"

@@ -19,7 +19,8 @@ def seconds(crate, tests):
     """The processor seconds of a check from nothing, or none where the crate is not proved."""
     with tempfile.TemporaryFile() as out:
         words = [kit.rtlib.RATTLE, "check", *crate.words(["--jobs", "1"], tests=tests, keeps=False)]
-        child = subprocess.Popen([*kit.rtlib.guarded(), *words], cwd=crate.folder, stdin=subprocess.DEVNULL, stdout=out, stderr=out)
+        child = subprocess.Popen([*kit.rtlib.guarded(), *words], cwd=crate.folder, stdin=subprocess.DEVNULL, stdout=out,
+                                 stderr=out)
         _, status, use = os.wait4(child.pid, 0)
         child.returncode = os.waitstatus_to_exitcode(status)
     return None if child.returncode else use.ru_utime + use.ru_stime
@@ -50,7 +51,8 @@ def main():
         proof = seconds(crate, False)
         tests = told(seconds(crate, True)) if crate.has_tests() else "-"
         count, refused, used = seconds_of_edits(crate)
-        tried = "-" if not count else "%d in %.0f" % (count, used) if count == refused else "%d of %d not refused" % (count - refused, count)
+        tried = "%d in %.0f" % (count, used) if count == refused else "%d of %d not refused" % (count - refused, count)
+        tried = tried if count else "-"
         rows.append("| `%s` | %s | %s | %s |" % (crate.name, told(proof), tests, tried))
         print(rows[-1], flush=True)
     print("\n".join(rows))

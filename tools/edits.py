@@ -2,17 +2,18 @@
 
 usage: edits.py [--jobs N] [--only TEXT] [--from FOLDER] [CRATE..]
 
-An edit is a file NAME.edit in crates/CRATE/edits/ or crates/CRATE/must-fail/, in the toolchain's form (a line `file:`, and
-lines `old:` and `new:`), with a line `function:` that names the function whose contract it breaks. --only takes the edits
-whose names have that text, and --from those in FOLDER in place of the crate's own. Where EDITS_SAID names a folder, what
-the prover says of each copy is kept there.
+An edit is a file NAME.edit in crates/CRATE/edits/ or crates/CRATE/must-fail/, in the toolchain's form (a line `file:`,
+and lines `old:` and `new:`), with a line `function:` that names the function whose contract it breaks. --only takes the
+edits whose names have that text, and --from those in FOLDER in place of the crate's own. Where EDITS_SAID names a
+folder, what the prover says of each copy is kept there.
 
 Edits of different functions are written into one copy of the crate, and the prover is asked for these functions alone,
 from nothing, in a folder of this run. An edit counts as refused only where a goal of its own function is not proved: a
-function is proved from the contracts of what it calls, whatever becomes of their bodies, and a copy in which a goal of an
-unedited function fails tells nothing. What is not refused so is tried again without those that were, and at last alone.
-A copy that does not compile is halved. An edit that is about more than the body of one function, as of a definition or of a
-constant that several read, is tried alone; one with no line `function:` too, as the toolchain tries it, over the whole crate.
+function is proved from the contracts of what it calls, whatever becomes of their bodies, and a copy in which a goal of
+an unedited function fails tells nothing. What is not refused so is tried again without those that were, and at last
+alone. A copy that does not compile is halved. An edit that is about more than the body of one function, as of a
+definition or of a constant that several read, is tried alone; one with no line `function:` too, as the toolchain tries
+it, over the whole crate.
 
 The last line is 'N refused, M not'. The status is 0 where each was refused.
 """
@@ -56,7 +57,8 @@ def body_of(lines, head):
             begins = at
         elif line.startswith(indent + "}") or line == indent + "{}" or line.endswith("{}") and at == head:
             return range(at if begins is None else begins, at + 1)
-        elif at > head and begins is None and line and not line.startswith((indent + " ", indent + ")", indent + "where")):
+        elif at > head and begins is None and line and not line.startswith((indent + " ", indent + ")",
+                                                                            indent + "where")):
             return None
     return None
 
@@ -169,7 +171,8 @@ def check(crate, edits, kept):
             words += ["--only", edit.function]
         said = os.path.join(room, "said")
         with open(said, "wb") as out:
-            child = subprocess.Popen([*kit.rtlib.guarded(), *words], cwd=room, stdin=subprocess.DEVNULL, stdout=out, stderr=subprocess.STDOUT)
+            child = subprocess.Popen([*kit.rtlib.guarded(), *words], cwd=room, stdin=subprocess.DEVNULL, stdout=out,
+                                     stderr=subprocess.STDOUT)
             _, status, use = os.wait4(child.pid, 0)
             child.returncode = os.waitstatus_to_exitcode(status)
         with open(said, encoding="utf-8", errors="replace") as file:
@@ -182,7 +185,8 @@ def lines_of(function, said):
     owner, _, kind = module.rpartition("::")
     # a closure of a method is named below its module, before the type
     inner = "%s::fn::%s::%s::" % (owner, kind, name) if kind[:1].isupper() else "%s::fn::%s::" % (module, name)
-    return {it: line for it, line in re.findall(r"(?m)^(?:fn|impl) (\S+): (.*)$", said) if it == function or it.startswith(inner)}
+    return {it: line for it, line in re.findall(r"(?m)^(?:fn|impl) (\S+): (.*)$", said) if it == function
+            or it.startswith(inner)}
 
 
 def goals_of(functions, said):
@@ -242,11 +246,13 @@ def try_together(crate, edits, kept):
         said, seconds = check(crate, batch, kept)
         is_alone, stray = len(batch) == 1, strays(said, batch)
         if stray:
-            say("%s: no edit is about %s, which has an unproved goal, so this copy tells nothing" % (crate.name, stray[0]))
+            say("%s: no edit is about %s, which has an unproved goal, so this copy tells nothing"
+                % (crate.name, stray[0]))
         for edit in batch:
             edit.how, edit.why = verdict(edit, said, is_alone, not stray)
         if os.environ.get("EDITS_SAID"):
-            with open("%s/%s-%d" % (os.environ["EDITS_SAID"], crate.name, time.time_ns()), "w", encoding="utf-8") as file:
+            with open("%s/%s-%d" % (os.environ["EDITS_SAID"], crate.name, time.time_ns()), "w",
+                      encoding="utf-8") as file:
                 file.write(said)
         again = [edit for edit in batch if edit.how == AGAIN]
         decided = [edit for edit in batch if edit.how != AGAIN]
@@ -302,14 +308,16 @@ def is_new(crate, since):
 
 
 def ready(crates, since):
-    """Builds what stands below the crates, and returns those that are proved as they stand: an edit of another says nothing."""
+    """Builds what stands below the crates, and returns those that are proved as they stand: an edit of another says
+    nothing."""
     proved = []
     for crate in crates:
         for dep in crate.below():
             if not is_new(dep, since) and dep.build_rlib(["--jobs", "1"], anew=False):
                 sys.exit("%s is not built, so nothing above it can be tried" % dep.name)
         if since is None:
-            ran = subprocess.run(["rt", "check", "--jobs", "2"], cwd=crate.folder, capture_output=True, text=True, check=False)
+            ran = subprocess.run(["rt", "check", "--jobs", "2"], cwd=crate.folder, capture_output=True, text=True,
+                                 check=False)
             if ran.returncode:
                 say("%s is not proved as it stands, so none of its edits is tried" % crate.name)
                 continue
@@ -318,7 +326,8 @@ def ready(crates, since):
 
 
 def try_all(crates, *folders, only="", since=None):
-    """Tries the edits that the crates have in these folders, some crates side by side, and returns them by the crate's name.
+    """Tries the edits that the crates have in these folders, some crates side by side, and returns them by the crate's
+    name.
 
     A moment in `since` says that a gate has proved all crates from nothing since then.
     """

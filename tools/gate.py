@@ -2,14 +2,14 @@
 
 usage: gate.py [--all | --record CRATE..]
 
-It runs `rt ci`; on the programs that this has built the cases of tests/command_lines.py and tests/nodes.py, the shift of
-the examples (tests/shift.py), the tools beside the program (tests/pictures.py), the documents (tests/documents.py) and a
-short soak (tests/soak.py); and the edits in crates/CRATE/edits/ (tools/edits.py) of each crate whose sum is not in the
-record edits.ok: a line of it says that all edits of the crate were seen refused, with the same toolchain, tools,
+It runs `rt ci`; on the programs that this has built the cases of tests/command_lines.py and tests/nodes.py, the shift
+of the examples (tests/shift.py), the tools beside the program (tests/pictures.py), the documents (tests/documents.py)
+and a short soak (tests/soak.py); and the edits in crates/CRATE/edits/ (tools/edits.py) of each crate whose sum is not
+in the record edits.ok: a line of it says that all edits of the crate were seen refused, with the same toolchain, tools,
 sources, specs, proofs and edits, and the same sources, specs and proofs of the crates below it. What is not tried for
-that is counted apart and not as passed. --all
-reads no record, tries the edits of every crate, and writes the record. --record tries the edits of these crates alone,
-and writes the lines of those of which all are refused; the lines of other crates stay.
+that is counted apart and not as passed. --all reads no record, tries the edits of every crate, and writes the record.
+--record tries the edits of these crates alone, and writes the lines of those of which all are refused; the lines of
+other crates stay.
 
 The last line is 'N passed, M failed'.
 """
@@ -51,7 +51,8 @@ class Part:
         return self
 
     def __str__(self):
-        return "%s: %d passed, %d failed%s (%.1f processor minutes)" % (self.name, self.passed, self.failed, self.more, self.minutes)
+        return "%s: %d passed, %d failed%s (%.1f processor minutes)" % (self.name, self.passed, self.failed, self.more,
+                                                                        self.minutes)
 
 
 class Told:
@@ -99,7 +100,8 @@ def run(words, told=None):
 
 
 def take_programs(since):
-    """Puts the programs that this gate has built where the cases look for them, or builds those that it left nowhere."""
+    """Puts the programs that this gate has built where the cases look for them, or builds those that it left
+    nowhere."""
     os.makedirs(os.path.join(kit.ROOT, "bin"), exist_ok=True)
     for name in PROGRAMS:
         made = os.path.join(kit.ROOT, "crates", name, "out", name)
