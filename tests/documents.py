@@ -136,6 +136,18 @@ def crate_lines():
     return {name.strip(): below.split() for name, mark, below in (line.partition(":") for line in lines) if mark}
 
 
+def worked_cases():
+    """The lines of examples/worked.tree are those that a law of smi_protocol reads."""
+    told = section_of_lines(read("crates", "smi_protocol", "specs", "examples", "WorkedTree.antt"))
+    yield "the worked tree of the laws is examples/worked.tree", told == read("examples", "worked.tree").splitlines()
+
+
+def section_of_lines(text):
+    """The texts of the definition `worked_lines`."""
+    body = re.search(r"^worked_lines =\n(.*?)^$", text, flags=re.M | re.S)
+    return re.findall(r'codes "([^"]*)"', body[1]) if body else []
+
+
 def crate_cases():
     """The crates have their lines, stand on what is said there and drawn, and have what is claimed of them."""
     crates = crate_lines()
@@ -416,6 +428,7 @@ def broken_cases():
 
 def cases(program, only):
     yield from rule_cases()
+    yield from worked_cases()
     yield from crate_cases()
     yield from promise_cases()
     yield from link_cases()

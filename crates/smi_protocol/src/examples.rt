@@ -2,8 +2,10 @@
 //! does nothing, and its clause says that the stations of examples/worked.tree do, line by line, what
 //! the example says.
 
-ghost use Rattle.std.specs.Prelude.{◌≡◌, [], ◌∷◌, ◌++◌, map, Some};
+ghost use Rattle.std.specs.Prelude.{◌≡◌, [], ◌∷◌, ◌++◌, map, Some, Ok};
 ghost use Rattle.smi_grant.specs.declared.Command.TheVariants as command;
+ghost use Rattle.smi_tree.specs.File.{tree_of};
+ghost use Rattle.smi_tree.specs.Lawful.{IsTree};
 ghost use Rattle.smi_rows.specs.Store.{saved};
 ghost use Rattle.smi_protocol.specs.Happening.{answer, answer_asked, answer_command, mark};
 ghost use Rattle.smi_protocol.specs.Opening.{first_opened, opening_entries};
@@ -11,10 +13,17 @@ ghost use Rattle.smi_protocol.specs.Played.{Plays, turn_after, Deliver, StopAfte
 ghost use Rattle.smi_protocol.specs.SavedRows.{key};
 ghost use Rattle.smi_protocol.specs.declared.entry.Entry.TheVariants.{Booted};
 ghost use Rattle.smi_protocol.specs.declared.order.Order.TheVariants.{Do, Take};
-ghost use Rattle.smi_protocol.specs.examples.WorkedTree.{worked_tree, A, B, BOB, DCS, TPC, HV, OFF, CONFIGURE, START};
+ghost use Rattle.smi_protocol.specs.examples.WorkedTree.{worked_file, worked_tree, A, B, BOB, DCS, TPC, HV, OFF};
+ghost use Rattle.smi_protocol.specs.examples.WorkedTree.{CONFIGURE, START};
 ghost use Rattle.smi_protocol.specs.examples.Words.{bob, passed};
 ghost use Rattle.smi_protocol.specs.examples.Grants as grants;
 ghost use Rattle.smi_protocol.specs.examples.Commands as commands;
+
+/// The tree of all examples is what the file examples/worked.tree says, and it is a tree.
+pub fn worked_file()
+    ensures read { tree_of worked_file ≡ Ok worked_tree }
+    ensures tree { IsTree worked_tree }
+{}
 
 /// How the stations begin.
 pub fn opening()

@@ -1,5 +1,6 @@
 -- The tree of examples/worked.tree.
-use Rattle.std.specs.Prelude.{ℕ, [], ◌∷◌, Option, Some, None, codes}
+use Rattle.std.specs.Prelude.{ℕ, List, [], ◌∷◌, ◌++◌, Option, Some, None, codes}
+use Rattle.std.specs.List.{flat_map}
 use Rattle.smi_tree.specs.Hierarchy.{Hierarchy}
 use Rattle.smi_tree.specs.ClassTable.{ClassTable}
 use Rattle.smi_tree.specs.declared.declaration.ClassKind.TheVariants as class
@@ -58,6 +59,40 @@ worked_tree = record {
   device_names = codes "HV" ∷ [];
   devices = record { domain = 2; class = 1 } ∷ [];
 }
+
+-- The lines of the file.
+abbrev pub worked_lines : List (List ℕ)
+worked_lines =
+    codes "tree 17"
+    ∷ codes "state OFF"
+    ∷ codes "state READY"
+    ∷ codes "state RUNNING"
+    ∷ codes "state ERROR"
+    ∷ codes "action CONFIGURE"
+    ∷ codes "action START"
+    ∷ codes "action STOP"
+    ∷ codes "station A 127.0.0.1:9001"
+    ∷ codes "station B 127.0.0.1:9002"
+    ∷ codes "operator ANN A"
+    ∷ codes "operator BOB B"
+    ∷ codes "devclass DEV OFF"
+    ∷ codes "move DEV OFF CONFIGURE READY"
+    ∷ codes "move DEV READY START RUNNING"
+    ∷ codes "unitclass UNIT OFF"
+    ∷ codes "accept UNIT CONFIGURE"
+    ∷ codes "accept UNIT START"
+    ∷ codes "any UNIT ERROR ERROR"
+    ∷ codes "all UNIT RUNNING RUNNING"
+    ∷ codes "all UNIT READY READY"
+    ∷ codes "all UNIT OFF OFF"
+    ∷ codes "domain DCS A UNIT -"
+    ∷ codes "domain TPC B UNIT DCS"
+    ∷ codes "device HV TPC DEV"
+    ∷ []
+
+-- the file: a line feed ends each line
+abbrev pub worked_file : List ℕ
+worked_file = flat_map (λ line. line ++ 10 ∷ []) worked_lines
 
 -- Stations.
 abbrev pub A : ℕ
