@@ -303,11 +303,14 @@ def steps(bench, folder):
         assert good == made and (kind != "state" or changes == count) and (kind != "tick" or sent == 0), words
         print("steps: %s over the %s tree, %.0f a second, %.2f datagrams each"
               % (kind, name, made * 1e6 / took, sent / made))
-    for name in ("worked", "detector"):
-        words = best_of([bench, "act", paths[name], str(ITEMS)])
-        assert int(words[0]) == ITEMS, words
-        print("act: %d drawn items over the %s tree, without text, %.0f a second"
-              % (ITEMS, name, ITEMS * 1e6 / int(words[2])))
+    for what, told in [("act", "drawn items"), ("steady", "drawn items that start no station again")]:
+        rates = {}
+        for name in ("worked", "detector"):
+            words = best_of([bench, what, paths[name], str(ITEMS)])
+            assert what == "steady" or int(words[0]) == ITEMS, words
+            rates[name] = int(words[0]) * 1e6 / int(words[2])
+        print("act: %s without text, %.0f a second over the worked tree, %.0f over the detector's; %.2f times as long"
+              % (told, rates["worked"], rates["detector"], rates["worked"] / rates["detector"]))
 
 
 def main():

@@ -1,5 +1,6 @@
 //! How long drawn items take in a world, without their text.
 
+use smi_item::Item;
 use smi_schedule::Drawer;
 use smi_tree::Tree;
 use smi_world::{Left, World};
@@ -9,14 +10,32 @@ use std::{fs, io};
 /// The seed of what is drawn.
 const SEED: u64 = 1;
 
-/// Makes so many drawn items; how many of them were made.
-fn make(rt: &HostRuntime, world: &mut World<'_>, items: u32) -> u64 {
+/// Which of the drawn items are made.
+#[derive(Clone, Copy, PartialEq, Eq)]
+pub enum Choice {
+    All,
+    /// Those that start no station again.
+    Steady,
+}
+
+impl Choice {
+    fn takes(self, item: &Item) -> bool {
+        match item {
+            Item::Restart(_) | Item::Stop(_, _, _) => self == Choice::All,
+            Item::Do(_) | Item::Fail(_, _, _) => true,
+        }
+    }
+}
+
+/// Makes those of so many drawn items that are chosen; how many were made.
+fn make(rt: &HostRuntime, world: &mut World<'_>, items: u32, choice: Choice) -> u64 {
     let tree = world.tree();
     let mut drawer = Drawer::new(SEED);
     let mut left = Left::new();
     let mut made: u64 = 0;
     for _ in 0..items {
-        if world.act(rt.alloc(), &drawer.draw(tree), &mut left).is_ok() {
+        let item = drawer.draw(tree);
+        if choice.takes(&item) && world.act(rt.alloc(), &item, &mut left).is_ok() {
             made = made.wrapping_add(1);
         }
     }
@@ -24,27 +43,37 @@ fn make(rt: &HostRuntime, world: &mut World<'_>, items: u32) -> u64 {
 }
 
 // One function owns a world, and one a tree: whatever owns one is dear to prove.
-fn in_world(rt: &HostRuntime, tree: &Tree, items: u32) -> io::Result<(Duration, u64)> {
+fn in_world(
+    rt: &HostRuntime,
+    tree: &Tree,
+    items: u32,
+    choice: Choice,
+) -> io::Result<(Duration, u64)> {
     match World::new(rt.alloc(), tree) {
         Ok(mut world) => {
             let start = Instant::now(rt)?;
-            let made = make(rt, &mut world, items);
+            let made = make(rt, &mut world, items, choice);
             Ok((start.elapsed(rt)?, made))
         }
         Err(_) => Err(io::Error::other("out of memory")),
     }
 }
 
-fn over_tree(rt: &HostRuntime, bytes: &[u8], items: u32) -> io::Result<(Duration, u64)> {
+fn over_tree(
+    rt: &HostRuntime,
+    bytes: &[u8],
+    items: u32,
+    choice: Choice,
+) -> io::Result<(Duration, u64)> {
     match Tree::read(rt.alloc(), bytes) {
-        Ok(tree) => in_world(rt, &tree, items),
+        Ok(tree) => in_world(rt, &tree, items, choice),
         Err(_) => Err(io::Error::other("a faulty tree")),
     }
 }
 
-/// Prints how long so many drawn items take.
-pub fn print_acts(rt: &HostRuntime, path: &str, items: u32) -> io::Result<()> {
+/// Prints how long those of so many drawn items take that are chosen.
+pub fn print_acts(rt: &HostRuntime, path: &str, items: u32, choice: Choice) -> io::Result<()> {
     let bytes = fs::read(rt, path)?;
-    let (time, made) = over_tree(rt, bytes.as_slice(), items)?;
+    let (time, made) = over_tree(rt, bytes.as_slice(), items, choice)?;
     println!(rt; "{made} items: {} us", time.as_micros())
 }

@@ -6,13 +6,15 @@
 //! file. `smi_bench steps TREE KIND COUNT` prints the microseconds of steps of a station over a store in
 //! memory, and what was counted of them: of `take` and `state` so many datagrams, of `do` so many orders
 //! and what the station then sends itself, of `tick` and `due` so many ticks. `smi_bench act TREE ITEMS`
-//! prints the microseconds of so many drawn items in a world. Without words it measures nothing.
+//! prints the microseconds of so many drawn items in a world, and `smi_bench steady TREE ITEMS` of those among
+//! them that start no station again. Without words it measures nothing.
 #![tactic(auto)]
 
 mod acts;
 mod steps;
 mod stores;
 
+use acts::Choice;
 use smi_tree::Tree;
 use std::time::{Duration, Instant};
 use std::{env, fs, io};
@@ -30,7 +32,10 @@ fn main(rt: HostRuntime) -> io::Result<()> {
             number(count.as_str()),
         ),
         [_, what, tree, items] if what.as_str() == "act" => {
-            acts::print_acts(&rt, tree.as_str(), number(items.as_str()))
+            acts::print_acts(&rt, tree.as_str(), number(items.as_str()), Choice::All)
+        }
+        [_, what, tree, items] if what.as_str() == "steady" => {
+            acts::print_acts(&rt, tree.as_str(), number(items.as_str()), Choice::Steady)
         }
         [_, path, rounds] => trees(&rt, path.as_str(), number(rounds.as_str())),
         [_, store, plain, saves, rows] => saves_in(
