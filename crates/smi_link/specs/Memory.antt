@@ -18,6 +18,7 @@ pub record Memory : Type 0 where
   pub sent : List Sent
   pub fails_after : Option ℕ
   pub failures : ℕ
+  pub refusals : ℕ
 
 abbrev pub datagram_of : Coming → Option (List ℕ)
 datagram_of (Datagram bytes) = Some bytes
@@ -34,7 +35,15 @@ handed_of m = map (λ s. (s.station, s.bytes)) m.sent
 
 -- nothing has come and nothing was sent
 abbrev pub opened : ℕ → Memory
-opened station = record { station = station; coming = []; place = 0; sent = []; fails_after = None; failures = 0 }
+opened station = record {
+  station = station;
+  coming = [];
+  place = 0;
+  sent = [];
+  fails_after = None;
+  failures = 0;
+  refusals = 0;
+}
 
 abbrev pub with_coming : Memory → Coming → Memory
 with_coming m c = record m { coming = m.coming ++ c ∷ [] }
@@ -63,6 +72,10 @@ with_sent m station datagram =
 abbrev pub failed : Memory → Memory
 failed m = record m { failures = m.failures + 1 }
 
+-- memory was refused once more to one of its lists, and that is all
+abbrev pub refused : Memory → Memory
+refused m = record m { refusals = m.refusals + 1 }
+
 abbrev pub moved_on : Memory → Memory
 moved_on m = record m { place = m.place + 1 }
 
@@ -86,7 +99,11 @@ abbrev pub one_send_on : Memory → Memory
 one_send_on m =
     record m { fails_after = option_and_then (λ more. if more == 0 then None else Some (more - 1)) m.fails_after }
 
+-- the planned send fails, and any other one where memory was refused
+abbrev pub fails : Memory → Memory
+fails m = failed (one_send_on (if is_planned m then m else refused m))
+
 -- a send is kept, or the link has failed
 abbrev pub Takes : {E : Type 0} → Memory → Memory → ℕ → List ℕ → Result (Unit {0}) E → Type 0
 Takes old new station datagram r =
-    MatchResult r (λ _. new ≡ with_sent (one_send_on old) station datagram) (λ _. new ≡ failed (one_send_on old))
+    MatchResult r (λ _. new ≡ with_sent (one_send_on old) station datagram) (λ _. new ≡ fails old)

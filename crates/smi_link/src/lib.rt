@@ -12,6 +12,7 @@
 #![tactic(auto)]
 
 mod frame;
+mod growth;
 mod link;
 mod memory;
 mod udp;

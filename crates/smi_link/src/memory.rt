@@ -1,4 +1,5 @@
 use crate::frame::{Coming, Frame, Sent};
+use crate::growth::Growth;
 use crate::link::{DatagramLink, LinkFault, Reception};
 use smi_tally::Tally;
 use std::alloc::{AllocError, Global};
@@ -8,7 +9,8 @@ use std::marker::Model;
 ///
 /// It gives what was put into it, in that order, and at the end `Nothing`. What is sent to its own
 /// station comes back to it. It loses nothing but what [`MemoryLink::put_fault`],
-/// [`MemoryLink::fail_send`] or a refused allocation make it lose.
+/// [`MemoryLink::fail_send`] or a refused allocation make it lose. Contracts see how often memory was
+/// refused to it, so that being out of memory is told only where it was.
 #[derive(Drop)]
 pub struct MemoryLink {
     station: u16,
@@ -17,6 +19,7 @@ pub struct MemoryLink {
     sent: Vec<Sent>,
     fails_after: Option<u32>,
     faults: Tally,
+    growth: Growth,
 }
 
 impl Model for MemoryLink {
@@ -32,6 +35,7 @@ impl Model for MemoryLink {
       sent = l.sent.items;
       fails_after = l.fails_after;
       failures = l.faults.count;
+      refusals = l.growth.count;
     } };
 
     ghost invariant = { λ l. l.place ≤ vec_len l.coming };
@@ -39,7 +43,7 @@ impl Model for MemoryLink {
 
 impl MemoryLink {
     ghost use Rattle.std.specs.Prelude.{◌≡◌, ◌≤◌, ◌-◌, OnOk, OnErr};
-    ghost use Rattle.smi_link.specs.Memory.{opened, with_datagram, with_nothing, with_fault, failing_after};
+    ghost use Rattle.smi_link.specs.Memory.{opened, with_datagram, with_nothing, with_fault, failing_after, refused};
 
     /// A link of a station, with nothing to give.
     pub fn new(alloc: Global, station: u16) -> MemoryLink
@@ -52,6 +56,7 @@ impl MemoryLink {
             sent: Vec::new(alloc),
             fails_after: None,
             faults: Tally::zero(),
+            growth: Growth::new(),
         }
     }
 
@@ -59,28 +64,26 @@ impl MemoryLink {
     /// received.
     pub fn put(&mut self, datagram: &[u8]) -> Result<(), AllocError>
         ensures ok { OnOk result (self.new ≡ with_datagram self.old datagram.now) }
-        ensures err { OnErr result (self.new ≡ self.old) }
+        ensures err { OnErr result (self.new ≡ refused self.old) }
     {
-        self.coming.push(Coming::Datagram(Frame::of(datagram)))?;
-        Ok(())
+        let coming = Coming::Datagram(Frame::of(datagram));
+        self.growth.push(&mut self.coming, coming)
     }
 
     /// Nothing comes, once.
     pub fn put_nothing(&mut self) -> Result<(), AllocError>
         ensures ok { OnOk result (self.new ≡ with_nothing self.old) }
-        ensures err { OnErr result (self.new ≡ self.old) }
+        ensures err { OnErr result (self.new ≡ refused self.old) }
     {
-        self.coming.push(Coming::Nothing)?;
-        Ok(())
+        self.growth.push(&mut self.coming, Coming::Nothing)
     }
 
     /// The link fails, once.
     pub fn put_fault(&mut self) -> Result<(), AllocError>
         ensures ok { OnOk result (self.new ≡ with_fault self.old) }
-        ensures err { OnErr result (self.new ≡ self.old) }
+        ensures err { OnErr result (self.new ≡ refused self.old) }
     {
-        self.coming.push(Coming::Fault)?;
-        Ok(())
+        self.growth.push(&mut self.coming, Coming::Fault)
     }
 
     /// The `k`-th send from now fails, counted from 1. A later call takes the place of an earlier one.
@@ -150,7 +153,7 @@ impl DatagramLink for MemoryLink {
 
 impl MemoryLink {
     ghost use Rattle.std.specs.Prelude.{◌≡◌, OnOk, OnErr, option_copied, slice_get};
-    ghost use Rattle.smi_link.specs.Memory.{with_sent};
+    ghost use Rattle.smi_link.specs.Memory.{with_sent, refused};
 
     /// What is to be given next.
     fn next(&self) -> Option<&Coming>
@@ -163,17 +166,17 @@ impl MemoryLink {
     /// first.
     fn hand_on(&mut self, station: u16, datagram: &[u8; 44]) -> Result<(), AllocError>
         ensures ok { OnOk result (self.new ≡ with_sent self.old station datagram.now) }
-        ensures err { OnErr result (self.new ≡ self.old) }
+        ensures err { OnErr result (self.new ≡ refused self.old) }
     {
         let sent = Sent {
             station,
             bytes: *datagram,
         };
         if station == self.station {
-            self.sent.reserve(1)?;
-            self.coming.push(Coming::Datagram(Frame::of(datagram)))?;
+            self.growth.reserve(&mut self.sent)?;
+            let back = Coming::Datagram(Frame::of(datagram));
+            self.growth.push(&mut self.coming, back)?;
         }
-        self.sent.push(sent)?;
-        Ok(())
+        self.growth.push(&mut self.sent, sent)
     }
 }

@@ -9,5 +9,6 @@
 pub mod answer;
 pub mod check;
 mod keeper;
+mod losses;
 pub mod rows;
 pub mod status;
