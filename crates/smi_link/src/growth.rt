@@ -4,7 +4,7 @@ use smi_tally::Tally;
 use std::alloc::AllocError;
 use std::marker::Model;
 
-/// How often memory was refused to a list that was to grow, which contracts alone read. Only a growth
+/// How often memory was refused to a list that was to grow, which contracts alone read. Only an allocation
 /// that was refused counts.
 #[derive(Drop)]
 pub(crate) struct Growth {
