@@ -25,9 +25,7 @@ key_text key = decimal key.station ++ 32 ∷ decimal key.domain ++ 32 ∷ decima
 
 -- a row: its key, and its bytes in hexadecimal
 abbrev pub row_text : Saved → List ℕ
-row_text row =
-    decimal row.key.station ++ 32 ∷ decimal row.key.domain ++ 32 ∷ decimal row.key.operator ++ 32
-    ∷ hex_text row.bytes ++ 10 ∷ []
+row_text row = key_text row.key ++ hex_text row.bytes ++ 10 ∷ []
 
 abbrev pub rows_text : List Saved → List ℕ
 rows_text rows = flat_map row_text rows
