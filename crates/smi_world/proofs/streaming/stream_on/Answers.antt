@@ -12,7 +12,7 @@ loop-number-init g c = record {
 
 pub returns-in-TooLong-clause-done : goal.returns-in-TooLong-clause-done
 returns-in-TooLong-clause-done g c = λ w is. if_some _ _ _ (c.loop-number.invariant.gone w is)
-    (λ input going. anyway _ _ (ends_long _ _ _ _ _ _ _ _ going [] None _ c.number.ensures c.in-TooLong.ensures))
+    (λ input going. anyway _ _ (ends_long _ _ _ _ _ _ _ _ going [] None _ c.code.ensures c.in-TooLong.ensures))
 
 pub returns-in-TooLong-clause-prefix : goal.returns-in-TooLong-clause-prefix
 returns-in-TooLong-clause-prefix g c = λ w is. if_some _ _ _ (c.loop-number.invariant.gone w is)
