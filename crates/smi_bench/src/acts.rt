@@ -28,18 +28,47 @@ impl Choice {
 }
 
 /// Makes those of so many drawn items that are chosen; how many were made.
-fn make(rt: &HostRuntime, world: &mut World<'_>, items: u32, choice: Choice) -> u64 {
+fn make(
+    rt: &HostRuntime,
+    world: &mut World<'_>,
+    left: &mut Left,
+    items: u32,
+    choice: Choice,
+) -> u64 {
     let tree = world.tree();
     let mut drawer = Drawer::new(SEED);
-    let mut left = Left::new();
     let mut made: u64 = 0;
     for _ in 0..items {
         let item = drawer.draw(tree);
-        if choice.takes(&item) && world.act(rt.alloc(), &item, &mut left).is_ok() {
+        if choice.takes(&item) && world.act(rt.alloc(), &item, left).is_ok() {
             made = made.wrapping_add(1);
         }
     }
     made
+}
+
+/// How long that takes.
+fn timed(
+    rt: &HostRuntime,
+    world: &mut World<'_>,
+    left: &mut Left,
+    items: u32,
+    choice: Choice,
+) -> io::Result<(Duration, u64)> {
+    let start = Instant::now(rt)?;
+    let made = make(rt, world, left, items, choice);
+    Ok((start.elapsed(rt)?, made))
+}
+
+/// The same, with what items leave.
+fn leaving(
+    rt: &HostRuntime,
+    world: &mut World<'_>,
+    items: u32,
+    choice: Choice,
+) -> io::Result<(Duration, u64)> {
+    let mut left = Left::new();
+    timed(rt, world, &mut left, items, choice)
 }
 
 // One function owns a world, and one a tree: whatever owns one is dear to prove.
@@ -50,11 +79,7 @@ fn in_world(
     choice: Choice,
 ) -> io::Result<(Duration, u64)> {
     match World::new(rt.alloc(), tree) {
-        Ok(mut world) => {
-            let start = Instant::now(rt)?;
-            let made = make(rt, &mut world, items, choice);
-            Ok((start.elapsed(rt)?, made))
-        }
+        Ok(mut world) => leaving(rt, &mut world, items, choice),
         Err(_) => Err(io::Error::other("out of memory")),
     }
 }

@@ -267,6 +267,25 @@ fn timed(
     rt: &HostRuntime,
     tree: &Tree,
     station: &mut Kept<'_>,
+    desk: &mut Desk,
+    kind: Kind,
+    count: u32,
+) -> io::Result<(Duration, Counted, u32)> {
+    prepare(tree, station, desk, kind)?;
+    desk.counted = NOTHING;
+    let before = changes_of(station);
+    let start = Instant::now(rt)?;
+    run(tree, station, desk, kind, count)?;
+    let time = start.elapsed(rt)?;
+    let changes = changes_of(station).wrapping_sub(before);
+    Ok((time, desk.counted, changes))
+}
+
+// One function owns what is used anew for each step: whatever owns it is dear to prove.
+fn at_desk(
+    rt: &HostRuntime,
+    tree: &Tree,
+    station: &mut Kept<'_>,
     kind: Kind,
     count: u32,
 ) -> io::Result<(Duration, Counted, u32)> {
@@ -275,14 +294,7 @@ fn timed(
         waiting: Vec::new(rt.alloc()),
         counted: NOTHING,
     };
-    prepare(tree, station, &mut desk, kind)?;
-    desk.counted = NOTHING;
-    let before = changes_of(station);
-    let start = Instant::now(rt)?;
-    run(tree, station, &mut desk, kind, count)?;
-    let time = start.elapsed(rt)?;
-    let changes = changes_of(station).wrapping_sub(before);
-    Ok((time, desk.counted, changes))
+    timed(rt, tree, station, &mut desk, kind, count)
 }
 
 /// The same of the first station, or of the last where nothing is to be due.
@@ -298,7 +310,7 @@ fn at_station(
         1
     };
     match Station::open(rt.alloc(), tree, number, MemoryStable::new(rt.alloc())) {
-        Ok(mut station) => timed(rt, tree, &mut station, kind, count),
+        Ok(mut station) => at_desk(rt, tree, &mut station, kind, count),
         Err(_) => Err(io::Error::other("no station opened")),
     }
 }
