@@ -126,6 +126,15 @@ const TELL: u8 = 5;
 
 const STATE: u8 = 7;
 
+/// The first operator asks for the first domain, or gives it back, at an epoch.
+fn asking(tree: &Tree, own: u16, kind: u8, epoch: u32) -> [u8; 44] {
+    let mut bytes = said(tree, kind, own, own, 1);
+    bytes[10] = 1;
+    bytes[13] = 1;
+    bytes[20..24].copy_from_slice(&epoch.to_be_bytes());
+    bytes
+}
+
 /// The first operator takes the first domain at every even epoch, and drops it at every odd one.
 fn take_and_drop(
     tree: &Tree,
@@ -136,10 +145,7 @@ fn take_and_drop(
     let own = station.grants().number();
     for epoch in 0..count {
         let kind = if epoch % 2 == 0 { TAKE } else { DROP };
-        let mut bytes = said(tree, kind, own, own, 1);
-        bytes[10] = 1;
-        bytes[13] = 1;
-        bytes[16..24].copy_from_slice(&u64::from(epoch).to_be_bytes());
+        let bytes = asking(tree, own, kind, epoch);
         step(station, desk, Event::Datagram(&bytes))?;
         desk.waiting.clear();
     }
@@ -185,6 +191,16 @@ fn take_in(tree: &Tree, station: &mut Kept<'_>, desk: &mut Desk) -> io::Result<(
     Ok(())
 }
 
+/// A child's keeper tells its state, which is 1 and 3 in turn.
+fn showing(tree: &Tree, own: u16, child: u16, keeper: u16, sequence: u32) -> [u8; 44] {
+    let mut bytes = said(tree, STATE, keeper, own, child);
+    bytes[15] = if sequence % 2 == 0 { 1 } else { 3 };
+    bytes[35] = 1;
+    bytes[39] = 1;
+    bytes[40..44].copy_from_slice(&sequence.to_be_bytes());
+    bytes
+}
+
 /// The child is told to be in state 1 and in state 3 in turn.
 fn show(tree: &Tree, station: &mut Kept<'_>, desk: &mut Desk, count: u32) -> io::Result<()> {
     let own = station.grants().number();
@@ -192,11 +208,7 @@ fn show(tree: &Tree, station: &mut Kept<'_>, desk: &mut Desk, count: u32) -> io:
         return Ok(());
     };
     for sequence in 1..count.saturating_add(1) {
-        let mut bytes = said(tree, STATE, keeper, own, child);
-        bytes[15] = if sequence % 2 == 0 { 1 } else { 3 };
-        bytes[35] = 1;
-        bytes[39] = 1;
-        bytes[40..44].copy_from_slice(&sequence.to_be_bytes());
+        let bytes = showing(tree, own, child, keeper, sequence);
         step(station, desk, Event::Datagram(&bytes))?;
     }
     Ok(())
