@@ -309,6 +309,8 @@ impl<'a> Declaration<'a> {
     /// What the words after a keyword declare.
     ///
     /// The count of words is tested first, and then each word from left to right.
+    // Where it is inlined, what it answers is copied twice, which takes longer than the call.
+    #[inline(never)]
     pub(crate) fn read(keyword: Keyword, text: &'a [u8]) -> Result<Declaration<'a>, Fault>
         ensures { result ≡ declaration_of keyword (words text.now) }
     {
