@@ -1,6 +1,7 @@
 //! The moves of all device classes.
 
 use crate::row::Move;
+use smi_limits::MOST_ACTIONS;
 use std::alloc::{AllocError, Global};
 use std::marker::Model;
 
@@ -64,6 +65,10 @@ fn put_by(by_action: &mut Vec<Option<Move>>, row: Move) -> Result<(), AllocError
         ≡ move_by by_action.old.items action) }
 {
     let place = usize::from(row.action);
+    if by_action.is_empty() {
+        // A state mostly has a row for each action: room for all is taken once.
+        by_action.reserve(usize::from(MOST_ACTIONS) + 1)?;
+    }
     while by_action.len() <= place {
         by_action.push(None)?;
     }
