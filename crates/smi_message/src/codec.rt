@@ -17,6 +17,7 @@ pub fn encode(datagram: &Datagram) -> [u8; 44]
 }
 
 /// The datagram that the bytes spell. A refusal names the first test that they fail.
+#[inline(always)]
 pub fn decode(bytes: &[u8]) -> Result<Datagram, Bad>
     // What is read is spelled so.
     ensures found { IfOk result (λ d. bytes.now ≡ spelling d) }
@@ -27,6 +28,7 @@ pub fn decode(bytes: &[u8]) -> Result<Datagram, Bad>
     tested(bytes)
 }
 
+#[inline(always)]
 fn tested(bytes: &[u8]) -> Result<Datagram, Bad>
     ensures { result ≡ reading bytes.now }
 {
@@ -45,6 +47,7 @@ fn tested(bytes: &[u8]) -> Result<Datagram, Bad>
 
 /// The datagram of these fields, or the first of the last two tests that fails.
 #[tactic(auto, unfolding(crate::specs::Spelling::message_at, crate::specs::Kinds::body_at))]
+#[inline(always)]
 fn datagram_at(f: &Spelled<'_>) -> Result<Datagram, Bad>
     ensures { result ≡ message_at f.now }
 {
