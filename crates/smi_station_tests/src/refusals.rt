@@ -101,7 +101,8 @@ fn of_orders() -> [Row; 12] {
     ]
 }
 
-/// Of an operator who holds D1 with the last number used and D2 with eight commands pending, and takes D3 to D16.
+/// Of an operator who holds the first domain with the last number used and the second with eight commands pending, and
+/// takes the next fourteen.
 fn of_a_crowd() -> [Row; 10] {
     [
         (Input::Order(1, Order::Do(1, 1)), Wanted::Refused(24)),
@@ -283,11 +284,11 @@ fn blank(alloc: Global) -> PlannedStable<MemoryStable> {
 fn crowded(alloc: Global) -> Result<Vec<u8>, AllocError> {
     let mut row = Vec::new(alloc);
     row.extend_from_slice(&[3, 0, 0, 16])?;
-    // D1, held at epoch 1, of which command 1,000,000 was the last.
+    // The first domain, held at epoch 1, of which command 1,000,000 was the last.
     row.extend_from_slice(&[
         0, 1, 2, 0, 0, 0, 0, 0, 0, 0, 0, 1, 0, 0x0F, 0x42, 0x40, 0, 0, 0, 0,
     ])?;
-    // D2, held at epoch 1, with the commands 1 to 8 pending.
+    // The second, held at epoch 1, with the commands 1 to 8 pending.
     row.extend_from_slice(&[
         0, 2, 5, 0, 0, 0, 0, 0, 0, 0, 0, 1, 0, 0, 0, 8, 0, 1, 0, 1, 0, 7,
     ])?;
