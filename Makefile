@@ -2,12 +2,16 @@
 
 SOURCES := crates.txt $(shell find crates -path '*/out' -prune -o -type f \( -name '*.rt' -o -name '*.antt' \) -print)
 
+# So many crates are proved side by side: one for each processor, and 4 GB for each.
+LANES := $(shell awk -v most=$$(nproc) '/^MemAvailable/ { fit = int($$2 / 4000000); print fit < 1 ? 1 : fit < most ? fit : most }' /proc/meminfo)
+
 .PHONY: smi run try test gate record check cases nodes soak shift tools documents pictures edits edits-test costs bench
 
 # The program, proved and built, at bin/smi.
 smi: bin/smi
 
 bin/smi: $(SOURCES)
+	@python3 tools/libraries.py --lanes $(LANES) smi
 	cd crates/smi && rt run -- answer < /dev/null > /dev/null
 	mkdir -p bin
 	cp crates/smi/out/smi bin/smi
@@ -84,11 +88,13 @@ bench: bin/smi bin/smi_bench bin/smi_trial
 	python3 tests/bench_nodes.py bin/smi
 
 bin/smi_bench: $(SOURCES)
+	@python3 tools/libraries.py --lanes $(LANES) smi_bench
 	cd crates/smi_bench && rt run < /dev/null
 	mkdir -p bin
 	cp crates/smi_bench/out/smi_bench bin/smi_bench
 
 bin/smi_trial: $(SOURCES)
+	@python3 tools/libraries.py --lanes $(LANES) smi_trial
 	cd crates/smi_trial && rt run < /dev/null
 	mkdir -p bin
 	cp crates/smi_trial/out/smi_trial bin/smi_trial
