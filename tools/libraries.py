@@ -1,6 +1,9 @@
 """Proves and builds the libraries below some crates, several side by side, each once those that it stands on are there.
 
-usage: libraries.py [--lanes N] CRATE..
+usage: libraries.py [--lanes N] CRATE.. | libraries.py --one CRATE
+
+`rt lib` would do the same one library after the other, since it keeps others out of all crates below the one that it
+builds. Here each library is built by a process of its own (--one), and only once all below it stand still.
 
 What was built and has not changed is left as it is. A line tells of each library that is proved, with the processor
 seconds that it took, from nothing where nothing was kept. The first that fails ends the run, once those beside it have
@@ -21,7 +24,8 @@ import kit
 def build(crate):
     """Whether the library is proved and built, what was said of it, and the processor seconds that it took."""
     with tempfile.TemporaryFile("w+", encoding="utf-8", errors="replace") as said:
-        child = subprocess.Popen(["rt", "lib"], cwd=crate.folder, stdin=subprocess.DEVNULL, stdout=said, stderr=said)
+        child = subprocess.Popen([sys.executable, __file__, "--one", crate.name], stdin=subprocess.DEVNULL, stdout=said,
+                                 stderr=said)
         _, status, use = os.wait4(child.pid, 0)
         child.returncode = os.waitstatus_to_exitcode(status)
         said.seek(0)
@@ -58,8 +62,12 @@ def build_all(crates, lanes):
 def main():
     words = argparse.ArgumentParser(description=__doc__.split("\n\n")[0])
     words.add_argument("--lanes", type=int, default=1, help="how many are proved side by side")
-    words.add_argument("crates", nargs="+", metavar="CRATE")
+    words.add_argument("--one", metavar="CRATE", help="build this library alone")
+    words.add_argument("crates", nargs="*", metavar="CRATE")
     said = words.parse_args()
+    if said.one:
+        kit.rt.share_work(is_alone=True)
+        sys.exit(kit.crates([said.one])[0].build_rlib([], anew=False))
     below = {it.name for crate in kit.crates(said.crates) for it in crate.below()}
     missing = [it for it in kit.crates() if it.name in below and not it.is_built()]
     sys.exit(0 if build_all(missing, said.lanes) else 1)

@@ -1,6 +1,6 @@
 //! `smi`: the program of the control hierarchy.
 //!
-//! What its commands do is proved in `smi_tools`: [`answer`], [`check`] and [`rows`], and of a simulation in `smi_sim`.
+//! What its commands do is proved in `smi_cli`: [`answer`], [`check`] and [`rows`], and of a simulation in `smi_sim`.
 //! `program` reads the command line and opens files, and `main` has the runtime. A node is run by `smi_crew`.
 #![tactic(auto)]
 
@@ -15,7 +15,7 @@ mod words;
 
 use crate::status::no_memory;
 use program::program;
-pub use smi_tools::{answer, check, rows, status};
+pub use smi_cli::{answer, check, rows, status};
 use std::process::ExitCode;
 use words::words_of;
 

@@ -8,8 +8,8 @@
 //! number of listings beside it.
 
 use crate::file::{beside, bytes_of, resolved};
+use smi_cli::rows::{Listed, rows};
 use smi_stable::{SqliteStable, StoreFault};
-use smi_tools::rows::{Listed, rows};
 use sqlite::{Connection, Error, ErrorCode, File, FileStore, Files, Options};
 use sqlite_disk::{Disk, Memory};
 use std::alloc::Global;

@@ -1,8 +1,8 @@
 //! The tree file of a command line.
 
 use crate::file;
+use smi_cli::status::{Status, no_memory, read_fault};
 use smi_limits::MOST_BYTES_OF_A_FILE;
-use smi_tools::status::{Status, no_memory, read_fault};
 use smi_tree::{Tree, TreeFault};
 use std::alloc::Global;
 use std::io::{self, ErrorKind, Read, Write};

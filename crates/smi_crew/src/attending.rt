@@ -3,11 +3,11 @@
 use crate::bell::Bell;
 use crate::input::{Cut, MOST, cut_line};
 use crate::said::{Request, request_in};
+use smi_cli::status::{no_memory, read_fault, write_fault};
 use smi_grant::Shown;
 use smi_item::Line;
 use smi_operator::Seat;
 use smi_protocol::{Entry, Order, Told};
-use smi_tools::status::{no_memory, read_fault, write_fault};
 use smi_trace::{Unwritten, spell, spell_board, spell_report};
 use smi_tree::{Fault, Tree};
 use smi_view::{BoardId, Glance};

@@ -1,7 +1,7 @@
 //! Why a node does not begin, in words.
 
+use smi_cli::status::{Status, no_memory, store_fault, wrong_line};
 use smi_protocol::OpenFault;
-use smi_tools::status::{Status, no_memory, store_fault, wrong_line};
 use std::io::Write;
 
 /// Tells why a station was not opened on its store, or its rows not brought into their newest schema.

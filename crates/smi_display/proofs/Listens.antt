@@ -10,7 +10,7 @@ use Rattle.std.specs.Option.{option_eq}
 use Rattle.smi_tree.specs.Hierarchy.{Hierarchy}
 use Rattle.smi_tree.specs.Lawful.{IsBetween, IsTree}
 use Rattle.smi_tree.specs.Lookups.{operator_count, operator_station_of}
-use Rattle.smi_rows.specs.Known.{is_number}
+use Rattle.smi_roles.specs.Roles.{is_number}
 use Rattle.smi_protocol.proofs.Ranges.{number_within}
 use Rattle.smi_protocol.proofs.Tables.{number_is}
 use Rattle.smi_display.specs.Listening.{forgotten}

@@ -12,7 +12,7 @@ use Rattle.smi_out.specs.Handed.{sent_after}
 use Rattle.smi_protocol.specs.Messages.{if_any}
 use Rattle.smi_protocol.specs.Step.{Out}
 use Rattle.smi_protocol.specs.declared.Place.{Place}
-use Rattle.smi_protocol.specs.Refusals.{is_keeper}
+use Rattle.smi_roles.specs.Roles.{is_keeper}
 use Rattle.smi_protocol.specs.Ticking.{Owed, is_before, place_behind}
 use Rattle.smi_protocol.proofs.Ranges.{kept_there, number_within}
 use Rattle.smi_protocol.proofs.Tables.{operator_ours}

@@ -2,7 +2,7 @@
 use Rattle.std.specs.Prelude.{ℕ, ◌≡◌, Bool, if◌then◌else◌, List, Option, None}
 use Rattle.smi_watchers.specs.declared.Watcher.{Watcher}
 use Rattle.smi_watchers.specs.Watching.{left_by}
-use Rattle.smi_rows.specs.Known.{is_number}
+use Rattle.smi_roles.specs.Roles.{is_number}
 use Rattle.smi_display.specs.Displayed.{Displayed}
 
 -- the lists before a watch: a station that was started again has left them

@@ -2,26 +2,14 @@
 
 ghost use Rattle.std.specs.Prelude.{◌≡◌};
 ghost use Rattle.smi_protocol.specs.Children as children;
-ghost use Rattle.smi_rows.specs.Ranges as ranges;
 
 use crate::displayed::Displayed;
 use crate::members::Members;
-use smi_command::Link;
 use smi_grant::{Holder, Shown};
 use smi_grants::Kept;
 use smi_out::{Out, show};
 use smi_publish::Changes;
 use smi_rows::Mode;
-
-/// Whether the link to a child is held.
-fn is_held(link: &Link) -> bool
-    ensures { result ≡ ranges.is_held link.now }
-{
-    match link {
-        Link::Held { .. } => true,
-        Link::Out(_) | Link::Taking(_) | Link::Dropping(_) => false,
-    }
-}
 
 /// Whether the state of a child in this mode counts.
 fn is_counted(mode: Mode) -> bool
@@ -38,7 +26,6 @@ impl<'a> Displayed<'a> {
     ghost use Rattle.std.specs.List.{AllByRecursion, flat_map};
     ghost use Rattle.smi_grants.specs.Kept.{grants_of};
     ghost use Rattle.smi_out.specs.Handed.{sent_after};
-    ghost use Rattle.smi_protocol.specs.Opening.{object_count};
     ghost use Rattle.smi_protocol.specs.Showing.{child_members, device_members, is_member, members_of, shown_to_all};
     ghost use Rattle.smi_protocol.specs.SoundDisplay.{IsShown, MayChange};
     ghost use Rattle.smi_publish.specs.Published.{HasRoom, change_at, changes_at, most_changes};
@@ -98,7 +85,7 @@ impl<'a> Displayed<'a> {
     {
         let children = self.tree.children(domain);
         for child in children {
-            if is_held(&kept.link(Holder::Domain(domain), *child))
+            if kept.link(Holder::Domain(domain), *child).is_held()
                 && is_counted(kept.mode(*child))
             {
                 members.push(*child, self.shown_state_of(*child));

@@ -10,7 +10,8 @@ use smi_grant::Holder;
 use smi_grants::Kept;
 use smi_out::{Out, ask, request, watch};
 use smi_protocol::Place;
-use smi_tables::{entry_of, is_keeper};
+use smi_roles::is_keeper;
+use smi_tables::entry_of;
 
 /// A take and a drop have number 0, a command its own.
 fn number_of(due: Due) -> u32

@@ -8,7 +8,8 @@ ghost use Rattle.smi_display.specs.Listening.{before_by};
 use crate::displayed::Displayed;
 use smi_grant::Shown;
 use smi_out::{Out, show, unwatch};
-use smi_tables::{entry_of, is_keeper};
+use smi_roles::is_child_unit;
+use smi_tables::entry_of;
 use smi_view::Acceptance;
 use smi_watchers::{WatchFault, Watchers};
 use std::alloc::AllocError;
@@ -53,28 +54,18 @@ impl<'a> Displayed<'a> {
     ghost use Rattle.smi_out.specs.Handed.{sent_after, with_notice};
     ghost use Rattle.smi_protocol.specs.Messages.{if_any, shows};
     ghost use Rattle.smi_protocol.specs.Opening.{object_count};
-    ghost use Rattle.smi_protocol.specs.Watching.{is_watched, is_child_unit, state_comes, unwatch_comes, watch_comes};
+    ghost use Rattle.smi_protocol.specs.Watching.{is_watched, state_comes, unwatch_comes, watch_comes};
+    ghost use Rattle.smi_roles.specs.Roles.{is_child_unit, is_kept_by};
     ghost use Rattle.smi_publish.specs.Published.{shown_at};
-    ghost use Rattle.smi_publish.specs.Publishing.{is_kept_by};
     ghost use Rattle.smi_tree.specs.Lookups.{station_count};
     ghost use Rattle.smi_display.specs.Displayed.{display_of};
     ghost use Rattle.smi_display.specs.Listening.{KeepsTheRest};
-
-    /// Whether an object is the unit of a child of a domain that the station keeps.
-    pub(crate) fn is_child_unit(&self, object: u16) -> bool
-        ensures { result ≡ is_child_unit self.now.tree self.now.number object }
-    {
-        match self.tree.parent(object) {
-            Some(parent) => is_keeper(self.tree, self.number, parent),
-            None => false,
-        }
-    }
 
     /// Whether the station watches an object.
     pub(crate) fn is_watched(&self, object: u16) -> bool
         ensures { result ≡ is_watched self.now.tree self.now.number (display_of self.now) object }
     {
-        entry_of(&self.named, object, false) || self.is_child_unit(object)
+        entry_of(&self.named, object, false) || is_child_unit(self.tree, self.number, object)
     }
 
     /// What an object shows is sent to a station that watches it.

@@ -5,7 +5,7 @@ ghost use Rattle.smi_grant.specs.declared.Holder.TheVariants.{Domain};
 ghost use Rattle.smi_grants.specs.Kept.{grants_of};
 ghost use Rattle.smi_protocol.specs.Hearing as hearing;
 ghost use Rattle.smi_protocol.specs.Messages.{if_any};
-ghost use Rattle.smi_rows.specs.Known.{is_parent};
+ghost use Rattle.smi_roles.specs.Roles.{is_parent};
 ghost use Rattle.smi_tree.specs.Lawful.{IsBetween};
 ghost use Rattle.smi_tree.specs.Lookups.{domain_count};
 ghost use Rattle.smi_entries.specs.Noted.{came_to_rest};

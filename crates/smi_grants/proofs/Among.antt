@@ -8,7 +8,7 @@ use Rattle.std.proofs.lemmas.Bool.Decides.{nat_tests}
 use Rattle.smi_tree.specs.Hierarchy.{Hierarchy, is_child_of}
 use Rattle.smi_tree.specs.Lookups.{numbers_from, children_of}
 use Rattle.smi_tree.specs.declared.row.Domain.{Domain}
-use Rattle.smi_rows.specs.Known.{is_parent}
+use Rattle.smi_roles.specs.Roles.{is_parent}
 use Rattle.smi_grants.specs.Children.{is_among}
 
 -- no number stands before the first

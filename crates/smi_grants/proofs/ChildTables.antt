@@ -21,7 +21,7 @@ use Rattle.smi_tree.specs.Hierarchy.{Hierarchy, entry}
 use Rattle.smi_tree.specs.Lawful.{IsTree, IsBetween}
 use Rattle.smi_tree.specs.declared.row.Domain as row_of
 use Rattle.smi_tree.specs.Lookups.{parent_of, children_of, domain_count}
-use Rattle.smi_rows.specs.Known.{is_number, is_parent}
+use Rattle.smi_roles.specs.Roles.{is_number, is_parent}
 use Rattle.smi_rows.specs.declared.Mode.{Mode}
 use Rattle.smi_rows.specs.declared.Mode.TheVariants.{Included}
 use Rattle.smi_protocol.specs.Grants.{Grants, put, put_link}

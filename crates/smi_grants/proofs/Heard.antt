@@ -11,7 +11,7 @@ use Rattle.smi_command.specs.Hearing.{told_link, told_heard}
 use Rattle.smi_tree.specs.Hierarchy.{Hierarchy}
 use Rattle.smi_tree.specs.Lawful.{IsBetween}
 use Rattle.smi_tree.specs.Lookups.{domain_count}
-use Rattle.smi_rows.specs.Known.{is_parent}
+use Rattle.smi_roles.specs.Roles.{is_parent}
 use Rattle.smi_protocol.specs.Grants.{Grants, put, with_link}
 use Rattle.smi_protocol.specs.Hearing.{ended, ends, gathered_with, parent_heard, parent_told, settlements_in}
 use Rattle.smi_protocol.proofs.Tables.{put_here}

@@ -7,7 +7,7 @@ use Rattle.std.proofs.lemmas.Bool.Decides.{nat_tests}
 use Rattle.std.proofs.lemmas.List.Sums.{sum_by-cons}
 use Rattle.smi_command.specs.declared.Link.{Link}
 use Rattle.smi_command.specs.declared.Link.TheVariants.{Out}
-use Rattle.smi_rows.specs.Stored.{is_out}
+use Rattle.smi_command.specs.Link.{is_out}
 use Rattle.smi_tables.specs.Entries.{entry_or}
 use Rattle.smi_grants.specs.Kept.{count_in_use}
 

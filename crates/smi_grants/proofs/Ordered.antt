@@ -2,12 +2,11 @@
 use Rattle.std.proofs.Common.{◌≡◌, ℕ, Bool, true}
 use Rattle.std.specs.Prelude.{◌&&◌, nat_le}
 use Rattle.std.proofs.lemmas.Bool.{and_parts, leb-true}
-use Rattle.smi_message.specs.Message.{is_between}
+use Rattle.smi_limits.specs.Between.{is_between}
 use Rattle.smi_tree.specs.Hierarchy.{Hierarchy}
 use Rattle.smi_tree.specs.Lawful.{IsBetween}
 use Rattle.smi_tree.specs.Lookups.{domain_count, operator_station_of}
-use Rattle.smi_rows.specs.Known.{is_number}
-use Rattle.smi_protocol.specs.Refusals.{has_domain}
+use Rattle.smi_roles.specs.Roles.{is_number, has_domain}
 use Rattle.smi_grants.specs.Plans.{MayOrder}
 
 pub within : (low high n : ℕ) → is_between low high n ≡ true → IsBetween low high n

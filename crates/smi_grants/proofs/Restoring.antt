@@ -15,10 +15,10 @@ use Rattle.smi_grant.specs.Holder.{same_holder}
 use Rattle.smi_grant.specs.Record.{Standing, fresh}
 use Rattle.smi_command.specs.declared.Link.{Link}
 use Rattle.smi_command.specs.declared.Link.TheVariants.{Out}
-use Rattle.smi_message.specs.Message.{is_between}
+use Rattle.smi_limits.specs.Between.{is_between}
 use Rattle.smi_tree.specs.Hierarchy.{Hierarchy}
 use Rattle.smi_tree.specs.Lookups.{children_of, domain_count, operator_station_of}
-use Rattle.smi_rows.specs.Known.{is_number, is_parent}
+use Rattle.smi_roles.specs.Roles.{is_number, is_parent}
 use Rattle.smi_rows.specs.declared.Mode.{Mode}
 use Rattle.smi_rows.specs.declared.Mode.TheVariants.{Included}
 use Rattle.smi_rows.specs.declared.StoredLink.{StoredLink}

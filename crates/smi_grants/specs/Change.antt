@@ -4,7 +4,7 @@ use Rattle.smi_grant.specs.declared.Holder.TheVariants.{Operator, Domain}
 use Rattle.smi_tree.specs.Hierarchy.{Hierarchy}
 use Rattle.smi_tree.specs.Lawful.{IsBetween}
 use Rattle.smi_tree.specs.Lookups.{domain_count, operator_station_of}
-use Rattle.smi_rows.specs.Known.{is_number, is_parent}
+use Rattle.smi_roles.specs.Roles.{is_number, is_parent}
 use Rattle.smi_rows.specs.Store.{Rows, Saved, with_row}
 use Rattle.smi_protocol.specs.Grants.{Grants, put, with_record, with_link}
 use Rattle.smi_protocol.specs.GrantStep.{Touched, OfDomain, OfOperator}

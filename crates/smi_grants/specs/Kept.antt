@@ -9,8 +9,8 @@ use Rattle.smi_command.specs.declared.Link.TheVariants.{Out}
 use Rattle.smi_tree.specs.Hierarchy.{Hierarchy}
 use Rattle.smi_tree.specs.Lawful.{IsTree, IsBetween}
 use Rattle.smi_tree.specs.Lookups.{station_count, domain_count, operator_count, operator_station_of}
-use Rattle.smi_rows.specs.Known.{is_number, is_parent}
-use Rattle.smi_rows.specs.Stored.{is_out}
+use Rattle.smi_roles.specs.Roles.{is_number, is_parent}
+use Rattle.smi_command.specs.Link.{is_out}
 use Rattle.smi_rows.specs.declared.Mode.{Mode}
 use Rattle.smi_rows.specs.declared.Mode.TheVariants.{Included}
 use Rattle.smi_protocol.specs.Grants.{Grants}

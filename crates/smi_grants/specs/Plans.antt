@@ -5,7 +5,7 @@ use Rattle.smi_grant.specs.declared.Verdict.TheVariants.{New, Same}
 use Rattle.smi_tree.specs.Hierarchy.{Hierarchy}
 use Rattle.smi_tree.specs.Lawful.{IsBetween}
 use Rattle.smi_tree.specs.Lookups.{domain_count, operator_station_of}
-use Rattle.smi_rows.specs.Known.{is_number}
+use Rattle.smi_roles.specs.Roles.{is_number}
 use Rattle.smi_protocol.specs.Grants.{Grants}
 use Rattle.smi_protocol.specs.GrantStep.{GrantStep}
 use Rattle.smi_grants.specs.Change.{changed, touched, IsChange}

@@ -6,8 +6,8 @@ use Rattle.smi_command.specs.declared.Link.{Link}
 use Rattle.smi_command.specs.declared.Link.TheVariants.{Out}
 use Rattle.smi_tree.specs.Hierarchy.{Hierarchy}
 use Rattle.smi_tree.specs.Lookups.{domain_count, operator_station_of}
-use Rattle.smi_message.specs.Message.{is_between}
-use Rattle.smi_rows.specs.Known.{is_number, is_parent}
+use Rattle.smi_limits.specs.Between.{is_between}
+use Rattle.smi_roles.specs.Roles.{is_number, is_parent}
 use Rattle.smi_rows.specs.declared.StoredLink.{StoredLink}
 use Rattle.smi_rows.specs.Stored.{KeptDomain}
 use Rattle.smi_protocol.specs.Grants.{Grants, put}

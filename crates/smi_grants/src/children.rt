@@ -1,6 +1,7 @@
 //! What a command that runs at a domain does to the domain's links to its children.
 
 ghost use Rattle.std.specs.Prelude.{◌≡◌};
+ghost use Rattle.smi_command.specs.Link.{is_held};
 ghost use Rattle.smi_protocol.specs.Children as spec;
 ghost use Rattle.smi_grants.specs.Children.{meant};
 
@@ -28,21 +29,10 @@ fn relinked_or(code: u16, link: Result<Link, u16>) -> ChildChange
     }
 }
 
-fn is_held(link: &Link) -> bool
-    ensures { result ≡ ranges.is_held link.now }
-{
-    match link {
-        Link::Held { .. } => true,
-        _ => false,
-    }
-}
-
-ghost use Rattle.smi_rows.specs.Ranges as ranges;
-
 fn handed_on(code: u16, command: Command, link: &Link, mode: Mode) -> ChildChange
     ensures { meant result ≡ spec.handed_on code command link.now mode }
 {
-    if is_held(link) && mode != Mode::Manual {
+    if link.is_held() && mode != Mode::Manual {
         relinked_or(7, issue(link, command))
     } else {
         ChildChange::Stays(code)
@@ -65,7 +55,7 @@ fn aimed_at(command: Command, link: &Link, mode: Mode) -> ChildChange
     match command {
         Command::Do(_) => ChildChange::Stays(0),
         Command::Include(_) => {
-            if is_held(link) {
+            if link.is_held() {
                 comes_into(Mode::Included, mode)
             } else {
                 relinked_or(0, begin_take(link))
@@ -78,9 +68,9 @@ fn aimed_at(command: Command, link: &Link, mode: Mode) -> ChildChange
 }
 
 fn comes_into_held(new: Mode, link: &Link, mode: Mode) -> ChildChange
-    ensures { meant result ≡ (if ranges.is_held link.now then spec.comes_into new mode else spec.Stays 4) }
+    ensures { meant result ≡ (if is_held link.now then spec.comes_into new mode else spec.Stays 4) }
 {
-    if is_held(link) {
+    if link.is_held() {
         comes_into(new, mode)
     } else {
         ChildChange::Stays(4)
@@ -148,7 +138,7 @@ fn mode_after(change: &ChildChange, mode: Mode) -> Mode
 {
     match change {
         ChildChange::Stays(_) => mode,
-        ChildChange::Relinked(new) => { if is_held(new) { mode } else { Mode::Included } }
+        ChildChange::Relinked(new) => { if new.is_held() { mode } else { Mode::Included } }
         ChildChange::ComesInto(new) => *new,
     }
 }
@@ -166,7 +156,7 @@ pub(crate) fn code_of(change: &ChildChange) -> u16
 impl<'a> Kept<'a> {
     ghost use Rattle.std.specs.Prelude.{◌≡◌, ◌≤◌, true};
     ghost use Rattle.smi_tree.specs.Lookups.{domain_count};
-    ghost use Rattle.smi_rows.specs.Known.{is_parent};
+    ghost use Rattle.smi_roles.specs.Roles.{is_parent};
     ghost use Rattle.smi_protocol.specs.Keeping.{commanded};
     ghost use Rattle.smi_grants.specs.Kept.{grants_of};
     ghost use Rattle.smi_grants.specs.Children.{commanded_child};

@@ -10,7 +10,7 @@ impl<'a> Kept<'a> {
     ghost use Rattle.std.specs.Prelude.{◌≡◌, ◌≤◌, true};
     ghost use Rattle.smi_grant.specs.declared.Holder.TheVariants.{Operator};
     ghost use Rattle.smi_tree.specs.Lookups.{domain_count, operator_station_of};
-    ghost use Rattle.smi_rows.specs.Known.{is_number, is_parent};
+    ghost use Rattle.smi_roles.specs.Roles.{is_number, is_parent};
     ghost use Rattle.smi_grants.specs.Children.{with_child};
     ghost use Rattle.smi_protocol.specs.Grants.{with_record, with_gathered, with_link};
     ghost use Rattle.smi_grants.specs.Kept.{grants_of};

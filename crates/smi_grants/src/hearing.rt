@@ -8,10 +8,9 @@ ghost use Rattle.smi_protocol.specs.Hearing as hearing;
 
 use crate::change::Change;
 use crate::kept::Kept;
-use crate::running::is_unsettled;
 use smi_command::{Link, LinkHeard, told};
 use smi_grant::{Holder, Phase, Record, Verdict, settle};
-use smi_tables::is_keeper;
+use smi_roles::is_keeper;
 
 /// Whether a record that was told has changed the link.
 fn is_heard(heard: &LinkHeard) -> bool
@@ -86,7 +85,7 @@ impl<'a> Kept<'a> {
     ghost use Rattle.std.specs.Prelude.{◌≡◌, ◌≤◌, true, find};
     ghost use Rattle.smi_grant.specs.declared.Holder.TheVariants.{Domain};
     ghost use Rattle.smi_tree.specs.Lookups.{domain_count, parent_of};
-    ghost use Rattle.smi_rows.specs.Known.{is_parent};
+    ghost use Rattle.smi_roles.specs.Roles.{is_parent};
     ghost use Rattle.smi_protocol.specs.Grants.{with_link};
     ghost use Rattle.smi_protocol.specs.GrantStep.{waits_for_children};
     ghost use Rattle.smi_protocol.specs.Hearing.{listener, operator_told, parent_told};
@@ -176,9 +175,9 @@ impl<'a> Kept<'a> {
         let children = self.tree().children(domain);
         for other in children {
             let waits = if *other == child {
-                is_unsettled(link)
+                link.is_unsettled()
             } else {
-                is_unsettled(&self.link(holder, *other))
+                self.link(holder, *other).is_unsettled()
             };
             if waits {
                 return true;

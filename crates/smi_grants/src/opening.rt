@@ -18,7 +18,7 @@ use std::alloc::{AllocError, Global};
 impl<'a> Kept<'a> {
     ghost use Rattle.std.specs.Prelude.{◌≡◌, ◌≤◌, true, IfOk};
     ghost use Rattle.smi_tree.specs.Lookups.{children_of, domain_count, station_count, operator_station_of};
-    ghost use Rattle.smi_rows.specs.Known.{is_number};
+    ghost use Rattle.smi_roles.specs.Roles.{is_number};
     ghost use Rattle.smi_protocol.specs.Grants.{no_grants};
     ghost use Rattle.smi_grants.specs.Kept.{grants_of};
     ghost use Rattle.smi_grants.specs.Restored.{with_children, with_domain, with_operator};

@@ -1,10 +1,7 @@
 //! What a station refuses, by the first test that fails (docs/PROTOCOL.md, "Refusals" and "Orders").
 
 ghost use Rattle.std.specs.Prelude.{◌≡◌};
-ghost use Rattle.smi_protocol.specs.Messages.{holder_station};
 ghost use Rattle.smi_protocol.specs.Refusals as spec;
-ghost use Rattle.smi_publish.specs.Publishing as publishing;
-ghost use Rattle.smi_rows.specs.Known as known;
 
 use crate::kept::Kept;
 use smi_command::{Link, begin_drop, begin_take, issue};
@@ -12,7 +9,9 @@ use smi_grant::{Command, Holder};
 use smi_limits::MOST_LINKS;
 use smi_message::{Body, Datagram};
 use smi_protocol::Order;
-use smi_tables::is_keeper;
+use smi_roles::{
+    has_domain, has_object, is_at, is_command_of, is_holder_of, is_keeper, is_kept_by,
+};
 use smi_tree::Tree;
 
 /// Why a station does not take a datagram: 7 it is of another tree, 8 for another station, 9 it names what the
@@ -61,76 +60,6 @@ pub fn speaks_for(tree: &Tree, from: u16, domain: u16, holder: Holder) -> bool
     ensures { result ≡ spec.speaks_for tree.now from domain holder }
 {
     is_holder_of(tree, domain, holder) && is_at(tree, holder, from)
-}
-
-/// Whether a holder's station is this one.
-fn is_at(tree: &Tree, holder: Holder, station: u16) -> bool
-    ensures { result ≡ known.is_number (holder_station tree.now holder) station }
-{
-    match holder {
-        Holder::Free => false,
-        Holder::Operator(operator) => {
-            1 <= operator
-                && operator <= tree.operator_count()
-                && tree.operator_station(operator) == station
-        }
-        Holder::Domain(domain) => is_keeper(tree, station, domain),
-    }
-}
-
-/// Whether the holder may hold the domain.
-fn is_holder_of(tree: &Tree, domain: u16, holder: Holder) -> bool
-    ensures { result ≡ known.is_holder_of tree.now domain holder }
-{
-    match holder {
-        Holder::Free => true,
-        Holder::Operator(operator) => operator <= tree.operator_count(),
-        Holder::Domain(above) => match tree.parent(domain) {
-            Some(parent) => parent == above,
-            None => false,
-        },
-    }
-}
-
-/// Whether the tree has the command's action or target.
-fn is_command_of(tree: &Tree, command: Command) -> bool
-    ensures { result ≡ known.is_command_of tree.now command }
-{
-    match command {
-        Command::Do(action) => action <= tree.action_count(),
-        Command::Include(target)
-        | Command::Exclude(target)
-        | Command::Manual(target)
-        | Command::Ignore(target) => target <= tree.domain_count(),
-    }
-}
-
-/// Whether a station keeps an object.
-fn is_kept_by(tree: &Tree, station: u16, object: u16) -> bool
-    ensures { result ≡ publishing.is_kept_by tree.now station object }
-{
-    let domains = tree.domain_count();
-    if object <= domains {
-        return is_keeper(tree, station, object);
-    }
-    if object - domains > tree.device_count() {
-        return false;
-    }
-    is_keeper(tree, station, tree.device(object - domains).domain)
-}
-
-/// Whether the tree has a domain.
-fn has_domain(tree: &Tree, domain: u16) -> bool
-    ensures { result ≡ spec.has_domain tree.now domain }
-{
-    1 <= domain && domain <= tree.domain_count()
-}
-
-/// Whether the tree has an object.
-fn has_object(tree: &Tree, object: u16) -> bool
-    ensures { result ≡ spec.has_object tree.now object }
-{
-    1 <= object && object <= tree.object_count()
 }
 
 /// Whether the tree has what an order names.
@@ -182,7 +111,7 @@ fn why_not(link: Result<Link, u16>) -> Option<u16>
 impl<'a> Kept<'a> {
     ghost use Rattle.std.specs.Prelude.{◌≡◌, true};
     ghost use Rattle.smi_tree.specs.Lookups.{operator_station_of};
-    ghost use Rattle.smi_rows.specs.Known.{is_number};
+    ghost use Rattle.smi_roles.specs.Roles.{is_number};
     ghost use Rattle.smi_protocol.specs.Happening.{Orders};
     ghost use Rattle.smi_protocol.specs.Refusals as spec;
     ghost use Rattle.smi_grants.specs.Kept.{grants_of};

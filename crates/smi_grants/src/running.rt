@@ -5,25 +5,12 @@ ghost use Rattle.smi_grant.specs.Holder.{is_free};
 ghost use Rattle.smi_grant.specs.Keeper as keeper;
 ghost use Rattle.smi_grant.specs.Record.{is_settled, last_number};
 ghost use Rattle.smi_protocol.specs.Children.{code_at_domain};
-ghost use Rattle.smi_rows.specs.Stored.{is_unsettled};
 
 use crate::change::Change;
 use crate::children::code_of;
 use crate::kept::Kept;
-use smi_command::Link;
 use smi_grant::{Command, Holder, Record, Verdict, admit, start};
 use smi_tree::Tree;
-
-/// Whether something is under way on a link.
-pub(crate) fn is_unsettled(link: &Link) -> bool
-    ensures { result ≡ is_unsettled link.now }
-{
-    match link {
-        Link::Out(_) => false,
-        Link::Taking(_) | Link::Dropping(_) => true,
-        Link::Held { pending, .. } => !pending.is_empty(),
-    }
-}
 
 /// The code of a command at its domain, whatever becomes of it at the children.
 fn code_at_domain(tree: &Tree, domain: u16, command: Command) -> u16
@@ -94,7 +81,7 @@ impl<'a> Kept<'a> {
         let children = self.tree().children(domain);
         for child in children {
             let link = self.link_commanded(domain, command, Holder::Domain(domain), *child);
-            if is_unsettled(&link) {
+            if link.is_unsettled() {
                 return true;
             }
         }

@@ -14,7 +14,7 @@ use Rattle.smi_command.specs.declared.Link.TheVariants.{Held}
 use Rattle.smi_command.specs.KnownGrant.{InStep, Waits}
 use Rattle.smi_command.specs.Pending.{base_of}
 use Rattle.smi_command.proofs.Holders.{either}
-use Rattle.smi_rows.specs.Stored.{is_unsettled}
+use Rattle.smi_command.specs.Link.{is_unsettled}
 use Rattle.smi_protocol.specs.Children.{is_commanded}
 use Rattle.smi_protocol.specs.declared.Entry.{Entry}
 use Rattle.smi_law.specs.Known.{record_in, link_in}

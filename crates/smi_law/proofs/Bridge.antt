@@ -5,11 +5,12 @@ use Rattle.std.specs.Prelude.{◌==◌, ◌≢◌, ◌++◌, not, Option, Some, 
 use Rattle.std.specs.Prelude.{if◌then◌else◌}
 use Rattle.std.proofs.lemmas.Bool.{and_parts, eqb-true}
 use Rattle.std.proofs.lemmas.Bool.Decides.{nat_tests}
-use Rattle.smi_message.specs.Message.{Message, is_between, last_boot}
+use Rattle.smi_message.specs.Message.{Message, last_boot}
+use Rattle.smi_limits.specs.Between.{is_between}
 use Rattle.smi_tree.specs.Hierarchy.{Hierarchy}
 use Rattle.smi_tree.specs.Lawful.{IsTree}
 use Rattle.smi_tree.specs.Lookups.{domain_count, operator_station_of, station_count}
-use Rattle.smi_publish.specs.Publishing.{keeper_of}
+use Rattle.smi_roles.specs.Roles.{keeper_of}
 use Rattle.smi_rows.specs.declared.Plan.{Plan}
 use Rattle.smi_rows.specs.declared.Plan.TheVariants as plan
 use Rattle.smi_protocol.specs.Display.{Station}

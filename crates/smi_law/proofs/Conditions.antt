@@ -18,13 +18,13 @@ use Rattle.smi_tree.specs.Lawful.{IsTree}
 use Rattle.smi_tree.specs.Lookups.{domain_count, parent_of, station_of, devices_of, accepts, unit_state, moved}
 use Rattle.smi_publish.specs.declared.condition.Condition.{Condition}
 use Rattle.smi_publish.specs.Published.{condition}
-use Rattle.smi_publish.specs.Publishing.{domain_of, is_kept_by, come_to, reported, device_objects, is_among, acted}
+use Rattle.smi_roles.specs.Roles.{domain_of, is_kept_by, is_number, is_keeper}
+use Rattle.smi_publish.specs.Publishing.{come_to, reported, device_objects, is_among, acted}
 use Rattle.smi_command.proofs.Holders.{either}
-use Rattle.smi_rows.specs.Known.{is_number}
 use Rattle.smi_protocol.specs.Display.{Display, Station}
 use Rattle.smi_protocol.specs.Grants.{Grants}
 use Rattle.smi_protocol.specs.Happening.{Happening, Comes, Orders, Reports, Ticks}
-use Rattle.smi_protocol.specs.Refusals.{is_keeper, is_body_of, refusal_of, is_report_here}
+use Rattle.smi_protocol.specs.Refusals.{is_body_of, refusal_of, is_report_here}
 use Rattle.smi_protocol.specs.Showing.{Member, members_of, same_members, domain_of_body, domain_of_happening}
 use Rattle.smi_protocol.specs.Showing.{moved_by_command, moved_by_body, followed}
 use Rattle.smi_protocol.specs.Step.{conditions_by, conditions_after}

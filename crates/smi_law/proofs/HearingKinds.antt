@@ -23,7 +23,7 @@ use Rattle.smi_command.proofs.Holders.{either}
 use Rattle.smi_protocol.specs.Grants.{Grants, put_link}
 use Rattle.smi_protocol.specs.Hearing.{parent_here, listeners, hears, listener, learned, operator_told, parent_heard}
 use Rattle.smi_protocol.specs.Hearing.{ends, ended, ended_entries, told_to}
-use Rattle.smi_protocol.specs.Refusals.{is_keeper}
+use Rattle.smi_roles.specs.Roles.{is_keeper}
 use Rattle.smi_protocol.specs.declared.Entry.{Entry}
 use Rattle.smi_law.specs.Known.{holder_home, record_in, link_in}
 use Rattle.smi_law.specs.Schedule.{World}

@@ -22,8 +22,8 @@ use Rattle.smi_command.specs.Order.{take_begun, drop_begun, command_issued}
 use Rattle.smi_command.proofs.Holders.{either, same_is}
 use Rattle.smi_rows.specs.declared.Mode.{Mode}
 use Rattle.smi_rows.specs.declared.Mode.TheVariants as mode
-use Rattle.smi_rows.specs.Known.{is_parent}
-use Rattle.smi_rows.specs.Ranges.{is_held}
+use Rattle.smi_roles.specs.Roles.{is_parent}
+use Rattle.smi_command.specs.Link.{is_held}
 use Rattle.smi_protocol.specs.Grants.{Grants, put_link}
 use Rattle.smi_protocol.specs.Happening.{Happening, Comes, Orders, Reports, Ticks}
 use Rattle.smi_protocol.specs.Keeping.{decided, run_comes}

@@ -25,7 +25,7 @@ use Rattle.smi_command.proofs.Epochs.{known_told, known_taken, known_dropped}
 use Rattle.smi_command.proofs.Heard.{Quiet, quiet_same, quiet_taking, quiet_dropping, told_quiet}
 use Rattle.smi_command.proofs.Holders.{either}
 use Rattle.smi_command.proofs.Orders.{take_begins, drop_begins, command_issues}
-use Rattle.smi_rows.specs.Known.{is_parent}
+use Rattle.smi_roles.specs.Roles.{is_parent}
 use Rattle.smi_protocol.specs.Children.{ChildChange, Stays, Relinked, ComesInto, change_of, own_code, links_after}
 use Rattle.smi_protocol.specs.Grants.{Grants, put_link, with_link}
 use Rattle.smi_protocol.specs.GrantStep.{waits_for_children}

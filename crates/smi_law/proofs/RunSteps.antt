@@ -19,7 +19,7 @@ use Rattle.smi_command.specs.Order.{take_begun, drop_begun, command_issued}
 use Rattle.smi_command.specs.Hearing.{told_link}
 use Rattle.smi_command.proofs.Asked.{admitted}
 use Rattle.smi_command.proofs.Holders.{either}
-use Rattle.smi_rows.specs.Known.{is_parent}
+use Rattle.smi_roles.specs.Roles.{is_parent, is_keeper}
 use Rattle.smi_protocol.specs.Grants.{Grants, put}
 use Rattle.smi_protocol.specs.Children.{ChildChange, Stays, Relinked, ComesInto, change_of, own_code}
 use Rattle.smi_protocol.specs.GrantStep.{waits_for_children}
@@ -30,7 +30,7 @@ use Rattle.smi_protocol.specs.Keeping.{decided, commanded, let_go_of, mode_chang
 use Rattle.smi_protocol.specs.Keeping.{settled_at_once, ran, run_comes}
 use Rattle.smi_protocol.specs.Messages.{home}
 use Rattle.smi_protocol.specs.Ordering.{order_entries, obeyed, order_comes}
-use Rattle.smi_protocol.specs.Refusals.{is_keeper, is_body_of, refusal_of}
+use Rattle.smi_protocol.specs.Refusals.{is_body_of, refusal_of}
 use Rattle.smi_protocol.specs.declared.Entry.{Entry}
 use Rattle.smi_protocol.specs.declared.Entry.TheVariants.{Booted, Granted, Freed, Ordered, Ran, Learned, LetGo}
 use Rattle.smi_protocol.specs.declared.Entry.TheVariants.{InMode, Settled, Showed, Passed, Told}

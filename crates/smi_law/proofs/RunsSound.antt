@@ -17,7 +17,7 @@ use Rattle.smi_command.specs.declared.Due.TheVariants as due
 use Rattle.smi_command.specs.declared.Link.TheVariants.{Held}
 use Rattle.smi_command.specs.KnownGrant.{Waits}
 use Rattle.smi_command.proofs.Holders.{either}
-use Rattle.smi_rows.specs.Stored.{is_unsettled}
+use Rattle.smi_command.specs.Link.{is_unsettled}
 use Rattle.smi_protocol.specs.Children.{is_commanded}
 use Rattle.smi_protocol.specs.Display.{Station}
 use Rattle.smi_protocol.specs.Happening.{Happening, Comes, Orders, Reports, Ticks}

@@ -24,7 +24,8 @@ use Rattle.smi_command.specs.Link.{due_of}
 use Rattle.smi_command.specs.Order.{take_begun, drop_begun, command_issued}
 use Rattle.smi_command.specs.Pending.{most_pending}
 use Rattle.smi_command.proofs.Holders.{either}
-use Rattle.smi_rows.specs.Known.{is_number, pending_of}
+use Rattle.smi_roles.specs.Roles.{is_number, holder_station, is_keeper}
+use Rattle.smi_rows.specs.Known.{pending_of}
 use Rattle.smi_protocol.specs.Children.{ChildChange, Stays, Relinked, ComesInto, change_of, link_after, own_code}
 use Rattle.smi_protocol.specs.Display.{Station}
 use Rattle.smi_protocol.specs.Grants.{Grants, with_record, with_link}
@@ -34,10 +35,10 @@ use Rattle.smi_protocol.specs.Happening.{Happening, Comes, Orders, Reports, Tick
 use Rattle.smi_protocol.specs.Hearing.{parent_here, listeners, hears, listener, parent_heard, ends, ended}
 use Rattle.smi_protocol.specs.Hearing.{ended_record, ended_sends, told_to}
 use Rattle.smi_protocol.specs.Keeping.{answered, decided, commanded, begun, child_request, ran, run_comes}
-use Rattle.smi_protocol.specs.Messages.{holder_station, tells, tells_holder, requests, all_due, requests_due}
+use Rattle.smi_protocol.specs.Messages.{tells, tells_holder, requests, all_due, requests_due}
 use Rattle.smi_protocol.specs.Messages.{newest_due, if_any, request_newest}
 use Rattle.smi_protocol.specs.Ordering.{obeyed, order_comes}
-use Rattle.smi_protocol.specs.Refusals.{is_keeper, is_body_of, refusal_by_link, is_order_here, refusal_of}
+use Rattle.smi_protocol.specs.Refusals.{is_body_of, refusal_by_link, is_order_here, refusal_of}
 use Rattle.smi_protocol.specs.Sending.{MaySend}
 use Rattle.smi_protocol.specs.declared.Entry.{Entry}
 use Rattle.smi_protocol.specs.declared.Order.{Order}

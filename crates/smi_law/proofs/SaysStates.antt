@@ -15,7 +15,7 @@ use Rattle.smi_tree.specs.Lookups.{domain_count, device_count, operators_of, ope
 use Rattle.smi_tree.specs.Lookups.{station_of}
 use Rattle.smi_publish.specs.declared.condition.Condition.{Condition}
 use Rattle.smi_publish.specs.Published.{shown, shown_at, change_at, differs}
-use Rattle.smi_publish.specs.Publishing.{is_kept_by}
+use Rattle.smi_roles.specs.Roles.{is_kept_by, is_keeper, is_child_unit}
 use Rattle.smi_command.proofs.Holders.{either}
 use Rattle.smi_view.specs.declared.Acceptance.{Acceptance}
 use Rattle.smi_view.specs.declared.Acceptance.TheVariants.{Accepted, OtherBoot, NotNewer}
@@ -27,12 +27,11 @@ use Rattle.smi_protocol.specs.Grants.{Grants, put}
 use Rattle.smi_protocol.specs.Happening.{answer}
 use Rattle.smi_protocol.specs.Messages.{asks_about, if_any, object_home, requests, all_due, shows, unwatches, watches}
 use Rattle.smi_protocol.specs.Opening.{object_count}
-use Rattle.smi_protocol.specs.Refusals.{is_keeper}
 use Rattle.smi_protocol.specs.Sending.{MaySend}
 use Rattle.smi_protocol.specs.Showing.{passed_in, shown_to_all}
 use Rattle.smi_protocol.specs.Ticking.{Owed, owed, number_of_due, most_sent, is_before, domains_of, owed_to_child}
 use Rattle.smi_protocol.specs.Ticking.{owed_to_domain, owed_question, owed_watch, all_owed, owed_from}
-use Rattle.smi_protocol.specs.Watching.{unnoticed, noticed, is_child_unit, is_watched, lists_before, is_full}
+use Rattle.smi_protocol.specs.Watching.{unnoticed, noticed, is_watched, lists_before, is_full}
 use Rattle.smi_protocol.specs.Watching.{lists_after, watch_answer, watch_comes, showed_if, state_comes, order_noticed}
 use Rattle.smi_protocol.specs.declared.Order.{Order}
 use Rattle.smi_protocol.specs.declared.Order.TheVariants as order

@@ -8,7 +8,8 @@ use Rattle.smi_grant.specs.declared.Shown.{Shown}
 use Rattle.smi_grant.specs.declared.Version.{Version}
 use Rattle.smi_message.specs.declared.Body.{Body}
 use Rattle.smi_message.specs.declared.Body.TheVariants as body
-use Rattle.smi_message.specs.Message.{Message, is_between}
+use Rattle.smi_message.specs.Message.{Message}
+use Rattle.smi_limits.specs.Between.{is_between}
 use Rattle.smi_tree.specs.Hierarchy.{Hierarchy}
 use Rattle.smi_tree.specs.Lawful.{IsTree}
 use Rattle.smi_tree.specs.Lookups.{station_count}
@@ -26,7 +27,8 @@ use Rattle.smi_protocol.specs.Happening.{Happening, Comes, Orders, Reports, Tick
 use Rattle.smi_protocol.specs.Refusals.{is_body_of, refusal_of_message, refusal_of}
 use Rattle.smi_protocol.specs.Showing.{domain_of_happening, passed_in}
 use Rattle.smi_protocol.specs.Step.{body_noticed, notice, conditions_after, answered_or}
-use Rattle.smi_protocol.specs.Watching.{Notice, unnoticed, is_watched, is_child_unit, watch_comes, unwatch_comes}
+use Rattle.smi_protocol.specs.Watching.{Notice, unnoticed, is_watched, watch_comes, unwatch_comes}
+use Rattle.smi_roles.specs.Roles.{is_child_unit}
 use Rattle.smi_protocol.specs.Watching.{told_state, showed_if, state_comes, order_noticed}
 use Rattle.smi_protocol.specs.declared.Entry.{Entry}
 use Rattle.smi_protocol.specs.declared.Entry.TheVariants.{Passed}

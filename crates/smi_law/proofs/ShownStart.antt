@@ -18,7 +18,8 @@ use Rattle.smi_tree.specs.Lawful.{IsTree}
 use Rattle.smi_tree.specs.Lookups.{domain_count, device_count, station_of, first_state}
 use Rattle.smi_publish.specs.declared.condition.Condition.{Condition}
 use Rattle.smi_publish.specs.Published.{condition, shown, shown_at}
-use Rattle.smi_publish.specs.Publishing.{is_kept_by, first_condition}
+use Rattle.smi_roles.specs.Roles.{is_kept_by}
+use Rattle.smi_publish.specs.Publishing.{first_condition}
 use Rattle.smi_command.proofs.Holders.{either}
 use Rattle.smi_view.specs.Accepting.{is_newer_than_last}
 use Rattle.smi_watchers.specs.declared.Watcher.{Watcher}

@@ -13,7 +13,8 @@ use Rattle.smi_grant.specs.Keeper.{handed, take_after, drop_after, admits, start
 use Rattle.smi_grant.specs.Record.{Standing, is_settled, last_epoch}
 use Rattle.smi_message.specs.declared.Body.{Body}
 use Rattle.smi_message.specs.declared.Body.TheVariants as body
-use Rattle.smi_message.specs.Message.{Message, is_between}
+use Rattle.smi_message.specs.Message.{Message}
+use Rattle.smi_limits.specs.Between.{is_between}
 use Rattle.smi_tree.specs.Hierarchy.{Hierarchy}
 use Rattle.smi_tree.specs.Lookups.{station_count, operator_station_of, parent_of}
 use Rattle.smi_command.specs.declared.Link.{Link}
@@ -21,16 +22,15 @@ use Rattle.smi_command.specs.declared.Due.TheVariants.{Take}
 use Rattle.smi_command.specs.Order.{take_begun, drop_begun, command_issued}
 use Rattle.smi_command.proofs.Holders.{either, same_is}
 use Rattle.smi_command.proofs.Orders.{take_begins, drop_begins, command_issues}
-use Rattle.smi_rows.specs.Known.{is_number, is_holder_of}
+use Rattle.smi_roles.specs.Roles.{is_number, is_holder_of, holder_station, is_keeper}
 use Rattle.smi_protocol.specs.Grants.{Grants, put, with_link}
 use Rattle.smi_protocol.specs.Children.{own_code}
 use Rattle.smi_protocol.specs.GrantStep.{waits_for_children}
 use Rattle.smi_protocol.specs.GrantsOf.{datagram_comes, grant_step}
 use Rattle.smi_protocol.specs.Happening.{Happening, Comes, Orders, Reports, Ticks}
-use Rattle.smi_protocol.specs.Messages.{holder_station}
 use Rattle.smi_protocol.specs.Keeping.{decided, commanded, child_entries, settled_at_once, ran, run_comes}
 use Rattle.smi_protocol.specs.Ordering.{order_entries, obeyed, order_comes}
-use Rattle.smi_protocol.specs.Refusals.{is_keeper, is_body_of, refusal_of_message, refusal_by_link, is_order_here}
+use Rattle.smi_protocol.specs.Refusals.{is_body_of, refusal_of_message, refusal_by_link, is_order_here}
 use Rattle.smi_protocol.specs.Refusals.{refusal_of}
 use Rattle.smi_protocol.specs.declared.Entry.TheVariants as entry
 use Rattle.smi_protocol.specs.declared.Entry.TheVariants.{Granted, Ran, LetGo}

@@ -21,7 +21,7 @@ use Rattle.smi_command.specs.Hearing.{told_link}
 use Rattle.smi_command.specs.Order.{take_begun, drop_begun, command_issued}
 use Rattle.smi_command.proofs.Heard.{choose}
 use Rattle.smi_command.proofs.Holders.{either, same_is}
-use Rattle.smi_rows.specs.Known.{is_parent}
+use Rattle.smi_roles.specs.Roles.{is_parent}
 use Rattle.smi_protocol.specs.Children.{change_of, link_after}
 use Rattle.smi_protocol.specs.Display.{Station}
 use Rattle.smi_protocol.specs.Grants.{Grants, put_link}

@@ -22,10 +22,10 @@ use Rattle.smi_command.proofs.Facts.{Fits, LinkOk}
 use Rattle.smi_command.proofs.Holders.{told_apart}
 use Rattle.smi_command.proofs.OneLinkKept.{reached_well}
 use Rattle.smi_command.proofs.Waiting.{due_waits, waiting_number}
-use Rattle.smi_rows.specs.Known.{is_number}
+use Rattle.smi_roles.specs.Roles.{is_number, holder_station}
 use Rattle.smi_protocol.specs.Display.{Station}
 use Rattle.smi_protocol.specs.Happening.{Happening}
-use Rattle.smi_protocol.specs.Messages.{home, holder_station}
+use Rattle.smi_protocol.specs.Messages.{home}
 use Rattle.smi_protocol.specs.Opening.{opened, saved_only}
 use Rattle.smi_protocol.specs.Refusals.{refusal_of}
 use Rattle.smi_protocol.specs.Sending.{IsDue, MaySay}

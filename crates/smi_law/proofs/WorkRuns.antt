@@ -16,9 +16,8 @@ use Rattle.smi_command.proofs.Holders.{either, same_self}
 use Rattle.smi_command.proofs.Orders.{take_begins, drop_begins, command_issues}
 use Rattle.smi_rows.specs.declared.Mode.{Mode}
 use Rattle.smi_rows.specs.declared.Mode.TheVariants as mode
-use Rattle.smi_rows.specs.Known.{is_number, is_parent}
-use Rattle.smi_rows.specs.Ranges.{is_held}
-use Rattle.smi_rows.specs.Stored.{is_unsettled}
+use Rattle.smi_roles.specs.Roles.{is_number, is_parent}
+use Rattle.smi_command.specs.Link.{is_held, is_unsettled}
 use Rattle.smi_protocol.specs.Children.{ChildChange, Stays, Relinked, ComesInto, relinked_or, is_commanded, same_mode}
 use Rattle.smi_protocol.specs.Children.{comes_into, handed_on, aimed_at, targeted, child_change, change_of}
 use Rattle.smi_protocol.specs.Children.{link_after, mode_after, links_after, modes_after}

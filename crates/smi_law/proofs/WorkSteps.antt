@@ -30,8 +30,8 @@ use Rattle.smi_command.proofs.Asked.{admitted}
 use Rattle.smi_command.proofs.Facts.{LinkOk}
 use Rattle.smi_command.proofs.Holders.{either, same_is}
 use Rattle.smi_command.proofs.Orders.{command_issues}
-use Rattle.smi_rows.specs.Known.{is_number, is_parent}
-use Rattle.smi_rows.specs.Stored.{is_unsettled}
+use Rattle.smi_roles.specs.Roles.{is_number, is_parent, is_keeper}
+use Rattle.smi_command.specs.Link.{is_unsettled}
 use Rattle.smi_protocol.specs.Children.{links_after, modes_after, own_code}
 use Rattle.smi_protocol.specs.Grants.{Grants, put, with_record, with_link}
 use Rattle.smi_protocol.specs.GrantStep.{waits_for_children}
@@ -42,7 +42,7 @@ use Rattle.smi_protocol.specs.Hearing.{told_to}
 use Rattle.smi_protocol.specs.Keeping.{decided, commanded, begun, child_entries, settled_at_once, run_comes}
 use Rattle.smi_protocol.specs.Messages.{home}
 use Rattle.smi_protocol.specs.Ordering.{order_entries, obeyed, order_comes}
-use Rattle.smi_protocol.specs.Refusals.{is_keeper, is_body_of, refusal_of}
+use Rattle.smi_protocol.specs.Refusals.{is_body_of, refusal_of}
 use Rattle.smi_protocol.specs.declared.Entry.{Entry}
 use Rattle.smi_protocol.specs.declared.Entry.TheVariants.{Granted, Freed, Ran}
 use Rattle.smi_protocol.specs.declared.Order.{Order}

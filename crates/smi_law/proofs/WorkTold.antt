@@ -13,12 +13,10 @@ use Rattle.smi_tree.specs.Lookups.{parent_of}
 use Rattle.smi_command.specs.declared.Link.{Link}
 use Rattle.smi_command.specs.declared.Link.TheVariants.{Out, Taking, Held, Dropping}
 use Rattle.smi_command.specs.Hearing.{told_link, settled_count}
-use Rattle.smi_command.specs.Link.{known}
+use Rattle.smi_command.specs.Link.{known, is_held, is_unsettled}
 use Rattle.smi_command.proofs.Heard.{by_row_taking, by_row_held, by_row_dropping}
 use Rattle.smi_command.proofs.Holders.{either, same_self}
 use Rattle.smi_rows.specs.declared.Mode.TheVariants as mode
-use Rattle.smi_rows.specs.Ranges.{is_held}
-use Rattle.smi_rows.specs.Stored.{is_unsettled}
 use Rattle.smi_protocol.specs.Grants.{Grants, put_link}
 use Rattle.smi_protocol.specs.GrantStep.{waits_for_children}
 use Rattle.smi_protocol.specs.Hearing.{learned, parent_heard, ends, ended, ended_record, ended_entries}

@@ -13,8 +13,7 @@ use Rattle.smi_command.specs.declared.Link.TheVariants.{Held}
 use Rattle.smi_command.proofs.Holders.{either, same_is}
 use Rattle.smi_rows.specs.declared.Mode.{Mode}
 use Rattle.smi_rows.specs.declared.Mode.TheVariants.{Included}
-use Rattle.smi_rows.specs.Ranges.{is_held}
-use Rattle.smi_rows.specs.Stored.{is_unsettled}
+use Rattle.smi_command.specs.Link.{is_held, is_unsettled}
 use Rattle.smi_protocol.specs.Children.{is_commanded}
 use Rattle.smi_protocol.specs.Grants.{Grants, put}
 use Rattle.smi_protocol.specs.declared.Entry.{Entry}

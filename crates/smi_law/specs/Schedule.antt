@@ -2,10 +2,11 @@
 use Rattle.std.specs.Prelude.{ℕ, ◌+◌, ◌-◌, ◌==◌, ◌&&◌, not, Bool, true, false, if◌then◌else◌, List, [], ◌∷◌, ◌++◌}
 use Rattle.std.specs.Prelude.{length, map, slice_get, Option, Some, None, option_map, is_some}
 use Rattle.std.specs.List.{flat_map, range_with_len}
-use Rattle.smi_message.specs.Message.{Message, is_between, last_boot}
+use Rattle.smi_message.specs.Message.{Message, last_boot}
+use Rattle.smi_limits.specs.Between.{is_between}
 use Rattle.smi_tree.specs.Hierarchy.{Hierarchy}
 use Rattle.smi_tree.specs.Lookups.{station_count, domain_count, operator_station_of}
-use Rattle.smi_publish.specs.Publishing.{keeper_of}
+use Rattle.smi_roles.specs.Roles.{keeper_of}
 use Rattle.smi_rows.specs.declared.Plan.{Plan}
 use Rattle.smi_rows.specs.declared.Plan.TheVariants as plan
 use Rattle.smi_protocol.specs.declared.Entry.{Entry}

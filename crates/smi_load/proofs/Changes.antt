@@ -14,14 +14,14 @@ use Rattle.smi_grant.specs.Keeper.{admits, drop_after, take_after}
 use Rattle.smi_grant.specs.Record.{Standing}
 use Rattle.smi_message.specs.declared.Body.{Body}
 use Rattle.smi_message.specs.declared.Body.TheVariants as body
-use Rattle.smi_message.specs.Message.{is_between}
+use Rattle.smi_limits.specs.Between.{is_between}
 use Rattle.smi_tree.specs.Hierarchy.{Hierarchy}
 use Rattle.smi_tree.specs.Lawful.{IsTree}
 use Rattle.smi_tree.specs.Lookups.{domain_count, operator_station_of, operators_of, parent_of}
 use Rattle.smi_command.specs.declared.Link.{Link}
 use Rattle.smi_command.specs.Order.{command_issued, drop_begun, take_begun}
 use Rattle.smi_command.proofs.Holders.{same_self}
-use Rattle.smi_rows.specs.Known.{is_number, is_parent}
+use Rattle.smi_roles.specs.Roles.{is_number, is_parent, has_domain, is_keeper}
 use Rattle.smi_protocol.specs.Children.{own_code}
 use Rattle.smi_protocol.specs.Grants.{Grants, put_link, with_link}
 use Rattle.smi_protocol.specs.GrantsOf.{datagram_comes, grant_step}
@@ -30,7 +30,7 @@ use Rattle.smi_protocol.specs.Happening.{Comes, Happening, Orders, Reports, Tick
 use Rattle.smi_protocol.specs.Hearing.{ended, ends, hears, listener, listeners, parent_heard, parent_here, told_to}
 use Rattle.smi_protocol.specs.Keeping.{answered, commanded, decided, ran}
 use Rattle.smi_protocol.specs.Ordering.{obeyed, order_comes}
-use Rattle.smi_protocol.specs.Refusals.{has_domain, is_body_of, is_keeper, is_order_here, is_order_of}
+use Rattle.smi_protocol.specs.Refusals.{is_body_of, is_order_here, is_order_of}
 use Rattle.smi_protocol.specs.Refusals.{refusal_by_link, refusal_of}
 use Rattle.smi_protocol.specs.declared.entry.Entry.{Entry}
 use Rattle.smi_protocol.specs.declared.order.Order.{Order}

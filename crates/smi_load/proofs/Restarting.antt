@@ -8,7 +8,8 @@ use Rattle.smi_message.specs.declared.Bad.TheVariants as bad
 use Rattle.smi_message.specs.declared.Body.{Body}
 use Rattle.smi_message.specs.Kinds.{body_at, is_rest_zero}
 use Rattle.smi_message.specs.Layout.{fields_at}
-use Rattle.smi_message.specs.Message.{Message, is_between, is_body, is_message, last_boot}
+use Rattle.smi_message.specs.Message.{Message, is_body, is_message, last_boot}
+use Rattle.smi_limits.specs.Between.{is_between}
 use Rattle.smi_message.specs.Spelling.{is_kind, message_at, message_of, message_where, reading}
 use Rattle.smi_tree.specs.Hierarchy.{Hierarchy}
 use Rattle.smi_tree.specs.Lawful.{IsBetween, IsTree}

@@ -22,7 +22,9 @@ use Rattle.smi_rows.specs.declared.StoredLink.{StoredLink}
 use Rattle.smi_rows.specs.Key.{kind_of}
 use Rattle.smi_rows.specs.Layout.{HasFewLinks, row_bytes}
 use Rattle.smi_rows.specs.Ranges.{are_links_in, are_pending_in, count_not_out, each_command_in, each_link_in}
-use Rattle.smi_rows.specs.Ranges.{is_between, is_command_in, is_grant_epoch, is_grant_in, is_held, is_link_in}
+use Rattle.smi_limits.specs.Between.{is_between}
+use Rattle.smi_rows.specs.Ranges.{is_command_in, is_grant_epoch, is_grant_in, is_link_in}
+use Rattle.smi_command.specs.Link.{is_held}
 use Rattle.smi_rows.specs.Ranges.{is_mode_in, is_row_of, is_standing, is_work_in, rises_above}
 use Rattle.smi_rows.specs.Reading.{row_of}
 use Rattle.smi_rows.specs.Schema.{has_modes, last_verb, most_pending_in, newest, schema_of}

@@ -7,7 +7,7 @@ use Rattle.smi_grant.specs.declared.Holder.{Holder}
 use Rattle.smi_grant.specs.declared.Holder.TheVariants.{Operator, Domain}
 use Rattle.smi_grant.specs.Holder.{same_holder}
 use Rattle.smi_grant.specs.Record.{Standing}
-use Rattle.smi_message.specs.Message.{is_between}
+use Rattle.smi_limits.specs.Between.{is_between}
 use Rattle.smi_tree.specs.Hierarchy.{Hierarchy}
 use Rattle.smi_tree.specs.Lawful.{IsTree}
 use Rattle.smi_tree.specs.Lookups.{children_of, domain_count}
@@ -18,8 +18,8 @@ use Rattle.smi_command.proofs.Holders.{same_is}
 use Rattle.smi_rows.specs.declared.Mode.{Mode}
 use Rattle.smi_rows.specs.declared.Mode.TheVariants.{Included}
 use Rattle.smi_rows.specs.declared.Row.{Row}
-use Rattle.smi_rows.specs.Known.{is_parent}
-use Rattle.smi_rows.specs.Ranges.{is_held}
+use Rattle.smi_roles.specs.Roles.{is_parent}
+use Rattle.smi_command.specs.Link.{is_held}
 use Rattle.smi_rows.specs.Reading.{row_of}
 use Rattle.smi_rows.specs.Store.{Rows, Saved, same_key, with_row}
 use Rattle.smi_rows.proofs.Keys.{same-is}

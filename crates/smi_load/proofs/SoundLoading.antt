@@ -27,15 +27,18 @@ use Rattle.smi_rows.specs.declared.RowKind.TheVariants as kind
 use Rattle.smi_rows.specs.declared.Schema.{Schema}
 use Rattle.smi_rows.specs.declared.StoredLink.{StoredLink}
 use Rattle.smi_rows.specs.Known.{are_child_links, are_commands_of, are_tree_links, has_domain, has_operator}
-use Rattle.smi_rows.specs.Known.{is_child_link, is_command_of, is_holder_of, is_parent, is_tree_link}
+use Rattle.smi_rows.specs.Known.{is_child_link, is_tree_link}
+use Rattle.smi_roles.specs.Roles.{is_command_of, is_holder_of, is_parent}
 use Rattle.smi_rows.specs.Ranges.{are_links_in, are_pending_in, count_not_out, each_command_in, each_link_in}
-use Rattle.smi_rows.specs.Ranges.{is_command_in, is_domain_in, is_grant_in, is_held, is_link_in, is_mode_in}
-use Rattle.smi_rows.specs.Ranges.{is_operator_in, is_row_of, is_standing, is_work_in, is_between, rises_above}
+use Rattle.smi_rows.specs.Ranges.{is_command_in, is_domain_in, is_grant_in, is_link_in, is_mode_in}
+use Rattle.smi_command.specs.Link.{is_held, is_out, is_unsettled}
+use Rattle.smi_rows.specs.Ranges.{is_operator_in, is_row_of, is_standing, is_work_in, rises_above}
+use Rattle.smi_limits.specs.Between.{is_between}
 use Rattle.smi_rows.specs.Ranges.{some_unsettled}
 use Rattle.smi_rows.specs.Reading.{kept_domain, row_of}
 use Rattle.smi_rows.specs.Schema.{has_modes, most_pending_in, newest, schema_of}
 use Rattle.smi_rows.specs.Store.{Rows}
-use Rattle.smi_rows.specs.Stored.{KeptDomain, is_out, is_unsettled, stored}
+use Rattle.smi_rows.specs.Stored.{KeptDomain, stored}
 use Rattle.smi_rows.specs.Written.{IsRow, IsWrittenIn}
 use Rattle.smi_rows.proofs.Laws.{read_is_row}
 use Rattle.smi_protocol.specs.Loading.{domain_in, domain_of, grants_in, links_of, mode_under, operator_in, read, said}

@@ -25,8 +25,9 @@ use Rattle.smi_rows.specs.declared.RowKind.TheVariants as kind
 use Rattle.smi_rows.specs.declared.Schema.{Schema}
 use Rattle.smi_rows.specs.declared.StoredLink.{StoredLink}
 use Rattle.smi_rows.specs.Key.{kind_of}
-use Rattle.smi_rows.specs.Known.{is_number, is_parent}
-use Rattle.smi_rows.specs.Ranges.{is_between, is_row_of}
+use Rattle.smi_roles.specs.Roles.{is_number, is_parent}
+use Rattle.smi_limits.specs.Between.{is_between}
+use Rattle.smi_rows.specs.Ranges.{is_row_of}
 use Rattle.smi_rows.specs.Reading.{kept_domain, row_of}
 use Rattle.smi_rows.specs.Store.{Rows, Saved, same_key, with_row}
 use Rattle.smi_rows.specs.Stored.{KeptDomain, stored}

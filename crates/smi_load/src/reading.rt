@@ -1,7 +1,7 @@
 //! What rows say to a station.
 
 ghost use Rattle.std.specs.Prelude.{◌≡◌, IfErr};
-ghost use Rattle.smi_message.specs.Message.{is_between};
+ghost use Rattle.smi_limits.specs.Between.{is_between};
 ghost use Rattle.smi_tree.specs.Lawful.{IsTree};
 ghost use Rattle.smi_tree.specs.Lookups.{station_count};
 ghost use Rattle.smi_load.specs.Restoring.{Comes};

@@ -18,7 +18,8 @@ use Rattle.smi_grant.specs.Record.{last_number}
 use Rattle.smi_message.specs.declared.fields.Fields.{Fields}
 use Rattle.smi_message.specs.declared.datagram.Body.{Body}
 use Rattle.smi_message.specs.declared.datagram.Body.TheVariants as body
-use Rattle.smi_message.specs.Message.{is_between, is_addressed, is_body, is_domain, is_object, is_boot, is_version}
+use Rattle.smi_limits.specs.Between.{is_between}
+use Rattle.smi_message.specs.Message.{is_addressed, is_body, is_domain, is_object, is_boot, is_version}
 use Rattle.smi_message.specs.Message.{is_party, is_grant_epoch}
 use Rattle.smi_message.specs.Spelling.{is_kind}
 use Rattle.smi_message.specs.Kinds.{fields_of, body_at, command_in, layout_of, is_rest_zero}

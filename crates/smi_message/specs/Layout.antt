@@ -1,6 +1,7 @@
 -- Where each number of a datagram stands in its 44 bytes.
-use Rattle.std.specs.Prelude.{ℕ, ◌+◌, List, [], ◌∷◌, ◌++◌, slice_index}
-use Rattle.std.specs.Int.{w16, w32, w64, to_be_bytes, from_be_bytes}
+use Rattle.std.specs.Prelude.{ℕ, List, [], ◌∷◌, ◌++◌, slice_index}
+use Rattle.std.specs.Int.{w16, w32, w64, to_be_bytes}
+use Rattle.smi_bytes.specs.Bytes.{u16_at, u32_at, u64_at}
 use Rattle.smi_message.specs.declared.fields.Fields.{Fields}
 
 -- the bytes, in the order of their places: `S`, `M`, and then the fields
@@ -11,20 +12,6 @@ bytes_of f =
     ++ (f.holder_kind ∷ f.phase ∷ []) ++ to_be_bytes w16 f.holder ++ to_be_bytes w16 f.code ++ to_be_bytes w64 f.epoch
     ++ to_be_bytes w32 f.number ++ to_be_bytes w16 f.argument ++ to_be_bytes w16 f.tree ++ to_be_bytes w32 f.echo
     ++ to_be_bytes w32 f.boot ++ to_be_bytes w32 f.sequence
-
--- the number in the two, four or eight bytes from a place on
-abbrev pub u16_at : List ℕ → ℕ → ℕ
-u16_at b i = from_be_bytes w16 (slice_index b i ∷ slice_index b (i + 1) ∷ [])
-
-abbrev pub u32_at : List ℕ → ℕ → ℕ
-u32_at b i =
-    from_be_bytes w32 (slice_index b i ∷ slice_index b (i + 1) ∷ slice_index b (i + 2) ∷ slice_index b (i + 3) ∷ [])
-
-abbrev pub u64_at : List ℕ → ℕ → ℕ
-u64_at b i =
-    from_be_bytes w64
-    (slice_index b i ∷ slice_index b (i + 1) ∷ slice_index b (i + 2) ∷ slice_index b (i + 3) ∷ slice_index b (i + 4)
-    ∷ slice_index b (i + 5) ∷ slice_index b (i + 6) ∷ slice_index b (i + 7) ∷ [])
 
 -- what the bytes say at each place
 abbrev pub fields_at : List ℕ → Fields

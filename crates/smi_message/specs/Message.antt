@@ -1,5 +1,6 @@
 -- What a datagram says, and the ranges of its values.
 use Rattle.std.specs.Prelude.{ℕ, ◌≡◌, ◌≤◌, ◌%◌, ◌&&◌, ◌==◌, nat_le, Bool, true, false}
+use Rattle.smi_limits.specs.Between.{is_between}
 use Rattle.smi_limits.specs.declared.trees.TheConstants.{MOST_DOMAINS, MOST_OBJECTS, MOST_STATES, MOST_STATIONS}
 use Rattle.smi_limits.specs.declared.numbers.TheConstants.{LAST_BOOT, LAST_SEQUENCE}
 use Rattle.smi_grant.specs.declared.Holder.{Holder}
@@ -16,9 +17,6 @@ pub record Message : Type 0 where
   pub to : ℕ
   pub tree : ℕ
   pub body : Body
-
-abbrev pub is_between : ℕ → ℕ → ℕ → Bool
-is_between low high n = nat_le low n && nat_le n high
 
 abbrev pub is_domain : ℕ → Bool
 is_domain d = is_between 1 MOST_DOMAINS d

@@ -1,6 +1,7 @@
 //! What the fields of each kind of datagram say.
 
 ghost use Rattle.std.specs.Prelude.{◌≡◌, Some};
+ghost use Rattle.smi_limits.specs.Between.{is_between};
 ghost use Rattle.smi_message.specs.Kinds as spec;
 ghost use Rattle.smi_message.specs.Message as message;
 
@@ -176,7 +177,7 @@ pub fn state_at(f: &Spelled<'_>) -> Body
 // ---- ranges
 
 fn is_between(low: u32, high: u32, number: u32) -> bool
-    ensures { result ≡ message.is_between low high number }
+    ensures { result ≡ is_between low high number }
 {
     low <= number && number <= high
 }

@@ -8,7 +8,8 @@ use Rattle.smi_grant.specs.declared.Holder.{Holder}
 use Rattle.smi_command.specs.declared.Due.{Due}
 use Rattle.smi_command.specs.declared.Due.TheVariants.{Take, Drop, Run}
 use Rattle.smi_protocol.specs.Messages.{request}
-use Rattle.smi_message.specs.Message.{Message, is_domain, is_party, is_body, is_between}
+use Rattle.smi_message.specs.Message.{Message, is_domain, is_party, is_body}
+use Rattle.smi_limits.specs.Between.{is_between}
 use Rattle.smi_protocol.specs.Ticking.{most_sent}
 use Rattle.smi_out.specs.Handed.{sent_after, sent_one, is_due}
 

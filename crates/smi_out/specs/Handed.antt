@@ -6,7 +6,8 @@ use Rattle.smi_grant.specs.Command as command
 use Rattle.smi_grant.specs.Record.{last_epoch, last_number}
 use Rattle.smi_command.specs.declared.Due.{Due}
 use Rattle.smi_command.specs.declared.Due.TheVariants.{Take, Drop, Run}
-use Rattle.smi_message.specs.Message.{Message, is_between, is_grant_epoch}
+use Rattle.smi_message.specs.Message.{Message, is_grant_epoch}
+use Rattle.smi_limits.specs.Between.{is_between}
 use Rattle.smi_protocol.specs.Step.{Out}
 use Rattle.smi_protocol.specs.Ticking.{most_sent}
 use Rattle.smi_protocol.specs.Watching.{Notice}

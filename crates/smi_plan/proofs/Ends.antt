@@ -10,7 +10,7 @@ use Rattle.smi_message.specs.Message.{Message}
 use Rattle.smi_command.specs.declared.Link.{Link}
 use Rattle.smi_command.specs.Hearing.{told_heard, told_link}
 use Rattle.smi_command.proofs.Heard.{not_true}
-use Rattle.smi_rows.specs.Known.{is_parent}
+use Rattle.smi_roles.specs.Roles.{is_parent, holder_station}
 use Rattle.smi_tree.specs.Hierarchy.{Hierarchy}
 use Rattle.smi_tree.specs.Lawful.{IsBetween, IsTree}
 use Rattle.smi_tree.specs.Lookups.{station_count}
@@ -19,7 +19,7 @@ use Rattle.smi_out.proofs.Sending.{sent_twice}
 use Rattle.smi_protocol.specs.Grants.{Grants}
 use Rattle.smi_protocol.specs.Hearing.{ended, ended_record, ended_sends, ends, hears, is_ahead, is_heard}
 use Rattle.smi_protocol.specs.Hearing.{parent_heard, parent_told}
-use Rattle.smi_protocol.specs.Messages.{holder_station, requests_due, tells_holder}
+use Rattle.smi_protocol.specs.Messages.{requests_due, tells_holder}
 use Rattle.smi_protocol.specs.Sound.{IsLink, IsSound, most_handed_on}
 use Rattle.smi_protocol.specs.Step.{Out}
 use Rattle.smi_protocol.proofs.Ranges.{holder_there}

@@ -5,14 +5,13 @@ use Rattle.std.specs.Prelude.{if◌then◌else◌}
 use Rattle.smi_grant.specs.declared.Holder.{Holder}
 use Rattle.smi_grant.specs.declared.Holder.TheVariants.{Operator, Domain}
 use Rattle.smi_grant.specs.Record.{Standing}
-use Rattle.smi_rows.specs.Known.{is_number, is_parent}
+use Rattle.smi_roles.specs.Roles.{is_number, is_parent, is_keeper}
 use Rattle.smi_tree.specs.Hierarchy.{Hierarchy}
 use Rattle.smi_tree.specs.Lawful.{IsBetween, IsTree}
 use Rattle.smi_tree.specs.Lookups.{domain_count, operators_of, parent_of}
 use Rattle.smi_grants.specs.Plans.{MayOrder}
 use Rattle.smi_protocol.specs.Grants.{Grants}
 use Rattle.smi_protocol.specs.Hearing.{hears, listener, listeners, parent_here}
-use Rattle.smi_protocol.specs.Refusals.{is_keeper}
 use Rattle.smi_protocol.proofs.Lists.{In, in_both, from_mapped}
 use Rattle.smi_protocol.proofs.Ranges.{child_there}
 use Rattle.smi_protocol.proofs.SoundSteps.{found, listening_parent}

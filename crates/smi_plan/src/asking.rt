@@ -68,7 +68,7 @@ pub fn take(
     requires domain { IsBetween 1 (domain_count kept.now.tree) domain }
     requires party { is_free holder ≡ false }
     requires holder { holder_spec.is_in_range holder ≡ true }
-    requires may_hold { known.is_holder_of kept.now.tree domain holder ≡ true }
+    requires may_hold { roles.is_holder_of kept.now.tree domain holder ≡ true }
     ensures plan { Plans kept.now.tree kept.now.number (grants_of kept.now)
         (keeping.take_comes kept.now.tree kept.now.number (grants_of kept.now) from domain holder seen) result }
     ensures sent { out.new ≡ with_step out.old
@@ -81,7 +81,7 @@ pub fn take(
 }
 
 ghost use Rattle.smi_grant.specs.Holder as holder_spec;
-ghost use Rattle.smi_rows.specs.Known as known;
+ghost use Rattle.smi_roles.specs.Roles as roles;
 
 /// A drop comes: who drops is told how the domain stands after it.
 pub fn drop_grant(

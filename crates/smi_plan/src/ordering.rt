@@ -10,7 +10,7 @@ ghost use Rattle.smi_protocol.specs.Sound.{IsLink, IsSound};
 ghost use Rattle.smi_command.specs.Pending.{most_pending};
 ghost use Rattle.smi_tree.specs.Lawful.{IsBetween};
 ghost use Rattle.smi_tree.specs.Lookups.{domain_count, operator_station_of};
-ghost use Rattle.smi_rows.specs.Known.{is_number};
+ghost use Rattle.smi_roles.specs.Roles.{is_number};
 ghost use Rattle.smi_plan.specs.Handing.{with_step};
 
 use crate::due::send_newest;

@@ -1,7 +1,6 @@
 //! What a keeper does with a command that comes.
 
 ghost use Rattle.std.specs.Prelude.{◌≡◌, ◌≤◌, false, true};
-ghost use Rattle.std.specs.List.{flat_map};
 ghost use Rattle.smi_grant.specs.Command as command_spec;
 ghost use Rattle.smi_grant.specs.Holder.{is_free};
 ghost use Rattle.smi_grant.specs.Record.{is_settled, last_number};
@@ -11,10 +10,9 @@ ghost use Rattle.smi_out.specs.Handed.{sent_after};
 ghost use Rattle.smi_protocol.specs.Children.{change_of};
 ghost use Rattle.smi_protocol.specs.Keeping as keeping;
 ghost use Rattle.smi_protocol.specs.Sound.{IsCommand, IsSound};
-ghost use Rattle.smi_rows.specs.Known as known;
 ghost use Rattle.smi_tree.specs.Lawful.{IsBetween};
 ghost use Rattle.smi_tree.specs.Lookups.{children_of, domain_count, station_count};
-ghost use Rattle.smi_rows.specs.Known.{is_parent};
+ghost use Rattle.smi_roles.specs.Roles.{is_parent};
 ghost use Rattle.smi_plan.specs.Handing.{with_step};
 
 use crate::asking::{record_after, send_record};

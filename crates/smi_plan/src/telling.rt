@@ -14,6 +14,7 @@ use smi_grant::{Command, Holder, Phase, Record};
 use smi_grants::{Change, Kept};
 use smi_out::Out;
 use smi_protocol::{Answer, Mark, Order, Told};
+use smi_roles::holder_station;
 use smi_tree::Tree;
 
 /// An operator is told the code of an order to take or to drop a domain.
@@ -205,33 +206,9 @@ fn is_settled(phase: Phase) -> bool
     }
 }
 
-ghost use Rattle.smi_grant.specs.Record as record_spec;
-
-/// The station of a holder, 0 of nobody.
-fn station_of(tree: &Tree, holder: Holder) -> u16
-    ensures { result ≡ unwrap_or (holder_station tree.now holder) 0 }
-{
-    match holder {
-        Holder::Free => 0,
-        Holder::Operator(operator) => {
-            if 1 <= operator && operator <= tree.operator_count() {
-                tree.operator_station(operator)
-            } else {
-                0
-            }
-        }
-        Holder::Domain(domain) => {
-            if 1 <= domain && domain <= tree.domain_count() {
-                tree.domain(domain).station
-            } else {
-                0
-            }
-        }
-    }
-}
-
 ghost use Rattle.std.specs.Prelude.{unwrap_or};
-ghost use Rattle.smi_protocol.specs.Messages.{holder_station};
+ghost use Rattle.smi_grant.specs.Record as record_spec;
+ghost use Rattle.smi_roles.specs.Roles.{holder_station};
 
 /// Where a domain's command ends with this record of it, the domain's holder is told so.
 fn send_end(out: &mut Out, kept: &Kept<'_>, domain: u16, standing: Record)
@@ -249,7 +226,7 @@ fn send_end(out: &mut Out, kept: &Kept<'_>, domain: u16, standing: Record)
         send_record(
             out,
             kept,
-            station_of(kept.tree(), standing.holder),
+            holder_station(kept.tree(), standing.holder).unwrap_or(0),
             domain,
             standing,
         );
@@ -289,7 +266,7 @@ fn tell_parent(out: &mut Out, kept: &Kept<'_>, parent: u16, child: u16, news: &R
 
 ghost use Rattle.smi_grant.specs.declared.Holder.TheVariants.{Domain};
 ghost use Rattle.smi_grant.specs.Record.{is_outcome};
-ghost use Rattle.smi_rows.specs.Known.{is_parent};
+ghost use Rattle.smi_roles.specs.Roles.{is_parent};
 
 /// A record is told: the first holder here whose link it changes hears it, if there is one.
 pub fn tell(out: &mut Out, kept: &Kept<'_>, domain: u16, news: &Record) -> Change

@@ -18,9 +18,9 @@ use Rattle.smi_tree.specs.Lookups.{accepts, devices_of, domain_count, device_cou
 use Rattle.smi_tree.specs.Lookups.{state_count, station_count}
 use Rattle.smi_publish.specs.declared.condition.Condition.{Condition}
 use Rattle.smi_publish.specs.Published.{HasRoom}
-use Rattle.smi_publish.specs.Publishing.{acted, device_objects, domain_of, is_among, is_kept_by, reported}
+use Rattle.smi_publish.specs.Publishing.{acted, device_objects, is_among, reported}
+use Rattle.smi_roles.specs.Roles.{domain_of, is_kept_by, is_number, is_keeper, is_child_unit}
 use Rattle.smi_publish.specs.Publishing as publishing
-use Rattle.smi_rows.specs.Known.{is_number}
 use Rattle.smi_view.specs.declared.Acceptance.{Acceptance}
 use Rattle.smi_view.specs.declared.Acceptance.TheVariants.{Accepted, OtherBoot, NotNewer}
 use Rattle.smi_view.specs.Accepting.{acceptance, last_after}
@@ -31,14 +31,14 @@ use Rattle.smi_protocol.specs.Grants.{Grants, put}
 use Rattle.smi_protocol.specs.GrantsOf.{grant_step}
 use Rattle.smi_protocol.specs.Happening.{Happening, Comes, Orders, Reports, Ticks, answer}
 use Rattle.smi_protocol.specs.Messages.{object_home, unwatches}
-use Rattle.smi_protocol.specs.Refusals.{is_body_of, is_keeper, is_order_here, is_order_of, is_report_here}
+use Rattle.smi_protocol.specs.Refusals.{is_body_of, is_order_here, is_order_of, is_report_here}
 use Rattle.smi_protocol.specs.Refusals.{refusal_by_link, refusal_of}
 use Rattle.smi_protocol.specs.Showing.{domain_of_body, domain_of_happening, followed, members_of, moved_by}
 use Rattle.smi_protocol.specs.Showing.{moved_by_body, moved_by_command, same_members, Member}
 use Rattle.smi_protocol.specs.Sound.{IsSayable}
 use Rattle.smi_protocol.specs.SoundDisplay.{IsDisplay, MayChange}
 use Rattle.smi_protocol.specs.Step.{after, answered_or, body_noticed, conditions_after, conditions_by, notice}
-use Rattle.smi_protocol.specs.Watching.{Notice, is_child_unit, is_watched, lists_after, lists_before, noticed}
+use Rattle.smi_protocol.specs.Watching.{Notice, is_watched, lists_after, lists_before, noticed}
 use Rattle.smi_protocol.specs.Watching.{order_noticed, showed_if, state_comes, told_state, unnoticed, watch_answer}
 use Rattle.smi_protocol.specs.Watching.{watch_comes}
 use Rattle.smi_protocol.specs.declared.order.Order.{Order}

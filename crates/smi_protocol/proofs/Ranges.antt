@@ -13,7 +13,8 @@ use Rattle.smi_grant.specs.Holder.{is_free}
 use Rattle.smi_grant.specs.Record.{Standing, last_epoch, last_number}
 use Rattle.smi_message.specs.declared.Body.{Body}
 use Rattle.smi_message.specs.declared.Body.TheVariants as body
-use Rattle.smi_message.specs.Message.{is_between, is_body, is_domain, is_grant_epoch, is_message, is_party}
+use Rattle.smi_limits.specs.Between.{is_between}
+use Rattle.smi_message.specs.Message.{is_body, is_domain, is_grant_epoch, is_message, is_party}
 use Rattle.smi_tree.specs.declared.row.Domain.{Domain as DomainRow}
 use Rattle.smi_tree.specs.Hierarchy.{Hierarchy, entry}
 use Rattle.smi_tree.specs.Lawful.{IsBetween, IsTree}
@@ -24,10 +25,9 @@ use Rattle.smi_command.specs.declared.Link.{Link}
 use Rattle.smi_command.specs.declared.Link.TheVariants.{Out, Taking, Held, Dropping}
 use Rattle.smi_command.specs.Link.{due_of}
 use Rattle.smi_command.specs.Pending.{base_of}
-use Rattle.smi_rows.specs.Known.{is_holder_of, is_number, is_parent}
+use Rattle.smi_roles.specs.Roles.{is_holder_of, is_number, is_parent, holder_station, is_keeper}
 use Rattle.smi_rows.specs.Ranges.{is_standing}
-use Rattle.smi_protocol.specs.Messages.{holder_station, home, request, requests, says, tells}
-use Rattle.smi_protocol.specs.Refusals.{is_keeper}
+use Rattle.smi_protocol.specs.Messages.{home, request, requests, says, tells}
 use Rattle.smi_protocol.specs.Sound.{ArePending, IsCommand, IsLink, is_due}
 use Rattle.smi_protocol.proofs.Tables.{number_is}
 

@@ -23,15 +23,16 @@ use Rattle.smi_rows.specs.declared.Mode.TheVariants as mode
 use Rattle.smi_rows.specs.declared.RowKind.TheVariants as kind
 use Rattle.smi_rows.specs.declared.Schema.{Schema}
 use Rattle.smi_rows.specs.declared.StoredLink.{StoredLink}
-use Rattle.smi_rows.specs.Known.{are_commands_of, is_child_link, is_command_of, is_number, is_parent, is_tree_link}
-use Rattle.smi_rows.specs.Ranges.{each_command_in, is_between, is_grant_in, is_held, is_link_in, is_mode_in}
+use Rattle.smi_rows.specs.Known.{are_commands_of, is_child_link, is_tree_link}
+use Rattle.smi_roles.specs.Roles.{is_command_of, is_number, is_parent, is_keeper}
+use Rattle.smi_rows.specs.Ranges.{each_command_in, is_grant_in, is_link_in, is_mode_in}
+use Rattle.smi_limits.specs.Between.{is_between}
+use Rattle.smi_command.specs.Link.{is_held, is_out, is_unsettled}
 use Rattle.smi_rows.specs.Ranges.{is_work_in, rises_above}
 use Rattle.smi_rows.specs.Schema.{last_verb, most_pending_in}
-use Rattle.smi_rows.specs.Stored.{is_out, is_unsettled}
 use Rattle.smi_rows.specs.Written.{IsRow}
 use Rattle.smi_protocol.specs.Grants.{Grants}
 use Rattle.smi_protocol.specs.GrantStep.{OfDomain, OfOperator}
-use Rattle.smi_protocol.specs.Refusals.{is_keeper}
 use Rattle.smi_protocol.specs.SavedRows.{child_links, domain_row, is_new, operator_row, saved_row, stored_if}
 use Rattle.smi_protocol.specs.Sound.{ArePending, In, IsCommand, IsLink, IsSound, most_handed_on}
 use Rattle.smi_protocol.proofs.Counts.{count_chosen}

@@ -28,7 +28,7 @@ use Rattle.smi_command.specs.Order.{take_begun, drop_begun, command_issued}
 use Rattle.smi_command.specs.Pending.{most_pending}
 use Rattle.smi_command.proofs.Heard.{not_true}
 use Rattle.smi_command.proofs.Lawful.{free_last, none_settled}
-use Rattle.smi_rows.specs.Known.{is_number, is_parent}
+use Rattle.smi_roles.specs.Roles.{is_number, is_parent, has_domain, is_keeper}
 use Rattle.smi_rows.specs.Ranges.{is_standing}
 use Rattle.smi_protocol.specs.Children.{ChildChange, Stays, Relinked, ComesInto, change_of, link_after, own_code}
 use Rattle.smi_protocol.specs.Grants.{Grants}
@@ -41,7 +41,7 @@ use Rattle.smi_protocol.specs.Keeping.{child_request, child_requests, commanded,
 use Rattle.smi_protocol.specs.Messages.{all_due, newest_due, if_any, requests, requests_due, request_newest, tells}
 use Rattle.smi_protocol.specs.Messages.{tells_holder}
 use Rattle.smi_protocol.specs.Ordering.{obeyed, order_comes}
-use Rattle.smi_protocol.specs.Refusals.{has_domain, is_body_of, is_keeper, is_order_here, is_order_of}
+use Rattle.smi_protocol.specs.Refusals.{is_body_of, is_order_here, is_order_of}
 use Rattle.smi_protocol.specs.Refusals.{refusal_by_link, refusal_of}
 use Rattle.smi_protocol.specs.Sound.{AllInRange, IsLink, IsSayable, IsSound, most_handed_on}
 use Rattle.smi_protocol.specs.declared.entry.Entry.{Entry}

@@ -25,7 +25,7 @@ use Rattle.smi_command.proofs.Heard.{choose}
 use Rattle.smi_publish.specs.declared.condition.Condition.{Condition}
 use Rattle.smi_publish.specs.Published.{shown_at}
 use Rattle.smi_publish.specs.Publishing.{device_objects}
-use Rattle.smi_rows.specs.Known.{is_number}
+use Rattle.smi_roles.specs.Roles.{is_number, is_keeper, is_child_unit}
 use Rattle.smi_view.specs.declared.Acceptance.{Acceptance}
 use Rattle.smi_view.specs.declared.Acceptance.TheVariants.{Accepted, OtherBoot, NotNewer}
 use Rattle.smi_view.specs.Accepting.{acceptance}
@@ -38,14 +38,14 @@ use Rattle.smi_protocol.specs.Happening.{Happening, Comes, Orders, Reports, Tick
 use Rattle.smi_protocol.specs.Messages.{all_due, asks_about, home, if_any, object_home, requests, shows, unwatches}
 use Rattle.smi_protocol.specs.Messages.{watches}
 use Rattle.smi_protocol.specs.Opening.{object_count}
-use Rattle.smi_protocol.specs.Refusals.{is_keeper, is_order_here, is_order_of, refusal_by_link, refusal_of}
+use Rattle.smi_protocol.specs.Refusals.{is_order_here, is_order_of, refusal_by_link, refusal_of}
 use Rattle.smi_protocol.specs.Showing.{domain_of_happening, passed_in, shown_to_all}
 use Rattle.smi_protocol.specs.Sound.{AllInRange, IsLink, IsSayable, IsSound, most_handed_on}
 use Rattle.smi_protocol.specs.SoundDisplay.{IsDisplay, IsShown, IsWatcher, MayChange}
 use Rattle.smi_protocol.specs.Step.{after, answered_or, body_noticed, conditions_after, notice}
 use Rattle.smi_protocol.specs.Ticking.{Owed, all_owed, domains_of, is_before, most_sent, number_of_due, owed, owed_from}
 use Rattle.smi_protocol.specs.Ticking.{owed_question, owed_to_child, owed_to_domain, owed_watch, tick_noticed}
-use Rattle.smi_protocol.specs.Watching.{Notice, is_child_unit, is_full, is_watched, lists_after, lists_before, noticed}
+use Rattle.smi_protocol.specs.Watching.{Notice, is_full, is_watched, lists_after, lists_before, noticed}
 use Rattle.smi_protocol.specs.Watching.{order_noticed, showed_if, state_comes, told_state, unnoticed, watch_answer}
 use Rattle.smi_protocol.specs.Watching.{watch_comes}
 use Rattle.smi_protocol.specs.declared.order.Order.{Order}

@@ -11,8 +11,7 @@ use Rattle.smi_command.specs.Order.{take_begun, drop_begun, command_issued}
 use Rattle.smi_command.proofs.Heard.{choose}
 use Rattle.smi_rows.specs.declared.Mode.{Mode}
 use Rattle.smi_rows.specs.declared.Mode.TheVariants as mode
-use Rattle.smi_rows.specs.Ranges.{is_held}
-use Rattle.smi_rows.specs.Stored.{is_unsettled}
+use Rattle.smi_command.specs.Link.{is_held, is_unsettled}
 use Rattle.smi_protocol.specs.Children.{ChildChange, Stays, Relinked, ComesInto, relinked_or, is_commanded, same_mode}
 use Rattle.smi_protocol.specs.Children.{comes_into, handed_on, aimed_at, targeted, child_change, link_after}
 use Rattle.smi_protocol.specs.Children.{mode_after, code_of}

@@ -25,7 +25,8 @@ use Rattle.smi_command.proofs.Heard.{choose}
 use Rattle.smi_publish.specs.declared.condition.Condition.{Condition}
 use Rattle.smi_publish.specs.Published.{HasRoom, changes_at, condition, differs, last_sequence, shown, shown_at}
 use Rattle.smi_publish.specs.Publishing.{acted, come_to, device_objects, evaluated, first_condition, is_among}
-use Rattle.smi_publish.specs.Publishing.{is_kept_by, reported, unit_moved}
+use Rattle.smi_roles.specs.Roles.{is_kept_by}
+use Rattle.smi_publish.specs.Publishing.{reported, unit_moved}
 use Rattle.smi_publish.specs.Publishing as publishing
 use Rattle.smi_watchers.specs.declared.Watcher.{Watcher}
 use Rattle.smi_watchers.specs.Watching.{is_ended_by, is_of, left_by, listed, others_of, renewed_by, unwatch_in}

@@ -19,15 +19,14 @@ use Rattle.smi_command.specs.Hearing.{told_link}
 use Rattle.smi_command.specs.Order.{take_begun, drop_begun, command_issued}
 use Rattle.smi_command.specs.Pending.{most_pending}
 use Rattle.smi_command.proofs.Orders.{drop_begins, command_issues}
-use Rattle.smi_rows.specs.Known.{is_number}
-use Rattle.smi_rows.specs.Ranges.{is_held}
-use Rattle.smi_rows.specs.Stored.{is_out}
-use Rattle.smi_message.specs.Message.{is_between}
+use Rattle.smi_roles.specs.Roles.{is_number, has_domain}
+use Rattle.smi_command.specs.Link.{is_held, is_out}
+use Rattle.smi_limits.specs.Between.{is_between}
 use Rattle.smi_protocol.specs.Grants.{Grants, put_link, with_link}
 use Rattle.smi_protocol.specs.GrantsOf.{grant_step}
 use Rattle.smi_protocol.specs.Happening.{Orders}
 use Rattle.smi_protocol.specs.Ordering.{obeyed, order_comes}
-use Rattle.smi_protocol.specs.Refusals.{links_in_use, most_links, has_domain, is_order_here, is_order_of}
+use Rattle.smi_protocol.specs.Refusals.{links_in_use, most_links, is_order_here, is_order_of}
 use Rattle.smi_protocol.specs.Refusals.{refusal_by_link, refusal_of, why_not}
 use Rattle.smi_protocol.specs.Sound.{IsCommand, IsLink, IsSound, most_handed_on}
 use Rattle.smi_protocol.specs.declared.order.Order.{Order}

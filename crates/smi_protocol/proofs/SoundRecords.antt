@@ -13,7 +13,7 @@ use Rattle.smi_tree.specs.Hierarchy.{Hierarchy}
 use Rattle.smi_command.proofs.Heard.{choose}
 use Rattle.smi_command.proofs.Holders.{same_is}
 use Rattle.smi_command.proofs.Lawful.{free_last, none_settled, granted_lawful, freed_lawful}
-use Rattle.smi_rows.specs.Known.{is_holder_of}
+use Rattle.smi_roles.specs.Roles.{is_holder_of}
 use Rattle.smi_rows.specs.Ranges.{is_standing}
 use Rattle.smi_protocol.specs.Grants.{Grants, with_record}
 use Rattle.smi_protocol.specs.Keeping.{decided}

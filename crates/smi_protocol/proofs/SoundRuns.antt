@@ -17,9 +17,9 @@ use Rattle.smi_command.proofs.Heard.{choose}
 use Rattle.smi_command.proofs.Holders.{same_is}
 use Rattle.smi_command.proofs.Lawful.{started_lawful}
 use Rattle.smi_rows.specs.declared.Mode.TheVariants as mode
-use Rattle.smi_rows.specs.Known.{is_holder_of, is_parent}
-use Rattle.smi_rows.specs.Ranges.{is_held, is_standing}
-use Rattle.smi_rows.specs.Stored.{is_unsettled}
+use Rattle.smi_roles.specs.Roles.{is_holder_of, is_parent}
+use Rattle.smi_command.specs.Link.{is_held, is_unsettled}
+use Rattle.smi_rows.specs.Ranges.{is_standing}
 use Rattle.smi_protocol.specs.Children.{change_of, link_after, mode_after, links_after, modes_after, code_of}
 use Rattle.smi_protocol.specs.Children.{code_at_domain, largest, own_code}
 use Rattle.smi_protocol.specs.Grants.{Grants}

@@ -14,13 +14,14 @@ use Rattle.smi_grant.specs.Record.{Standing, is_outcome, is_record, is_settled, 
 use Rattle.smi_grant.proofs.Records.{is_record-facts}
 use Rattle.smi_message.specs.declared.Body.{Body}
 use Rattle.smi_message.specs.declared.Body.TheVariants as body
-use Rattle.smi_message.specs.Message.{Message, is_between, is_body, is_domain, is_grant_epoch, is_party}
+use Rattle.smi_message.specs.Message.{Message, is_body, is_domain, is_grant_epoch, is_party}
+use Rattle.smi_limits.specs.Between.{is_between}
 use Rattle.smi_tree.specs.Hierarchy.{Hierarchy}
 use Rattle.smi_tree.specs.Lawful.{IsBetween, IsTree}
 use Rattle.smi_tree.specs.Lookups.{operators_of, parent_of, station_count}
 use Rattle.smi_command.specs.Hearing.{told_heard}
 use Rattle.smi_command.proofs.Heard.{choose, not_true}
-use Rattle.smi_rows.specs.Known.{is_command_of, is_holder_of, is_number, is_parent}
+use Rattle.smi_roles.specs.Roles.{is_command_of, is_holder_of, is_number, is_parent, is_keeper}
 use Rattle.smi_protocol.specs.Grants.{Grants}
 use Rattle.smi_protocol.specs.GrantsOf.{datagram_comes, grant_step}
 use Rattle.smi_protocol.specs.GrantStep.{GrantStep, waits_for_children}
@@ -28,7 +29,7 @@ use Rattle.smi_protocol.specs.Happening.{Happening, Comes, Orders, Reports, Tick
 use Rattle.smi_protocol.specs.Hearing.{hears, is_ahead, is_heard, listener, listeners, parent_here, told_to}
 use Rattle.smi_protocol.specs.Keeping.{answered, commanded, ran, run_comes}
 use Rattle.smi_protocol.specs.Children.{own_code}
-use Rattle.smi_protocol.specs.Refusals.{is_body_of, is_keeper, refusal_of, refusal_of_message, speaks_for}
+use Rattle.smi_protocol.specs.Refusals.{is_body_of, refusal_of, refusal_of_message, speaks_for}
 use Rattle.smi_protocol.specs.Sound.{IsSayable, IsSound}
 use Rattle.smi_protocol.proofs.Lists.{In, in_both, from_mapped}
 use Rattle.smi_protocol.proofs.Tables.{number_self}

@@ -13,7 +13,7 @@ use Rattle.smi_command.specs.declared.Link.{Link}
 use Rattle.smi_tree.specs.Hierarchy.{Hierarchy}
 use Rattle.smi_tree.specs.Lookups.{children_of, domain_count}
 use Rattle.smi_rows.specs.Ranges.{is_standing}
-use Rattle.smi_rows.specs.Stored.{is_out, is_unsettled}
+use Rattle.smi_command.specs.Link.{is_out, is_unsettled}
 use Rattle.smi_protocol.specs.Grants.{Grants}
 use Rattle.smi_protocol.specs.GrantStep.{waits_for_children}
 use Rattle.smi_protocol.specs.Refusals.{links_in_use}

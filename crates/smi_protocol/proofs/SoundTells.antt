@@ -22,9 +22,9 @@ use Rattle.smi_command.proofs.Heard.{choose, not_true, by_row_held}
 use Rattle.smi_command.proofs.HeardCommands.{newest_at_most}
 use Rattle.smi_command.proofs.Lawful.{busy_is, settled_lawful}
 use Rattle.smi_rows.specs.declared.Mode.TheVariants.{Included}
-use Rattle.smi_rows.specs.Known.{is_holder_of, is_parent}
-use Rattle.smi_rows.specs.Ranges.{is_held, is_standing}
-use Rattle.smi_rows.specs.Stored.{is_unsettled}
+use Rattle.smi_roles.specs.Roles.{is_holder_of, is_parent}
+use Rattle.smi_command.specs.Link.{is_held, is_unsettled}
+use Rattle.smi_rows.specs.Ranges.{is_standing}
 use Rattle.smi_protocol.specs.Grants.{Grants, put, put_link}
 use Rattle.smi_protocol.specs.GrantStep.{waits_for_children}
 use Rattle.smi_protocol.specs.Hearing.{is_heard, is_ahead, settlements_in, gathered_with, parent_heard, ends, ended}

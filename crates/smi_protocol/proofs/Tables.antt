@@ -13,7 +13,7 @@ use Rattle.smi_command.proofs.Holders.{either, same_is, same_self}
 use Rattle.smi_tree.specs.declared.row.Domain.{Domain as DomainRow}
 use Rattle.smi_tree.specs.Hierarchy.{Hierarchy, entry, is_child_of}
 use Rattle.smi_tree.specs.Lookups.{children_of, operators_of, operator_station_of, parent_of}
-use Rattle.smi_rows.specs.Known.{is_number, is_parent}
+use Rattle.smi_roles.specs.Roles.{is_number, is_parent}
 use Rattle.smi_protocol.specs.Grants.{put, put_link}
 use Rattle.smi_protocol.proofs.Lists.{In, in_numbers, from_numbers}
 

@@ -18,7 +18,7 @@ use Rattle.smi_message.specs.Message.{Message}
 use Rattle.smi_protocol.specs.Grants.{Grants, with_gathered, with_link, with_record}
 use Rattle.smi_protocol.specs.Messages.{requests_due, tells_holder}
 use Rattle.smi_protocol.specs.Happening.{answer, answer_command}
-use Rattle.smi_protocol.specs.Refusals.{is_keeper}
+use Rattle.smi_roles.specs.Roles.{is_keeper}
 use Rattle.smi_protocol.specs.GrantStep.{GrantStep, OfDomain, OfOperator, unchanged, waits_for_children}
 use Rattle.smi_protocol.specs.declared.order.Answer.{Answer}
 use Rattle.smi_protocol.specs.declared.order.Order.TheVariants as order

@@ -6,7 +6,8 @@ use Rattle.smi_grant.specs.declared.Holder.TheVariants.{Free, Operator, Domain}
 use Rattle.smi_grant.specs.Record.{fresh}
 use Rattle.smi_command.specs.declared.Link.{Link}
 use Rattle.smi_command.specs.declared.Link.TheVariants.{Out}
-use Rattle.smi_message.specs.Message.{is_between, last_boot}
+use Rattle.smi_limits.specs.Between.{is_between}
+use Rattle.smi_message.specs.Message.{last_boot}
 use Rattle.smi_tree.specs.Hierarchy.{Hierarchy}
 use Rattle.smi_tree.specs.Lookups.{domain_count, operator_station_of, parent_of, station_count}
 use Rattle.smi_rows.specs.declared.Key.{Key}
@@ -17,14 +18,13 @@ use Rattle.smi_rows.specs.declared.Row.TheVariants as row
 use Rattle.smi_rows.specs.declared.RowFault.{RowFault}
 use Rattle.smi_rows.specs.declared.RowFault.TheVariants.{Code, Memory}
 use Rattle.smi_rows.specs.declared.StoredLink.{StoredLink}
-use Rattle.smi_rows.specs.Known.{is_number, is_parent}
+use Rattle.smi_roles.specs.Roles.{is_number, is_parent, is_keeper}
 use Rattle.smi_rows.specs.Reading.{kept_domain, row_of}
 use Rattle.smi_rows.specs.Store.{Rows, is_before}
 use Rattle.smi_rows.specs.Stored.{KeptDomain, stored}
 use Rattle.smi_protocol.specs.Display.{Station}
 use Rattle.smi_protocol.specs.Grants.{Grants}
 use Rattle.smi_protocol.specs.Opening.{opened}
-use Rattle.smi_protocol.specs.Refusals.{is_keeper}
 use Rattle.smi_protocol.specs.SavedRows.{domain_row, key, operator_row}
 use Rattle.smi_protocol.specs.declared.fault.OpenFault.{OpenFault}
 use Rattle.smi_protocol.specs.declared.fault.OpenFault.TheVariants as open_fault

@@ -2,15 +2,14 @@
 use Rattle.std.specs.Prelude.{ℕ, ◌-◌, List, [], ◌∷◌, length, map, Option, Some, None, option_map, unwrap_or}
 use Rattle.std.specs.List.{range_with_len, filter_map}
 use Rattle.smi_grant.specs.declared.Holder.{Holder}
-use Rattle.smi_grant.specs.declared.Holder.TheVariants.{Free, Operator, Domain}
 use Rattle.smi_grant.specs.declared.Shown.{Shown}
 use Rattle.smi_grant.specs.Record.{Standing}
 use Rattle.smi_message.specs.declared.Body.{Body}
 use Rattle.smi_message.specs.declared.Body.TheVariants as body
 use Rattle.smi_message.specs.Message.{Message}
 use Rattle.smi_tree.specs.Hierarchy.{Hierarchy}
-use Rattle.smi_tree.specs.Lookups.{station_of, operator_station_of}
-use Rattle.smi_publish.specs.Publishing.{keeper_of}
+use Rattle.smi_tree.specs.Lookups.{station_of}
+use Rattle.smi_roles.specs.Roles.{holder_station, keeper_of}
 use Rattle.smi_command.specs.declared.Link.{Link}
 use Rattle.smi_command.specs.declared.Due.{Due}
 use Rattle.smi_command.specs.declared.Due.TheVariants.{Take, Drop, Run}
@@ -25,12 +24,6 @@ home h d = unwrap_or (station_of h d) 0
 -- the station of an object
 abbrev pub object_home : Hierarchy → ℕ → ℕ
 object_home h x = unwrap_or (keeper_of h x) 0
-
--- the station of a holder
-abbrev pub holder_station : Hierarchy → Holder → Option ℕ
-holder_station h Free = None
-holder_station h (Operator o) = operator_station_of h o
-holder_station h (Domain p) = station_of h p
 
 -- a datagram of this tree
 abbrev pub says : Hierarchy → ℕ → ℕ → Body → Message

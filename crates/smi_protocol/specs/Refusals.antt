@@ -9,27 +9,23 @@ use Rattle.smi_grant.specs.declared.Holder.{Holder}
 use Rattle.smi_grant.specs.declared.Holder.TheVariants.{Operator}
 use Rattle.smi_message.specs.declared.Body.{Body}
 use Rattle.smi_message.specs.declared.Body.TheVariants as body
-use Rattle.smi_message.specs.Message.{Message, is_between}
+use Rattle.smi_message.specs.Message.{Message}
+use Rattle.smi_limits.specs.Between.{is_between}
 use Rattle.smi_tree.specs.Hierarchy.{Hierarchy}
-use Rattle.smi_tree.specs.Lookups.{station_count, state_count, action_count, domain_count, device_count, station_of}
+use Rattle.smi_tree.specs.Lookups.{station_count, state_count, action_count, domain_count}
 use Rattle.smi_tree.specs.Lookups.{operator_station_of}
-use Rattle.smi_publish.specs.Publishing.{is_kept_by}
+use Rattle.smi_roles.specs.Roles.{has_domain, has_object, holder_station, is_command_of, is_holder_of, is_keeper}
+use Rattle.smi_roles.specs.Roles.{is_kept_by, is_number}
 use Rattle.smi_command.specs.declared.Link.{Link}
 use Rattle.smi_command.specs.Order.{take_begun, drop_begun, command_issued}
-use Rattle.smi_rows.specs.Known.{is_number, is_holder_of, is_command_of}
-use Rattle.smi_rows.specs.Stored.{is_out}
+use Rattle.smi_command.specs.Link.{is_out}
 use Rattle.smi_protocol.specs.Grants.{Grants}
-use Rattle.smi_protocol.specs.Messages.{holder_station}
 use Rattle.smi_protocol.specs.Happening.{Happening, Comes, Orders, Reports, Ticks}
 use Rattle.smi_protocol.specs.declared.order.Order.{Order}
 use Rattle.smi_protocol.specs.declared.order.Order.TheVariants as order
 use Rattle.smi_grant.specs.declared.Command.TheVariants.{Do, Include, Exclude, Manual, Ignore}
 
 -- Datagrams.
-
--- the station keeps the domain
-abbrev pub is_keeper : Hierarchy → ℕ → ℕ → Bool
-is_keeper h station d = is_number (station_of h d) station
 
 -- the domain may be the holder's, and the sender is the holder's station
 abbrev pub speaks_for : Hierarchy → ℕ → ℕ → Holder → Bool
@@ -56,14 +52,6 @@ refusal_of_message h number m =
     else Some 9))
 
 -- Orders.
-
--- the tree has the domain
-abbrev pub has_domain : Hierarchy → ℕ → Bool
-has_domain h d = is_between 1 (domain_count h) d
-
--- the tree has the object
-abbrev pub has_object : Hierarchy → ℕ → Bool
-has_object h x = is_between 1 (domain_count h + device_count h) x
 
 -- the tree has what the order names
 abbrev pub is_order_of : Hierarchy → Order → Bool

@@ -12,8 +12,8 @@ use Rattle.smi_publish.specs.Published.{shown_at}
 use Rattle.smi_watchers.specs.Watching.{listed, watcher}
 use Rattle.smi_protocol.specs.Grants.{Grants}
 use Rattle.smi_protocol.specs.Display.{Station}
-use Rattle.smi_protocol.specs.Messages.{home, object_home, holder_station}
-use Rattle.smi_protocol.specs.Refusals.{is_keeper}
+use Rattle.smi_protocol.specs.Messages.{home, object_home}
+use Rattle.smi_roles.specs.Roles.{holder_station, is_keeper}
 use Rattle.smi_protocol.specs.Watching.{is_watched}
 
 -- a link of a holder of the station is due this

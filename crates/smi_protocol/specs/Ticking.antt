@@ -12,7 +12,7 @@ use Rattle.smi_command.specs.declared.Due.TheVariants.{Take, Drop, Run}
 use Rattle.smi_protocol.specs.Grants.{Grants}
 use Rattle.smi_protocol.specs.Display.{Display}
 use Rattle.smi_protocol.specs.Messages.{all_due, requests, asks_about, watches}
-use Rattle.smi_protocol.specs.Refusals.{is_keeper}
+use Rattle.smi_roles.specs.Roles.{is_keeper}
 use Rattle.smi_protocol.specs.Watching.{Notice, noticed, is_watched}
 use Rattle.smi_protocol.specs.declared.place.Place.{Place}
 use Rattle.smi_protocol.specs.declared.place.Place.TheVariants as place

@@ -6,9 +6,9 @@ use Rattle.smi_grant.specs.declared.Version.{Version}
 use Rattle.smi_grant.specs.Record.{Standing}
 use Rattle.smi_message.specs.Message.{Message}
 use Rattle.smi_tree.specs.Hierarchy.{Hierarchy}
-use Rattle.smi_tree.specs.Lookups.{operators_of, parent_of}
+use Rattle.smi_tree.specs.Lookups.{operators_of}
 use Rattle.smi_publish.specs.Published.{shown_at}
-use Rattle.smi_rows.specs.Known.{is_number}
+use Rattle.smi_roles.specs.Roles.{is_child_unit, is_number}
 use Rattle.smi_view.specs.declared.Acceptance.{Acceptance}
 use Rattle.smi_view.specs.declared.Acceptance.TheVariants.{Accepted}
 use Rattle.smi_view.specs.Accepting.{acceptance, last_after}
@@ -18,7 +18,6 @@ use Rattle.smi_protocol.specs.Grants.{put}
 use Rattle.smi_protocol.specs.Display.{Display}
 use Rattle.smi_protocol.specs.Messages.{if_any, shows, unwatches, watches, asks_about, object_home}
 use Rattle.smi_protocol.specs.Happening.{answer, answer_asked}
-use Rattle.smi_protocol.specs.Refusals.{is_keeper}
 use Rattle.smi_protocol.specs.declared.order.Answer.{Answer}
 use Rattle.smi_protocol.specs.declared.order.Order.{Order}
 use Rattle.smi_protocol.specs.declared.order.Order.TheVariants as order
@@ -39,14 +38,6 @@ abbrev pub noticed : Display → List Message → List Answer → Notice
 noticed s sends answers = record { display = s; sends = sends; answers = answers; showed = None }
 
 -- Whom a station watches: the units of its domains' children, and what its operators name.
-
--- the unit of a child of a domain that the station keeps
-abbrev pub is_child_unit : Hierarchy → ℕ → ℕ → Bool
-is_child_unit h number x = is_keeper_of_some h number (parent_of h x)
-  where
-    is_keeper_of_some : Hierarchy → ℕ → Option ℕ → Bool
-    is_keeper_of_some h number None = false
-    is_keeper_of_some h number (Some p) = is_keeper h number p
 
 -- the station watches the object
 abbrev pub is_watched : Hierarchy → ℕ → Display → ℕ → Bool

@@ -1,25 +1,12 @@
 -- How objects come to their states.
-use Rattle.std.specs.Prelude.{ℕ, ◌+◌, ◌-◌, ◌==◌, nat_le, if◌then◌else◌, Bool, false, List, map, Option, Some, None}
-use Rattle.std.specs.Prelude.{option_and_then, option_map}
-use Rattle.std.specs.Option.{option_map_or}
+use Rattle.std.specs.Prelude.{ℕ, ◌+◌, ◌-◌, ◌==◌, if◌then◌else◌, Bool, List, map, Option, None}
+use Rattle.std.specs.Prelude.{option_map}
 use Rattle.std.specs.List.{list_any}
-use Rattle.smi_tree.specs.Hierarchy.{Hierarchy, entry}
-use Rattle.smi_tree.specs.Lookups.{domain_count, station_of, devices_of, first_state, moved, unit_state}
+use Rattle.smi_tree.specs.Hierarchy.{Hierarchy}
+use Rattle.smi_tree.specs.Lookups.{domain_count, devices_of, first_state, moved, unit_state}
+use Rattle.smi_roles.specs.Roles.{is_kept_by}
 use Rattle.smi_publish.specs.declared.condition.Condition.{Condition}
 use Rattle.smi_publish.specs.Published.{condition}
-
--- the domain that an object is in: a unit is in its own
-abbrev pub domain_of : Hierarchy → ℕ → Option ℕ
-domain_of h object =
-    if nat_le object (domain_count h) then Some object
-    else option_map (λ row. row.domain) (entry h.devices (object - domain_count h))
-
--- the station that keeps an object is that of its domain
-abbrev pub keeper_of : Hierarchy → ℕ → Option ℕ
-keeper_of h object = option_and_then (station_of h) (domain_of h object)
-
-abbrev pub is_kept_by : Hierarchy → ℕ → ℕ → Bool
-is_kept_by h station object = option_map_or (λ keeper. keeper == station) (keeper_of h object) false
 
 -- at a start an object has its class's first state
 abbrev pub first_condition : Hierarchy → ℕ → ℕ → Option Condition

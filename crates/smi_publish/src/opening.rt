@@ -2,24 +2,12 @@
 
 ghost use Rattle.std.specs.Prelude.{◌≡◌, ◌+◌, ◌≤◌, Some};
 ghost use Rattle.smi_tree.specs.Lookups.{domain_count, device_count};
-ghost use Rattle.smi_publish.specs.Publishing.{keeper_of, first_condition};
+ghost use Rattle.smi_roles.specs.Roles.{keeper_of};
+ghost use Rattle.smi_publish.specs.Publishing.{first_condition};
 
 use crate::condition::Condition;
+use smi_roles::keeper_of;
 use smi_tree::Tree;
-
-/// The station that keeps an object.
-fn keeper_of(tree: &Tree, object: u16) -> u16
-    requires least { 1 ≤ object }
-    requires most { object ≤ domain_count tree.now + device_count tree.now }
-    ensures { keeper_of tree.now object ≡ Some result }
-{
-    let domains = tree.domain_count();
-    if object <= domains {
-        return tree.domain(object).station;
-    }
-    let device = tree.device(object - domains);
-    tree.domain(device.domain).station
-}
 
 /// The condition of an object at the start of a station, none where another one keeps it.
 pub(crate) fn first_condition(tree: &Tree, station: u16, object: u16) -> Option<Condition>

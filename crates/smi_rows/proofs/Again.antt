@@ -19,8 +19,9 @@ use Rattle.smi_rows.specs.declared.mode.Mode.TheVariants as mode
 use Rattle.smi_rows.specs.declared.row.StoredLink.{StoredLink}
 use Rattle.smi_rows.specs.declared.schema.Schema.{Schema}
 use Rattle.smi_rows.specs.Layout.{command_bytes, commands_bytes, front_bytes, no_command, link_bytes, links_bytes}
-use Rattle.smi_rows.specs.Layout.{u16_at, u32_at}
-use Rattle.smi_rows.specs.Ranges.{is_between, is_grant_epoch, is_command_in, each_command_in, is_grant_in, is_link_in}
+use Rattle.smi_bytes.specs.Bytes.{u16_at, u32_at}
+use Rattle.smi_limits.specs.Between.{is_between}
+use Rattle.smi_rows.specs.Ranges.{is_grant_epoch, is_command_in, each_command_in, is_grant_in, is_link_in}
 use Rattle.smi_rows.specs.Ranges.{each_link_in, rises_above}
 use Rattle.smi_rows.specs.Reading.{has_lists, size_at, are_cut, command_at, commands_at, only_at, others_at}
 use Rattle.smi_rows.specs.Reading.{several_at, held_at, grant_at, link_at, links_at}

@@ -1,6 +1,6 @@
 -- The bytes of rows. All numbers are big-endian.
-use Rattle.std.specs.Prelude.{ℕ, ◌+◌, ◌^◌, ◌<◌, List, [], ◌∷◌, ◌++◌, length, slice_index}
-use Rattle.std.specs.Int.{w16, w32, w64, to_be_bytes, from_be_bytes}
+use Rattle.std.specs.Prelude.{ℕ, ◌^◌, ◌<◌, List, [], ◌∷◌, ◌++◌, length}
+use Rattle.std.specs.Int.{w16, w32, w64, to_be_bytes}
 use Rattle.smi_grant.specs.declared.Command.{Command}
 use Rattle.smi_grant.specs.Command.{verb_of, argument_of}
 use Rattle.smi_grant.specs.Holder.{kind_of, number_of}
@@ -81,17 +81,3 @@ abbrev pub HasFewLinks : Row → Type 0
 HasFewLinks (row.Boot boot) = Unit {0}
 HasFewLinks (row.Domain d) = length d.links < 2 ^ 16
 HasFewLinks (row.Operator links) = length links < 2 ^ 16
-
--- the number in the two, four or eight bytes from a place on
-abbrev pub u16_at : List ℕ → ℕ → ℕ
-u16_at b i = from_be_bytes w16 (slice_index b i ∷ slice_index b (i + 1) ∷ [])
-
-abbrev pub u32_at : List ℕ → ℕ → ℕ
-u32_at b i =
-    from_be_bytes w32 (slice_index b i ∷ slice_index b (i + 1) ∷ slice_index b (i + 2) ∷ slice_index b (i + 3) ∷ [])
-
-abbrev pub u64_at : List ℕ → ℕ → ℕ
-u64_at b i =
-    from_be_bytes w64
-    (slice_index b i ∷ slice_index b (i + 1) ∷ slice_index b (i + 2) ∷ slice_index b (i + 3) ∷ slice_index b (i + 4)
-    ∷ slice_index b (i + 5) ∷ slice_index b (i + 6) ∷ slice_index b (i + 7) ∷ [])

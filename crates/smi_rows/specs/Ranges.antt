@@ -2,6 +2,7 @@
 use Rattle.std.specs.Prelude.{ℕ, ◌%◌, ◌&&◌, ◌==◌, nat_le, nat_lt, not, Bool, true, false, if◌then◌else◌, List, []}
 use Rattle.std.specs.Prelude.{◌∷◌, length, count_by}
 use Rattle.std.specs.List.{list_all, list_any}
+use Rattle.smi_limits.specs.Between.{is_between}
 use Rattle.smi_limits.specs.declared.trees.TheConstants.{MOST_DOMAINS}
 use Rattle.smi_limits.specs.declared.numbers.TheConstants.{LAST_BOOT, MOST_LINKS}
 use Rattle.smi_grant.specs.declared.Command.{Command}
@@ -10,6 +11,7 @@ use Rattle.smi_grant.specs.Holder as holder
 use Rattle.smi_grant.specs.declared.Phase.{Phase}
 use Rattle.smi_grant.specs.declared.Phase.TheVariants.{Settled, Busy}
 use Rattle.smi_grant.specs.Record.{Standing, is_record, is_outcome, last_epoch, last_number}
+use Rattle.smi_command.specs.Link.{is_held, is_out, is_unsettled}
 use Rattle.smi_command.specs.declared.Link.{Link}
 use Rattle.smi_command.specs.declared.Link.TheVariants.{Out, Taking, Held, Dropping}
 use Rattle.smi_rows.specs.declared.key.RowKind.TheVariants as kind
@@ -21,10 +23,7 @@ use Rattle.smi_rows.specs.declared.row.Row.{Row}
 use Rattle.smi_rows.specs.declared.row.Row.TheVariants as row
 use Rattle.smi_rows.specs.declared.schema.Schema.{Schema}
 use Rattle.smi_rows.specs.Schema.{has_modes, last_verb, most_pending_in}
-use Rattle.smi_rows.specs.Stored.{KeptDomain, is_out, is_unsettled}
-
-abbrev pub is_between : ℕ → ℕ → ℕ → Bool
-is_between low high n = nat_le low n && nat_le n high
+use Rattle.smi_rows.specs.Stored.{KeptDomain}
 
 -- a domain is held at odd epochs
 abbrev pub is_grant_epoch : ℕ → Bool
@@ -48,12 +47,6 @@ is_grant_in s (Out k) = is_between 1 last_epoch k
 is_grant_in s (Taking e) = nat_le e last_epoch
 is_grant_in s (Held e n p) = is_grant_epoch e && (nat_le n last_number && are_pending_in s n p)
 is_grant_in s (Dropping e) = is_grant_epoch e
-
-abbrev pub is_held : Link → Bool
-is_held (Out k) = false
-is_held (Taking e) = false
-is_held (Held e n p) = true
-is_held (Dropping e) = false
 
 abbrev pub is_included : Mode → Bool
 is_included Included = true

@@ -24,7 +24,8 @@ use Rattle.smi_rows.specs.declared.schema.Schema.{Schema}
 use Rattle.smi_rows.specs.Fault.{fault_code}
 use Rattle.smi_rows.specs.Key.{kind_of}
 use Rattle.smi_rows.specs.Known.{is_known}
-use Rattle.smi_rows.specs.Layout.{row_bytes, u16_at, u32_at, u64_at}
+use Rattle.smi_rows.specs.Layout.{row_bytes}
+use Rattle.smi_bytes.specs.Bytes.{u16_at, u32_at, u64_at}
 use Rattle.smi_rows.specs.Ranges.{is_row_in}
 use Rattle.smi_rows.specs.Schema.{schema_of, most_pending_in}
 use Rattle.smi_rows.specs.Stored.{KeptDomain, mode_of, stored}

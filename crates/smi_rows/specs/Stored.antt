@@ -1,8 +1,7 @@
 -- What is stored of links and domains.
-use Rattle.std.specs.Prelude.{ℕ, ◌==◌, Bool, true, false, List, [], ◌∷◌, Option, Some, None, if◌then◌else◌}
+use Rattle.std.specs.Prelude.{ℕ, ◌==◌, List, Option, Some, None, if◌then◌else◌}
 use Rattle.smi_grant.specs.Record.{Standing}
 use Rattle.smi_command.specs.declared.Link.{Link}
-use Rattle.smi_command.specs.declared.Link.TheVariants.{Out, Taking, Held, Dropping}
 use Rattle.smi_rows.specs.declared.mode.Mode.{Mode}
 use Rattle.smi_rows.specs.declared.mode.Mode.TheVariants.{Included, Manual, Ignored}
 use Rattle.smi_rows.specs.declared.row.StoredLink.{StoredLink}
@@ -24,17 +23,3 @@ pub record KeptDomain : Type 0 where
   pub standing : Standing
   pub gathered : ℕ
   pub links : List StoredLink
-
-abbrev pub is_out : Link → Bool
-is_out (Out k) = true
-is_out (Taking s) = false
-is_out (Held e n p) = false
-is_out (Dropping e) = false
-
--- a take, a drop or a command is under way
-abbrev pub is_unsettled : Link → Bool
-is_unsettled (Out k) = false
-is_unsettled (Taking s) = true
-is_unsettled (Held e n []) = false
-is_unsettled (Held e n (c ∷ p)) = true
-is_unsettled (Dropping e) = true

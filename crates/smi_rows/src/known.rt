@@ -1,12 +1,13 @@
 //! Which of the values that a row names a tree has.
 
-ghost use Rattle.std.specs.Prelude.{◌≡◌, List};
+ghost use Rattle.std.specs.Prelude.{◌≡◌};
 ghost use Rattle.smi_rows.specs.Known as spec;
 
 use crate::key::Key;
 use crate::row::{Row, StoredLink};
 use smi_command::Link;
-use smi_grant::{Command, Holder};
+use smi_grant::Holder;
+use smi_roles::{is_at, is_command_of, is_holder_of, is_keeper, is_parent};
 use smi_tree::Tree;
 
 /// Whether the tree has what the row of this key names.
@@ -16,48 +17,14 @@ pub(crate) fn is_known(tree: &Tree, key: Key, row: &Row) -> bool
     match row {
         Row::Boot(_) => 1 <= key.station && key.station <= tree.station_count(),
         Row::Domain(domain) => {
-            has_domain(tree, key)
+            is_keeper(tree, key.station, key.domain)
                 && is_holder_of(tree, key.domain, domain.standing.holder)
                 && are_child_links(tree, key.domain, &domain.links)
         }
         Row::Operator(operator) => {
-            has_operator(tree, key) && are_tree_links(tree, &operator.links)
+            is_at(tree, Holder::Operator(key.operator), key.station)
+                && are_tree_links(tree, &operator.links)
         }
-    }
-}
-
-fn has_domain(tree: &Tree, key: Key) -> bool
-    ensures { result ≡ spec.has_domain tree.now key }
-{
-    1 <= key.domain
-        && key.domain <= tree.domain_count()
-        && tree.domain(key.domain).station == key.station
-}
-
-fn has_operator(tree: &Tree, key: Key) -> bool
-    ensures { result ≡ spec.has_operator tree.now key }
-{
-    1 <= key.operator
-        && key.operator <= tree.operator_count()
-        && tree.operator_station(key.operator) == key.station
-}
-
-fn is_holder_of(tree: &Tree, domain: u16, holder: Holder) -> bool
-    ensures { result ≡ spec.is_holder_of tree.now domain holder }
-{
-    match holder {
-        Holder::Free => true,
-        Holder::Operator(operator) => operator <= tree.operator_count(),
-        Holder::Domain(above) => is_parent(tree, domain, above),
-    }
-}
-
-fn is_parent(tree: &Tree, domain: u16, above: u16) -> bool
-    ensures { result ≡ spec.is_parent tree.now domain above }
-{
-    match tree.parent(domain) {
-        Some(parent) => parent == above,
-        None => false,
     }
 }
 
@@ -96,17 +63,5 @@ fn are_commands_of(tree: &Tree, link: &Link) -> bool
             .iter()
             .all(|command| is_command_of(tree, *command)),
         _ => true,
-    }
-}
-
-fn is_command_of(tree: &Tree, command: Command) -> bool
-    ensures { result ≡ spec.is_command_of tree.now command }
-{
-    match command {
-        Command::Do(action) => action <= tree.action_count(),
-        Command::Include(target)
-        | Command::Exclude(target)
-        | Command::Manual(target)
-        | Command::Ignore(target) => target <= tree.domain_count(),
     }
 }

@@ -10,7 +10,6 @@
 //! planned; the store over SQL is a crate of its own.
 #![tactic(auto)]
 
-mod bytes;
 mod fault;
 mod key;
 mod known;

@@ -4,10 +4,10 @@ ghost use Rattle.std.specs.Prelude.{◌≡◌, ◌≤◌, ◌+◌, ◌*◌, true
 ghost use Rattle.std.specs.Prelude.{◌++◌};
 ghost use Rattle.smi_rows.specs.Reading as spec;
 
-use crate::bytes::{u16_at, u32_at, u64_at};
 use crate::mode::Mode;
 use crate::row::StoredLink;
 use crate::schema::Schema;
+use smi_bytes::{u16_at, u32_at, u64_at};
 use smi_command::{Link, Pending};
 use smi_grant::{Command, Holder, Phase, Record};
 

@@ -2,7 +2,6 @@
 
 ghost use Rattle.std.specs.Prelude.{◌≡◌, true};
 ghost use Rattle.smi_rows.specs.Ranges as spec;
-ghost use Rattle.smi_rows.specs.Stored as stored;
 
 use crate::key::RowKind;
 use crate::mode::Mode;
@@ -33,13 +32,7 @@ fn is_operator_in(schema: Schema, operator: &OperatorRow) -> bool
 fn count_not_out(links: &[StoredLink]) -> usize
     ensures { result ≡ spec.count_not_out links.now }
 {
-    links.iter().filter(|stored| !is_out(&stored.link)).count()
-}
-
-fn is_out(link: &Link) -> bool
-    ensures { result ≡ stored.is_out link.now }
-{
-    matches!(link, Link::Out(_))
+    links.iter().filter(|stored| !stored.link.is_out()).count()
 }
 
 fn is_domain_in(schema: Schema, domain: &DomainRow) -> bool
@@ -68,20 +61,7 @@ fn is_work_in(phase: Phase, gathered: u16, links: &[StoredLink]) -> bool
 fn some_unsettled(links: &[StoredLink]) -> bool
     ensures { result ≡ spec.some_unsettled links.now }
 {
-    links.iter().any(|stored| is_unsettled(&stored.link))
-}
-
-fn is_unsettled(link: &Link) -> bool
-    ensures { result ≡ stored.is_unsettled link.now }
-{
-    match link {
-        Link::Out(_) => false,
-        Link::Taking(_) | Link::Dropping(_) => true,
-        Link::Held { pending, .. } => match pending.as_slice() {
-            [] => false,
-            [_, ..] => true,
-        },
-    }
+    links.iter().any(|stored| stored.link.is_unsettled())
 }
 
 fn are_links_in(schema: Schema, links: &[StoredLink]) -> bool
@@ -121,7 +101,7 @@ fn is_link_in(schema: Schema, stored: &StoredLink) -> bool
 fn is_mode_in(schema: Schema, link: &Link, mode: Mode) -> bool
     ensures { result ≡ spec.is_mode_in schema link.now mode }
 {
-    mode == Mode::Included || schema.has_modes() && matches!(link, Link::Held { .. })
+    mode == Mode::Included || schema.has_modes() && link.is_held()
 }
 
 fn is_grant_in(schema: Schema, link: &Link) -> bool

@@ -1,11 +1,9 @@
 //! From the bytes of a row to what it says.
 
 ghost use Rattle.std.specs.Prelude.{◌≡◌, ◌<◌, ◌^◌, true, length, IfOk, ◌≤◌};
-ghost use Rattle.std.specs.Str.{bytes_eq};
 ghost use Rattle.smi_rows.specs.Reading as spec;
 ghost use Rattle.smi_rows.specs.Layout.{HasFewLinks};
 
-use crate::bytes::{u16_at, u32_at};
 use crate::fault::{Fault, RowFault};
 use crate::key::{Key, RowKind};
 use crate::known::is_known;
@@ -14,6 +12,7 @@ use crate::places::{are_cut, link_at, size_at, standing_at};
 use crate::ranges::is_row_in;
 use crate::row::{DomainRow, OperatorRow, Row, StoredLink};
 use crate::schema::Schema;
+use smi_bytes::{u16_at, u32_at};
 use smi_tree::Tree;
 use std::alloc::Global;
 
@@ -26,7 +25,6 @@ const OPERATOR_FRONT: usize = 4;
 impl Row {
     ghost use Rattle.std.specs.Prelude.{◌≡◌, IfOk, Ok, Err, false};
     ghost use Rattle.smi_rows.specs.declared.row.Row.{Row as Said};
-    ghost use Rattle.smi_rows.specs.Fault.{fault_code};
     ghost use Rattle.smi_rows.specs.Known.{is_known};
     ghost use Rattle.smi_rows.specs.Reading.{Reads, row_of, refused};
     ghost use Rattle.smi_rows.specs.Written.{IsWritten, IsRow};

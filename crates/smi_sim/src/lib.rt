@@ -15,7 +15,7 @@ ghost use Rattle.smi_world.specs.Streaming.{ending_of, text_of};
 ghost use Rattle.smi_world.specs.declared.streaming.Streamed.TheVariants.{Ended};
 ghost use Rattle.smi_sim.specs.Ending.{HasFault};
 
-use smi_tools::status::{Status, no_memory, read_fault, write_fault};
+use smi_cli::status::{Status, no_memory, read_fault, write_fault};
 use smi_trace::Unwritten;
 use smi_tree::Tree;
 use smi_world::{Streamed, stream, stream_drawn};

@@ -9,17 +9,17 @@ use Rattle.smi_grant.specs.declared.Holder.TheVariants.{Free, Operator, Domain}
 use Rattle.smi_grant.specs.declared.Version.{Version}
 use Rattle.smi_grant.specs.Holder.{is_free, is_in_range}
 use Rattle.smi_grant.specs.Record.{Standing, is_outcome, is_record, last_number}
-use Rattle.smi_message.specs.Message.{Message, is_between, is_boot, is_body, is_domain, is_grant_epoch, is_party}
+use Rattle.smi_message.specs.Message.{Message, is_boot, is_body, is_domain, is_grant_epoch, is_party}
+use Rattle.smi_limits.specs.Between.{is_between}
 use Rattle.smi_message.specs.declared.Body.{Body}
 use Rattle.smi_message.specs.declared.Body.TheVariants as body
 use Rattle.smi_grant.specs.Command as command
-use Rattle.smi_rows.specs.Known.{is_command_of, is_holder_of, is_number}
+use Rattle.smi_roles.specs.Roles.{is_command_of, is_holder_of, is_number, is_kept_by, is_keeper}
 use Rattle.smi_tree.specs.Hierarchy.{Hierarchy}
 use Rattle.smi_tree.specs.Lawful.{IsBetween, IsTree}
 use Rattle.smi_tree.specs.Lookups.{domain_count, parent_of, station_count}
-use Rattle.smi_publish.specs.Publishing.{is_kept_by}
 use Rattle.smi_protocol.specs.Opening.{object_count}
-use Rattle.smi_protocol.specs.Refusals.{is_body_of, is_keeper, refusal_of_message, speaks_for}
+use Rattle.smi_protocol.specs.Refusals.{is_body_of, refusal_of_message, speaks_for}
 use Rattle.smi_protocol.specs.Showing.{domain_of_body}
 use Rattle.smi_protocol.specs.Sound.{IsCommand}
 use Rattle.smi_protocol.proofs.KeptObjects.{kept_within}

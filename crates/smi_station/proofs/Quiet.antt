@@ -18,7 +18,8 @@ use Rattle.smi_grant.specs.declared.Holder.TheVariants.{Operator}
 use Rattle.smi_protocol.specs.SoundDisplay.{MayChange}
 use Rattle.smi_protocol.specs.Step.{Out, accepted, nothing_out, put_together}
 use Rattle.smi_protocol.specs.Ticking.{tick_noticed}
-use Rattle.smi_protocol.specs.Watching.{Notice, is_child_unit, noticed, order_noticed}
+use Rattle.smi_protocol.specs.Watching.{Notice, noticed, order_noticed}
+use Rattle.smi_roles.specs.Roles.{is_child_unit}
 use Rattle.smi_protocol.specs.Messages.{object_home, unwatches}
 use Rattle.smi_protocol.specs.declared.order.Order.{Order}
 use Rattle.smi_protocol.specs.declared.order.Order.TheVariants as order

@@ -13,7 +13,8 @@ use Rattle.smi_tree.specs.Lookups.{devices_of, domain_count, state_count}
 use Rattle.smi_tree.specs.declared.row.Device.{Device}
 use Rattle.smi_publish.specs.declared.condition.Condition.{Condition}
 use Rattle.smi_publish.specs.Published.{HasRoom, change_at, changes_at, conditions_of}
-use Rattle.smi_publish.specs.Publishing.{device_objects, domain_of, is_kept_by, reported}
+use Rattle.smi_publish.specs.Publishing.{device_objects, reported}
+use Rattle.smi_roles.specs.Roles.{domain_of, is_kept_by}
 use Rattle.smi_protocol.specs.Display.{Display, Station}
 use Rattle.smi_protocol.specs.GrantStep.{unchanged}
 use Rattle.smi_protocol.specs.Happening.{Reports}

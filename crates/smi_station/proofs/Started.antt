@@ -6,7 +6,7 @@ use Rattle.smi_tree.specs.Hierarchy.{Hierarchy}
 use Rattle.smi_tree.specs.Lookups.{first_state}
 use Rattle.smi_publish.specs.declared.condition.Condition.{Condition}
 use Rattle.smi_publish.specs.Published.{condition, last_sequence}
-use Rattle.smi_publish.specs.Publishing.{is_kept_by}
+use Rattle.smi_roles.specs.Roles.{is_kept_by}
 use Rattle.smi_rows.specs.Store.{Rows}
 use Rattle.smi_protocol.specs.Display.{Display, Station}
 use Rattle.smi_protocol.specs.Loading.{Opens}

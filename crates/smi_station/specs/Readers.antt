@@ -10,8 +10,8 @@ use Rattle.smi_publish.specs.Published.{shown_at}
 use Rattle.smi_rows.specs.declared.Mode.{Mode}
 use Rattle.smi_protocol.specs.Display.{Station}
 use Rattle.smi_protocol.specs.declared.fault.OpenFault.{OpenFault}
-use Rattle.smi_protocol.specs.Refusals.{has_domain, is_keeper, speaks_for}
-use Rattle.smi_protocol.specs.Watching.{is_child_unit}
+use Rattle.smi_roles.specs.Roles.{has_domain, is_keeper, is_child_unit}
+use Rattle.smi_protocol.specs.Refusals.{speaks_for}
 use Rattle.smi_station.specs.Core.{Core, number_of, station_of, tree_of}
 
 -- a station and the store of its rows

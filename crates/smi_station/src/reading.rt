@@ -1,33 +1,12 @@
 //! What a station tells of itself.
 
-ghost use Rattle.std.specs.Prelude.{◌≡◌};
-ghost use Rattle.smi_protocol.specs.Refusals as refusals;
-ghost use Rattle.smi_protocol.specs.Watching as watching;
-
 use crate::halves::Core;
 use smi_command::Link;
 use smi_grant::{Holder, Record, Shown};
 use smi_grants::speaks_for;
+use smi_roles::{has_domain, is_child_unit, is_keeper};
 use smi_rows::Mode;
-use smi_tables::is_keeper;
 use smi_tree::Tree;
-
-/// Whether the tree has a domain.
-fn has_domain(tree: &Tree, domain: u16) -> bool
-    ensures { result ≡ refusals.has_domain tree.now domain }
-{
-    1 <= domain && domain <= tree.domain_count()
-}
-
-/// Whether an object is the unit of a child of a domain that the station keeps.
-fn is_child_unit(tree: &Tree, number: u16, object: u16) -> bool
-    ensures { result ≡ watching.is_child_unit tree.now number object }
-{
-    match tree.parent(object) {
-        Some(parent) => is_keeper(tree, number, parent),
-        None => false,
-    }
-}
 
 impl<'a> Core<'a> {
     ghost use Rattle.std.specs.Prelude.{◌≡◌};

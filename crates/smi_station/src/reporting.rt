@@ -2,7 +2,6 @@
 
 ghost use Rattle.std.specs.Prelude.{◌≡◌, false, true};
 ghost use Rattle.smi_display.specs.Displayed.{display_of};
-ghost use Rattle.smi_display.specs.Listening.{KeepsTheRest};
 ghost use Rattle.smi_protocol.specs.Happening.{Reports, Ticks};
 ghost use Rattle.smi_protocol.specs.Refusals.{is_report_here};
 ghost use Rattle.smi_protocol.specs.SoundDisplay.{MayChange};
@@ -35,7 +34,7 @@ fn domain_of(kept: &Kept<'_>, device: u16) -> u16
     requires least { 1 ≤ device }
     ensures domain { IsBetween 1 (domain_count kept.now.tree) result }
     ensures among { In (domain_count kept.now.tree + device) (device_objects kept.now.tree result) }
-    ensures of { publishing.domain_of kept.now.tree (domain_count kept.now.tree + device) ≡ Some result }
+    ensures of { roles.domain_of kept.now.tree (domain_count kept.now.tree + device) ≡ Some result }
     ensures device { IsBetween 1 (device_count kept.now.tree) device }
 {
     let tree = kept.tree();
@@ -44,8 +43,9 @@ fn domain_of(kept: &Kept<'_>, device: u16) -> u16
 
 ghost use Rattle.std.specs.Prelude.{◌≤◌, ◌+◌, Some};
 ghost use Rattle.smi_protocol.specs.Sound.{In};
-ghost use Rattle.smi_publish.specs.Publishing as publishing;
-ghost use Rattle.smi_publish.specs.Publishing.{device_objects, is_kept_by};
+ghost use Rattle.smi_roles.specs.Roles as roles;
+ghost use Rattle.smi_publish.specs.Publishing.{device_objects};
+ghost use Rattle.smi_roles.specs.Roles.{is_kept_by};
 ghost use Rattle.smi_tree.specs.Lawful.{IsBetween};
 ghost use Rattle.smi_tree.specs.Lookups.{device_count, domain_count};
 

@@ -1,11 +1,9 @@
-//! Tables by number, as a station keeps them, and who keeps what by the tree.
+//! Tables by number, as a station keeps them.
 //!
 //! A station's tables are lists whose entries are counted from 1. What does not stand in them has a default, so a
 //! table is read at any number ([`entry_of`]); contracts see it as a function of the number.
 #![tactic(auto)]
 
 mod entries;
-mod places;
 
 pub use entries::entry_of;
-pub use places::is_keeper;

@@ -9,7 +9,8 @@ use Rattle.smi_grants.specs.Kept.{grants_of}
 use Rattle.smi_out.specs.Handed.{sent_after}
 use Rattle.smi_protocol.specs.Grants.{Grants}
 use Rattle.smi_protocol.specs.Hearing.{parent_told}
-use Rattle.smi_protocol.specs.Messages.{holder_station, requests_due}
+use Rattle.smi_roles.specs.Roles.{holder_station}
+use Rattle.smi_protocol.specs.Messages.{requests_due}
 use Rattle.smi_protocol.specs.Sound.{IsLink, most_handed_on}
 use Rattle.smi_protocol.specs.Step.{Out}
 use Rattle.smi_tree.specs.Hierarchy.{Hierarchy}

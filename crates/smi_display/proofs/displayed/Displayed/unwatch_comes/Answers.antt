@@ -1,6 +1,6 @@
 use Rattle.std.proofs.Common.{◌≡◌, subst, sym, arith}
 use Rattle.std.specs.Prelude.{true}
-use Rattle.smi_publish.specs.Publishing.{is_kept_by}
+use Rattle.smi_roles.specs.Roles.{is_kept_by}
 use Rattle.smi_protocol.proofs.KeptObjects.{kept_within}
 use Rattle.smi_display.specs.Displayed.{Displayed}
 use Rattle.smi_display.proofs.Displays.{unwatch_kept}

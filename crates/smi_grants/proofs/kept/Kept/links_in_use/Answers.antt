@@ -1,6 +1,6 @@
 use Rattle.std.proofs.Common.{◌≡◌, ◌≤◌, [], true, length, ap, sym, ◌∙◌, subst, arith}
 use Rattle.smi_tree.specs.Lookups.{domain_count, operator_station_of}
-use Rattle.smi_rows.specs.Known.{is_number}
+use Rattle.smi_roles.specs.Roles.{is_number}
 use Rattle.smi_grants.specs.Kept.{Kept, count_in_use}
 use Rattle.smi_tables.specs.Entries.{entry_or}
 use Rattle.smi_tables.proofs.Writes.{entry_read}

@@ -1,5 +1,5 @@
 use Rattle.std.proofs.Common.{◌≡◌, sym, true, subst, arith}
-use Rattle.smi_rows.specs.Known.{is_parent}
+use Rattle.smi_roles.specs.Roles.{is_parent}
 use Rattle.smi_grants.specs.Kept.{Kept}
 use Rattle.smi_grants.proofs.ChildTables.{child_put, child_inside}
 use Rattle.smi_grants.proofs.kept.Kept.put_child.Goals as goal

@@ -2,7 +2,7 @@ use Rattle.std.proofs.Common.{◌≡◌, ◌≤◌, ◌-◌, [], length, ap, sym
 use Rattle.std.proofs.Math.ListN.{set, length-set}
 use Rattle.smi_tree.specs.Lawful.{IsBetween}
 use Rattle.smi_tree.specs.Lookups.{domain_count, operator_count, operator_station_of}
-use Rattle.smi_rows.specs.Known.{is_number}
+use Rattle.smi_roles.specs.Roles.{is_number}
 use Rattle.smi_grants.specs.Kept.{Kept}
 use Rattle.smi_tables.specs.Entries.{entry_or}
 use Rattle.smi_tables.proofs.Writes.{entry_read}

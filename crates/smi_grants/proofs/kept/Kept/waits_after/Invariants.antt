@@ -1,7 +1,7 @@
 use Rattle.std.proofs.Common.{◌≡◌, drop}
 use Rattle.std.specs.List.{list_any}
 use Rattle.smi_grant.specs.declared.Holder.TheVariants.{Domain}
-use Rattle.smi_rows.specs.Stored.{is_unsettled}
+use Rattle.smi_command.specs.Link.{is_unsettled}
 use Rattle.smi_protocol.specs.Keeping.{commanded}
 use Rattle.smi_grants.specs.Kept.{grants_of}
 use Rattle.smi_grants.proofs.kept.Kept.waits_after.Given as goal

@@ -1,0 +1,11 @@
+//! Who keeps, who may hold and who stands above what, by the tree: what rows, datagrams and orders are measured by.
+//!
+//! A station keeps domains and with them their devices; a domain is held by nobody, by an operator of the tree, or by
+//! the domain above it (docs/PROTOCOL.md, "The record"). No function takes memory.
+#![tactic(auto)]
+
+mod holding;
+mod keeping;
+
+pub use holding::{holder_station, is_at, is_child_unit, is_command_of, is_holder_of, is_parent};
+pub use keeping::{has_domain, has_object, is_keeper, is_kept_by, keeper_of};
