@@ -6,7 +6,6 @@ use crate::displayed::Displayed;
 use smi_grant::Record;
 use smi_out::{Out, ask, object_home, unwatch, watch};
 use smi_protocol::{Answer, Order, Told};
-use smi_roles::is_child_unit;
 use smi_tables::entry_of;
 
 /// An operator is told the code of an order.
@@ -100,7 +99,7 @@ impl<'a> Displayed<'a> {
         ensures rest { KeepsTheRest self.old self.new }
     {
         let told = answered(operator, Order::Unwatch(object), 0);
-        if is_child_unit(self.tree, self.number, object) {
+        if self.is_child_unit(object) {
             out.answer(told);
             return;
         }

@@ -61,11 +61,18 @@ impl<'a> Displayed<'a> {
     ghost use Rattle.smi_display.specs.Displayed.{display_of};
     ghost use Rattle.smi_display.specs.Listening.{KeepsTheRest};
 
+    /// Whether an object is the unit of a child of a domain that the station keeps.
+    pub(crate) fn is_child_unit(&self, object: u16) -> bool
+        ensures { result ≡ is_child_unit self.now.tree self.now.number object }
+    {
+        is_child_unit(self.tree, self.number, object)
+    }
+
     /// Whether the station watches an object.
     pub(crate) fn is_watched(&self, object: u16) -> bool
         ensures { result ≡ is_watched self.now.tree self.now.number (display_of self.now) object }
     {
-        entry_of(&self.named, object, false) || is_child_unit(self.tree, self.number, object)
+        entry_of(&self.named, object, false) || self.is_child_unit(object)
     }
 
     /// What an object shows is sent to a station that watches it.

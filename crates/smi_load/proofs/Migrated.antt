@@ -17,7 +17,7 @@ use Rattle.smi_rows.specs.declared.Row.{Row}
 use Rattle.smi_rows.specs.declared.RowKind.{RowKind}
 use Rattle.smi_rows.specs.declared.Row.TheVariants as row
 use Rattle.smi_rows.specs.Key.{kind_of}
-use Rattle.smi_rows.specs.Known.{has_domain, has_operator}
+use Rattle.smi_roles.specs.Roles.{is_keeper, is_number}
 use Rattle.smi_rows.specs.Reading.{row_of}
 use Rattle.smi_rows.specs.Schema.{newest}
 use Rattle.smi_rows.specs.Store.{IsListing, IsSame, Rows, Saved, found_in, is_before, rises, rises_after, same_key}
@@ -358,7 +358,7 @@ module _ (h : Hierarchy) (number : ℕ) where
       record { station = own; domain = omega (arith, d); operator = omega (arith, o) }
   own_key tree k b (row.Domain d) own is =
       let a = row_about h k b (row.Domain d) is in
-      let known = and_parts (has_domain h k) _ (read_is_row h k b (row.Domain d) is).1 in
+      let known = and_parts (is_keeper h k.station k.domain) _ (read_is_row h k b (row.Domain d) is).1 in
       let there = (kept_there h tree k.station k.domain known.0).0 in
       let o : k.operator ≡ 0 = eqb-true k.operator 0 a.0 in
       record {
@@ -368,7 +368,9 @@ module _ (h : Hierarchy) (number : ℕ) where
       }
   own_key tree k b (row.Operator links) own is =
       let a = row_about h k b (row.Operator links) is in
-      let known = and_parts (has_operator h k) _ (read_is_row h k b (row.Operator links) is).1 in
+      let known =
+      and_parts (is_number (operator_station_of h k.operator) k.station) _
+      (read_is_row h k b (row.Operator links) is).1 in
       let d : k.domain ≡ 0 = eqb-true k.domain 0 a.1 in
       let within = number_within h.homes k.operator k.station
       (number_is (operator_station_of h k.operator) k.station known.0) in

@@ -15,7 +15,7 @@ use Rattle.smi_command.specs.declared.Link.{Link}
 use Rattle.smi_command.specs.declared.Link.TheVariants.{Out, Taking, Held, Dropping}
 use Rattle.smi_command.specs.Pending.{most_pending}
 use Rattle.smi_tree.specs.Hierarchy.{Hierarchy}
-use Rattle.smi_tree.specs.Lookups.{children_of, domain_count, parent_of}
+use Rattle.smi_tree.specs.Lookups.{children_of, domain_count, operator_station_of, parent_of}
 use Rattle.smi_rows.specs.declared.Key.{Key}
 use Rattle.smi_rows.specs.declared.Mode.{Mode}
 use Rattle.smi_rows.specs.declared.Mode.TheVariants.{Included, Manual, Ignored}
@@ -26,9 +26,9 @@ use Rattle.smi_rows.specs.declared.RowKind.{RowKind}
 use Rattle.smi_rows.specs.declared.RowKind.TheVariants as kind
 use Rattle.smi_rows.specs.declared.Schema.{Schema}
 use Rattle.smi_rows.specs.declared.StoredLink.{StoredLink}
-use Rattle.smi_rows.specs.Known.{are_child_links, are_commands_of, are_tree_links, has_domain, has_operator}
+use Rattle.smi_rows.specs.Known.{are_child_links, are_commands_of, are_tree_links}
 use Rattle.smi_rows.specs.Known.{is_child_link, is_tree_link}
-use Rattle.smi_roles.specs.Roles.{is_command_of, is_holder_of, is_parent}
+use Rattle.smi_roles.specs.Roles.{is_command_of, is_holder_of, is_keeper, is_number, is_parent}
 use Rattle.smi_rows.specs.Ranges.{are_links_in, are_pending_in, count_not_out, each_command_in, each_link_in}
 use Rattle.smi_rows.specs.Ranges.{is_command_in, is_domain_in, is_grant_in, is_link_in, is_mode_in}
 use Rattle.smi_command.specs.Link.{is_held, is_out, is_unsettled}
@@ -256,7 +256,7 @@ module _ (h : Hierarchy) (number : ℕ) (rows : Rows) where
           let a = and_parts (is_standing k.standing) _ range in
           let c = and_parts (is_work_in k.standing.phase k.gathered k.links) (are_links_in s k.links) a.1 in
           let links = and_parts (rises_above 0 k.links) (each_link_in s k.links) c.1 in
-          let known = and_parts (has_domain h (key number d 0)) _ is.1 in
+          let known = and_parts (is_keeper h number d) _ is.1 in
           let names = and_parts (is_holder_of h d k.standing.holder) (are_child_links h d k.links) known.1 in
           let ranges = all_of (is_link_in s) (λ x. is_link_in s x ≡ true) (λ x t. t) k.links links.1 in
           let children = all_of (is_child_link h d) (λ x. is_child_link h d x ≡ true) (λ x t. t) k.links names.1 in
@@ -327,7 +327,7 @@ module _ (h : Hierarchy) (number : ℕ) (rows : Rows) where
       kept range =
           let a = and_parts (are_links_in s links) (nat_le (count_not_out links) 16) range in
           let c = and_parts (rises_above 0 links) (each_link_in s links) a.0 in
-          let known = and_parts (has_operator h (key number 0 o)) (are_tree_links h links) is.1 in
+          let known = and_parts (is_number (operator_station_of h o) number) (are_tree_links h links) is.1 in
           let ranges = all_of (is_link_in s) (λ x. is_link_in s x ≡ true) (λ x t. t) links c.1 in
           let names = all_of (is_tree_link h) (λ x. is_tree_link h x ≡ true) (λ x t. t) links known.1 in
           record {
