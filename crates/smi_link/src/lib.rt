@@ -20,6 +20,3 @@ mod udp;
 pub use link::{DATAGRAM_BYTES, DatagramLink, LinkFault, MOST_BYTES, Reception};
 pub use memory::MemoryLink;
 pub use udp::UdpLink;
-
-#[cfg(test)]
-mod tests;

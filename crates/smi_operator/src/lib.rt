@@ -19,6 +19,3 @@ mod work;
 pub use ends::{Desk, Finished, Seat};
 pub use meeting::open_seats;
 pub use work::Work;
-
-#[cfg(test)]
-mod tests;

@@ -19,6 +19,3 @@ mod publisher;
 
 pub use changes::{Changes, MOST_CHANGES};
 pub use publisher::Publisher;
-
-#[cfg(test)]
-mod tests;

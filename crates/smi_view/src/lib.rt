@@ -26,6 +26,3 @@ pub use board::{Board, open_board};
 pub use glance::{Glance, News, NoReading};
 pub use history::{Blank, BoardId, Rows};
 pub use view::{Acceptance, View, is_newer};
-
-#[cfg(test)]
-mod tests;

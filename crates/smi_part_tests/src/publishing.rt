@@ -4,8 +4,8 @@ ghost use Rattle.std.specs.Prelude.{◌≡◌, ℕ, IfOk};
 ghost use Rattle.smi_tree.specs.Lookups.{domain_count};
 ghost use Rattle.smi_publish.specs.Published.{HasRoom, conditions_of};
 
-use crate::{Changes, Publisher};
 use smi_grant::{Shown, Version};
+use smi_publish::{Changes, Publisher};
 use smi_tree::{Tree, TreeFault};
 use std::alloc::Global;
 use std::process::Abort;

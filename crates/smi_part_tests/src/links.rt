@@ -4,7 +4,7 @@ ghost use Rattle.std.specs.Prelude.{ℕ, ◌≡◌, ◌++◌, ◌∷◌, [], Lis
 
 mod loopback;
 
-use crate::{DatagramLink, LinkFault, MemoryLink, Reception, UdpLink};
+use smi_link::{DatagramLink, LinkFault, MemoryLink, Reception, UdpLink};
 use std::net::UdpSocket;
 use std::test::Fail;
 

@@ -2,8 +2,8 @@
 
 ghost use Rattle.std.specs.Prelude.{◌≡◌};
 
-use crate::{Acceptance, Blank, Board, BoardId, Glance, NoReading, View, open_board};
 use smi_grant::{Shown, Version};
+use smi_view::{Acceptance, Blank, Board, BoardId, Glance, NoReading, View, open_board};
 use std::alloc::{AllocError, Global};
 use std::marker::Brand;
 use std::sync::Wait;

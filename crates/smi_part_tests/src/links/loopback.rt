@@ -1,6 +1,6 @@
 //! Links at addresses of this machine.
 
-use crate::{DatagramLink, Reception, UdpLink};
+use smi_link::{DatagramLink, Reception, UdpLink};
 use std::alloc::{AllocError, Global};
 use std::io;
 use std::net::{SocketAddr, UdpSocket};

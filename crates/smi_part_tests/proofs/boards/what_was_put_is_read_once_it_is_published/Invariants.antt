@@ -1,4 +1,4 @@
-use Rattle.smi_view.proofs.tests.what_was_put_is_read_once_it_is_published.Given as goal
+use Rattle.smi_part_tests.proofs.boards.what_was_put_is_read_once_it_is_published.Given as goal
 
 -- the book of the history that was just begun
 abbrev pub ghosts-over_board : goal.ghosts-over_board

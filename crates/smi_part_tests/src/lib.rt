@@ -1,0 +1,11 @@
+//! Tests of links, boards, seats and publishers by their public functions: here, so that those crates are proved once.
+#![tactic(auto)]
+
+#[cfg(test)]
+mod boards;
+#[cfg(test)]
+mod links;
+#[cfg(test)]
+mod publishing;
+#[cfg(test)]
+mod seats;
