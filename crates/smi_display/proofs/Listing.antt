@@ -8,6 +8,7 @@ use Rattle.std.proofs.Math.ListN.{set}
 use Rattle.std.proofs.lemmas.List.Recursion.{is_count_by}
 use Rattle.std.proofs.lemmas.List.{take_all}
 use Rattle.std.proofs.lemmas.Option.{slice_get_within}
+use Rattle.smi_limits.specs.declared.trees.TheConstants.{MOST_CHILDREN, MOST_DEVICES_OF_A_DOMAIN}
 use Rattle.smi_tree.specs.Hierarchy.{Hierarchy, is_child_of, is_device_of}
 use Rattle.smi_tree.specs.Lawful.{IsTree}
 use Rattle.smi_tree.specs.Lookups.{children_of, device_count, devices_of, numbers_from, operators_of}
@@ -92,12 +93,12 @@ drop_next xs i d within = drop-cons xs i d within ∙ ap (λ n. get_or xs i d �
     later i = omega arith
 
 -- so many devices, children and operators at most
-pub few_devices : (h : Hierarchy) → IsTree h → (d : ℕ) → length (devices_of h d) ≤ 16
-few_devices h tree d = subst (λ n. n ≤ 16) (sym (numbers_counted (is_device_of d) h.devices))
+pub few_devices : (h : Hierarchy) → IsTree h → (d : ℕ) → length (devices_of h d) ≤ MOST_DEVICES_OF_A_DOMAIN
+few_devices h tree d = subst (λ n. n ≤ MOST_DEVICES_OF_A_DOMAIN) (sym (numbers_counted (is_device_of d) h.devices))
     (tree.lawful.devices.of_domain d)
 
-pub few_children : (h : Hierarchy) → IsTree h → (d : ℕ) → length (children_of h d) ≤ 16
-few_children h tree d = subst (λ n. n ≤ 16) (sym (numbers_counted (is_child_of d) h.domains))
+pub few_children : (h : Hierarchy) → IsTree h → (d : ℕ) → length (children_of h d) ≤ MOST_CHILDREN
+few_children h tree d = subst (λ n. n ≤ MOST_CHILDREN) (sym (numbers_counted (is_child_of d) h.domains))
     (tree.lawful.domains.children d)
 
 pub few_operators : (h : Hierarchy) → IsTree h → (number : ℕ) → length (operators_of h number) ≤ 8

@@ -10,6 +10,7 @@ use Rattle.std.proofs.lemmas.List.Elements.{filter_map-append}
 use Rattle.std.proofs.lemmas.List.Sums.{sum_by-append, sum_by-cons}
 use Rattle.std.proofs.Common.{Bool, true, false, cond}
 use Rattle.std.specs.Prelude.{if◌then◌else◌}
+use Rattle.smi_limits.specs.declared.trees.TheConstants.{MOST_CHILDREN}
 use Rattle.smi_tree.specs.Hierarchy.{Hierarchy, is_child_of}
 use Rattle.smi_tree.specs.Lawful.{IsTree}
 use Rattle.smi_tree.specs.Lookups.{numbers_from, children_of}
@@ -40,7 +41,7 @@ length-numbers_from test first (row ∷ rows) =
     ≡ cond b 1 0 + count_by test rows)
     [ true ↦ omega (arith, later) | false ↦ omega (arith, later) ])
 
-pub few_children : (h : Hierarchy) (d : ℕ) → IsTree h → length (children_of h d) ≤ 16
+pub few_children : (h : Hierarchy) (d : ℕ) → IsTree h → length (children_of h d) ≤ MOST_CHILDREN
 few_children h d tree = omega (arith, length-numbers_from (is_child_of d) 1 h.domains, tree.lawful.domains.children d)
 
 listed_once : {Y : Type 0} (o : Option Y) → cons_option o [] ≡ option_to_list o

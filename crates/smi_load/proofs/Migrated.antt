@@ -8,6 +8,7 @@ use Rattle.std.specs.Option.{option_map_or}
 use Rattle.std.proofs.lemmas.Bool.{and_from, and_parts, eqb-true}
 use Rattle.std.proofs.lemmas.Bool.Decides.{nat_tests}
 use Rattle.std.proofs.lemmas.List.Recursion.{is_count_by}
+use Rattle.smi_limits.specs.declared.trees.TheConstants.{MOST_DOMAINS, MOST_OPERATORS}
 use mathlib.Core.Path.{fun_ext}
 use Rattle.smi_tree.specs.Hierarchy.{Hierarchy}
 use Rattle.smi_tree.specs.Lawful.{IsTree}
@@ -347,8 +348,8 @@ module _ (h : Hierarchy) (number : ℕ) where
   -- a key of one of the station's rows
   record IsOwnKey (k : Key) : Type 0 where
     pub station : k.station ≡ number
-    pub domain : k.domain ≤ 128
-    pub operator : k.operator ≤ 32
+    pub domain : k.domain ≤ MOST_DOMAINS
+    pub operator : k.operator ≤ MOST_OPERATORS
 
   own_key : IsTree h → (k : Key) (b : List ℕ) (s : Row) → k.station ≡ number → row_of h k b ≡ Ok s → IsOwnKey k
   own_key tree k b (row.Boot boot) own is =

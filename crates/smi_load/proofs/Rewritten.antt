@@ -4,6 +4,8 @@ use Rattle.std.proofs.Common.{◌∙◌, subst, arith}
 use Rattle.std.specs.Prelude.{◌==◌, ◌&&◌, nat_le, if◌then◌else◌}
 use Rattle.std.proofs.lemmas.Bool.{and_from, and_parts, leb-true}
 use Rattle.std.proofs.lemmas.Bool.Decides.{nat_tests}
+use Rattle.smi_limits.specs.declared.trees.TheConstants.{MOST_DOMAINS}
+use Rattle.smi_limits.specs.declared.numbers.TheConstants.{MOST_LINKS}
 use Rattle.smi_grant.specs.declared.Command.{Command}
 use Rattle.smi_grant.specs.Command.{is_in_range, verb_of}
 use Rattle.smi_grant.specs.Record.{last_number}
@@ -79,7 +81,7 @@ module _ (s t : Schema) (says : SaysMore s t) where
   links_more [] all = refl
   links_more (x ∷ links) all =
       let a = and_parts (is_link_in s x) (each_link_in s links) all in
-      let b = and_parts (is_between 1 128 x.domain) (is_grant_in s x.link && is_mode_in s x.link x.mode) a.0 in
+      let b = and_parts (is_between 1 MOST_DOMAINS x.domain) (is_grant_in s x.link && is_mode_in s x.link x.mode) a.0 in
       let c = and_parts (is_grant_in s x.link) (is_mode_in s x.link x.mode) b.1 in
       and_from _ _ (and_from _ _ b.0 (and_from _ _ (grant_more x.link c.0) (mode_more x.link x.mode c.1)))
       (links_more links a.1)
@@ -98,7 +100,7 @@ module _ (s t : Schema) (says : SaysMore s t) where
   row_more kind.Operator (row.Boot boot) range = clash (sym range)
   row_more kind.Operator (row.Domain d) range = clash (sym range)
   row_more kind.Operator (row.Operator links) range =
-      let a = and_parts (are_links_in s links) (nat_le (count_not_out links) 16) range in
+      let a = and_parts (are_links_in s links) (nat_le (count_not_out links) MOST_LINKS) range in
       let c = and_parts (rises_above 0 links) (each_link_in s links) a.0 in
       and_from _ _ (and_from _ _ c.0 (links_more links c.1)) a.1
 
@@ -225,7 +227,7 @@ module _ (h : Hierarchy) (k : Key) (b : List ℕ) (r : Row) (is : IsRow h k b r)
       by kind.Boot (row.Operator links) range = clash (sym range)
       by kind.Domain (row.Operator links) range = clash (sym range)
       by kind.Operator (row.Operator links) range =
-          let a = and_parts (are_links_in is.0.0 links) (nat_le (count_not_out links) 16) range in
+          let a = and_parts (are_links_in is.0.0 links) (nat_le (count_not_out links) MOST_LINKS) range in
           let c = and_parts (rises_above 0 links) (each_link_in is.0.0 links) a.0 in
           let few = rising-few is.0.0 0 links (omega arith) c.0 c.1 in
           omega (arith, few)

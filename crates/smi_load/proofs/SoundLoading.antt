@@ -7,6 +7,8 @@ use Rattle.std.specs.List.{AllByRecursion, list_all, list_any, range_with_len}
 use Rattle.std.proofs.lemmas.Bool.{and_from, and_parts, eqb-true, leb-true}
 use Rattle.std.proofs.lemmas.Bool.Decides.{nat_tests}
 use Rattle.std.proofs.lemmas.List.Recursion.{is_count_by}
+use Rattle.smi_limits.specs.declared.trees.TheConstants.{MOST_DOMAINS}
+use Rattle.smi_limits.specs.declared.numbers.TheConstants.{MOST_LINKS}
 use Rattle.smi_grant.specs.declared.Command.{Command}
 use Rattle.smi_grant.specs.declared.Phase.{Phase}
 use Rattle.smi_grant.specs.declared.Phase.TheVariants.{Settled, Busy}
@@ -325,18 +327,19 @@ module _ (h : Hierarchy) (number : ℕ) (rows : Rows) where
 
       kept : is_operator_in s links ≡ true → IsKeptOperator h links
       kept range =
-          let a = and_parts (are_links_in s links) (nat_le (count_not_out links) 16) range in
+          let a = and_parts (are_links_in s links) (nat_le (count_not_out links) MOST_LINKS) range in
           let c = and_parts (rises_above 0 links) (each_link_in s links) a.0 in
           let known = and_parts (is_number (operator_station_of h o) number) (are_tree_links h links) is.1 in
           let ranges = all_of (is_link_in s) (λ x. is_link_in s x ≡ true) (λ x t. t) links c.1 in
           let names = all_of (is_tree_link h) (λ x. is_tree_link h x ≡ true) (λ x t. t) links known.1 in
           record {
-            few = leb-true (count_not_out links) 16 a.1;
+            few = leb-true (count_not_out links) MOST_LINKS a.1;
             within =
                 both_all (λ x. is_link_in s x ≡ true) (λ x. is_tree_link h x ≡ true)
                 (λ (x : StoredLink). is_between 1 (domain_count h) x.domain ≡ true)
                 (λ x t u.
-                let p = and_parts (is_between 1 128 x.domain) (is_grant_in s x.link && is_mode_in s x.link x.mode) t in
+                let p = and_parts (is_between 1 MOST_DOMAINS x.domain)
+                (is_grant_in s x.link && is_mode_in s x.link x.mode) t in
                 and_from _ _ (and_parts (nat_le 1 x.domain) _ p.0).0
                 (and_parts (nat_le x.domain (domain_count h)) _ u).0)
                 links ranges names;

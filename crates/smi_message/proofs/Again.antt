@@ -3,6 +3,8 @@ use Rattle.std.proofs.Common.{◌≡◌, ℕ, ◌<◌, ◌≤◌, ◌^◌, Bool,
 use Rattle.std.specs.Prelude.{◌&&◌, ◌||◌, ◌==◌, nat_le}
 use Rattle.std.proofs.lemmas.Bool.{and_parts}
 use Rattle.std.proofs.lemmas.Bool.Decides.{nat_tests}
+use Rattle.smi_limits.specs.declared.trees.TheConstants.{MOST_DOMAINS, MOST_OBJECTS, MOST_STATES, MOST_STATIONS}
+use Rattle.smi_limits.specs.declared.numbers.TheConstants.{LAST_BOOT, LAST_SEQUENCE}
 use Rattle.smi_grant.specs.declared.Holder.{Holder}
 use Rattle.smi_grant.specs.declared.Holder.TheVariants.{Free, Operator, Domain}
 use Rattle.smi_grant.specs.declared.Command.{Command}
@@ -110,12 +112,12 @@ le_of n m h = grind (arith, nat_tests)
 between_of : (low high n : ℕ) → is_between low high n ≡ true → n ≤ high
 between_of low high n h = grind (arith, nat_tests)
 
-holder_small : (h : Holder) → holder.is_in_range h ≡ true → number_of h ≤ 128
+holder_small : (h : Holder) → holder.is_in_range h ≡ true → number_of h ≤ MOST_DOMAINS
 holder_small Free h = omega arith
 holder_small (Operator n) h = grind (arith, nat_tests)
 holder_small (Domain n) h = grind (arith, nat_tests)
 
-party_small : (h : Holder) → is_party h ≡ true → number_of h ≤ 128
+party_small : (h : Holder) → is_party h ≡ true → number_of h ≤ MOST_DOMAINS
 party_small h p = holder_small h (and_parts (holder.odd_of h == 1) _ p).1
 
 verb_small : (c : Command) → verb_of c ≤ 5
@@ -125,7 +127,7 @@ verb_small (Exclude t) = omega arith
 verb_small (Manual t) = omega arith
 verb_small (Ignore t) = omega arith
 
-argument_small : (c : Command) → command.is_in_range c ≡ true → argument_of c ≤ 128
+argument_small : (c : Command) → command.is_in_range c ≡ true → argument_of c ≤ MOST_DOMAINS
 argument_small (Do a) h = grind (arith, nat_tests)
 argument_small (Include t) h = grind (arith, nat_tests)
 argument_small (Exclude t) h = grind (arith, nat_tests)
@@ -136,8 +138,8 @@ outcome_small : (x : ℕ) → is_outcome x ≡ true → x ≤ 9
 outcome_small x h = grind (arith, nat_tests)
 
 record Addressed (f t n : ℕ) : Type 0 where
-  from : f ≤ 128
-  to : t ≤ 128
+  from : f ≤ MOST_STATIONS
+  to : t ≤ MOST_STATIONS
   tree : n ≤ 65535
 
 addressed : (from to tree : ℕ) → is_addressed from to tree ≡ true → Addressed from to tree
@@ -149,19 +151,19 @@ addressed from to tree h = record {
 
 -- the numbers of a datagram that not all kinds have
 record Small (f : Fields) : Type 0 where
-  subject : f.subject ≤ 640
-  holder : f.holder ≤ 128
-  code : f.code ≤ 64
+  subject : f.subject ≤ MOST_OBJECTS
+  holder : f.holder ≤ MOST_DOMAINS
+  code : f.code ≤ MOST_STATES
   epoch : f.epoch ≤ last_epoch
   number : f.number ≤ last_number
-  argument : f.argument ≤ 128
-  echo : f.echo ≤ 4000000000
-  boot : f.boot ≤ 4000000000
-  sequence : f.sequence ≤ 4000000000
+  argument : f.argument ≤ MOST_DOMAINS
+  echo : f.echo ≤ LAST_BOOT
+  boot : f.boot ≤ LAST_BOOT
+  sequence : f.sequence ≤ LAST_SEQUENCE
 
 small : (from to tree : ℕ) (b : Body) → is_body b ≡ true → Small (fields_of from to tree b)
 small from to tree (body.Ask d) h =
-    let s = between_of 1 128 d h in
+    let s = between_of 1 MOST_DOMAINS d h in
     record {
       subject = omega arith;
       holder = omega arith;
@@ -176,7 +178,7 @@ small from to tree (body.Ask d) h =
 small from to tree (body.Take d x e) h =
     let a = and_parts (is_domain d) _ h in
     let b = and_parts (is_party x) (nat_le e last_epoch) a.1 in
-    let s = between_of 1 128 d a.0 in
+    let s = between_of 1 MOST_DOMAINS d a.0 in
     let n = party_small x b.0 in
     let l = le_of e last_epoch b.1 in
     record {
@@ -194,7 +196,7 @@ small from to tree (body.Drop d x e) h =
     let a = and_parts (is_domain d) _ h in
     let b = and_parts (is_party x) (is_grant_epoch e) a.1 in
     let c = and_parts (nat_le e last_epoch) _ b.1 in
-    let s = between_of 1 128 d a.0 in
+    let s = between_of 1 MOST_DOMAINS d a.0 in
     let n = party_small x b.0 in
     let l = le_of e last_epoch c.0 in
     record {
@@ -214,7 +216,7 @@ small from to tree (body.Run d x e m c) h =
     let g = and_parts (is_grant_epoch e) _ b.1 in
     let i = and_parts (nat_le e last_epoch) _ g.0 in
     let j = and_parts (is_between 1 last_number m) (command.is_in_range c) g.1 in
-    let s = between_of 1 128 d a.0 in
+    let s = between_of 1 MOST_DOMAINS d a.0 in
     let n = party_small x b.0 in
     let l = le_of e last_epoch i.0 in
     let o = between_of 1 last_number m j.0 in
@@ -237,7 +239,7 @@ small from to tree (body.Tell d r) h =
     let c = and_parts (is_outcome r.outcome) (is_record r) b.1 in
     let g = and_parts (nat_le r.epoch last_epoch) _ c.1 in
     let i = and_parts (nat_le r.last last_number) _ g.1 in
-    let s = between_of 1 128 d a.0 in
+    let s = between_of 1 MOST_DOMAINS d a.0 in
     let n = holder_small r.holder b.0 in
     let v = outcome_small r.outcome c.0 in
     let l = le_of r.epoch last_epoch g.0 in
@@ -255,8 +257,8 @@ small from to tree (body.Tell d r) h =
     }
 small from to tree (body.Watch x e) h =
     let a = and_parts (is_object x) (is_boot e) h in
-    let s = between_of 1 640 x a.0 in
-    let n = between_of 1 4000000000 e a.1 in
+    let s = between_of 1 MOST_OBJECTS x a.0 in
+    let n = between_of 1 LAST_BOOT e a.1 in
     record {
       subject = omega arith;
       holder = omega arith;
@@ -271,13 +273,13 @@ small from to tree (body.Watch x e) h =
 small from to tree (body.State x e v t) h =
     let a = and_parts (is_object x) _ h in
     let b = and_parts (is_boot e) _ a.1 in
-    let c = and_parts (is_version v) (is_between 1 64 t) b.1 in
-    let g = and_parts (is_boot v.boot) (nat_le v.sequence 4000000000) c.0 in
-    let s = between_of 1 640 x a.0 in
-    let n = between_of 1 4000000000 e b.0 in
-    let o = between_of 1 4000000000 v.boot g.0 in
-    let l = le_of v.sequence 4000000000 g.1 in
-    let w = between_of 1 64 t c.1 in
+    let c = and_parts (is_version v) (is_between 1 MOST_STATES t) b.1 in
+    let g = and_parts (is_boot v.boot) (nat_le v.sequence LAST_SEQUENCE) c.0 in
+    let s = between_of 1 MOST_OBJECTS x a.0 in
+    let n = between_of 1 LAST_BOOT e b.0 in
+    let o = between_of 1 LAST_BOOT v.boot g.0 in
+    let l = le_of v.sequence LAST_SEQUENCE g.1 in
+    let w = between_of 1 MOST_STATES t c.1 in
     record {
       subject = omega arith;
       holder = omega arith;
@@ -291,8 +293,8 @@ small from to tree (body.State x e v t) h =
     }
 small from to tree (body.Unwatch x e) h =
     let a = and_parts (is_object x) (is_boot e) h in
-    let s = between_of 1 640 x a.0 in
-    let n = between_of 1 4000000000 e a.1 in
+    let s = between_of 1 MOST_OBJECTS x a.0 in
+    let n = between_of 1 LAST_BOOT e a.1 in
     record {
       subject = omega arith;
       holder = omega arith;

@@ -5,6 +5,7 @@ use Rattle.std.specs.Prelude.{◌==◌, nat_le, slice_get, unwrap_or, option_and
 use Rattle.std.specs.List.{AllByRecursion}
 use Rattle.std.proofs.lemmas.Bool.{and_from, and_parts, eqb-true, eq-eqb, leb-true}
 use Rattle.std.proofs.lemmas.Bool.Decides.{nat_tests}
+use Rattle.smi_limits.specs.declared.trees.TheConstants.{MOST_DOMAINS, MOST_OPERATORS, MOST_STATIONS}
 use Rattle.smi_grant.specs.declared.Command.{Command}
 use Rattle.smi_grant.specs.declared.Holder.{Holder}
 use Rattle.smi_grant.specs.declared.Holder.TheVariants.{Free, Operator, Domain}
@@ -176,7 +177,7 @@ pub holder_there : (h : Hierarchy) → IsTree h → (d : ℕ) (who : Holder) →
     → IsBetween 1 (station_count h) (unwrap_or (holder_station h who) 0)
 holder_there h tree d Free party range known = absurd cc
 holder_there h tree d (Operator o) party range known =
-    let a = and_parts (nat_le 1 o) (nat_le o 32) range in
+    let a = and_parts (nat_le 1 o) (nat_le o MOST_OPERATORS) range in
     let most : o ≤ operator_count h = leb-true o (operator_count h) known in
     let r = row_there h.homes o
     (record { least = leb-true 1 o a.0; most = omega (arith, most, tree.lawful.operators.rows) }) in
@@ -203,14 +204,14 @@ module _ (h : Hierarchy) (tree : IsTree h) where
           )
 
   pub domain_in : (d : ℕ) → IsBetween 1 (domain_count h) d → is_domain d ≡ true
-  domain_in d within = between 1 128 d within.least (omega (arith, within.most, tree.lawful.domains.most))
+  domain_in d within = between 1 MOST_DOMAINS d within.least (omega (arith, within.most, tree.lawful.domains.most))
 
   -- an operator of a station is there
   pub operator_there : (station o : ℕ) → is_number (operator_station_of h o) station ≡ true
       → is_party (Operator o) ≡ true
   operator_there station o t =
       let within = number_within h.homes o station (number_is (operator_station_of h o) station t) in
-      and_from _ _ refl (between 1 32 o within.least
+      and_from _ _ refl (between 1 MOST_OPERATORS o within.least
       (omega (arith, within.most, tree.lawful.operators.rows, tree.lawful.operators.most)))
 
   pub domain_party : (p : ℕ) → IsBetween 1 (domain_count h) p → is_party (Domain p) ≡ true
@@ -222,8 +223,8 @@ module _ (h : Hierarchy) (tree : IsTree h) where
         → is_message (says h number to b) ≡ true
     message_in to b there fits =
         and_from _ _
-        (and_from _ _ (between 1 128 number here.least (omega (arith, here.most, tree.lawful.stations)))
-        (and_from _ _ (between 1 128 to there.least (omega (arith, there.most, tree.lawful.stations)))
+        (and_from _ _ (between 1 MOST_STATIONS number here.least (omega (arith, here.most, tree.lawful.stations)))
+        (and_from _ _ (between 1 MOST_STATIONS to there.least (omega (arith, there.most, tree.lawful.stations)))
         (between 1 65535 h.number tree.number tree.lawful.number)))
         fits
 

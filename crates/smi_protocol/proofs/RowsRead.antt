@@ -5,6 +5,8 @@ use Rattle.std.specs.Prelude.{◌==◌, ◌&&◌, ◌||◌, ◌%◌, nat_le, nat
 use Rattle.std.specs.List.{AllByRecursion, cons_option, filter_map, list_all, list_any, range_with_len}
 use Rattle.std.proofs.lemmas.Bool.{and_from}
 use Rattle.std.proofs.lemmas.Bool.Decides.{nat_tests}
+use Rattle.smi_limits.specs.declared.trees.TheConstants.{MOST_DOMAINS}
+use Rattle.smi_limits.specs.declared.numbers.TheConstants.{MOST_LINKS}
 use Rattle.smi_grant.specs.declared.Command.{Command}
 use Rattle.smi_grant.specs.declared.Command.TheVariants.{Do, Include, Exclude, Manual, Ignore}
 use Rattle.smi_grant.specs.declared.Holder.TheVariants.{Operator, Domain}
@@ -213,8 +215,8 @@ module _ (h : Hierarchy) (tree : IsTree h) (g : Grants) (sound : IsSound h g) wh
       let parent = parent_is h d x a in
       let there = (child_there h tree x d parent).0 in
       let says = link_says h of_domains most_handed_on refl refl (g.links (Domain d) x) (sound.child d x) s.heard in (
-        and_from _ _ (subst (λ z. is_between 1 128 z ≡ true) (sym s.domain)
-            (between 1 128 x there.least (omega (arith, there.most, tree.lawful.domains.most))))
+        and_from _ _ (subst (λ z. is_between 1 MOST_DOMAINS z ≡ true) (sym s.domain)
+            (between 1 MOST_DOMAINS x there.least (omega (arith, there.most, tree.lawful.domains.most))))
             (and_from _ _ (subst (λ z. is_grant_in of_domains z ≡ true) (sym s.link) says.0)
             (subst (λ z. is_mode_in of_domains z y.mode ≡ true) (sym s.link)
             (subst (λ z. is_mode_in of_domains (g.links (Domain d) x) z ≡ true) (sym s.mode)
@@ -282,8 +284,8 @@ module _ (h : Hierarchy) (tree : IsTree h) (g : Grants) (sound : IsSound h g) wh
       let least : 1 ≤ x = r.0 in
       let less : x < 1 + domain_count h = r.1 in
       let says = link_says h of_operators most_pending refl refl (g.links (Operator o) x) (sound.own o x) s.heard in (
-        and_from _ _ (subst (λ z. is_between 1 128 z ≡ true) (sym s.domain)
-            (between 1 128 x least (omega (arith, less, tree.lawful.domains.most))))
+        and_from _ _ (subst (λ z. is_between 1 MOST_DOMAINS z ≡ true) (sym s.domain)
+            (between 1 MOST_DOMAINS x least (omega (arith, less, tree.lawful.domains.most))))
             (and_from _ _ (subst (λ z. is_grant_in of_operators z ≡ true) (sym s.link) says.0)
             (subst (λ z. is_mode_in of_operators y.link z ≡ true) (sym s.mode) refl)),
         and_from _ _ (subst (λ z. nat_le z (domain_count h) ≡ true) (sym s.domain)
@@ -314,7 +316,7 @@ module _ (h : Hierarchy) (tree : IsTree h) (g : Grants) (sound : IsSound h g) wh
                 (omega arith))
                 (all_chosen (λ d. stored_if d (g.links (Operator o) d) mode.Included) (is_link_in of_operators)
                 (range_with_len 1 (domain_count h)) (λ x y a is. (own_fits o x y a is).0)))
-                (at_most _ 16 (omega (arith, few, most)));
+                (at_most _ MOST_LINKS (omega (arith, few, most)));
             bytes = refl;
           },
         ),

@@ -6,6 +6,7 @@ use Rattle.std.specs.Prelude.{IfSome, if◌then◌else◌}
 use Rattle.std.specs.List.{AllByRecursion, flat_map, range_with_len}
 use Rattle.std.proofs.lemmas.Bool.{and_from, and_parts, leb-true}
 use Rattle.std.proofs.lemmas.Bool.Decides.{nat_tests}
+use Rattle.smi_limits.specs.declared.trees.TheConstants.{MOST_OBJECTS, MOST_STATES}
 use Rattle.smi_grant.specs.declared.Holder.{Holder}
 use Rattle.smi_grant.specs.declared.Holder.TheVariants.{Operator, Domain}
 use Rattle.smi_grant.specs.declared.Shown.{Shown}
@@ -105,7 +106,7 @@ owed_both xs ys a b y i = elim (in_both y xs ys i) [ inl c ↦ a y c | inr c ↦
 
 module _ (h : Hierarchy) (tree : IsTree h) where
   object_in : (x : ℕ) → IsBetween 1 (object_count h) x → is_object x ≡ true
-  object_in x within = between 1 640 x within.least
+  object_in x within = between 1 MOST_OBJECTS x within.least
       (omega (arith, within.most, tree.lawful.domains.most, tree.lawful.devices.most))
 
   -- the station of an object
@@ -140,7 +141,7 @@ module _ (h : Hierarchy) (tree : IsTree h) (number : ℕ) (here : IsBetween 1 (s
       (and_from _ _ (object_in h tree s.object sound.object)
       (and_from _ _ begun
       (and_from _ _ sound.version
-      (between 1 64 s.state sound.state.least (omega (arith, sound.state.most, tree.lawful.states))))))
+      (between 1 MOST_STATES s.state sound.state.least (omega (arith, sound.state.most, tree.lawful.states))))))
 
   watches_in : (boot x : ℕ) → is_boot boot ≡ true → IsBetween 1 (object_count h) x
       → is_message (watches h number boot x) ≡ true

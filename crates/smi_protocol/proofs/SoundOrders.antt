@@ -5,6 +5,7 @@ use Rattle.std.specs.Option.{option_or}
 use Rattle.std.specs.List.{range_with_len}
 use Rattle.std.proofs.lemmas.Bool.{and_from, and_parts, leb-true, leb-false}
 use Rattle.std.proofs.lemmas.Bool.Decides.{nat_tests}
+use Rattle.smi_limits.specs.declared.trees.TheConstants.{MOST_ACTIONS, MOST_DOMAINS}
 use Rattle.smi_grant.specs.declared.Command.{Command}
 use Rattle.smi_grant.specs.declared.Command.TheVariants.{Do, Include, Exclude, Manual, Ignore}
 use Rattle.smi_grant.specs.declared.Holder.{Holder}
@@ -176,17 +177,17 @@ action_command h a tree t =
     let most : a ≤ action_count h = leb-true a (action_count h) p.1 in
     record { range = and_from _ _ p.0 (within a (omega (arith, most, tree.lawful.actions))); known = p.1 }
   where
-    within : (a : ℕ) → a ≤ 64 → nat_le a 64 ≡ true
+    within : (a : ℕ) → a ≤ MOST_ACTIONS → nat_le a MOST_ACTIONS ≡ true
     within a few = grind (arith, nat_tests)
 
 target_range : (h : Hierarchy) (t : ℕ) → IsTree h → has_domain h t ≡ true
-    → (nat_le 1 t && nat_le t 128 ≡ true) × (nat_le t (domain_count h) ≡ true)
+    → (nat_le 1 t && nat_le t MOST_DOMAINS ≡ true) × (nat_le t (domain_count h) ≡ true)
 target_range h t tree is =
     let p = and_parts (nat_le 1 t) (nat_le t (domain_count h)) is in
     let most : t ≤ domain_count h = leb-true t (domain_count h) p.1 in
     (and_from _ _ p.0 (within t (omega (arith, most, tree.lawful.domains.most))), p.1)
   where
-    within : (t : ℕ) → t ≤ 128 → nat_le t 128 ≡ true
+    within : (t : ℕ) → t ≤ MOST_DOMAINS → nat_le t MOST_DOMAINS ≡ true
     within t few = grind (arith, nat_tests)
 
 module _ (h : Hierarchy) (tree : IsTree h) (number : ℕ) (g : Grants) (sound : IsSound h g) (o : ℕ) where

@@ -5,6 +5,7 @@ use Rattle.std.specs.Prelude.{count_by, ◌==◌, if◌then◌else◌}
 use Rattle.std.specs.List.{AllByRecursion, list_any}
 use Rattle.std.proofs.lemmas.Bool.Decides.{nat_tests}
 use Rattle.std.proofs.lemmas.List.Sums.{sum_by-cons}
+use Rattle.smi_limits.specs.declared.trees.TheConstants.{MOST_DEVICES, MOST_DEVICES_OF_A_DOMAIN}
 use Rattle.smi_tree.specs.Hierarchy.{Hierarchy, is_device_of}
 use Rattle.smi_tree.specs.Lawful.{IsTree}
 use Rattle.smi_tree.specs.Lookups.{numbers_from, devices_of}
@@ -82,7 +83,7 @@ length-numbers_from test first (row ∷ rows) =
 
 -- the numbers of a domain's devices are numbers of devices
 pub device_at : (h : Hierarchy) (domain i d : ℕ) → IsTree h → i < length (devices_of h domain)
-    → IsFrom 1 512 (get_or (devices_of h domain) i d)
+    → IsFrom 1 MOST_DEVICES (get_or (devices_of h domain) i d)
 device_at h domain i d tree within =
     let at : IsFrom 1 (length h.devices) (get_or (devices_of h domain) i d) =
     all_at (IsFrom 1 (length h.devices)) (devices_of h domain) i d
@@ -92,6 +93,6 @@ device_at h domain i d tree within =
       most = omega (arith, at.most, tree.lawful.devices.rows, tree.lawful.devices.most);
     }
 
-pub few_devices : (h : Hierarchy) (domain : ℕ) → IsTree h → length (devices_of h domain) ≤ 16
+pub few_devices : (h : Hierarchy) (domain : ℕ) → IsTree h → length (devices_of h domain) ≤ MOST_DEVICES_OF_A_DOMAIN
 few_devices h domain tree =
     omega (arith, length-numbers_from (is_device_of domain) 1 h.devices, tree.lawful.devices.of_domain domain)

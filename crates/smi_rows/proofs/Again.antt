@@ -7,6 +7,7 @@ use Rattle.std.proofs.lemmas.Bool.{and_parts, and_from, leb-true, le-leb, lt-ltb
 use Rattle.std.proofs.lemmas.Bool.Decides.{nat_tests}
 use Rattle.std.proofs.lemmas.Nat.{from_be_bytes-to_be_bytes_2, from_be_bytes-to_be_bytes_4}
 use Rattle.std.proofs.lemmas.Nat.{from_be_bytes-to_be_bytes_8}
+use Rattle.smi_limits.specs.declared.trees.TheConstants.{MOST_DOMAINS}
 use Rattle.smi_grant.specs.declared.Command.{Command}
 use Rattle.smi_grant.specs.declared.Command.TheVariants.{Do, Include, Exclude, Manual, Ignore}
 use Rattle.smi_grant.specs.Command as command
@@ -197,9 +198,9 @@ most_eight s = grind (arith, nat_tests)
 link-stands : (s : Schema) (d : ℕ) (l : Link) (m : Mode) (more : List ℕ) → is_link_in s (stored d l m) ≡ true
     → Stands s (stored d l m) more
 link-stands s d l m more h =
-    let a = and_parts (is_between 1 128 d) _ h in
+    let a = and_parts (is_between 1 MOST_DOMAINS d) _ h in
     let b = and_parts (is_grant_in s l) _ a.1 in
-    let small : d ≤ 128 = leb-true _ _ (and_parts (nat_le 1 d) _ a.0).1 in
+    let small : d ≤ MOST_DOMAINS = leb-true _ _ (and_parts (nat_le 1 d) _ a.0).1 in
     by_form l (omega arith) b.0
   where
     by_form : (l : Link) → d < 2 ^ 16 → is_grant_in s l ≡ true → Stands s (stored d l m) more
@@ -251,14 +252,14 @@ links-again s (x ∷ xs) h =
     ∙ ap (option_map (λ rest. x ∷ rest)) (links-again s xs a.1)
 
 -- so many numbers from 1 to 128 rise
-pub rising-few : (s : Schema) (low : ℕ) (xs : List StoredLink) → low ≤ 128 → rises_above low xs ≡ true
-    → each_link_in s xs ≡ true → low + length xs ≤ 128
+pub rising-few : (s : Schema) (low : ℕ) (xs : List StoredLink) → low ≤ MOST_DOMAINS → rises_above low xs ≡ true
+    → each_link_in s xs ≡ true → low + length xs ≤ MOST_DOMAINS
 rising-few s low [] l r h = omega arith
 rising-few s low (x ∷ xs) l r h =
     let a = and_parts (nat_lt low x.domain) _ r in
     let b = and_parts (is_link_in s x) _ h in
-    let d = and_parts (is_between 1 128 x.domain) _ b.0 in
-    let small : x.domain ≤ 128 = leb-true _ _ (and_parts (nat_le 1 x.domain) _ d.0).1 in
+    let d = and_parts (is_between 1 MOST_DOMAINS x.domain) _ b.0 in
+    let small : x.domain ≤ MOST_DOMAINS = leb-true _ _ (and_parts (nat_le 1 x.domain) _ d.0).1 in
     let above : low < x.domain = ltb-true _ _ a.0 in
-    let rest : x.domain + length xs ≤ 128 = rising-few s x.domain xs small a.1 b.1 in
+    let rest : x.domain + length xs ≤ MOST_DOMAINS = rising-few s x.domain xs small a.1 b.1 in
     omega arith

@@ -9,6 +9,7 @@ use Rattle.std.proofs.lemmas.Bool.Decides.{nat_tests}
 use Rattle.std.proofs.lemmas.Nat.{from_be_bytes-to_be_bytes_2, from_be_bytes-to_be_bytes_4}
 use Rattle.std.proofs.lemmas.Nat.{from_be_bytes-to_be_bytes_8}
 use Rattle.std.proofs.lemmas.Slice.Eq.{bytes_eq-Decides}
+use Rattle.smi_limits.specs.declared.numbers.TheConstants.{LAST_BOOT}
 use Rattle.smi_grant.specs.declared.Holder.{Holder}
 use Rattle.smi_grant.specs.declared.Holder.TheVariants.{Free, Operator, Domain}
 use Rattle.smi_grant.specs.declared.Phase.{Phase}
@@ -52,7 +53,7 @@ record ReadsAgain (s : Schema) (k : RowKind) (r : Row) : Type 0 where
 
 boot-again : (s : Schema) (boot : ℕ) → is_boot boot ≡ true → ReadsAgain s kind.Boot (row.Boot boot)
 boot-again s boot h =
-    let l : boot ≤ 4000000000 = leb-true _ _ (and_parts (nat_le 1 boot) _ h).1 in
+    let l : boot ≤ LAST_BOOT = leb-true _ _ (and_parts (nat_le 1 boot) _ h).1 in
     record {
       some = omega arith;
       first = refl;

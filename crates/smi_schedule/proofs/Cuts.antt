@@ -7,6 +7,7 @@ use Rattle.std.proofs.lemmas.List.{take_rest}
 use Rattle.std.specs.List.{position_or_len, slice_index}
 use Rattle.std.specs.Str.Lines.{lines, strip_carriage_return}
 use Rattle.std.specs.Io.KnownBytes.{Keeps}
+use Rattle.smi_limits.specs.declared.trees.TheConstants.{MOST_BYTES_OF_A_LINE}
 use Rattle.smi_tree.specs.Text.{is_line_feed}
 use Rattle.smi_tree.proofs.Cutting.{either, lines-front, lines-last}
 use Rattle.smi_schedule.specs.declared.lines.Cut.{Cut}
@@ -67,7 +68,8 @@ last_taken read rest items from n rest_is items_is n_is none some =
     let over : drop n read ≡ [] = drop_all n read (omega arith) in
     lines-last rest none some ∙ ap (λ (t : List ℕ). t ∷ []) own ∙ ap (λ (t : List ℕ). items ∷ lines t) (sym over)
 
-strip-long : (line : List ℕ) → 201 < length line → 200 < length (strip_carriage_return line)
+strip-long : (line : List ℕ) → MOST_BYTES_OF_A_LINE + 1 < length line → MOST_BYTES_OF_A_LINE < length
+    (strip_carriage_return line)
 strip-long line long = elim (either (slice_index line (length line - 1) == 13)) [
   | inl cut ↦ rw cut (omega (arith, length-take (length line - 1) line))
   | inr on ↦ rw on (omega arith)
@@ -75,7 +77,8 @@ strip-long line long = elim (either (slice_index line (length line - 1) == 13)) 
 
 -- so many bytes without a line feed
 pub too_long : (rest later : List ℕ) → length rest ≤ position_or_len is_line_feed rest → 201 < length rest
-    → (first : List ℕ) × (more : List (List ℕ)) × (lines (rest ++ later) ≡ first ∷ more) × (200 < length first)
+    → (first : List ℕ) × (more : List (List ℕ)) × (lines (rest ++ later) ≡ first ∷ more) ×
+    (MOST_BYTES_OF_A_LINE < length first)
 too_long rest later none long =
     let text = rest ++ later in
     let end = position_or_len is_line_feed text in

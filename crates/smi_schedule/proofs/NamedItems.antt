@@ -4,6 +4,7 @@ use Rattle.std.proofs.Common.{Option, Some, None, Result, Ok, Err, IfOk, refl, s
 use Rattle.std.specs.Prelude.{◌==◌, ◌&&◌, nat_lt, if◌then◌else◌, ok_or}
 use Rattle.std.proofs.lemmas.Bool.{and_from}
 use Rattle.std.proofs.lemmas.Bool.Decides.{nat_tests}
+use Rattle.smi_limits.specs.declared.trees.TheConstants.{MOST_BYTES_OF_A_LINE}
 use Rattle.smi_limits.specs.Between.{is_between}
 use Rattle.smi_tree.specs.Fault.{◌>>=◌}
 use Rattle.smi_tree.specs.Name.{number_of}
@@ -141,7 +142,7 @@ module _ (h : Hierarchy) where
 
   line_named : (line : List ℕ) → Items (item_in h line)
   unfolding item_in
-  line_named line = by (nat_lt 200 (length line))
+  line_named line = by (nat_lt MOST_BYTES_OF_A_LINE (length line))
     where
       by : (b : Bool) → Items (if b then Err LineTooLong else item_by h (words line))
       by true = tt

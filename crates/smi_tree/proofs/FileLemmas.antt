@@ -4,6 +4,7 @@ use Rattle.std.proofs.Common.{Err, refl, ap, ◌∙◌, sym, subst, ◌⊎◌, i
 use Rattle.std.proofs.lemmas.Bool.Decides.{nat_tests}
 use Rattle.std.specs.Prelude.{nat_lt}
 use Rattle.std.specs.Str.Lines.{lines}
+use Rattle.smi_limits.specs.declared.trees.TheConstants.{MOST_BYTES_OF_A_FILE}
 use Rattle.smi_tree.specs.Fault.{fault_code}
 use Rattle.smi_tree.specs.Hierarchy.{Hierarchy, undeclared}
 use Rattle.smi_tree.specs.File.{with_line, with_lines, go_on, at_line, is_complete, ended, tree_of}
@@ -83,17 +84,17 @@ fault-of (line ∷ more) number h n code is =
           faulty = stands;
         }
 
-short-of : (bytes : List ℕ) → nat_lt 262144 (length bytes) ≡ false → length bytes ≤ 262144
+short-of : (bytes : List ℕ) → nat_lt MOST_BYTES_OF_A_FILE (length bytes) ≡ false → length bytes ≤ MOST_BYTES_OF_A_FILE
 short-of bytes h = grind (arith, nat_tests)
 
-long-of : (bytes : List ℕ) → nat_lt 262144 (length bytes) ≡ true → 262144 < length bytes
+long-of : (bytes : List ℕ) → nat_lt MOST_BYTES_OF_A_FILE (length bytes) ≡ true → MOST_BYTES_OF_A_FILE < length bytes
 long-of bytes h = grind (arith, nat_tests)
 
-not-long : (bytes : List ℕ) → length bytes ≤ 262144 → nat_lt 262144 (length bytes) ≡ false
+not-long : (bytes : List ℕ) → length bytes ≤ MOST_BYTES_OF_A_FILE → nat_lt MOST_BYTES_OF_A_FILE (length bytes) ≡ false
 not-long bytes h = grind (arith, nat_tests)
 
 -- what was read where the whole file was
-whole : (bytes : List ℕ) (h made : Hierarchy) (c : Bool) → nat_lt 262144 (length bytes) ≡ false →
+whole : (bytes : List ℕ) (h made : Hierarchy) (c : Bool) → nat_lt MOST_BYTES_OF_A_FILE (length bytes) ≡ false →
     with_lines 1 undeclared (lines bytes) ≡ Ok made → is_complete made ≡ c →
     cond c (Ok made) (Err (at_line 0 Incomplete)) ≡ Ok h → IsTreeFile bytes h
 whole bytes h made true short read full is =
@@ -102,7 +103,8 @@ whole bytes h made true short read full is =
     (record { short = short-of bytes short; made = made-of (lines bytes) 1 undeclared made read; complete = full })
 whole bytes h made false short read full is = cc
 
-file : (bytes : List ℕ) (h : Hierarchy) (b : Bool) (r : Result Hierarchy TreeFault) → nat_lt 262144 (length bytes) ≡ b →
+file : (bytes : List ℕ) (h : Hierarchy) (b : Bool) (r : Result Hierarchy TreeFault) → nat_lt MOST_BYTES_OF_A_FILE
+    (length bytes) ≡ b →
     with_lines 1 undeclared (lines bytes) ≡ r → cond b (Err (at_line 0 FileTooLong)) (ended r) ≡ Ok h
     → IsTreeFile bytes h
 file bytes h true r long read is = cc
@@ -111,7 +113,8 @@ file bytes h false (Ok made) short read is = whole bytes h made (is_complete mad
 
 pub accepted : (bytes : List ℕ) (h : Hierarchy) → (tree_of bytes ≡ Ok h) ↔ IsTreeFile bytes h
 unfolding tree_of
-accepted bytes h = (file bytes h (nat_lt 262144 (length bytes)) (with_lines 1 undeclared (lines bytes)) refl refl, back)
+accepted bytes h = (file bytes h (nat_lt MOST_BYTES_OF_A_FILE (length bytes)) (with_lines 1 undeclared
+    (lines bytes)) refl refl, back)
   where
     back : IsTreeFile bytes h → tree_of bytes ≡ Ok h
     back f = rw (not-long bytes f.short) (rw (of-made (lines bytes) 1 undeclared h f.made) (rw f.complete refl))
@@ -122,7 +125,7 @@ unended bytes number code made true some is = cc
 unended bytes number code made false some is = let none : 0 ≡ number = cc in absurd (omega (arith, none, some))
 
 faulty : (bytes : List ℕ) (number code : ℕ) (b : Bool) (r : Result Hierarchy TreeFault) → 1 ≤ number
-    → nat_lt 262144 (length bytes) ≡ b →
+    → nat_lt MOST_BYTES_OF_A_FILE (length bytes) ≡ b →
     with_lines 1 undeclared (lines bytes) ≡ r → cond b (Err (at_line 0 FileTooLong)) (ended r)
     ≡ Err (Line number code) →
     HasFaultyLine bytes number code
@@ -149,14 +152,15 @@ faulty bytes number code false (Err fault) some short read is =
 pub faulty-line : (bytes : List ℕ) (number code : ℕ) → 1 ≤ number → tree_of bytes ≡ Err (Line number code)
     → HasFaultyLine bytes number code
 unfolding tree_of
-faulty-line bytes number code some is = faulty bytes number code (nat_lt 262144 (length bytes))
+faulty-line bytes number code some is = faulty bytes number code (nat_lt MOST_BYTES_OF_A_FILE (length bytes))
     (with_lines 1 undeclared (lines bytes)) some refl refl is
 
 -- a fault that has no line
 abbrev Whole : List ℕ → ℕ → Type 0
-Whole bytes code = ((code ≡ 11) × (262144 < length bytes)) ⊎ ((code ≡ 12) × IsIncomplete bytes)
+Whole bytes code = ((code ≡ 11) × (MOST_BYTES_OF_A_FILE < length bytes)) ⊎ ((code ≡ 12) × IsIncomplete bytes)
 
-missing : (bytes : List ℕ) (code : ℕ) (made : Hierarchy) (c : Bool) → nat_lt 262144 (length bytes) ≡ false →
+missing : (bytes : List ℕ) (code : ℕ) (made : Hierarchy) (c : Bool) → nat_lt MOST_BYTES_OF_A_FILE (length bytes)
+    ≡ false →
     with_lines 1 undeclared (lines bytes) ≡ Ok made → is_complete made ≡ c →
     cond c (Ok made) (Err (at_line 0 Incomplete)) ≡ Err (Line 0 code) → Whole bytes code
 missing bytes code made true short read full is = cc
@@ -172,7 +176,8 @@ missing bytes code made false short read full is =
       },
     )
 
-lineless : (bytes : List ℕ) (code : ℕ) (b : Bool) (r : Result Hierarchy TreeFault) → nat_lt 262144 (length bytes) ≡ b →
+lineless : (bytes : List ℕ) (code : ℕ) (b : Bool) (r : Result Hierarchy TreeFault) → nat_lt MOST_BYTES_OF_A_FILE
+    (length bytes) ≡ b →
     with_lines 1 undeclared (lines bytes) ≡ r → cond b (Err (at_line 0 FileTooLong)) (ended r) ≡ Err (Line 0 code)
     → Whole bytes code
 lineless bytes code true r long read is = let e : 11 ≡ code = cc in inl (sym e, long-of bytes long)
@@ -183,5 +188,5 @@ lineless bytes code false (Err fault) short read is =
 
 pub whole-fault : (bytes : List ℕ) (code : ℕ) → tree_of bytes ≡ Err (Line 0 code) → Whole bytes code
 unfolding tree_of
-whole-fault bytes code is = lineless bytes code (nat_lt 262144 (length bytes))
+whole-fault bytes code is = lineless bytes code (nat_lt MOST_BYTES_OF_A_FILE (length bytes))
     (with_lines 1 undeclared (lines bytes)) refl refl is

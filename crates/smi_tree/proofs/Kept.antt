@@ -8,6 +8,10 @@ use Rattle.std.specs.Prelude.{ok_or, ◌&&◌}
 use Rattle.std.specs.Option.{option_map_or}
 use Rattle.std.specs.List.{AllByRecursion, list_any, sum_by}
 use Rattle.std.proofs.lemmas.List.Sums.{sum_by-append}
+use Rattle.smi_limits.specs.declared.trees.TheConstants.{MOST_ACTIONS, MOST_CHILDREN, MOST_CLASSES, MOST_DEVICES}
+use Rattle.smi_limits.specs.declared.trees.TheConstants.{MOST_DEVICES_OF_A_DOMAIN, MOST_DOMAINS, MOST_LEVELS}
+use Rattle.smi_limits.specs.declared.trees.TheConstants.{MOST_OPERATORS, MOST_OPERATORS_OF_A_STATION}
+use Rattle.smi_limits.specs.declared.trees.TheConstants.{MOST_RULES_OF_A_CLASS, MOST_STATES, MOST_STATIONS}
 use Rattle.smi_tree.proofs.Cutting.{either}
 use Rattle.smi_tree.proofs.Lawfulness.{Always, Always-then, Always-unless, Always-where, entry-push, entry-suc}
 use Rattle.smi_tree.proofs.Lawfulness.{within-entry, kind-table, known-between, Keeps, Keeps-same, Keeps-push}
@@ -54,9 +58,9 @@ grown limit old names name h = grown-from limit old names name (is_declared old 
 
 pub lawful-state : (h : Hierarchy) (name : List ℕ) → IsLawful h → Always IsLawful (with_state h name)
 unfolding with_state
-lawful-state h name old = Always-then IsLawful (added 64 h.state_names name)
+lawful-state h name old = Always-then IsLawful (added MOST_STATES h.state_names name)
     (λ names. Ok (record h { state_names = names })) (λ names is.
-    let g = grown 64 h.state_names names name is in
+    let g = grown MOST_STATES h.state_names names name is in
     let more : length h.state_names ≤ length names = omega (arith, g.more) in
     record {
       number = old.number;
@@ -77,9 +81,9 @@ lawful-state h name old = Always-then IsLawful (added 64 h.state_names name)
 
 pub lawful-action : (h : Hierarchy) (name : List ℕ) → IsLawful h → Always IsLawful (with_action h name)
 unfolding with_action
-lawful-action h name old = Always-then IsLawful (added 64 h.action_names name)
+lawful-action h name old = Always-then IsLawful (added MOST_ACTIONS h.action_names name)
     (λ names. Ok (record h { action_names = names })) (λ names is.
-    let g = grown 64 h.action_names names name is in
+    let g = grown MOST_ACTIONS h.action_names names name is in
     let more : length h.action_names ≤ length names = omega (arith, g.more) in
     record {
       number = old.number;
@@ -103,9 +107,9 @@ length-push rows row = length-append rows (row ∷ []) ∙ omega arith
 pub lawful-station : (h : Hierarchy) (name : List ℕ) (address : Address) → IsLawful h → 1 ≤ h.number
     → Always IsLawful (with_station h name address)
 unfolding with_station
-lawful-station h name address old begun = Always-then IsLawful (added 128 h.station_names name)
+lawful-station h name address old begun = Always-then IsLawful (added MOST_STATIONS h.station_names name)
     (λ names. Ok (record h { station_names = names; addresses = h.addresses ++ address ∷ [] })) (λ names is.
-    let g = grown 128 h.station_names names name is in
+    let g = grown MOST_STATIONS h.station_names names name is in
     let more : length h.station_names ≤ length names = omega (arith, g.more) in
     let longer = length-push h.addresses address in
     record {
@@ -167,10 +171,11 @@ pub lawful-operator : (h : Hierarchy) (name station : List ℕ) → IsLawful h
 unfolding with_operator
 lawful-operator h name station old = Always-then IsLawful (known h.station_names station) _ (λ home is.
     Always-unless IsLawful (is_taken h name) faults.Twice _ (λ fresh.
-    Always-where IsLawful (nat_lt (length h.operator_names) 32
+    Always-where IsLawful (nat_lt (length h.operator_names) MOST_OPERATORS
     && nat_lt (count_by (λ other. other == home) h.homes) 8) faults.OverLimit _ (λ room.
-    let some = lt-true (length h.operator_names) 32 (both-left _ _ room) in
-    let few = lt-true (count_by (is_at home) h.homes) 8 (both-right (nat_lt (length h.operator_names) 32) _ room) in
+    let some = lt-true (length h.operator_names) MOST_OPERATORS (both-left _ _ room) in
+    let few = lt-true (count_by (is_at home) h.homes) MOST_OPERATORS_OF_A_STATION (both-right (nat_lt
+    (length h.operator_names) MOST_OPERATORS) _ room) in
     let longer = length-push h.homes home in
     let names = length-push h.operator_names name in
     record {
@@ -232,8 +237,8 @@ pub lawful-class : (h : Hierarchy) (which : ClassKind) (name first : List ℕ) �
     → Always IsLawful (with_class h which name first)
 unfolding with_class
 lawful-class h which name first old = Always-then IsLawful (known h.state_names first) _ (λ state is.
-    Always-then IsLawful (added 32 h.class_names name) _ (λ names more.
-    let g = grown 32 h.class_names names name more in
+    Always-then IsLawful (added MOST_CLASSES h.class_names name) _ (λ names more.
+    let g = grown MOST_CLASSES h.class_names names name more in
     let longer = length-push h.classes (class_table which state) in
     let kept = Keeps-push h.classes (class_table which state) in
     record {
@@ -424,11 +429,11 @@ lawful-rule h which class state target old = Always-then IsLawful (known_class h
     Always-then IsLawful (known h.state_names state) _ (λ of state_is.
     Always-then IsLawful (known h.state_names target) _ (λ to target_is.
     Always-where IsLawful (is_kind found.1.kind kind.Unit) faults.OtherKind _ (λ unit.
-    Always-where IsLawful (nat_lt (length found.1.rules) 32) faults.OverLimit _ (λ room.
+    Always-where IsLawful (nat_lt (length found.1.rules) MOST_RULES_OF_A_CLASS) faults.OverLimit _ (λ room.
     let rule : Rule = record { quantifier = which; state = of; target = to } in
     let table = always-at (IsFound h) (known_class h class) found (found-class h class) is in
     let before = old.classes.each found.0 found.1 table.table in
-    let few = lt-true (length found.1.rules) 32 room in
+    let few = lt-true (length found.1.rules) MOST_RULES_OF_A_CLASS room in
     let longer = length-push found.1.rules rule in
     with_table h found (record found.1 { rules = found.1.rules ++ rule ∷ [] }) old table refl (record {
       first = before.first;
@@ -453,13 +458,14 @@ known_parent-between h (Some name) =
 
 room-for_child : (h : Hierarchy) (above : Option ℕ) (p : ℕ) → has_room h above ≡ true
     → option_map_or (λ a. a == p) above false ≡ true →
-    count_by (is_child_of p) h.domains < 16
+    count_by (is_child_of p) h.domains < MOST_CHILDREN
 unfolding has_room
 room-for_child h None p room own = cc
 room-for_child h (Some q) p room own =
-    let few = lt-true (count_by (is_child_of q) h.domains) 16
-    (both-left (nat_lt (count_by (is_child_of q) h.domains) 16) (nat_lt (depth_in h.domains q) 8) room) in
-    let P : ℕ → Type 0 = λ n. count_by (is_child_of n) h.domains < 16 in
+    let few = lt-true (count_by (is_child_of q) h.domains) MOST_CHILDREN
+    (both-left (nat_lt (count_by (is_child_of q) h.domains) MOST_CHILDREN) (nat_lt
+    (depth_in h.domains q) MOST_LEVELS) room) in
+    let P : ℕ → Type 0 = λ n. count_by (is_child_of n) h.domains < MOST_CHILDREN in
     subst P (eq-true q p own) few
 
 room-below : (h : Hierarchy) (above : Option ℕ) (p : ℕ) → has_room h above ≡ true → above ≡ Some p
@@ -467,8 +473,9 @@ room-below : (h : Hierarchy) (above : Option ℕ) (p : ℕ) → has_room h above
 unfolding has_room
 room-below h None p room is = cc
 room-below h (Some q) p room is =
-    let few = lt-true (depth_in h.domains q) 8
-    (both-right (nat_lt (count_by (is_child_of q) h.domains) 16) (nat_lt (depth_in h.domains q) 8) room) in
+    let few = lt-true (depth_in h.domains q) MOST_LEVELS
+    (both-right (nat_lt (count_by (is_child_of q) h.domains) MOST_CHILDREN) (nat_lt
+    (depth_in h.domains q) MOST_LEVELS) room) in
     let same : q ≡ p = cc in
     let P : ℕ → Type 0 = λ n. depth_in h.domains n < 8 in
     subst P same few
@@ -494,12 +501,12 @@ lawful-domain h name station class parent old =
     Always-then IsLawful (known_parent h parent) _ (λ above above_is.
     Always-unless IsLawful (is_taken h name) faults.Twice _ (λ fresh.
     Always-where IsLawful (is_kind found.1.kind kind.Unit) faults.OtherKind _ (λ of.
-    Always-where IsLawful (nat_lt (length h.domain_names) 128 && has_room h above) faults.OverLimit _ (λ room.
+    Always-where IsLawful (nat_lt (length h.domain_names) MOST_DOMAINS && has_room h above) faults.OverLimit _ (λ room.
     let row : Domain = record { station = keeper; class = found.0; parent = above } in
     let table = always-at (IsFound h) (known_class h class) found (found-class h class) is in
-    let some = lt-true (length h.domain_names) 128
-    (both-left (nat_lt (length h.domain_names) 128) (has_room h above) room) in
-    let free = both-right (nat_lt (length h.domain_names) 128) (has_room h above) room in
+    let some = lt-true (length h.domain_names) MOST_DOMAINS
+    (both-left (nat_lt (length h.domain_names) MOST_DOMAINS) (has_room h above) room) in
+    let free = both-right (nat_lt (length h.domain_names) MOST_DOMAINS) (has_room h above) room in
     let names = length-push h.domain_names name in
     let rows = length-push h.domains row in
     let up = always-at (λ (a : Option ℕ). (p : ℕ) → a ≡ Some p → IsBetween 1 (length h.domain_names) p)
@@ -529,7 +536,7 @@ lawful-domain h name station class parent old =
                 parent = λ p p_is. (let b = up p p_is in (b.least, omega (arith, b.most, equal, last)));
               }))
         ];
-        children = λ p. count-within is_child_of h.domains row 16 p (old.domains.children p)
+        children = λ p. count-within is_child_of h.domains row MOST_CHILDREN p (old.domains.children p)
             (λ own. room-for_child h above p free own);
         depth = depth-push h.domains row (below-from (length h.station_names) h.classes h.domain_names h.domains
             old.domains)
@@ -548,14 +555,17 @@ lawful-device h name domain class old = Always-then IsLawful (known h.domain_nam
     Always-then IsLawful (known_class h class) _ (λ found is.
     Always-unless IsLawful (is_taken h name) faults.Twice _ (λ fresh.
     Always-where IsLawful (is_kind found.1.kind kind.Device) faults.OtherKind _ (λ of.
-    Always-where IsLawful (nat_lt (length h.device_names) 512 && nat_lt (count_by (is_device_of place) h.devices) 16)
+    Always-where IsLawful (nat_lt (length h.device_names) MOST_DEVICES && nat_lt (count_by
+    (is_device_of place) h.devices) MOST_DEVICES_OF_A_DOMAIN)
     faults.OverLimit _ (λ room.
     let row : Device = record { domain = place; class = found.0 } in
     let table = always-at (IsFound h) (known_class h class) found (found-class h class) is in
-    let some = lt-true (length h.device_names) 512
-    (both-left (nat_lt (length h.device_names) 512) (nat_lt (count_by (is_device_of place) h.devices) 16) room) in
-    let few = lt-true (count_by (is_device_of place) h.devices) 16
-    (both-right (nat_lt (length h.device_names) 512) (nat_lt (count_by (is_device_of place) h.devices) 16) room) in
+    let some = lt-true (length h.device_names) MOST_DEVICES
+    (both-left (nat_lt (length h.device_names) MOST_DEVICES) (nat_lt (count_by
+    (is_device_of place) h.devices) MOST_DEVICES_OF_A_DOMAIN) room) in
+    let few = lt-true (count_by (is_device_of place) h.devices) MOST_DEVICES_OF_A_DOMAIN
+    (both-right (nat_lt (length h.device_names) MOST_DEVICES) (nat_lt (count_by
+    (is_device_of place) h.devices) MOST_DEVICES_OF_A_DOMAIN) room) in
     let names = length-push h.device_names name in
     let rows = length-push h.devices row in
     record {
@@ -581,8 +591,8 @@ lawful-device h name domain class old = Always-then IsLawful (known h.domain_nam
                 class = class-kind h found kind.Device table of;
               }))
         ];
-        of_domain = λ d. count-within is_device_of h.devices row 16 d (old.devices.of_domain d)
-            (λ own. let P : ℕ → Type 0 = λ n. count_by (is_device_of n) h.devices < 16 in
+        of_domain = λ d. count-within is_device_of h.devices row MOST_DEVICES_OF_A_DOMAIN d (old.devices.of_domain d)
+            (λ own. let P : ℕ → Type 0 = λ n. count_by (is_device_of n) h.devices < MOST_DEVICES_OF_A_DOMAIN in
             subst P (eq-true place d own) few);
       };
     })))))

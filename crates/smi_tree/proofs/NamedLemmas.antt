@@ -11,6 +11,10 @@ use Rattle.smi_tree.proofs.Cutting.{either}
 use Rattle.smi_tree.proofs.NumberLemmas.{position_from-more, absent-new}
 use Rattle.indexmap.specs.IndexSet.{insert_key}
 use Rattle.std.proofs.lemmas.List.{length-append}
+use Rattle.smi_limits.specs.declared.trees.TheConstants.{MOST_ACTIONS, MOST_BYTES_OF_A_LINE, MOST_CLASSES}
+use Rattle.smi_limits.specs.declared.trees.TheConstants.{MOST_DEVICES, MOST_DEVICES_OF_A_DOMAIN, MOST_DOMAINS}
+use Rattle.smi_limits.specs.declared.trees.TheConstants.{MOST_OPERATORS, MOST_RULES_OF_A_CLASS, MOST_STATES}
+use Rattle.smi_limits.specs.declared.trees.TheConstants.{MOST_STATIONS}
 use Rattle.smi_tree.proofs.Lawfulness.{Always, Always-then, Always-unless, Always-where, Always-or, entry-push}
 use Rattle.smi_tree.proofs.Lawfulness.{no-entry}
 use Rattle.smi_tree.specs.Text.{words}
@@ -115,10 +119,10 @@ once-added limit old names name once h = go (is_declared old name) (nat_lt (leng
 
 named-state : (h : Hierarchy) (name : List ℕ) → IsNamed h → Always IsNamed (with_state h name)
 unfolding with_state
-named-state h name old = Always-then IsNamed (added 64 h.state_names name)
+named-state h name old = Always-then IsNamed (added MOST_STATES h.state_names name)
     (λ names. Ok (record h { state_names = names })) (λ names is.
     record {
-      states_once = once-added 64 h.state_names names name old.states_once is;
+      states_once = once-added MOST_STATES h.state_names names name old.states_once is;
       actions_once = old.actions_once;
       stations_once = old.stations_once;
       classes_once = old.classes_once;
@@ -132,11 +136,11 @@ named-state h name old = Always-then IsNamed (added 64 h.state_names name)
 
 named-action : (h : Hierarchy) (name : List ℕ) → IsNamed h → Always IsNamed (with_action h name)
 unfolding with_action
-named-action h name old = Always-then IsNamed (added 64 h.action_names name)
+named-action h name old = Always-then IsNamed (added MOST_ACTIONS h.action_names name)
     (λ names. Ok (record h { action_names = names })) (λ names is.
     record {
       states_once = old.states_once;
-      actions_once = once-added 64 h.action_names names name old.actions_once is;
+      actions_once = once-added MOST_ACTIONS h.action_names names name old.actions_once is;
       stations_once = old.stations_once;
       classes_once = old.classes_once;
       operators_once = old.operators_once;
@@ -150,12 +154,12 @@ named-action h name old = Always-then IsNamed (added 64 h.action_names name)
 named-station : (h : Hierarchy) (name : List ℕ) (address : Address) → IsNamed h
     → Always IsNamed (with_station h name address)
 unfolding with_station
-named-station h name address old = Always-then IsNamed (added 128 h.station_names name)
+named-station h name address old = Always-then IsNamed (added MOST_STATIONS h.station_names name)
     (λ names. Ok (record h { station_names = names; addresses = h.addresses ++ address ∷ [] })) (λ names is.
     record {
       states_once = old.states_once;
       actions_once = old.actions_once;
-      stations_once = once-added 128 h.station_names names name old.stations_once is;
+      stations_once = once-added MOST_STATIONS h.station_names names name old.stations_once is;
       classes_once = old.classes_once;
       operators_once = old.operators_once;
       domains_once = old.domains_once;
@@ -169,12 +173,12 @@ named-class : (h : Hierarchy) (which : ClassKind) (name first : List ℕ) → Is
     → Always IsNamed (with_class h which name first)
 unfolding with_class
 named-class h which name first old = Always-then IsNamed (known h.state_names first) _ (λ state is.
-    Always-then IsNamed (added 32 h.class_names name) _ (λ names more.
+    Always-then IsNamed (added MOST_CLASSES h.class_names name) _ (λ names more.
     record {
       states_once = old.states_once;
       actions_once = old.actions_once;
       stations_once = old.stations_once;
-      classes_once = once-added 32 h.class_names names name old.classes_once more;
+      classes_once = once-added MOST_CLASSES h.class_names names name old.classes_once more;
       operators_once = old.operators_once;
       domains_once = old.domains_once;
       devices_once = old.devices_once;
@@ -187,7 +191,7 @@ named-operator : (h : Hierarchy) (name station : List ℕ) → IsNamed h → Alw
 unfolding with_operator
 named-operator h name station old = Always-then IsNamed (known h.station_names station) _ (λ home is.
     Always-unless IsNamed (is_taken h name) faults.Twice _ (λ fresh.
-    Always-where IsNamed (nat_lt (length h.operator_names) 32
+    Always-where IsNamed (nat_lt (length h.operator_names) MOST_OPERATORS
     && nat_lt (count_by (λ other. other == home) h.homes) 8) faults.OverLimit _ (λ room.
     let no_operator = or-left (is_declared h.operator_names name) _ fresh in
     let others = or-right (is_declared h.operator_names name) _ fresh in
@@ -230,7 +234,7 @@ named-rule h which class state target old = Always-then IsNamed (known_class h c
     Always-then IsNamed (known h.state_names state) _ (λ of of_is.
     Always-then IsNamed (known h.state_names target) _ (λ to to_is.
     Always-where IsNamed (is_kind found.1.kind kind.Unit) faults.OtherKind _ (λ of.
-    Always-where IsNamed (nat_lt (length found.1.rules) 32) faults.OverLimit _ (λ room. old)))))
+    Always-where IsNamed (nat_lt (length found.1.rules) MOST_RULES_OF_A_CLASS) faults.OverLimit _ (λ room. old)))))
 
 named-domain : (h : Hierarchy) (name station class : List ℕ) (parent : Option (List ℕ)) → IsNamed h
     → Always IsNamed (with_domain h name station class parent)
@@ -240,7 +244,7 @@ named-domain h name station class parent old = Always-then IsNamed (known h.stat
     Always-then IsNamed (known_parent h parent) _ (λ above above_is.
     Always-unless IsNamed (is_taken h name) faults.Twice _ (λ fresh.
     Always-where IsNamed (is_kind found.1.kind kind.Unit) faults.OtherKind _ (λ of.
-    Always-where IsNamed (nat_lt (length h.domain_names) 128 && has_room h above) faults.OverLimit _ (λ room.
+    Always-where IsNamed (nat_lt (length h.domain_names) MOST_DOMAINS && has_room h above) faults.OverLimit _ (λ room.
     let no_operator = or-left (is_declared h.operator_names name) _ fresh in
     let others = or-right (is_declared h.operator_names name) _ fresh in
     let no_domain = or-left (is_declared h.domain_names name) _ others in
@@ -265,7 +269,8 @@ named-device h name domain class old = Always-then IsNamed (known h.domain_names
     Always-then IsNamed (known_class h class) _ (λ found of.
     Always-unless IsNamed (is_taken h name) faults.Twice _ (λ fresh.
     Always-where IsNamed (is_kind found.1.kind kind.Device) faults.OtherKind _ (λ of.
-    Always-where IsNamed (nat_lt (length h.device_names) 512 && nat_lt (count_by (is_device_of place) h.devices) 16)
+    Always-where IsNamed (nat_lt (length h.device_names) MOST_DEVICES && nat_lt (count_by
+    (is_device_of place) h.devices) MOST_DEVICES_OF_A_DOMAIN)
     faults.OverLimit _ (λ room.
     let no_operator = or-left (is_declared h.operator_names name) _ fresh in
     let others = or-right (is_declared h.operator_names name) _ fresh in
@@ -310,7 +315,7 @@ named-line-words h (word ∷ more) old = Always-or IsNamed (is_comment word) h _
 
 pub named-line : (h : Hierarchy) (line : List ℕ) → IsNamed h → Always IsNamed (with_line h line)
 unfolding with_line
-named-line h line old = Always-unless IsNamed (nat_lt 200 (length line)) faults.LineTooLong _
+named-line h line old = Always-unless IsNamed (nat_lt MOST_BYTES_OF_A_LINE (length line)) faults.LineTooLong _
     (λ short. named-line-words h (words line) old)
 
 pub named-undeclared : IsNamed undeclared

@@ -8,6 +8,7 @@ use Rattle.std.proofs.KnownBytes.{Appends-trans}
 use Rattle.std.proofs.lemmas.List.{take_at}
 use Rattle.std.proofs.lemmas.Grind.{flat_map-append}
 use Rattle.std.proofs.lemmas.Bool.Decides.{nat_tests}
+use Rattle.smi_limits.specs.declared.trees.TheConstants.{MOST_BYTES_OF_A_LINE}
 use Rattle.smi_tree.specs.Fault.{fault_code}
 use Rattle.smi_tree.specs.Hierarchy.{Hierarchy}
 use Rattle.smi_tree.specs.declared.fault.Fault.{Fault}
@@ -87,7 +88,8 @@ unfolding first_fault
 fault_none h number = refl
 
 long_line : (h : Hierarchy) (line : Bytes)
-    → item_in h line ≡ (if nat_lt 200 (length line) then Err LineTooLong else schedule_line.item_by h (words line))
+    → item_in h line ≡ (if nat_lt MOST_BYTES_OF_A_LINE (length line) then Err LineTooLong else schedule_line.item_by h
+    (words line))
 unfolding item_in
 long_line h line = refl
 
@@ -174,12 +176,12 @@ module _ (h : Hierarchy) (w : World) (input : Bytes) (number : ℕ) (x : Held) (
 
   -- the next line is too long
   pub gone_long : (line : Bytes) (more : List Bytes) (code : ℕ) → code ≡ fault_code LineTooLong
-      → lines later ≡ line ∷ more → 200 < length line → Comes (streamed.Faulty number code)
+      → lines later ≡ line ∷ more → MOST_BYTES_OF_A_LINE < length line → Comes (streamed.Faulty number code)
   gone_long line more code is cuts long = subst (λ (n : ℕ). Comes (streamed.Faulty number n)) (sym is)
       (gone_faulty line more LineTooLong cuts (long_line h line
       ∙ ap (λ b. if b then Err LineTooLong else schedule_line.item_by h (words line)) long_is))
     where
-      long_is : nat_lt 200 (length line) ≡ true
+      long_is : nat_lt MOST_BYTES_OF_A_LINE (length line) ≡ true
       long_is = grind (arith, nat_tests, long)
 
   -- a fault of the line as it was told

@@ -1,4 +1,5 @@
 use Rattle.std.proofs.Common.{◌≡◌, true, arith}
+use Rattle.smi_limits.specs.declared.trees.TheConstants.{MOST_DOMAINS}
 use Rattle.smi_message.specs.Message.{is_domain}
 use Rattle.smi_out.proofs.Sending.{between}
 use Rattle.smi_out.proofs.says.ask.Goals as goal
@@ -7,7 +8,7 @@ pub invariant_of-result : goal.invariant_of-result
 invariant_of-result c =
     let tree = c.number.ensures.tree in
     let row = tree.lawful.domains.each _ _ c.domain-to.ensures in
-    let inside : is_domain c.args.domain ≡ true = between 1 128 c.args.domain c.requires.domain.0
+    let inside : is_domain c.args.domain ≡ true = between 1 MOST_DOMAINS c.args.domain c.requires.domain.0
     (omega (arith, c.requires.domain.1, tree.lawful.domains.most)) in
     record {
       from = (c.requires.from.0, omega (arith, c.requires.from.1, tree.lawful.stations));
