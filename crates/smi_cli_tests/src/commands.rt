@@ -2,8 +2,8 @@ use smi_cli::answer::{Answered, answer};
 use smi_cli::check::check;
 use smi_cli::rows::{Listed, rows};
 use smi_rows::{Key, MemoryStable, Stable};
+use smi_samples::{Narrow, Trickle};
 use std::cmp::min;
-use std::io::{self, ErrorKind, Read, Write};
 use std::test::Fail;
 
 /// Operator 2 takes domain 1 at epoch 0.
@@ -33,59 +33,6 @@ fn with(bytes: [u8; 44], changes: &[(usize, u8)]) -> [u8; 44] {
         }
     }
     changed
-}
-
-/// A reader that gives at most `most` bytes at once, is interrupted once, and may fail at its end.
-#[derive(Drop)]
-struct Trickle<'a> {
-    bytes: &'a [u8],
-    most: usize,
-    is_interrupted: bool,
-    fails: bool,
-}
-
-impl Read for Trickle<'_> {
-    fn read(&mut self, buf: &mut [u8]) -> io::Result<usize> {
-        if self.is_interrupted {
-            self.is_interrupted = false;
-            return Err(ErrorKind::Interrupted.into());
-        }
-        let count = min(min(self.bytes.len(), buf.len()), self.most);
-        if count == 0 && self.fails {
-            return Err(ErrorKind::Other.into());
-        }
-        let (now, later) = self.bytes.split_at(count);
-        buf[..count].copy_from_slice(now);
-        self.bytes = later;
-        Ok(count)
-    }
-}
-
-/// A writer that takes one byte at once, has room for so many, and may fail at its flush.
-#[derive(Drop)]
-struct Narrow {
-    written: Vec<u8>,
-    room: usize,
-    flushes: bool,
-}
-
-impl Write for Narrow {
-    fn write(&mut self, buf: &[u8]) -> io::Result<usize> {
-        if self.room == 0 || buf.is_empty() {
-            return Err(ErrorKind::Other.into());
-        }
-        self.room -= 1;
-        self.written.push(buf[0])?;
-        Ok(1)
-    }
-
-    fn flush(&mut self) -> io::Result<()> {
-        if self.flushes {
-            Ok(())
-        } else {
-            Err(ErrorKind::Other.into())
-        }
-    }
 }
 
 #[test]

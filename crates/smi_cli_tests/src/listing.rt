@@ -1,6 +1,7 @@
 //! The rows of a store as `smi rows` prints them, whatever the order in which they were saved.
 
 use smi_cli::rows::{Listed, rows};
+use smi_samples::{BOOT, HELD, TAKEN, key};
 use smi_stable::{Key, MemoryStable, PlannedStable, SqliteStable, Stable, StoreFault};
 use sqlite::{Connection, FileStore, Files, Options};
 use sqlite_disk::Memory;
@@ -9,27 +10,6 @@ use std::test::Fail;
 
 const LISTING: &str =
     "1 0 0 0200000000000002\n1 1 0 020100020000000000000001000000000000000000000000\n2 0 2 030000010002020000000000000000010000000000000000\n";
-
-const fn key(station: u16, domain: u16, operator: u16) -> Key {
-    Key {
-        station,
-        domain,
-        operator,
-    }
-}
-
-// The boot 2 of a station.
-const BOOT: &[u8] = &[2, 0, 0, 0, 0, 0, 0, 2];
-
-// Operator 2 holds the domain at epoch 1.
-const TAKEN: &[u8] = &[
-    2, 1, 0, 2, 0, 0, 0, 0, 0, 0, 0, 1, 0, 0, 0, 0, 0, 0, 0, 0, 0, 0, 0, 0,
-];
-
-// The operator holds domain 2 at epoch 1, and no command is issued.
-const HELD: &[u8] = &[
-    3, 0, 0, 1, 0, 2, 2, 0, 0, 0, 0, 0, 0, 0, 0, 1, 0, 0, 0, 0, 0, 0, 0, 0,
-];
 
 /// Boot 2 of station 1, a domain that operator 2 took, and what that operator holds.
 fn saved_rows() -> [(Key, &'static [u8]); 3] {

@@ -6,16 +6,11 @@ ghost use Rattle.smi_publish.specs.Published.{HasRoom, conditions_of};
 
 use smi_grant::{Shown, Version};
 use smi_publish::{Changes, Publisher};
+use smi_samples::WORKED;
 use smi_tree::{Tree, TreeFault};
 use std::alloc::Global;
 use std::process::Abort;
 use std::test::Fail;
-
-/// Two stations, a domain on each, one below the other, and a device in the lower one. Actions are 1
-/// `CONFIGURE`, 2 `START`, 3 `STOP`; states are 1 `OFF`, 2 `READY`, 3 `RUNNING`, 4 `ERROR`; objects are
-/// 1 `DCS`, 2 `TPC`, 3 `HV`.
-const WORKED: &[u8] =
-    b"tree 17\nstate OFF\nstate READY\nstate RUNNING\nstate ERROR\naction CONFIGURE\naction START\naction STOP\nstation A 127.0.0.1:9001\nstation B 127.0.0.1:9002\noperator ANN A\noperator BOB B\ndevclass DEV OFF\nmove DEV OFF CONFIGURE READY\nmove DEV READY START RUNNING\nunitclass UNIT OFF\naccept UNIT CONFIGURE\naccept UNIT START\nany UNIT ERROR ERROR\nall UNIT RUNNING RUNNING\nall UNIT READY READY\nall UNIT OFF OFF\ndomain DCS A UNIT -\ndomain TPC B UNIT DCS\ndevice HV TPC DEV\n";
 
 fn shown(object: u16, boot: u32, sequence: u32, state: u16) -> Shown {
     Shown {

@@ -7,5 +7,3 @@ mod readers;
 mod schedules;
 #[cfg(test)]
 mod traces;
-#[cfg(test)]
-mod worked;

@@ -1,36 +1,9 @@
 //! Lines that are cut from a reader.
 
+use smi_samples::Trickle;
 use smi_schedule::{Cut, Lines};
 use std::alloc::{AllocError, Global};
-use std::cmp::min;
-use std::io::{self, ErrorKind, Read};
 use std::test::Fail;
-
-/// A reader that gives at most `most` bytes at once, is interrupted once, and may fail at its end.
-#[derive(Drop)]
-struct Trickle<'a> {
-    bytes: &'a [u8],
-    most: usize,
-    is_interrupted: bool,
-    fails: bool,
-}
-
-impl Read for Trickle<'_> {
-    fn read(&mut self, buf: &mut [u8]) -> io::Result<usize> {
-        if self.is_interrupted {
-            self.is_interrupted = false;
-            return Err(ErrorKind::Interrupted.into());
-        }
-        let count = min(min(self.bytes.len(), buf.len()), self.most);
-        if count == 0 && self.fails {
-            return Err(ErrorKind::Other.into());
-        }
-        let (now, later) = self.bytes.split_at(count);
-        buf[..count].copy_from_slice(now);
-        self.bytes = later;
-        Ok(count)
-    }
-}
 
 /// The lines of a text, each with a bar after it, and how the reading ended.
 fn cut_all(

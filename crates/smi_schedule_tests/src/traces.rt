@@ -1,15 +1,14 @@
 //! What each line of a trace reads.
 
-use crate::worked::WORKED;
 use smi_grant::{Command, Holder, Phase, Record, Shown, Version};
 use smi_item::Line;
 use smi_message::{Body, Datagram};
 use smi_protocol::{Entry, Order, Told};
 use smi_rows::Mode;
+use smi_samples::{Narrow, WORKED};
 use smi_trace::{Unwritten, spell, write_lines};
 use smi_tree::Tree;
 use std::alloc::{AllocError, Global};
-use std::io::{self, ErrorKind, Write};
 use std::process::Abort;
 use std::test::Fail;
 
@@ -343,28 +342,6 @@ fn traces(rt: HostRuntime) -> Result<(), Fail> {
     Ok(read?)
 }
 
-/// A writer that takes one byte at once, and so many in all.
-#[derive(Drop)]
-struct Narrow {
-    written: Vec<u8>,
-    room: usize,
-}
-
-impl Write for Narrow {
-    fn write(&mut self, buf: &[u8]) -> io::Result<usize> {
-        if self.room == 0 || buf.is_empty() {
-            return Err(ErrorKind::Other.into());
-        }
-        self.room -= 1;
-        self.written.push(buf[0])?;
-        Ok(1)
-    }
-
-    fn flush(&mut self) -> io::Result<()> {
-        Ok(())
-    }
-}
-
 const LINES: [Line; 2] = [
     Line::Entry(Entry::Booted {
         station: 2,
@@ -384,6 +361,7 @@ fn prefixes_are_written<R: Abort>(rt: &R, alloc: Global, tree: &Tree) -> Result<
         let mut writer = Narrow {
             written: Vec::new(alloc),
             room,
+            flushes: true,
         };
         let done = write_lines(&mut writer, &mut text, tree, &LINES);
         let whole = room >= want.len();

@@ -1,6 +1,7 @@
 //! Rows and stores, by values from docs/FORMATS.md.
 
 use smi_rows::{Key, Row, RowFault, write_boot};
+use smi_samples::{BOOT, HELD, PAIR, PENDING, TAKEN, WORKING, key};
 use smi_tree::Tree;
 use std::alloc::Global;
 use std::test::Fail;
@@ -8,47 +9,6 @@ use std::test::Fail;
 mod planned;
 mod replaced;
 mod rows;
-
-// Stations A 1 and B 2, operators ANN 1 at A and BOB 2 at B, domains DCS 1 at A and TPC 2 at B under it.
-const TREE: &[u8] =
-    b"tree 17\nstate OFF\naction CONFIGURE\naction START\nstation A 127.0.0.1:9001\nstation B 127.0.0.1:9002\noperator ANN A\noperator BOB B\nunitclass UNIT OFF\ndomain DCS A UNIT -\ndomain TPC B UNIT DCS\n";
-
-const fn key(station: u16, domain: u16, operator: u16) -> Key {
-    Key {
-        station,
-        domain,
-        operator,
-    }
-}
-
-// The boot 2 of a station.
-const BOOT: &[u8] = &[2, 0, 0, 0, 0, 0, 0, 2];
-
-// BOB holds DCS at epoch 1.
-const TAKEN: &[u8] = &[
-    2, 1, 0, 2, 0, 0, 0, 0, 0, 0, 0, 1, 0, 0, 0, 0, 0, 0, 0, 0, 0, 0, 0, 0,
-];
-
-// ANN holds DCS at epoch 1; its command 2 is at work, and CONFIGURE is pending at TPC as command 1.
-const WORKING: &[u8] = &[
-    2, 1, 0, 1, 0, 0, 0, 0, 0, 0, 0, 1, 0, 0, 0, 2, 1, 0, 0, 0, 0, 0, 0, 1, // the domain
-    0, 2, 3, 0, 0, 0, 0, 0, 0, 0, 0, 1, 0, 0, 0, 1, 0, 1, 0, 1,
-];
-
-// BOB holds TPC at epoch 1, and no command is issued.
-const HELD: &[u8] = &[
-    3, 0, 0, 1, 0, 2, 2, 0, 0, 0, 0, 0, 0, 0, 0, 1, 0, 0, 0, 0, 0, 0, 0, 0,
-];
-
-// BOB holds TPC at epoch 1, and CONFIGURE is pending.
-const OLDEST: &[u8] = &[
-    3, 0, 0, 1, 0, 2, 3, 0, 0, 0, 0, 0, 0, 0, 0, 1, 0, 0, 0, 1, 0, 1, 0, 1,
-];
-
-// BOB holds TPC at epoch 1, and CONFIGURE and START are pending.
-const PENDING: &[u8] = &[
-    3, 0, 0, 1, 0, 2, 5, 0, 0, 0, 0, 0, 0, 0, 0, 1, 0, 0, 0, 2, 0, 1, 0, 1, 0, 1, 0, 1, 0, 2,
-];
 
 // TPC is held at an even epoch.
 const EVEN: &[u8] = &[
@@ -127,7 +87,7 @@ fn holds_of(case: Case, alloc: Global, tree: &Tree) -> Result<bool, Fail> {
 
 // One function owns the tree: whatever owns one is dear to prove.
 fn holds(case: Case, alloc: Global) -> Result<bool, Fail> {
-    let tree = Tree::read(alloc, TREE)?;
+    let tree = Tree::read(alloc, PAIR)?;
     holds_of(case, alloc, &tree)
 }
 

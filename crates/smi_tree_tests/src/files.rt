@@ -1,13 +1,10 @@
 //! What a file declares, and each of its faults, by files that were written by hand.
 
+use smi_samples::WORKED;
 use smi_tree::{Address, Device, Domain, Tree, TreeFault};
 use std::alloc::Global;
 use std::process::Abort;
 use std::test::Fail;
-
-/// Two stations, a domain on each, one below the other, and a device in the lower one.
-const WORKED: &[u8] =
-    b"tree 17\nstate OFF\nstate READY\nstate RUNNING\nstate ERROR\naction CONFIGURE\naction START\naction STOP\nstation A 127.0.0.1:9001\nstation B 127.0.0.1:9002\noperator ANN A\noperator BOB B\ndevclass DEV OFF\nmove DEV OFF CONFIGURE READY\nmove DEV READY START RUNNING\nunitclass UNIT OFF\naccept UNIT CONFIGURE\naccept UNIT START\nany UNIT ERROR ERROR\nall UNIT RUNNING RUNNING\nall UNIT READY READY\nall UNIT OFF OFF\ndomain DCS A UNIT -\ndomain TPC B UNIT DCS\ndevice HV TPC DEV\n";
 
 /// Eleven lines that further lines can follow.
 const BEGUN: &[u8] =

@@ -1,7 +1,8 @@
 //! Rows with too few bytes or too many, and rows of which one byte is another.
 
-use super::{BOOT, HELD, TAKEN, examples, fault, key, with_byte};
+use super::{examples, fault, with_byte};
 use smi_rows::{Key, RowKind};
+use smi_samples::{BOOT, HELD, TAKEN, key};
 use smi_tree::Tree;
 use std::alloc::Global;
 use std::test::Fail;

@@ -1,7 +1,7 @@
 //! What was saved is loaded, by rising key, from each store.
 
 use super::disks::{Store, close, open, opened};
-use super::{BOOT, HELD, TAKEN, key};
+use smi_samples::{BOOT, HELD, TAKEN, key};
 use smi_stable::{Key, MemoryStable, PlannedStable, SavedRow, Stable, StoreFault};
 use std::alloc::Global;
 use std::test::Fail;

@@ -1,7 +1,7 @@
 //! Saves over SQL on disks that stop after so many calls: the next open finds the row as before or as saved.
 
 use super::disks::{Disks, close, disk, found, open, opened};
-use super::{BOOT, TAKEN, key};
+use smi_samples::{BOOT, TAKEN, key};
 use smi_stable::{SavedRow, Stable, StoreFault};
 use sqlite::Files;
 use std::alloc::Global;
