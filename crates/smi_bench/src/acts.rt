@@ -1,6 +1,6 @@
 //! How long drawn items take in a world, without their text.
 
-use smi_item::Item;
+use smi_protocol::Item;
 use smi_schedule::Drawer;
 use smi_tree::Tree;
 use smi_world::{Left, World};

@@ -12,9 +12,9 @@ use Rattle.smi_tree.specs.Hierarchy.{Hierarchy}
 use Rattle.smi_tree.specs.Lookups.{object_named}
 use Rattle.smi_tree.specs.declared.fault.Fault.{Fault}
 use Rattle.smi_tree.specs.declared.fault.Fault.TheVariants.{UnknownWord, UnknownName, LineTooLong}
-use Rattle.smi_item.specs.declared.item.Item.{Item}
-use Rattle.smi_item.specs.declared.item.Item.TheVariants as item
-use Rattle.smi_item.specs.declared.item.Deed.TheVariants as deed
+use Rattle.smi_protocol.specs.declared.item.Item.{Item}
+use Rattle.smi_protocol.specs.declared.item.Item.TheVariants as item
+use Rattle.smi_protocol.specs.declared.item.Deed.TheVariants as deed
 use Rattle.smi_schedule.specs.Line.{item_in}
 use Rattle.smi_crew.specs.declared.said.Kind.{Kind}
 use Rattle.smi_crew.specs.declared.said.Kind.TheVariants as kind

@@ -19,7 +19,7 @@ use Rattle.smi_protocol.specs.Children.{is_commanded}
 use Rattle.smi_protocol.specs.declared.Entry.{Entry}
 use Rattle.smi_law.specs.Known.{record_in, link_in}
 use Rattle.smi_law.specs.Safe.{Forwards}
-use Rattle.smi_law.specs.Schedule.{World}
+use Rattle.smi_protocol.specs.Schedule.{World}
 use Rattle.smi_law.specs.Trace.{mode_at, InWork}
 use Rattle.smi_law.specs.World.{Reaches}
 use Rattle.smi_law.proofs.GrantsSafe.{safely}

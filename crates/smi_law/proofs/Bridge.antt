@@ -20,17 +20,17 @@ use Rattle.smi_protocol.specs.Opening.{opened, opening_entries, saved_only}
 use Rattle.smi_protocol.specs.Sending.{MaySend}
 use Rattle.smi_protocol.specs.Step.{after, ordered_or_reported}
 use Rattle.smi_protocol.specs.declared.Entry.{Entry}
-use Rattle.smi_item.specs.declared.item.Deed.{Deed}
-use Rattle.smi_item.specs.declared.item.Deed.TheVariants as deed
-use Rattle.smi_item.specs.declared.item.Moment.TheVariants as moment
-use Rattle.smi_item.specs.declared.item.Item.{Item}
-use Rattle.smi_item.specs.declared.item.Item.TheVariants as item
-use Rattle.smi_item.specs.declared.item.Line.{Line}
-use Rattle.smi_item.specs.declared.item.Line.TheVariants as line
-use Rattle.smi_law.specs.Schedule.{World, Turn, nothing, changed, stepped, Arrival, arrival, delivery, sent_before}
-use Rattle.smi_law.specs.Schedule.{arrival_at, arrival_of, done_by, restarted, is_at, stopped_behind, not_stored}
-use Rattle.smi_law.specs.Schedule.{failed, failing, turn, sent_lines, lines_of, trace_from, trace_of, opening_of}
-use Rattle.smi_law.specs.Schedule.{first_world, entries_of}
+use Rattle.smi_protocol.specs.declared.item.Deed.{Deed}
+use Rattle.smi_protocol.specs.declared.item.Deed.TheVariants as deed
+use Rattle.smi_protocol.specs.declared.item.Moment.TheVariants as moment
+use Rattle.smi_protocol.specs.declared.item.Item.{Item}
+use Rattle.smi_protocol.specs.declared.item.Item.TheVariants as item
+use Rattle.smi_protocol.specs.declared.item.Line.{Line}
+use Rattle.smi_protocol.specs.declared.item.Line.TheVariants as line
+use Rattle.smi_protocol.specs.Schedule.{World, Turn, nothing, changed, stepped, Arrival, arrival, delivery, sent_before}
+use Rattle.smi_protocol.specs.Schedule.{arrival_at, arrival_of, done_by, restarted, is_at, stopped_behind, not_stored}
+use Rattle.smi_protocol.specs.Schedule.{failed, failing, turn, sent_lines, lines_of, trace_from, trace_of, opening_of}
+use Rattle.smi_protocol.specs.Schedule.{first_world, entries_of}
 use Rattle.smi_law.specs.World.{Among, MayCome, with_station, noted, sends, steps, stops, tells, halts, starts}
 use Rattle.smi_law.specs.World.{Reaches, opens, goes_on}
 use Rattle.smi_law.proofs.GrantKinds.{put_here}

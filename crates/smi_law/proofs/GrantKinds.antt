@@ -20,7 +20,7 @@ use Rattle.smi_protocol.specs.declared.Entry.TheVariants.{Learned, LetGo}
 use Rattle.smi_law.specs.Known.{holder_home, record_in, link_in}
 pub use Rattle.smi_protocol.proofs.Tables.{put_here}
 use Rattle.smi_law.specs.Safe.{MayHold}
-use Rattle.smi_law.specs.Schedule.{World}
+use Rattle.smi_protocol.specs.Schedule.{World}
 use Rattle.smi_law.specs.World.{Among as IsSent, with_station, noted}
 use Rattle.smi_law.proofs.Changes.{SameGrant, same_grant, SameLink, same_link, Silent, silent, Handed, handed_entry}
 use Rattle.smi_law.proofs.Changes.{granted_fits, freed_fits, handed_safely}

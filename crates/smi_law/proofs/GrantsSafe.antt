@@ -19,7 +19,7 @@ use Rattle.smi_protocol.specs.declared.Entry.{Entry}
 use Rattle.smi_protocol.specs.declared.Entry.TheVariants as entry
 use Rattle.smi_law.specs.Known.{holder_home}
 use Rattle.smi_law.specs.Safe.{SafeGrants}
-use Rattle.smi_law.specs.Schedule.{World, first_world, opening_of}
+use Rattle.smi_protocol.specs.Schedule.{World, first_world, opening_of}
 use Rattle.smi_law.specs.Trace.{Stands, epoch_at, holder_at, has_learned}
 use Rattle.smi_law.specs.World.{MayCome, with_station, with_sent, noted, Step, sends, steps, stops, tells, halts}
 use Rattle.smi_law.specs.World.{starts, Reaches, opens, goes_on}

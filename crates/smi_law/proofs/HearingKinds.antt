@@ -26,7 +26,7 @@ use Rattle.smi_protocol.specs.Hearing.{ends, ended, ended_entries, told_to}
 use Rattle.smi_roles.specs.Roles.{is_keeper}
 use Rattle.smi_protocol.specs.declared.Entry.{Entry}
 use Rattle.smi_law.specs.Known.{holder_home, record_in, link_in}
-use Rattle.smi_law.specs.Schedule.{World}
+use Rattle.smi_protocol.specs.Schedule.{World}
 use Rattle.smi_law.proofs.Changes.{SameGrant, same_grant, SameLink, same_link}
 use Rattle.smi_law.proofs.GrantKinds.{GrantKind, silently, learning, SameRecords}
 use Rattle.smi_law.proofs.Moves.{at_put, at_put_link, put_link_here}

@@ -13,7 +13,7 @@ use Rattle.smi_command.specs.KnownGrant.{KnownGrant, InStep, IsSpent, Waits}
 use Rattle.smi_command.specs.OneLink.{reached}
 use Rattle.smi_command.proofs.OneLinkKept.{grant_known, grant_in_step, run_sent}
 use Rattle.smi_law.specs.Known.{record_in, link_in}
-use Rattle.smi_law.specs.Schedule.{World}
+use Rattle.smi_protocol.specs.Schedule.{World}
 use Rattle.smi_law.specs.World.{Among as IsSent}
 use Rattle.smi_law.proofs.Views.{Covers}
 use Rattle.smi_law.proofs.Viewed.{Viewed, view_fits}

@@ -18,7 +18,7 @@ use Rattle.smi_protocol.specs.declared.Entry.TheVariants.{Booted, Granted, Freed
 use Rattle.smi_protocol.specs.declared.Entry.TheVariants.{InMode, Settled, Showed, Passed, Told}
 use Rattle.smi_law.specs.Known.{record_in, link_in}
 use Rattle.smi_law.specs.Safe.{GrantFits}
-use Rattle.smi_law.specs.Schedule.{World}
+use Rattle.smi_protocol.specs.Schedule.{World}
 use Rattle.smi_law.specs.Trace.{Stands, epoch_at, holder_at, has_learned, is_grant_of}
 use Rattle.smi_law.specs.World.{Among as IsSent}
 use Rattle.smi_law.proofs.Changes.{SameGrant, SameLink}

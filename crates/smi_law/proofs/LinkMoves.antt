@@ -37,7 +37,7 @@ use Rattle.smi_protocol.specs.declared.Entry.{Entry}
 use Rattle.smi_protocol.specs.declared.Order.{Order}
 use Rattle.smi_protocol.specs.declared.Order.TheVariants as order
 use Rattle.smi_law.specs.World.{Among, MayCome}
-use Rattle.smi_law.specs.Schedule.{World}
+use Rattle.smi_protocol.specs.Schedule.{World}
 use Rattle.smi_law.proofs.Moves as move
 use Rattle.smi_law.proofs.Moves.{LinkMove, at_put_link, choice}
 

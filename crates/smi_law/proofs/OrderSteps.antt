@@ -43,7 +43,7 @@ use Rattle.smi_protocol.specs.declared.Entry.TheVariants.{InMode, Settled, Showe
 use Rattle.smi_protocol.specs.declared.Order.{Order}
 use Rattle.smi_protocol.specs.declared.Order.TheVariants as order
 use Rattle.smi_law.specs.Known.{holder_home, record_in, link_in}
-use Rattle.smi_law.specs.Schedule.{World}
+use Rattle.smi_protocol.specs.Schedule.{World}
 use Rattle.smi_law.specs.Trace.{orders_of}
 use Rattle.smi_law.proofs.HearingKinds.{IsHere, all_found, listeners_here, within_epochs}
 use Rattle.smi_law.proofs.Moves.{at_put_link, put_link_here}

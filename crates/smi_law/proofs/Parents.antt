@@ -10,7 +10,7 @@ use Rattle.smi_protocol.specs.declared.Entry.{Entry}
 use Rattle.smi_protocol.specs.declared.Entry.TheVariants.{Granted}
 use Rattle.smi_law.specs.Known.{record_in}
 use Rattle.smi_law.specs.Safe.{SafeGrants, GrantFits}
-use Rattle.smi_law.specs.Schedule.{World}
+use Rattle.smi_protocol.specs.Schedule.{World}
 use Rattle.smi_law.specs.Trace.{Stands, epoch_at}
 use Rattle.smi_law.proofs.LinkChanges.{granted_stands}
 use Rattle.smi_law.proofs.Traces.{Safely}

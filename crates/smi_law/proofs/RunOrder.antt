@@ -12,7 +12,7 @@ use Rattle.smi_protocol.specs.declared.Entry.TheVariants.{Booted, Granted, Freed
 use Rattle.smi_protocol.specs.declared.Entry.TheVariants.{InMode, Settled, Showed, Passed, Told}
 use Rattle.smi_law.specs.Known.{record_in}
 use Rattle.smi_law.specs.Safe.{IsBehind, RunsInOrder}
-use Rattle.smi_law.specs.Schedule.{World}
+use Rattle.smi_protocol.specs.Schedule.{World}
 use Rattle.smi_law.specs.Trace.{Stands, runs_under}
 use Rattle.smi_law.specs.World.{noted}
 use Rattle.smi_law.proofs.Moves.{apart}

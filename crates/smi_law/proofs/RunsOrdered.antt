@@ -19,7 +19,7 @@ use Rattle.smi_protocol.specs.declared.Entry.{Entry}
 use Rattle.smi_protocol.specs.declared.Entry.TheVariants as entry
 use Rattle.smi_law.specs.Known.{record_in}
 use Rattle.smi_law.specs.Safe.{RunsInOrder}
-use Rattle.smi_law.specs.Schedule.{World, first_world, opening_of}
+use Rattle.smi_protocol.specs.Schedule.{World, first_world, opening_of}
 use Rattle.smi_law.specs.World.{with_station, noted, Step, sends, steps, stops, tells, halts, starts, Reaches, opens}
 use Rattle.smi_law.specs.World.{goes_on}
 use Rattle.smi_law.proofs.Displayed.{none_display, after_display, opening_display, openings_display}

@@ -29,7 +29,7 @@ use Rattle.smi_protocol.specs.declared.Entry.TheVariants.{Booted, Granted, Freed
 use Rattle.smi_protocol.specs.declared.Entry.TheVariants.{InMode, Settled, Showed, Passed, Told}
 use Rattle.smi_law.specs.Known.{record_in, link_in}
 use Rattle.smi_law.specs.Safe.{IsGrantNow, Backed, by_operator, by_parent, SoundRuns}
-use Rattle.smi_law.specs.Schedule.{World, opening_of}
+use Rattle.smi_protocol.specs.Schedule.{World, opening_of}
 use Rattle.smi_law.specs.Trace.{epoch_at, has_learned, orders_of, mode_at, InWork}
 use Rattle.smi_law.specs.World.{Among as IsSent, MayCome, noted, Step, sends, steps, stops, tells, halts, starts}
 use Rattle.smi_law.specs.World.{Reaches, opens, goes_on}

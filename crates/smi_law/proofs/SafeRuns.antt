@@ -3,9 +3,9 @@ use Rattle.std.proofs.Common.{List}
 use Rattle.smi_tree.specs.Hierarchy.{Hierarchy}
 use Rattle.smi_tree.specs.Lawful.{IsTree}
 use Rattle.smi_protocol.specs.declared.Entry.{Entry}
-use Rattle.smi_item.specs.declared.item.Item.{Item}
+use Rattle.smi_protocol.specs.declared.item.Item.{Item}
 use Rattle.smi_law.specs.Safe.{Safe}
-use Rattle.smi_law.specs.Schedule.{World, trace_of}
+use Rattle.smi_protocol.specs.Schedule.{World, trace_of}
 use Rattle.smi_law.specs.World.{Reaches, past_of}
 use Rattle.smi_law.proofs.Bridge.{schedule_runs}
 use Rattle.smi_law.proofs.GrantsSafe.{safe_grants}

@@ -35,7 +35,7 @@ use Rattle.smi_protocol.specs.declared.Entry.TheVariants.{Passed}
 use Rattle.smi_protocol.specs.declared.Order.{Order}
 use Rattle.smi_protocol.specs.declared.Order.TheVariants as order
 use Rattle.smi_law.specs.Safe.{IsNewer, NotOlderThanShown}
-use Rattle.smi_law.specs.Schedule.{World}
+use Rattle.smi_protocol.specs.Schedule.{World}
 use Rattle.smi_law.specs.Trace.{Stands, before_start}
 use Rattle.smi_law.specs.World.{Among as IsSent, MayCome}
 use Rattle.smi_law.proofs.Conditions.{Changed, objects_of, Follows, all_follows}

@@ -31,7 +31,7 @@ use Rattle.smi_protocol.specs.declared.Entry.TheVariants as entry_
 use Rattle.smi_protocol.specs.declared.Entry.TheVariants.{Booted, Passed}
 use Rattle.smi_protocol.proofs.KeptObjects.{first_kept, kept_within}
 use Rattle.smi_law.specs.Safe.{IsNewer, NotOlderThanShown, NewerThanShown}
-use Rattle.smi_law.specs.Schedule.{World}
+use Rattle.smi_protocol.specs.Schedule.{World}
 use Rattle.smi_law.specs.Trace.{Stands}
 use Rattle.smi_law.specs.World.{Among as IsSent, with_station, noted}
 use Rattle.smi_law.proofs.Conditions.{row_within}

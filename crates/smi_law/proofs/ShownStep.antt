@@ -19,7 +19,7 @@ use Rattle.smi_protocol.specs.declared.Entry.{Entry}
 use Rattle.smi_protocol.specs.declared.Entry.TheVariants as entry
 use Rattle.smi_protocol.specs.declared.Entry.TheVariants.{Showed, Passed}
 use Rattle.smi_law.specs.Safe.{IsNewer, NotOlderThanShown, NewerThanShown, ShownWell}
-use Rattle.smi_law.specs.Schedule.{World}
+use Rattle.smi_protocol.specs.Schedule.{World}
 use Rattle.smi_law.specs.Trace.{Stands, before_start}
 use Rattle.smi_law.specs.World.{Among as IsSent, with_station, noted}
 use Rattle.smi_law.proofs.Stations.{at_stations}

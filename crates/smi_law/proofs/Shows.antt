@@ -20,7 +20,7 @@ use Rattle.smi_protocol.specs.declared.Entry.TheVariants as entry
 use Rattle.smi_protocol.specs.declared.Entry.TheVariants.{Booted, Granted, Freed, Ordered, Ran, Learned, LetGo}
 use Rattle.smi_protocol.specs.declared.Entry.TheVariants.{InMode, Settled, Showed, Passed, Told}
 use Rattle.smi_law.specs.Safe.{IsNewer, IsNotOlder, NotOlderThanShown, NewerThanShown, StateFits, ShownWell}
-use Rattle.smi_law.specs.Schedule.{World}
+use Rattle.smi_protocol.specs.Schedule.{World}
 use Rattle.smi_law.specs.Trace.{Stands, before_start}
 use Rattle.smi_law.specs.World.{Among as IsSent, noted}
 use Rattle.smi_law.proofs.Lists.{In, from_mapped, Apart, from_noted}

@@ -17,7 +17,7 @@ use Rattle.smi_protocol.specs.Step.{body_noticed, notice, conditions_by, answere
 use Rattle.smi_protocol.specs.Ticking.{most_sent}
 use Rattle.smi_protocol.specs.Watching.{told_state}
 use Rattle.smi_protocol.specs.declared.Entry.{Entry}
-use Rattle.smi_law.specs.Schedule.{World}
+use Rattle.smi_protocol.specs.Schedule.{World}
 use Rattle.smi_law.specs.World.{Among, MayCome, Reaches}
 use Rattle.smi_law.proofs.Lists.{In, in_both, from_taken}
 use Rattle.smi_law.proofs.SaysGrants.{grants_say}

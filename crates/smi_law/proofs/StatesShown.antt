@@ -36,7 +36,7 @@ use Rattle.smi_protocol.specs.declared.Entry.{Entry}
 use Rattle.smi_protocol.specs.declared.Entry.TheVariants as entry_
 use Rattle.smi_protocol.specs.declared.Entry.TheVariants.{Showed, Passed}
 use Rattle.smi_law.specs.Safe.{IsNotOlder}
-use Rattle.smi_law.specs.Schedule.{World, first_world, opening_of}
+use Rattle.smi_protocol.specs.Schedule.{World, first_world, opening_of}
 use Rattle.smi_law.specs.Trace.{Stands}
 use Rattle.smi_law.specs.World.{MayCome, with_station, with_sent, noted, Step, sends, steps, stops, tells, halts}
 use Rattle.smi_law.specs.World.{starts, Reaches, opens, goes_on}

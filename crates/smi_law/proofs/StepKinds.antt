@@ -38,7 +38,7 @@ use Rattle.smi_protocol.specs.declared.Order.{Order}
 use Rattle.smi_protocol.specs.declared.Order.TheVariants as order
 use Rattle.smi_law.specs.Known.{holder_home}
 use Rattle.smi_law.specs.Safe.{MayHold}
-use Rattle.smi_law.specs.Schedule.{World}
+use Rattle.smi_protocol.specs.Schedule.{World}
 use Rattle.smi_law.specs.World.{Among as IsSent, MayCome}
 use Rattle.smi_law.proofs.Changes.{SameGrant, same_grant, SameLink, same_link, handed_entry}
 use Rattle.smi_law.proofs.ChildKinds.{RunKind, quietly, excludes, run_kind, take_same, command_same}

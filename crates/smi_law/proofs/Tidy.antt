@@ -26,7 +26,7 @@ use Rattle.smi_protocol.specs.Watching.{unwatch_comes, told_state, showed_if, st
 use Rattle.smi_protocol.specs.declared.Entry.{Entry}
 use Rattle.smi_protocol.specs.declared.Order.{Order}
 use Rattle.smi_protocol.specs.declared.Order.TheVariants as order
-use Rattle.smi_law.specs.Schedule.{World}
+use Rattle.smi_protocol.specs.Schedule.{World}
 use Rattle.smi_law.specs.World.{with_station, Step, sends, steps, stops, tells, halts, starts, Reaches, opens}
 use Rattle.smi_law.specs.World.{goes_on}
 use Rattle.smi_law.proofs.GrantKinds.{put_here}

@@ -16,7 +16,7 @@ use Rattle.smi_protocol.specs.declared.Entry.{Entry}
 use Rattle.smi_protocol.specs.declared.Entry.TheVariants.{Learned, LetGo}
 use Rattle.smi_law.specs.Known.{record_in, link_in}
 use Rattle.smi_law.specs.Safe.{Commands, directly, through, OneCommander, SafeGrants}
-use Rattle.smi_law.specs.Schedule.{World}
+use Rattle.smi_protocol.specs.Schedule.{World}
 use Rattle.smi_law.specs.Trace.{Stands, epoch_at, holder_at, has_learned, Holds}
 use Rattle.smi_law.specs.World.{Among as IsSent, noted}
 use Rattle.smi_law.proofs.KnownFacts.{known_grant}

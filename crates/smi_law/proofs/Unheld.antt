@@ -40,7 +40,7 @@ use Rattle.smi_protocol.specs.declared.Order.TheVariants as order
 use Rattle.smi_protocol.proofs.SoundSteps.{found, listening_parent}
 use Rattle.smi_protocol.proofs.Tables.{at_put, at_put_link, number_is}
 use Rattle.smi_law.specs.Known.{link_in}
-use Rattle.smi_law.specs.Schedule.{World}
+use Rattle.smi_protocol.specs.Schedule.{World}
 use Rattle.smi_law.specs.World.{with_station, Step, sends, steps, stops, tells, halts, starts, Reaches, opens}
 use Rattle.smi_law.specs.World.{goes_on}
 

@@ -31,7 +31,7 @@ use Rattle.smi_protocol.specs.Refusals.{refusal_of}
 use Rattle.smi_protocol.specs.Sending.{IsDue, MaySay}
 use Rattle.smi_protocol.specs.Step.{answered_or, after as after_happening}
 use Rattle.smi_law.specs.Known.{holder_home, record_in, link_in}
-use Rattle.smi_law.specs.Schedule.{World}
+use Rattle.smi_protocol.specs.Schedule.{World}
 use Rattle.smi_law.specs.World.{Among as IsSent, MayCome, with_station, with_sent, Step, sends, steps, stops, tells}
 use Rattle.smi_law.specs.World.{halts, starts, Reaches, opens, goes_on}
 use Rattle.smi_protocol.specs.declared.Entry.{Entry}

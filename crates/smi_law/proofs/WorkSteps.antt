@@ -48,7 +48,7 @@ use Rattle.smi_protocol.specs.declared.Entry.TheVariants.{Granted, Freed, Ran}
 use Rattle.smi_protocol.specs.declared.Order.{Order}
 use Rattle.smi_protocol.specs.declared.Order.TheVariants as order
 use Rattle.smi_law.specs.Known.{holder_home, record_in, link_in}
-use Rattle.smi_law.specs.Schedule.{World}
+use Rattle.smi_protocol.specs.Schedule.{World}
 use Rattle.smi_law.specs.Trace.{orders_of}
 use Rattle.smi_law.specs.World.{Among as IsSent, MayCome, noted}
 use Rattle.smi_law.proofs.GrantKinds.{put_here}

@@ -17,7 +17,7 @@ use Rattle.smi_protocol.specs.Refusals.{refusal_of}
 use Rattle.smi_protocol.specs.Step.{answered_or, after as after_happening}
 use Rattle.smi_protocol.specs.declared.Entry.{Entry}
 use Rattle.smi_law.specs.Known.{record_in}
-use Rattle.smi_law.specs.Schedule.{World, first_world, opening_of}
+use Rattle.smi_protocol.specs.Schedule.{World, first_world, opening_of}
 use Rattle.smi_law.specs.World.{MayCome, with_station, noted, Step, sends, steps, stops, tells, halts, starts}
 use Rattle.smi_law.specs.World.{Reaches, opens, goes_on}
 use Rattle.smi_law.proofs.Displayed.{AllDisplay, aside_display, after_display, opening_display, openings_display}

@@ -6,7 +6,7 @@ use Rattle.smi_tree.specs.Hierarchy.{Hierarchy}
 use Rattle.smi_command.specs.declared.Link.{Link}
 use Rattle.smi_protocol.specs.Messages.{home}
 use Rattle.smi_roles.specs.Roles.{holder_station}
-use Rattle.smi_law.specs.Schedule.{World}
+use Rattle.smi_protocol.specs.Schedule.{World}
 
 -- the station of a holder
 abbrev pub holder_home : Hierarchy → Holder → ℕ

@@ -11,8 +11,8 @@ use Rattle.smi_protocol.specs.Happening.{Happening, Comes, Orders, Reports, Tick
 use Rattle.smi_protocol.specs.Opening.{opened, opening_entries, saved_only}
 use Rattle.smi_protocol.specs.Sending.{MaySend}
 use Rattle.smi_protocol.specs.Step.{after}
-use Rattle.smi_item.specs.declared.item.Line.{Line}
-use Rattle.smi_law.specs.Schedule.{World, first_world, opening_of, entries_of}
+use Rattle.smi_protocol.specs.declared.item.Line.{Line}
+use Rattle.smi_protocol.specs.Schedule.{World, first_world, opening_of, entries_of}
 
 abbrev pub Among : Message → List Message → Type 0
 Among m [] = ⊥

@@ -26,11 +26,11 @@ ghost use Rattle.smi_protocol.specs.Step.{after};
 ghost use Rattle.smi_protocol.specs.Display.{Station};
 ghost use Rattle.smi_protocol.specs.Opening.{first_display};
 ghost use Rattle.smi_protocol.specs.Tidy.{IsTidy};
-ghost use Rattle.smi_item.specs.declared.item.Item.{Item};
+ghost use Rattle.smi_protocol.specs.declared.item.Item.{Item};
 ghost use Rattle.smi_law.specs.Known.{record_in, link_in};
 ghost use Rattle.smi_law.specs.Safe.{Forwards, NotOlderThanShown, RunsInOrder, Safe, SafeGrants, ShownWell};
 ghost use Rattle.smi_law.specs.Safe.{SoundRuns};
-ghost use Rattle.smi_law.specs.Schedule.{World, turn, trace_of};
+ghost use Rattle.smi_protocol.specs.Schedule.{World, turn, trace_of};
 ghost use Rattle.smi_law.specs.Trace.{InWork, before_start, mode_at};
 ghost use Rattle.smi_law.specs.World.{Reaches, Among, MayCome, noted, past_of};
 

@@ -1,8 +1,8 @@
 pub mod Children
 pub mod Display
+pub mod GrantStep
 pub mod Grants
 pub mod GrantsOf
-pub mod GrantStep
 pub mod Happening
 pub mod Hearing
 pub mod Keeping
@@ -10,8 +10,10 @@ pub mod Loading
 pub mod Messages
 pub mod Opening
 pub mod Ordering
+pub mod Played
 pub mod Refusals
 pub mod SavedRows
+pub mod Schedule
 pub mod Sending
 pub mod Showing
 pub mod Sound
@@ -20,5 +22,4 @@ pub mod Step
 pub mod Ticking
 pub mod Tidy
 pub mod Watching
-pub mod Played
 pub mod examples

@@ -1,37 +1,40 @@
--- Stations that exchange datagrams by hand, as the worked examples of docs/EXAMPLES.md have it.
-use Rattle.std.specs.Prelude.{ℕ, ◌≡◌, ◌-◌, List, [], ◌∷◌, ◌++◌, map, slice_get, Option, Some, None}
+-- Worked examples, as docs/EXAMPLES.md has them: what is done, line by line, and what is seen of it in the trace.
+use Rattle.std.specs.Prelude.{ℕ, ◌≡◌, ◌+◌, List, [], ◌∷◌, ◌++◌, length, map, Option, option_map}
 use Rattle.smi_message.specs.declared.Body.{Body}
 use Rattle.smi_message.specs.declared.Body.TheVariants as body
 use Rattle.smi_message.specs.Message.{Message}
 use Rattle.smi_tree.specs.Hierarchy.{Hierarchy}
-use Rattle.smi_rows.specs.Store.{Saved}
-use Rattle.smi_protocol.specs.Display.{Station}
-use Rattle.smi_protocol.specs.Grants.{put}
-use Rattle.smi_protocol.specs.Happening.{Happening, Comes, Orders, Reports, Ticks}
-use Rattle.smi_protocol.specs.Step.{Out, nothing_out, Outcome, after}
-use Rattle.smi_protocol.specs.Opening.{first_opened, opened, opening_entries}
+use Rattle.smi_protocol.specs.Step.{Outcome, after}
+use Rattle.smi_protocol.specs.Schedule.{World, first_world, turn, arrival_of, trace_of, opening_lines}
 use Rattle.smi_protocol.specs.declared.entry.Entry.{Entry}
 use Rattle.smi_protocol.specs.declared.order.Order.{Order}
+use Rattle.smi_protocol.specs.declared.item.Deed.{Deed}
+use Rattle.smi_protocol.specs.declared.item.Deed.TheVariants as deed
+use Rattle.smi_protocol.specs.declared.item.Moment.TheVariants as moment
+use Rattle.smi_protocol.specs.declared.item.Item.{Item}
+use Rattle.smi_protocol.specs.declared.item.Item.TheVariants as item
+use Rattle.smi_protocol.specs.declared.item.Line.{Line as TraceLine}
+use Rattle.smi_protocol.specs.declared.item.Line.TheVariants as trace_line
 
--- What is done: the datagram of a number is delivered (of all that were sent, from 1), an operator of a station
--- orders, a device of a station reports, a station ticks, is started again, or stops after the save of what a
--- datagram that is delivered to it brings about, and is started again.
-pub data Act : Type 0 where
-  Deliver : ℕ → Act
-  OrderAt : (station : ℕ) → (operator : ℕ) → Order → Act
-  ReportAt : (station : ℕ) → (device : ℕ) → (state : ℕ) → Act
-  Tick : (station : ℕ) → Act
-  Restart : (station : ℕ) → Act
-  StopAfter : (station : ℕ) → ℕ → Act
+-- What is done.
 
--- the stations, and all datagrams that were sent, in their order
-pub record Play : Type 0 where
-  pub stations : ℕ → Station
-  pub sent : List Message
+-- the datagram of a number is delivered, of all that were sent, from 1
+abbrev pub deliver : ℕ → Item
+deliver k = item.Do (deed.Deliver k)
 
--- every station has started once, and nothing was sent
-abbrev pub beginning : Hierarchy → Play
-beginning h = record { stations = first_opened h; sent = [] }
+-- an operator orders
+abbrev pub orders : (operator : ℕ) → Order → Item
+orders o what = item.Do (deed.Order o what)
+
+-- a station ticks
+abbrev pub tick_at : (station : ℕ) → Item
+tick_at station = item.Do (deed.Tick station)
+
+-- a station stops after the save of what the datagram of a number brings about, and is started again
+abbrev pub stop_after : (station : ℕ) → ℕ → Item
+stop_after station k = item.Stop station moment.After (deed.Deliver k)
+
+-- What is seen.
 
 -- Which kind of datagram was sent, from whom to whom, and which domain or object it is about.
 pub data Kind : Type 0 where
@@ -81,106 +84,51 @@ sends kind from to subject = record { kind = kind; from = from; to = to; subject
 abbrev pub sending_of : Message → Sending
 sending_of m = sends (kind_of m.body) m.from m.to (subject_of m.body)
 
--- what is seen of an act: what it leaves in the trace, and what was sent
-pub record Seen : Type 0 where
+-- A line of a trace as an example shows it: an entry, or which datagram was sent.
+pub data Shown : Type 0 where
+  Says : Entry → Shown
+  Sends : (number : ℕ) → Sending → Shown
+
+abbrev pub shown_of : TraceLine → Shown
+shown_of (trace_line.Entry x) = Says x
+shown_of (trace_line.Sent number m) = Sends number (sending_of m)
+
+-- datagrams are numbered through an example
+abbrev pub numbered : ℕ → List Sending → List Shown
+numbered number [] = []
+numbered number (x ∷ more) = Sends number x ∷ numbered (number + 1) more
+
+-- An example: what is done, line by line, and the entries and datagrams that are seen of it.
+pub record Line : Type 0 where
+  pub what : Item
   pub entries : List Entry
   pub sendings : List Sending
 
--- these entries and these datagrams
-abbrev pub seen : List Entry → List Sending → Seen
-seen entries sendings = record { entries = entries; sendings = sendings }
+-- a line of an example: the item, its entries, its datagrams
+abbrev pub line : Item → List Entry → List Sending → Line
+line what entries sendings = record { what = what; entries = entries; sendings = sendings }
 
--- what an act does, what it leaves in the trace, and what it hands out and saves
-pub record Turn : Type 0 where
-  pub play : Play
-  pub entries : List Entry
-  pub out : Out
-  pub saved : Option Saved
+-- the lines of an example in the trace, of which the next datagram has this number
+abbrev pub lines_from : ℕ → List Line → List Shown
+lines_from number [] = []
+lines_from number (x ∷ more) =
+    map Says x.entries ++ numbered number x.sendings ++ lines_from (number + length x.sendings) more
 
--- nothing happens
-abbrev pub still : Play → Turn
-still p = record { play = p; entries = []; out = nothing_out; saved = None }
+-- the schedule of an example makes the trace that the example says
+abbrev pub Makes : Hierarchy → List Line → Type 0
+Makes h lines =
+    map shown_of (trace_of h (map (λ x. x.what) lines)) ≡ map shown_of (opening_lines h) ++ lines_from 1 lines
 
--- a station has made a step
-abbrev pub stepped : Play → ℕ → Outcome → Turn
-stepped p number o = record {
-  play = record { stations = put p.stations number o.station; sent = p.sent ++ o.out.datagrams };
-  entries = o.kept ++ o.after;
-  out = o.out;
-  saved = o.saved;
-}
+-- Beside the trace: what a deed after an example hands out and saves.
 
--- a station was started, with these entries and this row before
-abbrev pub started : Hierarchy → Play → ℕ → List Entry → Option Saved → Station → Turn
-started h p number kept saved s = record {
-  play = record { stations = put p.stations number s; sent = p.sent };
-  entries = kept ++ opening_entries h number s;
-  out = nothing_out;
-  saved = saved;
-}
+-- where an example leads
+abbrev pub world_from : Hierarchy → World → List Line → World
+world_from h w [] = w
+world_from h w (x ∷ more) = world_from h (turn h w x.what).world more
 
--- something comes to a station
-abbrev pub steps : Hierarchy → Play → ℕ → Happening → Turn
-steps h p number what = stepped p number (after h number (p.stations number) what)
+-- the step of the station that a deed comes to
+abbrev pub outcome_in : Hierarchy → World → Deed → Option Outcome
+outcome_in h w what = option_map (λ x. after h x.station (w.stations x.station) x.what) (arrival_of h w what)
 
--- a station stops after its save, and is started again
-abbrev pub stops : Hierarchy → Play → ℕ → Outcome → Turn
-stops h p number o = started h p number o.kept o.saved (opened h number o.station.grants)
-
--- a datagram is delivered, if it was sent
-abbrev pub delivers : Hierarchy → Play → Option Message → Turn
-delivers h p None = still p
-delivers h p (Some m) = steps h p m.to (Comes m)
-
--- its receiver stops after the save, if it was sent
-abbrev pub stops_after : Hierarchy → Play → ℕ → Option Message → Turn
-stops_after h p station None = still p
-stops_after h p station (Some m) = stops h p station (after h station (p.stations station) (Comes m))
-
--- an act is done
-abbrev pub turn : Hierarchy → Play → Act → Turn
-turn h p (Deliver k) = delivers h p (slice_get p.sent (k - 1))
-turn h p (OrderAt station o what) = steps h p station (Orders o what)
-turn h p (ReportAt station device s) = steps h p station (Reports device s)
-turn h p (Tick station) = steps h p station Ticks
-turn h p (Restart station) = started h p station [] None (opened h station (p.stations station).grants)
-turn h p (StopAfter station k) = stops_after h p station (slice_get p.sent (k - 1))
-
--- what is seen of it
-abbrev pub seen_of : Turn → Seen
-seen_of t = seen t.entries (map sending_of t.out.datagrams)
-
--- what is seen of one act after the other
-abbrev pub played_from : Hierarchy → Play → List Act → List Seen
-played_from h p [] = []
-played_from h p (act ∷ more) = seen_of (turn h p act) ∷ played_from h (turn h p act).play more
-
--- the same from the beginning
-abbrev pub played : Hierarchy → List Act → List Seen
-played h acts = played_from h (beginning h) acts
-
--- where acts lead
-abbrev pub play_after : Hierarchy → Play → List Act → Play
-play_after h p [] = p
-play_after h p (act ∷ more) = play_after h (turn h p act).play more
-
--- An example: what is done, line by line, and what is seen of it.
-pub record Line : Type 0 where
-  pub act : Act
-  pub shows : Seen
-
--- a line of an example: the act, its entries, its datagrams
-abbrev pub line : Act → List Entry → List Sending → Line
-line act entries sendings = record { act = act; shows = seen entries sendings }
-
--- the acts of an example
-abbrev pub acts_of : List Line → List Act
-acts_of lines = map (λ x. x.act) lines
-
--- what is done shows what the example says, line by line
-abbrev pub Plays : Hierarchy → List Line → Type 0
-Plays h lines = played h (acts_of lines) ≡ map (λ x. x.shows) lines
-
--- an act after an example
-abbrev pub turn_after : Hierarchy → List Line → Act → Turn
-turn_after h lines act = turn h (play_after h (beginning h) (acts_of lines)) act
+abbrev pub outcome_after : Hierarchy → List Line → Deed → Option Outcome
+outcome_after h lines what = outcome_in h (world_from h (first_world h) lines) what

@@ -1,4 +1,5 @@
 pub mod Commands
+pub mod Failing
 pub mod Grants
 pub mod Limits
 pub mod Orders

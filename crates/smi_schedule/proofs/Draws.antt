@@ -3,7 +3,7 @@ use Rattle.std.proofs.Common.{◌≡◌, ℕ, suc, ◌+◌, ◌-◌, ◌<◌, �
 use Rattle.std.proofs.Common.{append-nil, arith}
 use Rattle.rand_pcg.specs.Lcg.{Lcg}
 use Rattle.smi_tree.specs.Hierarchy.{Hierarchy}
-use Rattle.smi_item.specs.declared.item.Item.{Item}
+use Rattle.smi_protocol.specs.declared.item.Item.{Item}
 use Rattle.smi_schedule.specs.Drawn.{item_of, word_of, word_taken, items_drawn}
 
 next : (h : Hierarchy) (n m : ℕ) (words : Lcg) → n ≡ suc m

@@ -4,7 +4,7 @@ use Rattle.std.proofs.Common.{◌∙◌, append-nil}
 use Rattle.std.specs.Option.{option_to_list}
 use Rattle.smi_tree.specs.Hierarchy.{Hierarchy}
 use Rattle.smi_tree.specs.declared.fault.Fault.{Fault}
-use Rattle.smi_item.specs.declared.item.Item.{Item}
+use Rattle.smi_protocol.specs.declared.item.Item.{Item}
 use Rattle.smi_schedule.specs.Line.{item_in}
 use Rattle.smi_schedule.specs.declared.schedule.ScheduleFault.{ScheduleFault}
 use Rattle.smi_schedule.specs.declared.schedule.ScheduleFault.TheVariants.{Line, Memory}

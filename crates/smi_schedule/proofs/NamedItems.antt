@@ -19,9 +19,9 @@ use Rattle.smi_tree.specs.declared.fault.Fault.TheVariants.{LineTooLong, Unknown
 use Rattle.smi_tree.proofs.Lawfulness.{number_of-between}
 use Rattle.smi_protocol.proofs.Ranges.{between}
 use Rattle.smi_protocol.specs.declared.order.Order.{Order}
-use Rattle.smi_item.specs.declared.item.Deed.{Deed}
-use Rattle.smi_item.specs.declared.item.Deed.TheVariants as deed
-use Rattle.smi_item.specs.declared.item.Item.{Item}
+use Rattle.smi_protocol.specs.declared.item.Deed.{Deed}
+use Rattle.smi_protocol.specs.declared.item.Deed.TheVariants as deed
+use Rattle.smi_protocol.specs.declared.item.Item.{Item}
 use Rattle.smi_schedule.specs.Known as known
 use Rattle.smi_schedule.specs.Line.{item_by, item_in}
 use Rattle.smi_schedule.specs.Said.{said_of}

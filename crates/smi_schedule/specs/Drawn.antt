@@ -8,10 +8,10 @@ use Rattle.smi_tree.specs.Lookups.{state_count, action_count, station_count, ope
 use Rattle.smi_tree.specs.Lookups.{device_count}
 use Rattle.smi_protocol.specs.declared.order.Order.{Order}
 use Rattle.smi_protocol.specs.declared.order.Order.TheVariants as order
-use Rattle.smi_item.specs.declared.item.Deed.{Deed}
-use Rattle.smi_item.specs.declared.item.Deed.TheVariants as deed
-use Rattle.smi_item.specs.declared.item.Item.{Item}
-use Rattle.smi_item.specs.declared.item.Item.TheVariants as item
+use Rattle.smi_protocol.specs.declared.item.Deed.{Deed}
+use Rattle.smi_protocol.specs.declared.item.Deed.TheVariants as deed
+use Rattle.smi_protocol.specs.declared.item.Item.{Item}
+use Rattle.smi_protocol.specs.declared.item.Item.TheVariants as item
 
 -- the number from 1 to so many that a part of a word picks
 abbrev pub pick : ℕ → ℕ → ℕ

@@ -9,10 +9,10 @@ use Rattle.smi_tree.specs.declared.fault.Fault.{Fault}
 use Rattle.smi_tree.specs.declared.fault.Fault.TheVariants.{UnknownName}
 use Rattle.smi_protocol.specs.declared.order.Order.{Order}
 use Rattle.smi_protocol.specs.declared.order.Order.TheVariants as order
-use Rattle.smi_item.specs.declared.item.Deed.{Deed}
-use Rattle.smi_item.specs.declared.item.Deed.TheVariants as deed
-use Rattle.smi_item.specs.declared.item.Item.{Item}
-use Rattle.smi_item.specs.declared.item.Item.TheVariants as item
+use Rattle.smi_protocol.specs.declared.item.Deed.{Deed}
+use Rattle.smi_protocol.specs.declared.item.Deed.TheVariants as deed
+use Rattle.smi_protocol.specs.declared.item.Item.{Item}
+use Rattle.smi_protocol.specs.declared.item.Item.TheVariants as item
 use Rattle.smi_schedule.specs.declared.said.SaidOrder.{SaidOrder}
 use Rattle.smi_schedule.specs.declared.said.SaidOrder.TheVariants as said_order
 use Rattle.smi_schedule.specs.declared.said.SaidDeed.{SaidDeed}

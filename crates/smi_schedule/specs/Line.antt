@@ -8,7 +8,7 @@ use Rattle.smi_tree.specs.File.{is_comment}
 use Rattle.smi_tree.specs.Hierarchy.{Hierarchy}
 use Rattle.smi_tree.specs.declared.fault.Fault.{Fault}
 use Rattle.smi_tree.specs.declared.fault.Fault.TheVariants.{UnknownWord, LineTooLong}
-use Rattle.smi_item.specs.declared.item.Item.{Item}
+use Rattle.smi_protocol.specs.declared.item.Item.{Item}
 use Rattle.smi_schedule.specs.Words.{line_word}
 use Rattle.smi_schedule.specs.Said.{said_of}
 use Rattle.smi_schedule.specs.Known.{known}

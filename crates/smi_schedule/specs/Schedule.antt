@@ -8,7 +8,7 @@ use Rattle.smi_tree.specs.Fault.{fault_code}
 use Rattle.smi_tree.specs.Hierarchy.{Hierarchy}
 use Rattle.smi_tree.specs.declared.fault.Fault.{Fault}
 use Rattle.smi_tree.specs.declared.fault.Fault.TheVariants.{FileTooLong}
-use Rattle.smi_item.specs.declared.item.Item.{Item}
+use Rattle.smi_protocol.specs.declared.item.Item.{Item}
 use Rattle.smi_schedule.specs.declared.schedule.ScheduleFault.{ScheduleFault}
 use Rattle.smi_schedule.specs.declared.schedule.ScheduleFault.TheVariants.{Line, Memory}
 use Rattle.smi_schedule.specs.Line.{item_in}

@@ -3,8 +3,8 @@ use Rattle.std.specs.Prelude.{ℕ, List, Option, Some, None, codes, option_map, 
 use Rattle.std.specs.Str.{bytes_eq}
 use Rattle.smi_rows.specs.declared.Plan.{Plan}
 use Rattle.smi_rows.specs.declared.Plan.TheVariants as plan
-use Rattle.smi_item.specs.declared.item.Moment.{Moment}
-use Rattle.smi_item.specs.declared.item.Moment.TheVariants as moment
+use Rattle.smi_protocol.specs.declared.item.Moment.{Moment}
+use Rattle.smi_protocol.specs.declared.item.Moment.TheVariants as moment
 use Rattle.smi_schedule.specs.declared.words.DeedWord.{DeedWord}
 use Rattle.smi_schedule.specs.declared.words.DeedWord.TheVariants as deed
 use Rattle.smi_schedule.specs.declared.words.LineWord.{LineWord}

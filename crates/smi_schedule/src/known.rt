@@ -4,8 +4,7 @@ ghost use Rattle.std.specs.Prelude.{◌≡◌};
 ghost use Rattle.smi_schedule.specs.Known as spec;
 
 use crate::said::{Said, SaidDeed, SaidOrder};
-use smi_item::{Deed, Item};
-use smi_protocol::Order;
+use smi_protocol::{Deed, Item, Order};
 use smi_tree::{Fault, Name, Tree};
 
 fn station(tree: &Tree, name: &Name) -> Result<u16, Fault>

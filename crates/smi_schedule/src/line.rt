@@ -6,8 +6,8 @@ ghost use Rattle.smi_schedule.specs.Line.{item_in};
 use crate::known::known;
 use crate::said::said_of;
 use crate::words::LineWord;
-use smi_item::Item;
 use smi_limits::MOST_BYTES_OF_A_LINE;
+use smi_protocol::Item;
 use smi_tree::{Fault, Tree, first_word, is_comment};
 
 /// What a line of a schedule lets happen; nothing where it has no words or is a comment.

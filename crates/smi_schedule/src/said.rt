@@ -6,7 +6,7 @@ ghost use Rattle.smi_tree.specs.Text.{words};
 ghost use Rattle.smi_schedule.specs.Said as spec;
 
 use crate::words::{DeedWord, LineWord, OrderWord, moment_of, plan_of};
-use smi_item::Moment;
+use smi_protocol::Moment;
 use smi_rows::Plan;
 use smi_tree::{Fault, Name, Word, first_word, number_within, one_name, one_word, two_names};
 

@@ -3,7 +3,7 @@
 ghost use Rattle.std.specs.Prelude.{◌≡◌};
 ghost use Rattle.smi_schedule.specs.Words.{moment_of, plan_of};
 
-use smi_item::Moment;
+use smi_protocol::Moment;
 use smi_rows::Plan;
 
 /// The word that a deed begins with.

@@ -1,7 +1,6 @@
 //! What lines say, each fault of a line, whole schedules, and what words pick.
 
-use smi_item::{Deed, Item, Moment};
-use smi_protocol::Order;
+use smi_protocol::{Deed, Item, Moment, Order};
 use smi_rows::Plan;
 use smi_samples::WORKED;
 use smi_schedule::{Drawer, ScheduleFault, draw_schedule, item_of, read_item, read_schedule};

@@ -1,9 +1,8 @@
 //! What each line of a trace reads.
 
 use smi_grant::{Command, Holder, Phase, Record, Shown, Version};
-use smi_item::Line;
 use smi_message::{Body, Datagram};
-use smi_protocol::{Entry, Order, Told};
+use smi_protocol::{Entry, Line, Order, Told};
 use smi_rows::Mode;
 use smi_samples::{Narrow, WORKED};
 use smi_trace::{Unwritten, spell, write_lines};

@@ -8,7 +8,7 @@
 ghost use Rattle.std.specs.Prelude.{◌≡◌, ◌⊎◌, ℕ, IfSome, take};
 ghost use Rattle.std.specs.Str.Lines.{lines};
 ghost use Rattle.std.specs.Io.KnownBytes.{Appends};
-ghost use Rattle.smi_law.specs.Schedule.{trace_of};
+ghost use Rattle.smi_protocol.specs.Schedule.{trace_of};
 ghost use Rattle.smi_schedule.specs.Drawn.{schedule_drawn};
 ghost use Rattle.smi_trace.specs.Text.{trace_text};
 ghost use Rattle.smi_world.specs.Streaming.{ending_of, text_of};

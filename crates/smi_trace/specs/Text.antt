@@ -7,8 +7,8 @@ use Rattle.smi_message.specs.Message.{Message}
 use Rattle.smi_protocol.specs.declared.order.Told.{Told}
 use Rattle.smi_protocol.specs.declared.entry.Entry.{Entry}
 use Rattle.smi_protocol.specs.declared.entry.Entry.TheVariants as entry
-use Rattle.smi_item.specs.declared.item.Line.{Line}
-use Rattle.smi_item.specs.declared.item.Line.TheVariants as line
+use Rattle.smi_protocol.specs.declared.item.Line.{Line}
+use Rattle.smi_protocol.specs.declared.item.Line.TheVariants as line
 use Rattle.smi_tree.specs.Hierarchy.{Hierarchy}
 use Rattle.smi_trace.specs.Words.{station_word, operator_word, domain_word, object_word, state_word, holder_word}
 use Rattle.smi_trace.specs.Words.{version_word, mode_word, command_words, order_words, answer_words, kind_word}

@@ -5,7 +5,7 @@ ghost use Rattle.smi_trace.specs.Text.{line_text};
 
 use crate::entries::spell_entry;
 use crate::sent::spell_sent;
-use smi_item::Line;
+use smi_protocol::Line;
 use smi_tree::Tree;
 use std::alloc::AllocError;
 

@@ -5,7 +5,7 @@ ghost use Rattle.std.specs.Io.KnownBytes.{Appends};
 ghost use Rattle.smi_trace.specs.Text.{line_text, trace_text};
 
 use crate::line::spell;
-use smi_item::Line;
+use smi_protocol::Line;
 use smi_tree::Tree;
 use smi_write::{NotWritten, write_whole};
 use std::alloc::AllocError;

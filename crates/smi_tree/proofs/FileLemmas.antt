@@ -113,8 +113,11 @@ file bytes h false (Ok made) short read is = whole bytes h made (is_complete mad
 
 pub accepted : (bytes : List ℕ) (h : Hierarchy) → (tree_of bytes ≡ Ok h) ↔ IsTreeFile bytes h
 unfolding tree_of
-accepted bytes h = (file bytes h (nat_lt MOST_BYTES_OF_A_FILE (length bytes)) (with_lines 1 undeclared
-    (lines bytes)) refl refl, back)
+accepted bytes h = (
+  file bytes h (nat_lt MOST_BYTES_OF_A_FILE (length bytes)) (with_lines 1 undeclared
+      (lines bytes)) refl refl,
+  back,
+)
   where
     back : IsTreeFile bytes h → tree_of bytes ≡ Ok h
     back f = rw (not-long bytes f.short) (rw (of-made (lines bytes) 1 undeclared h f.made) (rw f.complete refl))

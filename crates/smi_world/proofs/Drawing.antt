@@ -5,12 +5,12 @@ use Rattle.std.specs.Io.KnownBytes.{Appends}
 use Rattle.std.proofs.KnownBytes.{Appends-trans}
 use Rattle.rand_pcg.specs.Lcg.{Lcg}
 use Rattle.smi_tree.specs.Hierarchy.{Hierarchy}
-use Rattle.smi_item.specs.declared.item.Item.{Item}
-use Rattle.smi_item.specs.declared.item.Line.{Line}
+use Rattle.smi_protocol.specs.declared.item.Item.{Item}
+use Rattle.smi_protocol.specs.declared.item.Line.{Line}
 use Rattle.smi_schedule.specs.Drawn.{item_of, items_drawn, schedule_drawn, seeded, word_of, word_taken}
 use Rattle.smi_trace.specs.Text.{trace_text}
 use Rattle.smi_trace.proofs.Prefixes.{prefix_all, prefix_more}
-use Rattle.smi_law.specs.Schedule.{World, first_world, lines_of, opening_lines, trace_from, trace_of, turn}
+use Rattle.smi_protocol.specs.Schedule.{World, first_world, lines_of, opening_lines, trace_from, trace_of, turn}
 use Rattle.smi_world.specs.Posts.{Held, IsAt}
 use Rattle.smi_world.proofs.Begun.{begun_all, begun_front}
 use Rattle.smi_world.proofs.Going.{Bytes, still, text_both}

@@ -8,7 +8,7 @@ use Rattle.smi_rows.specs.Store.{found_in}
 use Rattle.smi_protocol.specs.Display.{Station}
 use Rattle.smi_protocol.specs.Happening.{Happening, told_entries}
 use Rattle.smi_protocol.specs.Step.{Out, Outcome, after, nothing_out}
-use Rattle.smi_law.specs.Schedule.{not_stored}
+use Rattle.smi_protocol.specs.Schedule.{not_stored}
 use Rattle.smi_station.specs.Core.{IsOf, IsStoredIn, number_of, station_of, tree_of}
 use Rattle.smi_world.specs.declared.post.Post.{Post}
 use Rattle.smi_world.specs.Left.{Left}

@@ -13,8 +13,8 @@ use Rattle.smi_tree.specs.Fault.{fault_code}
 use Rattle.smi_tree.specs.Hierarchy.{Hierarchy}
 use Rattle.smi_tree.specs.declared.fault.Fault.{Fault}
 use Rattle.smi_tree.specs.declared.fault.Fault.TheVariants.{LineTooLong}
-use Rattle.smi_item.specs.declared.item.Item.{Item}
-use Rattle.smi_item.specs.declared.item.Line.{Line}
+use Rattle.smi_protocol.specs.declared.item.Item.{Item}
+use Rattle.smi_protocol.specs.declared.item.Line.{Line}
 use Rattle.smi_schedule.specs.Line as schedule_line
 use Rattle.smi_schedule.specs.Line.{item_in}
 use Rattle.smi_tree.specs.Text.{words}
@@ -24,7 +24,7 @@ use Rattle.smi_schedule.specs.Schedule.{fault_or, first_fault, items_before_faul
 use Rattle.smi_schedule.specs.declared.lines.Cut.TheVariants as cut
 use Rattle.smi_trace.specs.Text.{trace_text, line_text}
 use Rattle.smi_trace.proofs.Prefixes.{prefix_more}
-use Rattle.smi_law.specs.Schedule.{World, trace_from}
+use Rattle.smi_protocol.specs.Schedule.{World, trace_from}
 use Rattle.smi_world.specs.Posts.{Held, IsAt}
 use Rattle.smi_world.specs.Streaming.{IsFault, ended_by, ending_of, lines_after, world_after}
 use Rattle.smi_world.specs.declared.streaming.Streamed.{Streamed}

@@ -7,8 +7,8 @@ use Rattle.smi_tree.specs.Hierarchy.{Hierarchy}
 use Rattle.smi_protocol.specs.Display.{Station}
 use Rattle.smi_protocol.specs.Grants.{put}
 use Rattle.smi_protocol.specs.Opening.{saved_only}
-use Rattle.smi_item.specs.declared.item.Item.{Item}
-use Rattle.smi_law.specs.Schedule.{World}
+use Rattle.smi_protocol.specs.declared.item.Item.{Item}
+use Rattle.smi_protocol.specs.Schedule.{World}
 use Rattle.smi_law.proofs.Bridge.{put_same}
 use Rattle.smi_law.proofs.GrantKinds.{put_here}
 use Rattle.smi_world.specs.Coming.{happening}

@@ -6,8 +6,8 @@ use Rattle.std.specs.List.{flat_map, range_with_len}
 use mathlib.Core.Path.{fun_ext}
 use Rattle.smi_tree.specs.Hierarchy.{Hierarchy}
 use Rattle.smi_rows.specs.Store.{Rows, found_in}
-use Rattle.smi_item.specs.declared.item.Line.{Line}
-use Rattle.smi_item.specs.declared.item.Line.TheVariants as line
+use Rattle.smi_protocol.specs.declared.item.Line.{Line}
+use Rattle.smi_protocol.specs.declared.item.Line.TheVariants as line
 use Rattle.smi_load.proofs.Taking.{no_rows, none_mean}
 use Rattle.smi_protocol.specs.Display.{Station}
 use Rattle.smi_protocol.specs.Grants.{Grants}

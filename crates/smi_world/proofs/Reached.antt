@@ -13,11 +13,11 @@ use Rattle.smi_protocol.specs.Happening.{Happening}
 use Rattle.smi_protocol.specs.Opening.{first_opened, opened, opening_entries, saved_only}
 use Rattle.smi_protocol.specs.Step.{after}
 use Rattle.smi_protocol.specs.declared.entry.Entry.{Entry}
-use Rattle.smi_item.specs.declared.item.Item.{Item}
-use Rattle.smi_item.specs.declared.item.Item.TheVariants as item
-use Rattle.smi_item.specs.declared.item.Moment.TheVariants as moment
-use Rattle.smi_law.specs.Schedule.{Arrival, World, Turn, arrival_of, changed, done_by, failed, failing, first_world}
-use Rattle.smi_law.specs.Schedule.{is_at, nothing, opening_of, restarted, stepped, stopped_behind, turn}
+use Rattle.smi_protocol.specs.declared.item.Item.{Item}
+use Rattle.smi_protocol.specs.declared.item.Item.TheVariants as item
+use Rattle.smi_protocol.specs.declared.item.Moment.TheVariants as moment
+use Rattle.smi_protocol.specs.Schedule.{Arrival, World, Turn, arrival_of, changed, done_by, failed, failing, first_world}
+use Rattle.smi_protocol.specs.Schedule.{is_at, nothing, opening_of, restarted, stepped, stopped_behind, turn}
 use Rattle.smi_law.specs.World.{MayCome, Reaches, goes_on, noted, opens, stops, with_station}
 use Rattle.smi_law.proofs.Bridge.{Arrives, arrives, turned}
 use Rattle.smi_world.specs.Left.{Left}

@@ -2,11 +2,11 @@
 use Rattle.std.proofs.Common.{ℕ, suc, ◌≡◌, ◌<◌, ◌+◌, true, false, List, [], ◌∷◌, ◌++◌, Result, Ok, Err, drop, get_or}
 use Rattle.std.proofs.Common.{length, append_assoc, refl, sym, ap, ◌∙◌, subst, arith}
 use Rattle.smi_tree.specs.Hierarchy.{Hierarchy}
-use Rattle.smi_item.specs.declared.item.Item.{Item}
-use Rattle.smi_item.specs.declared.item.Line.{Line}
+use Rattle.smi_protocol.specs.declared.item.Item.{Item}
+use Rattle.smi_protocol.specs.declared.item.Line.{Line}
 use Rattle.std.proofs.Math.Seq.{drop-cons}
 use Rattle.std.specs.Prelude.{OnOk}
-use Rattle.smi_law.specs.Schedule.{World, first_world, lines_of, opening_lines, trace_from, trace_of, turn}
+use Rattle.smi_protocol.specs.Schedule.{World, first_world, lines_of, opening_lines, trace_from, trace_of, turn}
 use Rattle.smi_schedule.specs.Naming.{has_item}
 use Rattle.smi_world.specs.Posts.{Held, IsAt}
 use Rattle.smi_world.specs.Running.{FirstUnnamed, Named}

@@ -3,8 +3,8 @@ use Rattle.std.proofs.Common.{ℕ, suc, ◌≡◌, ◌<◌, ◌+◌, ◌-◌, Li
 use Rattle.std.proofs.Common.{append_assoc, arith}
 use Rattle.std.specs.List.{cons_option, filter_map, range_with_len}
 use Rattle.smi_grant.specs.declared.Shown.{Shown}
-use Rattle.smi_item.specs.declared.item.Line.{Line}
-use Rattle.smi_item.specs.declared.item.Line.TheVariants as line
+use Rattle.smi_protocol.specs.declared.item.Line.{Line}
+use Rattle.smi_protocol.specs.declared.item.Line.TheVariants as line
 use Rattle.smi_protocol.specs.declared.entry.Entry.TheVariants as entry
 use Rattle.smi_protocol.specs.Messages.{if_any}
 

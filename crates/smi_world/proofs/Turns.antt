@@ -12,8 +12,8 @@ use Rattle.smi_protocol.specs.Happening.{Happening}
 use Rattle.smi_protocol.specs.Opening.{opened, opening_entries, saved_only}
 use Rattle.smi_protocol.specs.Step.{Outcome, after}
 use Rattle.smi_protocol.specs.declared.entry.Entry.{Entry}
-use Rattle.smi_law.specs.Schedule.{Turn, World, arrival, changed, done_by, failed, failing, nothing, restarted}
-use Rattle.smi_law.specs.Schedule.{stepped, stopped_behind}
+use Rattle.smi_protocol.specs.Schedule.{Turn, World, arrival, changed, done_by, failed, failing, nothing, restarted}
+use Rattle.smi_protocol.specs.Schedule.{stepped, stopped_behind}
 use Rattle.smi_law.proofs.Bridge.{put_same}
 use Rattle.smi_world.specs.Coming.{arrival_in, happening, what_comes_to}
 use Rattle.smi_world.specs.declared.coming.Arrival as coming

@@ -2,7 +2,7 @@
 use Rattle.std.specs.Prelude.{ℕ, ◌==◌, if◌then◌else◌, Option, Some, None}
 use Rattle.smi_protocol.specs.Happening.{Happening, Comes, Reports, Ticks}
 use Rattle.smi_protocol.specs.Step.{ordered_or_reported}
-use Rattle.smi_law.specs.Schedule as schedule
+use Rattle.smi_protocol.specs.Schedule as schedule
 use Rattle.smi_world.specs.declared.coming.Coming.{Coming}
 use Rattle.smi_world.specs.declared.coming.Coming.TheVariants as coming
 use Rattle.smi_world.specs.declared.coming.Arrival.{Arrival}

@@ -10,9 +10,9 @@ use Rattle.smi_protocol.specs.Opening.{object_count}
 use Rattle.smi_protocol.specs.Step.{Out, nothing_out, showed_entries}
 use Rattle.smi_protocol.specs.declared.entry.Entry.{Entry}
 use Rattle.smi_protocol.specs.declared.entry.Entry.TheVariants as entry
-use Rattle.smi_item.specs.declared.item.Line.{Line}
-use Rattle.smi_item.specs.declared.item.Line.TheVariants as line
-use Rattle.smi_law.specs.Schedule.{sent_lines}
+use Rattle.smi_protocol.specs.declared.item.Line.{Line}
+use Rattle.smi_protocol.specs.declared.item.Line.TheVariants as line
+use Rattle.smi_protocol.specs.Schedule.{sent_lines}
 
 -- At one station: what its save left; whether it has started, and with which boot; which of its objects changed
 -- their states; what it handed out; and how many datagrams were sent before.

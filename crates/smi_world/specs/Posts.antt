@@ -7,7 +7,7 @@ use Rattle.smi_rows.specs.Store.{found_in}
 use Rattle.smi_protocol.specs.Display.{Station}
 use Rattle.smi_protocol.specs.declared.entry.Entry.{Entry}
 use Rattle.smi_station.specs.Core.{IsOf, IsStoredIn, station_of}
-use Rattle.smi_law.specs.Schedule.{Turn, World}
+use Rattle.smi_protocol.specs.Schedule.{Turn, World}
 use Rattle.smi_law.specs.World.{Reaches}
 use Rattle.smi_world.specs.declared.post.Post.{Post}
 use Rattle.smi_world.specs.Left.{Left, entries_left}

@@ -1,7 +1,7 @@
 -- Items that name what the tree has.
 use Rattle.std.specs.Prelude.{ℕ, ◌≡◌, ◌+◌, false, true, List, [], ◌∷◌, ◌++◌, length, Result, Ok, Err}
 use Rattle.smi_tree.specs.Hierarchy.{Hierarchy}
-use Rattle.smi_item.specs.declared.item.Item.{Item}
+use Rattle.smi_protocol.specs.declared.item.Item.{Item}
 use Rattle.smi_schedule.specs.Naming.{has_item}
 use Rattle.smi_world.specs.declared.running.WorldFault.{WorldFault}
 use Rattle.smi_world.specs.declared.running.WorldFault.TheVariants as fault

@@ -2,12 +2,12 @@
 use Rattle.std.specs.Prelude.{ℕ, ◌≡◌, ◌⊎◌, false, List, [], Option, Some, None}
 use Rattle.smi_tree.specs.Hierarchy.{Hierarchy}
 use Rattle.smi_protocol.specs.Display.{Station}
-use Rattle.smi_item.specs.declared.item.Moment.{Moment}
-use Rattle.smi_item.specs.declared.item.Moment.TheVariants as moment
-use Rattle.smi_item.specs.declared.item.Deed.{Deed}
-use Rattle.smi_item.specs.declared.item.Item.{Item}
-use Rattle.smi_item.specs.declared.item.Item.TheVariants as item
-use Rattle.smi_law.specs.Schedule.{Arrival, World, Turn, arrival, arrival_of, nothing, restarted, stopped_behind}
+use Rattle.smi_protocol.specs.declared.item.Moment.{Moment}
+use Rattle.smi_protocol.specs.declared.item.Moment.TheVariants as moment
+use Rattle.smi_protocol.specs.declared.item.Deed.{Deed}
+use Rattle.smi_protocol.specs.declared.item.Item.{Item}
+use Rattle.smi_protocol.specs.declared.item.Item.TheVariants as item
+use Rattle.smi_protocol.specs.Schedule.{Arrival, World, Turn, arrival, arrival_of, nothing, restarted, stopped_behind}
 use Rattle.smi_protocol.specs.Grants.{put}
 use Rattle.smi_protocol.specs.Happening.{Happening}
 use Rattle.smi_protocol.specs.Opening.{saved_only}

@@ -9,7 +9,7 @@ use Rattle.smi_protocol.specs.Happening.{Happening}
 use Rattle.smi_protocol.specs.Opening.{opened, opening_entries, saved_only}
 use Rattle.smi_protocol.specs.Step.{Outcome, after}
 use Rattle.smi_protocol.specs.declared.entry.Entry.{Entry}
-use Rattle.smi_law.specs.Schedule.{World, Turn, changed, not_stored}
+use Rattle.smi_protocol.specs.Schedule.{World, Turn, changed, not_stored}
 
 pub record Act : Type 0 where
   pub station : Station

@@ -3,14 +3,13 @@
 ghost use Rattle.std.specs.Prelude.{◌≡◌, IfSome, option_map};
 ghost use Rattle.smi_tree.specs.Lawful.{IsBetween};
 ghost use Rattle.smi_tree.specs.Lookups.{station_count};
-ghost use Rattle.smi_law.specs.Schedule as schedule;
-ghost use Rattle.smi_law.specs.Schedule.{World};
+ghost use Rattle.smi_protocol.specs.Schedule as schedule;
+ghost use Rattle.smi_protocol.specs.Schedule.{World};
 ghost use Rattle.smi_world.specs.Coming.{arrival_in};
 ghost use Rattle.smi_schedule.specs.Naming.{has_deed};
 
-use smi_item::Deed;
 use smi_message::Datagram;
-use smi_protocol::Order;
+use smi_protocol::{Deed, Order};
 use smi_tree::Tree;
 
 /// What comes to a station.

@@ -2,7 +2,7 @@
 
 ghost use Rattle.std.specs.Prelude.{◌≡◌, ℕ, OnOk, take};
 ghost use Rattle.std.specs.Io.KnownBytes.{Appends};
-ghost use Rattle.smi_law.specs.Schedule.{World as Defined, trace_from, trace_of};
+ghost use Rattle.smi_protocol.specs.Schedule.{World as Defined, trace_from, trace_of};
 ghost use Rattle.smi_schedule.specs.Drawn.{items_drawn, schedule_drawn};
 ghost use Rattle.smi_trace.specs.Text.{trace_text};
 ghost use Rattle.smi_world.specs.Posts.{IsAt};

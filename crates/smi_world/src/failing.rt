@@ -13,7 +13,6 @@ use crate::left::Left;
 use crate::post::Post;
 use crate::stepping::{make, would_save};
 use smi_out::Out;
-use smi_protocol::{Answer, Told};
 use smi_publish::Changes;
 use smi_rows::Plan;
 use std::alloc::AllocError;
@@ -45,11 +44,11 @@ fn tell_not_stored(what: &Coming, out: &mut Out)
 }
 
 ghost use Rattle.std.specs.Prelude.{None, []};
-ghost use Rattle.smi_law.specs.Schedule.{not_stored};
+ghost use Rattle.smi_protocol.specs.Schedule.{not_stored};
 ghost use Rattle.smi_protocol.specs.Happening.{told_entries};
 ghost use Rattle.smi_protocol.specs.Step.{nothing_out};
 
-use smi_protocol::Order;
+use smi_protocol::{Answer, Order, Told};
 
 /// The row is as before: the order is answered so.
 fn fail_at_device(post: &Post<'_>, what: &Coming, left: &mut Left)

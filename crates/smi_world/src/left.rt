@@ -1,8 +1,6 @@
 use smi_entries::Entries;
 use smi_grant::{Shown, Version};
-use smi_item::Line;
 use smi_out::{Out, object_home};
-use smi_protocol::Entry;
 use smi_publish::Changes;
 use smi_tree::Tree;
 use std::alloc::AllocError;
@@ -55,7 +53,7 @@ fn push_entries(lines: &mut Vec<Line>, entries: &[Entry]) -> Result<(), AllocErr
 }
 
 ghost use Rattle.std.specs.Prelude.{◌≡◌, ◌++◌, ◌+◌, ◌≤◌, map, OnOk};
-ghost use Rattle.smi_item.specs.declared.item.Line.TheVariants as line;
+ghost use Rattle.smi_protocol.specs.declared.item.Line.TheVariants as line;
 ghost use Rattle.smi_protocol.specs.declared.entry.Entry.TheVariants as entry;
 
 /// One line more for each object that shows something anew.
@@ -84,7 +82,7 @@ fn push_told(lines: &mut Vec<Line>, answers: &[Answer]) -> Result<(), AllocError
 ghost use Rattle.smi_protocol.specs.Happening.{told_entries};
 
 use smi_message::Datagram;
-use smi_protocol::Answer;
+use smi_protocol::{Answer, Entry, Line};
 
 /// One line more.
 fn push_line(lines: &mut Vec<Line>, line: &Line) -> Result<(), AllocError>
@@ -155,7 +153,7 @@ ghost use Rattle.smi_world.specs.Left.{start_entries};
 
 impl Left {
     ghost use Rattle.std.specs.Prelude.{◌≡◌, ◌+◌, ◌++◌, OnOk};
-    ghost use Rattle.smi_law.specs.Schedule.{sent_lines};
+    ghost use Rattle.smi_protocol.specs.Schedule.{sent_lines};
     ghost use Rattle.smi_world.specs.Left.{lines_left, nothing_left};
 
     /// Nothing is left.

@@ -3,8 +3,7 @@
 ghost use Rattle.std.specs.Prelude.{◌≡◌};
 ghost use Rattle.smi_schedule.specs.Naming as naming;
 
-use smi_item::{Deed, Item};
-use smi_protocol::Order;
+use smi_protocol::{Deed, Item, Order};
 use smi_tree::Tree;
 
 fn has_station(tree: &Tree, number: u16) -> bool

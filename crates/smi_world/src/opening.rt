@@ -2,13 +2,13 @@
 
 ghost use Rattle.std.specs.Prelude.{◌≡◌, ◌≤◌, ◌++◌, length, IfOk, OnOk};
 ghost use Rattle.smi_tree.specs.Lookups.{station_count};
-ghost use Rattle.smi_law.specs.Schedule.{opening_lines};
+ghost use Rattle.smi_protocol.specs.Schedule.{opening_lines};
 ghost use Rattle.smi_protocol.specs.Opening.{first_opened};
 ghost use Rattle.smi_world.specs.Posts.{ArePosts, IsPost};
 
 use crate::left::push_start;
 use crate::post::Post;
-use smi_item::Line;
+use smi_protocol::Line;
 use smi_rows::MemoryStable;
 use smi_station::Station;
 use smi_tree::Tree;

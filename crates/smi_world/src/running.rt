@@ -2,14 +2,14 @@
 
 ghost use Rattle.std.specs.Prelude.{◌≡◌, ◌++◌, true, IfOk, OnOk};
 ghost use Rattle.smi_law.specs.Safe.{Safe};
-ghost use Rattle.smi_law.specs.Schedule.{trace_of};
+ghost use Rattle.smi_protocol.specs.Schedule.{trace_of};
 ghost use Rattle.smi_law.specs.World.{past_of};
 ghost use Rattle.smi_world.specs.Running.{FirstUnnamed, Named};
 
 use crate::left::Left;
 use crate::opening::push_opening;
 use crate::world::{ActFault, World};
-use smi_item::{Item, Line};
+use smi_protocol::{Item, Line};
 use smi_tree::Tree;
 use std::alloc::{AllocError, Global};
 use thiserror::Error;
@@ -53,7 +53,7 @@ pub(crate) fn act_into(
 }
 
 ghost use Rattle.std.specs.Prelude.{Err, false};
-ghost use Rattle.smi_law.specs.Schedule.{World as Defined, lines_of, turn};
+ghost use Rattle.smi_protocol.specs.Schedule.{World as Defined, lines_of, turn};
 ghost use Rattle.smi_schedule.specs.Naming.{has_item};
 ghost use Rattle.smi_world.specs.Posts.{IsAt};
 ghost use Rattle.smi_world.specs.declared.world.ActFault.TheVariants.{NoSuch};
@@ -83,7 +83,7 @@ fn run_on(
     Ok(())
 }
 
-ghost use Rattle.smi_law.specs.Schedule.{trace_from};
+ghost use Rattle.smi_protocol.specs.Schedule.{trace_from};
 ghost use Rattle.smi_world.specs.Running.{IfNoSuch};
 
 /// All stations start, and the lines of that are added.
@@ -102,7 +102,7 @@ fn open_into<'a>(
     }
 }
 
-ghost use Rattle.smi_law.specs.Schedule.{first_world, opening_lines};
+ghost use Rattle.smi_protocol.specs.Schedule.{first_world, opening_lines};
 
 /// Runs a schedule from the opening, and adds its lines.
 fn run_into(

@@ -2,7 +2,7 @@
 
 ghost use Rattle.std.specs.Prelude.{◌≡◌, ℕ, true, IfSome, OnOk, take};
 ghost use Rattle.std.specs.Io.KnownBytes.{Appends};
-ghost use Rattle.smi_law.specs.Schedule.{World as Defined, lines_of, opening_lines, turn};
+ghost use Rattle.smi_protocol.specs.Schedule.{World as Defined, lines_of, opening_lines, turn};
 ghost use Rattle.smi_trace.specs.Text.{trace_text};
 ghost use Rattle.smi_schedule.specs.Naming.{has_item};
 ghost use Rattle.smi_world.specs.Posts.{IsAt};
@@ -12,7 +12,7 @@ use crate::left::Left;
 use crate::opening::push_opening;
 use crate::running::act_into;
 use crate::world::World;
-use smi_item::{Item, Line};
+use smi_protocol::{Item, Line};
 use smi_schedule::{Cut, Lines, read_item};
 use smi_trace::{Unwritten, write_lines};
 use smi_tree::{Fault, Tree};
@@ -177,7 +177,7 @@ fn stream_on<R: Read, W: Write>(
 }
 
 ghost use Rattle.std.specs.Str.Lines.{lines};
-ghost use Rattle.smi_law.specs.Schedule.{trace_from};
+ghost use Rattle.smi_protocol.specs.Schedule.{trace_from};
 ghost use Rattle.smi_schedule.specs.Schedule.{items_before_fault};
 
 /// What is used anew for each item, empty.

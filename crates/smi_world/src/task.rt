@@ -4,17 +4,17 @@ ghost use Rattle.std.specs.Prelude.{◌≡◌, IfSome, Some, true, option_map};
 ghost use Rattle.smi_tree.specs.Hierarchy.{Hierarchy};
 ghost use Rattle.smi_tree.specs.Lawful.{IsBetween};
 ghost use Rattle.smi_tree.specs.Lookups.{station_count};
-ghost use Rattle.smi_law.specs.Schedule as schedule;
-ghost use Rattle.smi_law.specs.Schedule.{World};
+ghost use Rattle.smi_protocol.specs.Schedule as schedule;
+ghost use Rattle.smi_protocol.specs.Schedule.{World};
 ghost use Rattle.smi_world.specs.Coming.{arrival_in};
 ghost use Rattle.smi_schedule.specs.Naming.{has_item};
-ghost use Rattle.smi_item.specs.declared.item.Item.{Item as ItemValue};
-ghost use Rattle.smi_item.specs.declared.item.Moment.TheVariants.{After};
+ghost use Rattle.smi_protocol.specs.declared.item.Item.{Item as ItemValue};
+ghost use Rattle.smi_protocol.specs.declared.item.Moment.TheVariants.{After};
 ghost use Rattle.smi_world.specs.Tasks.{IsStopOf, StopsFor, turn_of};
 
 use crate::coming::{Arrival, Coming, arrival_of};
-use smi_item::{Item, Moment};
 use smi_message::Datagram;
+use smi_protocol::{Item, Moment};
 use smi_rows::Plan;
 use smi_tree::Tree;
 

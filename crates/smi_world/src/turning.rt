@@ -4,8 +4,8 @@ ghost use Rattle.std.specs.Prelude.{◌≡◌, ◌⊎◌, ℕ, length, true, OnE
 ghost use Rattle.smi_tree.specs.Hierarchy.{Hierarchy};
 ghost use Rattle.smi_tree.specs.Lookups.{station_count};
 ghost use Rattle.smi_protocol.specs.Display.{Station as Defined};
-ghost use Rattle.smi_law.specs.Schedule as schedule;
-ghost use Rattle.smi_law.specs.Schedule.{World};
+ghost use Rattle.smi_protocol.specs.Schedule as schedule;
+ghost use Rattle.smi_protocol.specs.Schedule.{World};
 ghost use Rattle.smi_schedule.specs.Naming.{has_item};
 ghost use Rattle.smi_world.specs.Posts.{ArePosts, IsPost, Makes};
 ghost use Rattle.smi_world.specs.Tasks.{Halted, IsHalted, Turned, act_of};
@@ -15,8 +15,8 @@ use crate::failing::fail;
 use crate::left::Left;
 use crate::post::Post;
 use crate::task::{Doing, task_of};
-use smi_item::Item;
 use smi_message::Datagram;
+use smi_protocol::Item;
 use smi_tree::Tree;
 use std::alloc::{AllocError, Global};
 

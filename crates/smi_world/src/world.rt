@@ -2,8 +2,8 @@
 
 ghost use Rattle.std.specs.Prelude.{◌≡◌, ◌⊎◌, length, true, false, Err, OnErr, OnOk};
 ghost use Rattle.smi_tree.specs.Lookups.{station_count};
-ghost use Rattle.smi_law.specs.Schedule as schedule;
-ghost use Rattle.smi_law.specs.Schedule.{World as Defined};
+ghost use Rattle.smi_protocol.specs.Schedule as schedule;
+ghost use Rattle.smi_protocol.specs.Schedule.{World as Defined};
 ghost use Rattle.smi_schedule.specs.Naming.{has_item as names};
 
 use crate::left::Left;
@@ -11,9 +11,9 @@ use crate::naming::has_item;
 use crate::opening::first_posts;
 use crate::post::Post;
 use crate::turning::turn;
-use smi_item::Item;
 use smi_limits::MOST_SENT;
 use smi_message::Datagram;
+use smi_protocol::Item;
 use smi_tree::Tree;
 use std::alloc::{AllocError, Global};
 use std::marker::Model;
@@ -79,8 +79,8 @@ ghost use Rattle.smi_world.specs.Tasks.{Halted};
 
 impl<'a> World<'a> {
     ghost use Rattle.std.specs.Prelude.{◌≡◌, ◌⊎◌, true, false, Err, IfOk, OnErr, OnOk};
-    ghost use Rattle.smi_law.specs.Schedule as schedule;
-    ghost use Rattle.smi_law.specs.Schedule.{World as Defined, first_world};
+    ghost use Rattle.smi_protocol.specs.Schedule as schedule;
+    ghost use Rattle.smi_protocol.specs.Schedule.{World as Defined, first_world};
     ghost use Rattle.smi_world.specs.declared.world.ActFault.TheVariants as fault;
     ghost use Rattle.smi_schedule.specs.Naming.{has_item as names};
     ghost use Rattle.smi_world.specs.Posts.{IsAt, IsMade};

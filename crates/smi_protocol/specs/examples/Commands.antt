@@ -4,8 +4,9 @@ use Rattle.std.specs.List.{range_with_len}
 use Rattle.smi_grant.specs.declared.Command.TheVariants as command
 use Rattle.smi_grant.specs.declared.Holder.TheVariants.{Operator, Domain}
 use Rattle.smi_rows.specs.declared.Mode.TheVariants as mode
-use Rattle.smi_protocol.specs.Played.{Deliver, Restart, StopAfter, Tick, Line, line, sends, TAKE, RUN, TELL, WATCH}
+use Rattle.smi_protocol.specs.Played.{deliver, stop_after, tick_at, Line, line, sends, TAKE, RUN, TELL, WATCH}
 use Rattle.smi_protocol.specs.Played.{STATE}
+use Rattle.smi_protocol.specs.declared.item.Item.TheVariants as item
 use Rattle.smi_protocol.specs.declared.order.Order.TheVariants.{Take, Drop, Do, Include, Manual, Ignore}
 use Rattle.smi_protocol.specs.declared.entry.Entry.{Entry}
 use Rattle.smi_protocol.specs.declared.entry.Entry.TheVariants.{Booted, Granted, Ordered, Ran, Learned, InMode}
@@ -19,13 +20,13 @@ use Rattle.smi_protocol.specs.examples.Grants.{taken}
 abbrev pub included : List Line
 included =
     line (ann (Take DCS)) [] (sends TAKE A A DCS ∷ [])
-    ∷ line (Deliver 1) (Granted DCS 1 (Operator ANN) ∷ []) (sends TELL A A DCS ∷ [])
-    ∷ line (Deliver 2) (Learned (Operator ANN) DCS 1 ∷ ann_told (Take DCS) 0 ∷ []) []
+    ∷ line (deliver 1) (Granted DCS 1 (Operator ANN) ∷ []) (sends TELL A A DCS ∷ [])
+    ∷ line (deliver 2) (Learned (Operator ANN) DCS 1 ∷ ann_told (Take DCS) 0 ∷ []) []
     ∷ line (ann (Include DCS TPC)) (Ordered ANN DCS 1 1 (command.Include TPC) ∷ []) (sends RUN A A DCS ∷ [])
-    ∷ line (Deliver 3) (Ran DCS 1 1 (command.Include TPC) ∷ []) (sends TELL A A DCS ∷ sends TAKE A B TPC ∷ [])
-    ∷ line (Deliver 5) (Granted TPC 1 (Domain DCS) ∷ []) (sends TELL B A TPC ∷ [])
-    ∷ line (Deliver 6) (Learned (Domain DCS) TPC 1 ∷ Settled DCS 1 1 0 ∷ []) (sends TELL A A DCS ∷ [])
-    ∷ line (Deliver 7) (ann_told (Include DCS TPC) 0 ∷ []) []
+    ∷ line (deliver 3) (Ran DCS 1 1 (command.Include TPC) ∷ []) (sends TELL A A DCS ∷ sends TAKE A B TPC ∷ [])
+    ∷ line (deliver 5) (Granted TPC 1 (Domain DCS) ∷ []) (sends TELL B A TPC ∷ [])
+    ∷ line (deliver 6) (Learned (Domain DCS) TPC 1 ∷ Settled DCS 1 1 0 ∷ []) (sends TELL A A DCS ∷ [])
+    ∷ line (deliver 7) (ann_told (Include DCS TPC) 0 ∷ []) []
     ∷ []
 
 -- DCS runs CONFIGURE and hands it on.
@@ -33,7 +34,7 @@ abbrev pub handed_on : List Line
 handed_on =
     included
     ++ line (ann (Do DCS CONFIGURE)) (Ordered ANN DCS 1 2 (command.Do CONFIGURE) ∷ []) (sends RUN A A DCS ∷ [])
-    ∷ line (Deliver 8) (Ran DCS 1 2 (command.Do CONFIGURE) ∷ []) (sends TELL A A DCS ∷ sends RUN A B TPC ∷ [])
+    ∷ line (deliver 8) (Ran DCS 1 2 (command.Do CONFIGURE) ∷ []) (sends TELL A A DCS ∷ sends RUN A B TPC ∷ [])
     ∷ []
 
 -- TPC runs CONFIGURE and its device moves
@@ -45,9 +46,9 @@ TPC_configured = Ran TPC 1 1 (command.Do CONFIGURE) ∷ Settled TPC 1 1 0 ∷ pa
 abbrev pub configured : List Line
 configured =
     handed_on
-    ++ line (Deliver 10) TPC_configured (sends TELL B A TPC ∷ [])
-    ∷ line (Deliver 11) (Settled DCS 1 2 0 ∷ []) (sends TELL A A DCS ∷ [])
-    ∷ line (Deliver 12) (ann_told (Do DCS CONFIGURE) 0 ∷ []) []
+    ++ line (deliver 10) TPC_configured (sends TELL B A TPC ∷ [])
+    ∷ line (deliver 11) (Settled DCS 1 2 0 ∷ []) (sends TELL A A DCS ∷ [])
+    ∷ line (deliver 12) (ann_told (Do DCS CONFIGURE) 0 ∷ []) []
     ∷ []
 
 -- No drop while a command is pending.
@@ -62,50 +63,50 @@ B_started_again = Booted B 2 ∷ passed TPC 2 0 OFF ∷ passed HV 2 0 OFF ∷ []
 abbrev pub repeated_run : List Line
 repeated_run =
     handed_on
-    ++ line (Deliver 10) TPC_configured (sends TELL B A TPC ∷ [])
-    ∷ line (Deliver 10) [] (sends TELL B A TPC ∷ [])
-    ∷ line (Restart B) B_started_again []
-    ∷ line (Deliver 10) [] (sends TELL B A TPC ∷ [])
+    ++ line (deliver 10) TPC_configured (sends TELL B A TPC ∷ [])
+    ∷ line (deliver 10) [] (sends TELL B A TPC ∷ [])
+    ∷ line (item.Restart B) B_started_again []
+    ∷ line (deliver 10) [] (sends TELL B A TPC ∷ [])
     ∷ []
 
 -- Stopped after the run was saved: the device has not moved, and the run is over.
 abbrev pub stopped_after_run : List Line
 stopped_after_run =
     handed_on
-    ++ line (StopAfter B 10) (Ran TPC 1 1 (command.Do CONFIGURE) ∷ Settled TPC 1 1 0 ∷ B_started_again) []
-    ∷ line (Tick A) [] (sends RUN A B TPC ∷ sends RUN A A DCS ∷ sends WATCH A B TPC ∷ [])
-    ∷ line (Deliver 11) [] (sends TELL B A TPC ∷ [])
+    ++ line (stop_after B 10) (Ran TPC 1 1 (command.Do CONFIGURE) ∷ Settled TPC 1 1 0 ∷ B_started_again) []
+    ∷ line (tick_at A) [] (sends RUN A B TPC ∷ sends RUN A A DCS ∷ sends WATCH A B TPC ∷ [])
+    ∷ line (deliver 11) [] (sends TELL B A TPC ∷ [])
     ∷ []
 
 -- A watches the unit of its child, and is shown it.
 abbrev pub watched : List Line
 watched =
     configured
-    ++ line (Tick A) [] (sends WATCH A B TPC ∷ [])
-    ∷ line (Deliver 13) [] (sends STATE B A TPC ∷ [])
-    ∷ line (Deliver 14) (showed A TPC 1 1 READY ∷ passed DCS 1 1 READY ∷ []) []
+    ++ line (tick_at A) [] (sends WATCH A B TPC ∷ [])
+    ∷ line (deliver 13) [] (sends STATE B A TPC ∷ [])
+    ∷ line (deliver 14) (showed A TPC 1 1 READY ∷ passed DCS 1 1 READY ∷ []) []
     ∷ []
 
 -- The watcher restarts: a state that answers its earlier boot is not shown.
 abbrev pub watcher_restarts : List Line
 watcher_restarts =
     watched
-    ++ line (Restart A) (Booted A 2 ∷ passed DCS 2 0 OFF ∷ []) []
-    ∷ line (Deliver 14) [] []
-    ∷ line (Tick A) [] (sends WATCH A B TPC ∷ [])
-    ∷ line (Deliver 15) [] (sends STATE B A TPC ∷ [])
-    ∷ line (Deliver 16) (showed A TPC 1 1 READY ∷ passed DCS 2 1 READY ∷ []) []
+    ++ line (item.Restart A) (Booted A 2 ∷ passed DCS 2 0 OFF ∷ []) []
+    ∷ line (deliver 14) [] []
+    ∷ line (tick_at A) [] (sends WATCH A B TPC ∷ [])
+    ∷ line (deliver 15) [] (sends STATE B A TPC ∷ [])
+    ∷ line (deliver 16) (showed A TPC 1 1 READY ∷ passed DCS 2 1 READY ∷ []) []
     ∷ []
 
 -- The keeper restarts: its states begin anew, in a later boot.
 abbrev pub keeper_restarts : List Line
 keeper_restarts =
     watched
-    ++ line (Restart B) B_started_again []
-    ∷ line (Tick A) [] (sends WATCH A B TPC ∷ [])
-    ∷ line (Deliver 15) [] (sends STATE B A TPC ∷ [])
-    ∷ line (Deliver 16) (showed A TPC 2 0 OFF ∷ passed DCS 1 2 OFF ∷ []) []
-    ∷ line (Deliver 14) [] []
+    ++ line (item.Restart B) B_started_again []
+    ∷ line (tick_at A) [] (sends WATCH A B TPC ∷ [])
+    ∷ line (deliver 15) [] (sends STATE B A TPC ∷ [])
+    ∷ line (deliver 16) (showed A TPC 2 0 OFF ∷ passed DCS 1 2 OFF ∷ []) []
+    ∷ line (deliver 14) [] []
     ∷ []
 
 -- Manual: the child is sent no commands.
@@ -113,11 +114,11 @@ abbrev pub manual : List Line
 manual =
     included
     ++ line (ann (Manual DCS TPC)) (Ordered ANN DCS 1 2 (command.Manual TPC) ∷ []) (sends RUN A A DCS ∷ [])
-    ∷ line (Deliver 8) (Ran DCS 1 2 (command.Manual TPC) ∷ InMode TPC mode.Manual ∷ Settled DCS 1 2 0 ∷ [])
+    ∷ line (deliver 8) (Ran DCS 1 2 (command.Manual TPC) ∷ InMode TPC mode.Manual ∷ Settled DCS 1 2 0 ∷ [])
     (sends TELL A A DCS ∷ [])
-    ∷ line (Deliver 9) (ann_told (Manual DCS TPC) 0 ∷ []) []
+    ∷ line (deliver 9) (ann_told (Manual DCS TPC) 0 ∷ []) []
     ∷ line (ann (Do DCS CONFIGURE)) (Ordered ANN DCS 1 3 (command.Do CONFIGURE) ∷ []) (sends RUN A A DCS ∷ [])
-    ∷ line (Deliver 10) (Ran DCS 1 3 (command.Do CONFIGURE) ∷ Settled DCS 1 3 0 ∷ []) (sends TELL A A DCS ∷ [])
+    ∷ line (deliver 10) (Ran DCS 1 3 (command.Do CONFIGURE) ∷ Settled DCS 1 3 0 ∷ []) (sends TELL A A DCS ∷ [])
     ∷ []
 
 -- Ignored: the child is sent commands, and its state does not count.
@@ -125,17 +126,17 @@ abbrev pub ignored : List Line
 ignored =
     included
     ++ line (ann (Ignore DCS TPC)) (Ordered ANN DCS 1 2 (command.Ignore TPC) ∷ []) (sends RUN A A DCS ∷ [])
-    ∷ line (Deliver 8) (Ran DCS 1 2 (command.Ignore TPC) ∷ InMode TPC mode.Ignored ∷ Settled DCS 1 2 0 ∷ [])
+    ∷ line (deliver 8) (Ran DCS 1 2 (command.Ignore TPC) ∷ InMode TPC mode.Ignored ∷ Settled DCS 1 2 0 ∷ [])
     (sends TELL A A DCS ∷ [])
-    ∷ line (Deliver 9) (ann_told (Ignore DCS TPC) 0 ∷ []) []
+    ∷ line (deliver 9) (ann_told (Ignore DCS TPC) 0 ∷ []) []
     ∷ line (ann (Do DCS CONFIGURE)) (Ordered ANN DCS 1 3 (command.Do CONFIGURE) ∷ []) (sends RUN A A DCS ∷ [])
-    ∷ line (Deliver 10) (Ran DCS 1 3 (command.Do CONFIGURE) ∷ []) (sends TELL A A DCS ∷ sends RUN A B TPC ∷ [])
-    ∷ line (Deliver 12) TPC_configured (sends TELL B A TPC ∷ [])
-    ∷ line (Deliver 13) (Settled DCS 1 3 0 ∷ []) (sends TELL A A DCS ∷ [])
-    ∷ line (Deliver 14) (ann_told (Do DCS CONFIGURE) 0 ∷ []) []
-    ∷ line (Tick A) [] (sends WATCH A B TPC ∷ [])
-    ∷ line (Deliver 15) [] (sends STATE B A TPC ∷ [])
-    ∷ line (Deliver 16) (showed A TPC 1 1 READY ∷ []) []
+    ∷ line (deliver 10) (Ran DCS 1 3 (command.Do CONFIGURE) ∷ []) (sends TELL A A DCS ∷ sends RUN A B TPC ∷ [])
+    ∷ line (deliver 12) TPC_configured (sends TELL B A TPC ∷ [])
+    ∷ line (deliver 13) (Settled DCS 1 3 0 ∷ []) (sends TELL A A DCS ∷ [])
+    ∷ line (deliver 14) (ann_told (Do DCS CONFIGURE) 0 ∷ []) []
+    ∷ line (tick_at A) [] (sends WATCH A B TPC ∷ [])
+    ∷ line (deliver 15) [] (sends STATE B A TPC ∷ [])
+    ∷ line (deliver 16) (showed A TPC 1 1 READY ∷ []) []
     ∷ []
 
 -- BOB holds TPC and has ordered CONFIGURE
@@ -154,9 +155,9 @@ two_ordered =
 abbrev pub both_run : List Line
 both_run =
     two_ordered
-    ++ line (Deliver 4) [] (sends TELL B B TPC ∷ [])
-    ∷ line (Deliver 3) TPC_configured (sends TELL B B TPC ∷ [])
-    ∷ line (Deliver 4) (Ran TPC 1 2 (command.Do START) ∷ Settled TPC 1 2 0 ∷ passed HV 1 2 RUNNING
+    ++ line (deliver 4) [] (sends TELL B B TPC ∷ [])
+    ∷ line (deliver 3) TPC_configured (sends TELL B B TPC ∷ [])
+    ∷ line (deliver 4) (Ran TPC 1 2 (command.Do START) ∷ Settled TPC 1 2 0 ∷ passed HV 1 2 RUNNING
     ∷ passed TPC 1 2 RUNNING ∷ []) (sends TELL B B TPC ∷ [])
     ∷ []
 
@@ -164,8 +165,8 @@ both_run =
 abbrev pub two_pending : List Line
 two_pending =
     both_run
-    ++ line (Deliver 7) (bob_told (Do TPC CONFIGURE) 8 ∷ bob_told (Do TPC START) 0 ∷ []) []
-    ∷ line (Deliver 6) [] []
+    ++ line (deliver 7) (bob_told (Do TPC CONFIGURE) 8 ∷ bob_told (Do TPC START) 0 ∷ []) []
+    ∷ line (deliver 6) [] []
     ∷ []
 
 -- BOB orders CONFIGURE under this number.
@@ -175,7 +176,7 @@ ordered_once n = line (bob (Do TPC CONFIGURE)) (Ordered BOB TPC 1 n (command.Do 
 
 -- CONFIGURE runs under this number, once more.
 abbrev pub ran_again : ℕ → Line
-ran_again n = line (Deliver (n + 2)) (Ran TPC 1 n (command.Do CONFIGURE) ∷ Settled TPC 1 n 0 ∷ [])
+ran_again n = line (deliver (n + 2)) (Ran TPC 1 n (command.Do CONFIGURE) ∷ Settled TPC 1 n 0 ∷ [])
     (sends TELL B B TPC ∷ [])
 
 -- Eight commands pending: a ninth and a drop are refused; all run in their order, and of all but the last the outcome
@@ -186,7 +187,7 @@ eight_pending =
     ++ map ordered_once (range_with_len 1 8)
     ++ line (bob (Do TPC CONFIGURE)) (bob_told (Do TPC CONFIGURE) 22 ∷ []) []
     ∷ line (bob (Drop TPC)) (bob_told (Drop TPC) 22 ∷ []) []
-    ∷ line (Deliver 3) TPC_configured (sends TELL B B TPC ∷ [])
+    ∷ line (deliver 3) TPC_configured (sends TELL B B TPC ∷ [])
     ∷ map ran_again (range_with_len 2 7)
-    ++ line (Deliver 18) (replicate 7 (bob_told (Do TPC CONFIGURE) 8) ++ bob_told (Do TPC CONFIGURE) 0 ∷ []) []
+    ++ line (deliver 18) (replicate 7 (bob_told (Do TPC CONFIGURE) 8) ++ bob_told (Do TPC CONFIGURE) 0 ∷ []) []
     ∷ []

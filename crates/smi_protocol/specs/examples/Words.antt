@@ -1,19 +1,20 @@
 -- Words in which the examples over the worked tree are written.
 use Rattle.std.specs.Prelude.{ℕ, None}
-use Rattle.smi_protocol.specs.Played.{Act, OrderAt}
+use Rattle.smi_protocol.specs.Played.{orders}
 use Rattle.smi_protocol.specs.Happening.{told}
 use Rattle.smi_protocol.specs.declared.order.Order.{Order}
 use Rattle.smi_protocol.specs.declared.entry.Entry.{Entry}
 use Rattle.smi_protocol.specs.declared.entry.Entry.TheVariants as entry
-use Rattle.smi_protocol.specs.examples.WorkedTree.{A, B, ANN, BOB}
+use Rattle.smi_protocol.specs.declared.item.Item.{Item}
+use Rattle.smi_protocol.specs.examples.WorkedTree.{ANN, BOB}
 
--- ANN orders at station A
-abbrev pub ann : Order → Act
-ann what = OrderAt A ANN what
+-- ANN orders
+abbrev pub ann : Order → Item
+ann what = orders ANN what
 
--- BOB orders at station B
-abbrev pub bob : Order → Act
-bob what = OrderAt B BOB what
+-- BOB orders
+abbrev pub bob : Order → Item
+bob what = orders BOB what
 
 -- ANN is told the code of her order
 abbrev pub ann_told : Order → ℕ → Entry

@@ -4,10 +4,9 @@ ghost use Rattle.std.specs.Prelude.{◌≡◌};
 
 use smi_command::Link;
 use smi_grant::{Holder, Phase, Record};
-use smi_item::Line;
 use smi_message::encode;
 use smi_out::Out;
-use smi_protocol::Entry;
+use smi_protocol::{Entry, Line};
 use smi_station::Station;
 
 /// How many lines of each kind were seen.

@@ -1,7 +1,6 @@
 //! What an item makes of which station, told from the text of docs/FORMATS.md, "Schedules".
 
-use smi_item::{Deed, Item, Moment};
-use smi_protocol::Event;
+use smi_protocol::{Deed, Event, Item, Moment};
 use smi_stable::Plan;
 use smi_tree::Tree;
 

@@ -5,8 +5,7 @@
 //! stays stopped, so that its item then leaves only the start.
 
 use crate::outcome::Outcome;
-use smi_item::{Item, Line, Moment};
-use smi_protocol::Entry;
+use smi_protocol::{Entry, Item, Line, Moment};
 use smi_schedule::{ScheduleFault, read_schedule};
 use smi_tree::Tree;
 use smi_world::{ActFault, Left, World, WorldFault, push_opening, run};

@@ -3,7 +3,7 @@ use Rattle.std.specs.Option.{option_to_list}
 use Rattle.std.specs.Str.Lines.{lines}
 use Rattle.std.proofs.lemmas.Result.{err_from_is_err_and}
 use Rattle.std.specs.Global.{Vec}
-use Rattle.smi_item.specs.declared.item.Item.{Item}
+use Rattle.smi_protocol.specs.declared.item.Item.{Item}
 use Rattle.smi_schedule.specs.Schedule.{items_before_fault}
 use Rattle.smi_schedule.proofs.LineByLine.{items-line, fault-line, refused, ended}
 use Rattle.smi_schedule.proofs.schedule.read_lines.Goals as goal

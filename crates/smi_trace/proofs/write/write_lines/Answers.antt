@@ -2,7 +2,7 @@ use Rattle.std.proofs.Common.{◌≡◌, suc, List, Err, ◌++◌, take, drop, s
 use Rattle.std.proofs.lemmas.List.{take_all}
 use Rattle.std.proofs.lemmas.Result.{err_from_is_err_and}
 use Rattle.std.specs.Io.KnownBytes.{Appends}
-use Rattle.smi_item.specs.declared.item.Line.{Line}
+use Rattle.smi_protocol.specs.declared.item.Line.{Line}
 use Rattle.smi_trace.specs.declared.write.Unwritten.TheVariants as unwritten
 use Rattle.smi_trace.specs.Text.{line_text, trace_text}
 use Rattle.smi_trace.proofs.Prefixes.{prefix_more, prefix_all, flat_map_at}

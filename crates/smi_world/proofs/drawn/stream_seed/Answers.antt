@@ -1,4 +1,4 @@
-use Rattle.smi_law.specs.Schedule.{first_world}
+use Rattle.smi_protocol.specs.Schedule.{first_world}
 use Rattle.smi_schedule.specs.Drawn.{schedule_drawn}
 use Rattle.smi_world.proofs.Begun.{opening_front}
 use Rattle.smi_world.proofs.Drawing.{seeded_all, seeded_front}

@@ -1,5 +1,5 @@
 use Rattle.std.proofs.Common.{◌≡◌, ◌++◌, drop, map}
-use Rattle.smi_item.specs.declared.item.Line.TheVariants as line
+use Rattle.smi_protocol.specs.declared.item.Line.TheVariants as line
 use Rattle.smi_world.proofs.left.push_entries.Given as goal
 
 -- the lines so far, and those that are left, are all

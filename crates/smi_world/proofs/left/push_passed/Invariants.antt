@@ -1,5 +1,5 @@
 use Rattle.std.proofs.Common.{◌≡◌, ◌++◌, drop, map}
-use Rattle.smi_item.specs.declared.item.Line.TheVariants as line
+use Rattle.smi_protocol.specs.declared.item.Line.TheVariants as line
 use Rattle.smi_protocol.specs.declared.entry.Entry.TheVariants as entry
 use Rattle.smi_world.proofs.left.push_passed.Given as goal
 

@@ -1,6 +1,6 @@
 use Rattle.std.proofs.Common.{◌≡◌, ◌+◌, ◌-◌, ◌++◌, Some, map}
 use Rattle.std.specs.List.{filter_map, range_with_len}
-use Rattle.smi_item.specs.declared.item.Line.TheVariants as line
+use Rattle.smi_protocol.specs.declared.item.Line.TheVariants as line
 use Rattle.smi_protocol.specs.declared.entry.Entry.TheVariants as entry
 use Rattle.smi_publish.specs.Published.{shown_at}
 use Rattle.smi_publish.specs.Publishing.{first_condition}

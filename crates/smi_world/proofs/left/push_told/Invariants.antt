@@ -1,5 +1,5 @@
 use Rattle.std.proofs.Common.{◌≡◌, ◌++◌, drop, map}
-use Rattle.smi_item.specs.declared.item.Line.TheVariants as line
+use Rattle.smi_protocol.specs.declared.item.Line.TheVariants as line
 use Rattle.smi_protocol.specs.Happening.{told_entries}
 use Rattle.smi_world.proofs.left.push_told.Given as goal
 

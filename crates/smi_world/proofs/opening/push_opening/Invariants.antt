@@ -1,6 +1,6 @@
 use Rattle.std.proofs.Common.{◌≡◌, ◌+◌, ◌-◌, ◌++◌, map}
-use Rattle.smi_item.specs.declared.item.Line.TheVariants as line
-use Rattle.smi_law.specs.Schedule.{opening_lines}
+use Rattle.smi_protocol.specs.declared.item.Line.TheVariants as line
+use Rattle.smi_protocol.specs.Schedule.{opening_lines}
 use Rattle.smi_world.proofs.Opened.{opening_from}
 use Rattle.smi_world.proofs.opening.push_opening.Given as goal
 

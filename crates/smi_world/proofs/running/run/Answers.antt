@@ -1,7 +1,7 @@
 use Rattle.std.proofs.Common.{List, ◌++◌, ap, sym, subst, ◌∙◌}
-use Rattle.smi_item.specs.declared.item.Line.{Line}
+use Rattle.smi_protocol.specs.declared.item.Line.{Line}
 use Rattle.smi_law.specs.Safe.{Safe}
-use Rattle.smi_law.specs.Schedule.{trace_of}
+use Rattle.smi_protocol.specs.Schedule.{trace_of}
 use Rattle.smi_law.specs.World.{past_of}
 use Rattle.smi_law.proofs.SafeRuns.{schedule_safe}
 use Rattle.smi_world.proofs.running.run.Goals as goal

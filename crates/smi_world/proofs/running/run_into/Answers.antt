@@ -1,4 +1,4 @@
-use Rattle.smi_law.specs.Schedule.{first_world}
+use Rattle.smi_protocol.specs.Schedule.{first_world}
 use Rattle.smi_world.proofs.Runs.{run_trace}
 use Rattle.smi_world.proofs.running.run_into.Goals as goal
 

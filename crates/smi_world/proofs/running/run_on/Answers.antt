@@ -1,8 +1,8 @@
 use Rattle.std.proofs.Common.{◌≡◌, ◌+◌, ◌++◌, Err, true, false, drop, get_or, ap, arith, subst, ◌∙◌}
 use Rattle.smi_tree.specs.Hierarchy.{Hierarchy}
-use Rattle.smi_item.specs.declared.item.Deed.TheVariants as deed
-use Rattle.smi_item.specs.declared.item.Item.TheVariants as item
-use Rattle.smi_law.specs.Schedule.{lines_of, turn}
+use Rattle.smi_protocol.specs.declared.item.Deed.TheVariants as deed
+use Rattle.smi_protocol.specs.declared.item.Item.TheVariants as item
+use Rattle.smi_protocol.specs.Schedule.{lines_of, turn}
 use Rattle.smi_schedule.specs.Naming.{has_item}
 use Rattle.smi_world.specs.Posts.{IsAt}
 use Rattle.smi_world.specs.Running.{FirstUnnamed}

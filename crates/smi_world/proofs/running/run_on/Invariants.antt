@@ -1,5 +1,5 @@
 use Rattle.std.proofs.Common.{◌≡◌, ◌++◌, drop}
-use Rattle.smi_law.specs.Schedule.{World, trace_from}
+use Rattle.smi_protocol.specs.Schedule.{World, trace_from}
 use Rattle.smi_world.specs.Posts.{IsAt}
 use Rattle.smi_world.proofs.Runs.{MadeSo, SeenSo}
 use Rattle.smi_world.proofs.running.run_on.Given as goal

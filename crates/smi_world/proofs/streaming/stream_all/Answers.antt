@@ -1,4 +1,4 @@
-use Rattle.smi_law.specs.Schedule.{first_world}
+use Rattle.smi_protocol.specs.Schedule.{first_world}
 use Rattle.smi_world.proofs.Begun.{done_behind, front_behind, opening_of_any, whole_behind}
 use Rattle.smi_world.proofs.streaming.stream_all.Goals as goal
 

@@ -2,7 +2,7 @@ use Rattle.std.proofs.Common.{ℕ, Ok, Option, Result, take, ap, sym, subst, ◌
 use Rattle.std.specs.Io.KnownBytes.{Appends}
 use Rattle.smi_tree.specs.Hierarchy.{Hierarchy}
 use Rattle.smi_tree.specs.declared.fault.Fault.{Fault}
-use Rattle.smi_item.specs.declared.item.Item.{Item}
+use Rattle.smi_protocol.specs.declared.item.Item.{Item}
 use Rattle.smi_schedule.specs.Line.{item_in}
 use Rattle.smi_schedule.proofs.NamedItems.{read_named}
 use Rattle.smi_trace.specs.Text.{trace_text}

@@ -1,5 +1,5 @@
 use Rattle.std.proofs.Common.{◌≡◌, IfSome}
-use Rattle.smi_law.specs.Schedule.{World}
+use Rattle.smi_protocol.specs.Schedule.{World}
 use Rattle.smi_schedule.specs.Lines.{left}
 use Rattle.smi_world.specs.Posts.{IsAt}
 use Rattle.smi_world.proofs.Going.{Going}

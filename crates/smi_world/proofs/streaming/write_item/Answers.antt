@@ -1,8 +1,8 @@
 use Rattle.std.proofs.Common.{ℕ, List, ◌++◌, take, ap, subst, ◌∙◌}
 use Rattle.std.specs.Io.KnownBytes.{Appends}
 use Rattle.smi_tree.specs.Hierarchy.{Hierarchy}
-use Rattle.smi_item.specs.declared.item.Line.{Line}
-use Rattle.smi_law.specs.Schedule.{lines_of, turn}
+use Rattle.smi_protocol.specs.declared.item.Line.{Line}
+use Rattle.smi_protocol.specs.Schedule.{lines_of, turn}
 use Rattle.smi_trace.specs.Text.{trace_text}
 use Rattle.smi_world.proofs.streaming.write_item.Goals as goal
 

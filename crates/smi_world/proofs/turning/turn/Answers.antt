@@ -1,6 +1,6 @@
 use Rattle.std.proofs.Common.{◌≡◌, ◌+◌, ◌-◌, ◌<◌, length, slice_set, arith, sym, subst}
 use Rattle.std.specs.Prelude.{OnOk}
-use Rattle.smi_law.specs.Schedule.{Turn}
+use Rattle.smi_protocol.specs.Schedule.{Turn}
 use Rattle.smi_world.specs.declared.post.Post.{Post}
 use Rattle.smi_world.specs.Posts.{IsPost}
 use Rattle.smi_world.specs.Tasks.{Turned}

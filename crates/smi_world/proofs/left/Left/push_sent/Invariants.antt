@@ -1,5 +1,5 @@
 use Rattle.std.proofs.Common.{◌≡◌, ◌+◌, ◌++◌, drop}
-use Rattle.smi_law.specs.Schedule.{sent_lines}
+use Rattle.smi_protocol.specs.Schedule.{sent_lines}
 use Rattle.smi_world.proofs.left.Left.push_sent.Given as goal
 
 -- the lines so far, and those that are left, are all

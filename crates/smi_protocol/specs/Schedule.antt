@@ -9,19 +9,19 @@ use Rattle.smi_tree.specs.Lookups.{station_count, domain_count, operator_station
 use Rattle.smi_roles.specs.Roles.{keeper_of}
 use Rattle.smi_rows.specs.declared.Plan.{Plan}
 use Rattle.smi_rows.specs.declared.Plan.TheVariants as plan
-use Rattle.smi_protocol.specs.declared.Entry.{Entry}
+use Rattle.smi_protocol.specs.declared.entry.Entry.{Entry}
 use Rattle.smi_protocol.specs.Display.{Station}
 use Rattle.smi_protocol.specs.Grants.{put}
 use Rattle.smi_protocol.specs.Happening.{Happening, Comes, Orders, Reports, Ticks, answer, told_entry}
 use Rattle.smi_protocol.specs.Opening.{first_opened, opened, opening_entries, saved_only}
 use Rattle.smi_protocol.specs.Step.{Outcome, after, ordered_or_reported}
-use Rattle.smi_item.specs.declared.item.Deed.{Deed}
-use Rattle.smi_item.specs.declared.item.Deed.TheVariants as deed
-use Rattle.smi_item.specs.declared.item.Moment.TheVariants as moment
-use Rattle.smi_item.specs.declared.item.Item.{Item}
-use Rattle.smi_item.specs.declared.item.Item.TheVariants as item
-use Rattle.smi_item.specs.declared.item.Line.{Line}
-use Rattle.smi_item.specs.declared.item.Line.TheVariants as line
+use Rattle.smi_protocol.specs.declared.item.Deed.{Deed}
+use Rattle.smi_protocol.specs.declared.item.Deed.TheVariants as deed
+use Rattle.smi_protocol.specs.declared.item.Moment.TheVariants as moment
+use Rattle.smi_protocol.specs.declared.item.Item.{Item}
+use Rattle.smi_protocol.specs.declared.item.Item.TheVariants as item
+use Rattle.smi_protocol.specs.declared.item.Line.{Line}
+use Rattle.smi_protocol.specs.declared.item.Line.TheVariants as line
 
 -- the stations, and all datagrams that were ever sent, in their order
 pub record World : Type 0 where

@@ -1,5 +1,8 @@
+//! What a schedule lets happen, and the lines of a trace.
+
+use crate::entry::Entry;
+use crate::order::Order;
 use smi_message::Datagram;
-use smi_protocol::{Entry, Order};
 use smi_rows::Plan;
 
 /// What may come to a station. Stations, operators and devices have their numbers of the tree.
