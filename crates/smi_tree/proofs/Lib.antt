@@ -14,3 +14,5 @@ pub mod NamedLemmas
 pub mod FileLemmas
 pub mod NameBytes
 pub mod Grouping
+pub mod FrontWords
+pub mod MoveLines

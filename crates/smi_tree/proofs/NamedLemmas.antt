@@ -1,10 +1,11 @@
 -- No declaration lets a name stand twice.
-use Rattle.std.proofs.Common.{◌≡◌, ℕ, ◌+◌, ◌<◌, ◌^◌, Result, IfOk, OnErr, Bool, true, false, cond, List, [], ◌∷◌}
+use Rattle.std.proofs.Common.{◌≡◌, ℕ, zero, suc, ◌+◌, ◌<◌, ◌^◌, Result, IfOk, OnErr, Bool, true, false, cond, List, [], ◌∷◌}
 use Rattle.std.proofs.Common.{◌++◌, length, Option, Some, None, Ok, Err, refl, ap, ◌∙◌, sym, subst, ◌⊎◌, inl, inr}
 use Rattle.std.proofs.Common.{arith}
-use Rattle.std.specs.Prelude.{◌||◌, ◌&&◌, ◌==◌, nat_lt, count_by, is_some, ok_or}
+use Rattle.std.specs.Prelude.{◌||◌, ◌&&◌, ◌==◌, nat_lt, count_by, is_some, ok_or, slice_get}
 use Rattle.std.specs.Option.{option_or}
-use Rattle.std.specs.List.{list_any}
+use Rattle.std.specs.List.{list_any, list_all}
+use Rattle.std.proofs.lemmas.List.Folds.{list_all-append}
 use Rattle.std.specs.Str.{bytes_eq}
 use Rattle.std.proofs.lemmas.Slice.Eq.{bytes_eq-Decides}
 use Rattle.smi_tree.proofs.Cutting.{either}
@@ -16,11 +17,12 @@ use Rattle.smi_limits.specs.declared.trees.TheConstants.{MOST_DEVICES, MOST_DEVI
 use Rattle.smi_limits.specs.declared.trees.TheConstants.{MOST_OPERATORS, MOST_RULES_OF_A_CLASS, MOST_STATES}
 use Rattle.smi_limits.specs.declared.trees.TheConstants.{MOST_STATIONS}
 use Rattle.smi_tree.proofs.Lawfulness.{Always, Always-then, Always-unless, Always-where, Always-or, entry-push}
-use Rattle.smi_tree.proofs.Lawfulness.{no-entry}
+use Rattle.smi_tree.proofs.Lawfulness.{no-entry, entry-suc}
+use Rattle.smi_tree.proofs.Kept.{both-left, both-right}
 use Rattle.smi_tree.specs.Text.{words}
-use Rattle.smi_tree.specs.Name.{number_of, is_declared, added}
+use Rattle.smi_tree.specs.Name.{number_of, is_declared, is_name, added}
 use Rattle.smi_tree.specs.ClassTable.{is_kind}
-use Rattle.smi_tree.specs.Hierarchy.{Hierarchy, undeclared, move_in, is_device_of}
+use Rattle.smi_tree.specs.Hierarchy.{Hierarchy, undeclared, entry, move_in, is_device_of}
 use Rattle.smi_tree.specs.Named.{AreOnce, AreApart, IsNamed}
 use Rattle.smi_tree.specs.Declaration.{declaration_of, keyword_of}
 use Rattle.smi_tree.specs.Additions.{known, known_class, known_parent, is_taken, has_room, with_state, with_action}
@@ -56,8 +58,7 @@ once-push names new once fresh = λ number name at. elim (entry-push names new n
       ∙ ap Some (omega (arith, last.0))))
 ]
 
--- names after an insertion that may have failed
-pub once-inserted : {E : Type 0} (r : Result Bool E) (old names : List (List ℕ)) (new : List ℕ) →
+once-inserted : {E : Type 0} (r : Result Bool E) (old names : List (List ℕ)) (new : List ℕ) →
     IfOk r (λ _. names ≡ insert_key bytes_eq old new) → OnErr r (names ≡ old) → number_of old new ≡ None
     → length old + 1 < 2 ^ 16 → AreOnce old →
     (length names < 2 ^ 16) × AreOnce names
@@ -68,6 +69,46 @@ once-inserted (Ok b) old names new is err absent few once =
 once-inserted (Err e) old names new is same absent few once =
     let as_long : length names ≡ length old = ap length same in
     (omega (arith, few, as_long), subst AreOnce (sym same) once)
+
+and-true : (a b : Bool) → a ≡ true → b ≡ true → (a && b) ≡ true
+and-true true b h i = i
+and-true false b h i = cc
+
+-- kept names are well formed, after an insertion that may have failed
+named-inserted : {E : Type 0} (r : Result Bool E) (old names : List (List ℕ)) (new : List ℕ) →
+    IfOk r (λ _. names ≡ insert_key bytes_eq old new) → OnErr r (names ≡ old) → number_of old new ≡ None
+    → is_name new ≡ true → list_all is_name old ≡ true → list_all is_name names ≡ true
+named-inserted (Ok b) old names new is same absent good all =
+    let grown : names ≡ old ++ new ∷ [] = is ∙ absent-new old new absent in
+    let P : List (List ℕ) → Type 0 = λ ns. list_all is_name ns ≡ true in
+    subst P (sym grown) (list_all-append is_name old (new ∷ [])
+    ∙ and-true (list_all is_name old) (list_all is_name (new ∷ [])) all (and-true (is_name new) true good refl))
+named-inserted (Err e) old names new is same absent good all =
+    let P : List (List ℕ) → Type 0 = λ ns. list_all is_name ns ≡ true in subst P (sym same) all
+
+get-all : (p : List ℕ → Bool) (names : List (List ℕ)) (place : ℕ) (name : List ℕ) → list_all p names ≡ true
+    → slice_get names place ≡ Some name → p name ≡ true
+get-all p [] place name all at = cc
+get-all p (first ∷ later) zero name all at =
+    let same : first ≡ name = cc in
+    let P : List ℕ → Type 0 = λ n. p n ≡ true in subst P same (both-left (p first) (list_all p later) all)
+get-all p (first ∷ later) (suc place) name all at =
+    get-all p later place name (both-right (p first) (list_all p later) all) at
+
+-- what holds of all names holds of that of a number
+pub entry-all : (p : List ℕ → Bool) (names : List (List ℕ)) (number : ℕ) (name : List ℕ) → list_all p names ≡ true
+    → entry names number ≡ Some name → p name ≡ true
+entry-all p names zero name all at = cc
+entry-all p names (suc place) name all at = get-all p names place name all (sym (entry-suc names place) ∙ at)
+
+-- names after an insertion that may have failed: few, each there once, and well formed
+pub kept-inserted : {E : Type 0} (r : Result Bool E) (old names : List (List ℕ)) (new : List ℕ) →
+    IfOk r (λ _. names ≡ insert_key bytes_eq old new) → OnErr r (names ≡ old) → number_of old new ≡ None
+    → length old + 1 < 2 ^ 16 → is_name new ≡ true → AreOnce old → list_all is_name old ≡ true →
+    (length names < 2 ^ 16) × AreOnce names × (list_all is_name names ≡ true)
+kept-inserted r old names new is same absent few good once all =
+    let both = once-inserted r old names new is same absent few once in
+    (both.0, both.1, named-inserted r old names new is same absent good all)
 
 declared-push : (names : List (List ℕ)) (new name : List ℕ) → is_declared (names ++ new ∷ []) name ≡ true →
     (is_declared names name ≡ true) ⊎ (name ≡ new)

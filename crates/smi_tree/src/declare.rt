@@ -5,7 +5,9 @@ ghost use Rattle.std.specs.Prelude.{◌≡◌, ◌==◌, ◌+◌, ◌<◌, lengt
 ghost use Rattle.smi_tree.specs.Hierarchy.{is_child_of, move_in, parent_in, ancestors, depth_in};
 ghost use Rattle.smi_tree.specs.Additions.{known};
 
-use crate::declaration::{ClassKind, Declaration, Keyword, Quantifier};
+use crate::declaration::{
+    ClassKind, Declaration, Keyword, Quantifier, four_names, one_name, two_names,
+};
 use crate::fault::{Fault, Refusal};
 use crate::name::Name;
 use crate::names::Names;
@@ -33,17 +35,6 @@ fn known(names: &Names, name: &Name) -> Result<u16, Fault>
     ensures { result ≡ known names.now name.now }
 {
     names.number(name).ok_or(Fault::UnknownName)
-}
-
-/// The number of a name that has to stand above, which is likely to be this one.
-#[inline(always)]
-fn known_near(names: &Names, name: &Name, near: u16) -> Result<u16, Fault>
-    ensures { result ≡ known names.now name.now }
-{
-    if names.is_number_of(near, name) {
-        return Ok(near);
-    }
-    known(names, name)
 }
 
 fn count_of(homes: &[u16], home: u16) -> usize
@@ -95,10 +86,13 @@ fn depth_in(domains: &[Domain], domain: u16) -> usize
 }
 
 impl Tables {
-    ghost use Rattle.std.specs.Prelude.{◌≡◌, ◌<◌, ◌≤◌, length, IfOk};
+    ghost use Rattle.std.specs.Prelude.{ℕ, List, ◌∷◌, ◌≡◌, ◌<◌, ◌≤◌, length, IfOk, IfSome, true};
     ghost use Rattle.smi_tree.specs.Fault.{Becomes, Gives};
     ghost use Rattle.smi_tree.specs.Text.{words};
+    ghost use Rattle.smi_tree.specs.Name.{is_name};
+    ghost use Rattle.smi_tree.specs.ClassTable.{ClassTable};
     ghost use Rattle.smi_tree.specs.Hierarchy.{IsEntry};
+    ghost use Rattle.smi_tree.specs.declared.declaration.Keyword.TheVariants as keywords;
     ghost use Rattle.smi_tree.specs.Additions.{
       known_class,
       known_parent,
@@ -131,6 +125,41 @@ impl Tables {
             Ok(declaration) => self.declare(alloc, declaration),
             Err(fault) => Err(Refusal::Faulty(*fault)),
         }
+    }
+
+    /// Adds the move that the words after `move` declare.
+    pub(crate) fn read_move(&mut self, text: &[u8]) -> Result<(), Refusal>
+        ensures { Becomes self.new result (with_words_of self.old keywords.Move (words text.now)) }
+    {
+        // The rows of a class mostly stand together, by state and then by action.
+        let last = self.moves.last().unwrap_or(NO_MOVE);
+        let next = last.action.wrapping_add(1);
+        let Some((kind, rest)) = self.after_class_and_state(last, text) else {
+            let (class, from, action, to) = four_names(text)?;
+            return self.add_move(&class, &from, &action, &to);
+        };
+        if let Some(rest) = self.action_names.after_name(next, rest) {
+            let to = one_name(rest)?;
+            return self.add_move_from(last.class, kind, last.from, next, &to);
+        }
+        let (action, to) = two_names(rest)?;
+        let action = known(&self.action_names, &action)?;
+        self.add_move_from(last.class, kind, last.from, action, &to)
+    }
+
+    /// The kind of a row's class, and what follows that class and the row's state, where a text begins with these.
+    #[inline(always)]
+    fn after_class_and_state<'a>(&self, row: Move, text: &'a [u8]) -> Option<(ClassKind, &'a [u8])>
+        ensures { IfSome result (λ found. (class from : List ℕ) × (table : ClassTable)
+            × (is_name class ≡ true) × (is_name from ≡ true)
+            × (known_class self.now class ≡ Ok (row.class, table)) × (table.kind ≡ found.0)
+            × (known self.now.state_names from ≡ Ok row.from)
+            × (words text.now ≡ class ∷ (from ∷ words found.1.now))) }
+    {
+        let table = entry(&self.classes, row.class)?;
+        let rest = self.class_names.after_name(row.class, text)?;
+        let rest = self.state_names.after_name(row.from, rest)?;
+        Some((table.kind, rest))
     }
 
     fn declare(&mut self, alloc: Global, declaration: &Declaration<'_>) -> Result<(), Refusal>
@@ -239,13 +268,13 @@ impl Tables {
         Ok(())
     }
 
-    /// The number and the table of a class that has to stand above, likely that of this number.
+    /// The number and the table of a class that has to stand above.
     #[tactic(auto, unfolding(crate::specs::Additions::known_class))]
-    fn known_class(&self, name: &Name, near: u16) -> Result<(u16, &Class), Fault>
+    fn known_class(&self, name: &Name) -> Result<(u16, &Class), Fault>
         ensures found { Gives (λ found. (found.0, found.1.now)) result (known_class self.now name.now) }
         ensures row { IfOk result (λ found. IsEntry self.now.classes found.0 found.1.now) }
     {
-        let class = known_near(&self.class_names, name, near)?;
+        let class = known(&self.class_names, name)?;
         let table = entry(&self.classes, class).ok_or(Fault::UnknownName)?;
         Ok((class, table))
     }
@@ -260,12 +289,28 @@ impl Tables {
     ) -> Result<(), Refusal>
         ensures { Becomes self.new result (with_move self.old class.now from.now action.now to.now) }
     {
-        // The rows of a class mostly stand together, by state and then by action.
-        let last = self.moves.last().unwrap_or(NO_MOVE);
-        let (class, table) = self.known_class(class, last.class)?;
+        let (class, table) = self.known_class(class)?;
         let kind = table.kind;
-        let from = known_near(&self.state_names, from, last.from)?;
-        let action = known_near(&self.action_names, action, last.action.wrapping_add(1))?;
+        let from = known(&self.state_names, from)?;
+        let action = known(&self.action_names, action)?;
+        self.add_move_from(class, kind, from, action, to)
+    }
+
+    /// Adds a move by its numbers, the class being of this kind.
+    fn add_move_from(
+        &mut self,
+        class: u16,
+        kind: ClassKind,
+        from: u16,
+        action: u16,
+        to: &Name,
+    ) -> Result<(), Refusal>
+        ensures { (class_name from_name action_name : List ℕ) → (table : ClassTable)
+            → known_class self.old class_name ≡ Ok (class, table) → table.kind ≡ kind
+            → known self.old.state_names from_name ≡ Ok from
+            → known self.old.action_names action_name ≡ Ok action
+            → Becomes self.new result (with_move self.old class_name from_name action_name to.now) }
+    {
         let to = known(&self.state_names, to)?;
         if self.moves.find(class, from, action).is_some() {
             return Err(Refusal::Faulty(Fault::Twice));
@@ -286,7 +331,7 @@ impl Tables {
     fn accept(&mut self, class: &Name, action: &Name) -> Result<(), Refusal>
         ensures { Becomes self.new result (with_accepted self.old class.now action.now) }
     {
-        let (class, table) = self.known_class(class, 0)?;
+        let (class, table) = self.known_class(class)?;
         let action = known(&self.action_names, action)?;
         if table.accepts(action) {
             return Err(Refusal::Faulty(Fault::Twice));
@@ -309,7 +354,7 @@ impl Tables {
     ) -> Result<(), Refusal>
         ensures { Becomes self.new result (with_rule self.old quantifier class.now state.now target.now) }
     {
-        let (class, table) = self.known_class(class, 0)?;
+        let (class, table) = self.known_class(class)?;
         let state = known(&self.state_names, state)?;
         let target = known(&self.state_names, target)?;
         if !table.is_kind(ClassKind::Unit) {
@@ -363,7 +408,7 @@ impl Tables {
         ensures { Becomes self.new result (with_domain self.old name.now station.now class.now parent.now) }
     {
         let station = known(&self.station_names, station)?;
-        let (class, table) = self.known_class(class, 0)?;
+        let (class, table) = self.known_class(class)?;
         let kind = table.kind;
         let parent = self.known_parent(parent)?;
         if self.is_taken(name) {
@@ -389,7 +434,7 @@ impl Tables {
         ensures { Becomes self.new result (with_device self.old name.now domain.now class.now) }
     {
         let domain = known(&self.domain_names, domain)?;
-        let (class, table) = self.known_class(class, 0)?;
+        let (class, table) = self.known_class(class)?;
         let kind = table.kind;
         if self.is_taken(name) {
             return Err(Refusal::Faulty(Fault::Twice));

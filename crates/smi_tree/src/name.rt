@@ -7,7 +7,7 @@ ghost use Rattle.std.specs.Cmp.Lexicographic.{nat_list_eq_equiv};
 ghost use Rattle.std.specs.Cmp.Rules.{hashing};
 ghost use Rattle.std.proofs.Common.{rules};
 
-use crate::text::Word;
+use crate::text::{Word, is_same_text};
 use arrayvec::ArrayVec;
 use indexmap::Equivalent;
 use smi_limits::MOST_BYTES_OF_A_NAME;
@@ -21,14 +21,15 @@ pub struct Name<'a> {
 }
 
 impl<'a> Model for Name<'a> {
-    ghost use Rattle.std.specs.Prelude.{ℕ, List, length, ◌≤◌};
+    ghost use Rattle.std.specs.Prelude.{ℕ, List, length, ◌≡◌, ◌≤◌, true};
     ghost use Rattle.smi_limits.specs.declared.trees.TheConstants.{MOST_BYTES_OF_A_NAME};
+    ghost use Rattle.smi_tree.specs.Name.{is_name};
 
     ghost Value = { List ℕ };
 
     ghost view = { λ n. n.text.now };
 
-    ghost invariant = { λ n. length n.text.now ≤ MOST_BYTES_OF_A_NAME };
+    ghost invariant = { λ n. (length n.text.now ≤ MOST_BYTES_OF_A_NAME) × (is_name n.text.now ≡ true) };
 }
 
 /// A text that is looked up among names.
@@ -130,9 +131,9 @@ impl<'a> Sought<'a> {
 }
 
 impl<'a> Name<'a> {
-    ghost use Rattle.std.specs.Prelude.{◌≡◌};
+    ghost use Rattle.std.specs.Prelude.{◌≡◌, true};
     ghost use Rattle.std.specs.Str.{bytes_eq};
-    ghost use Rattle.smi_tree.specs.Name.{name_of};
+    ghost use Rattle.smi_tree.specs.Name.{name_of, is_name};
 
     /// The name that a word is, where it is one: 1 to 16 bytes of `A` to `Z`, `0` to `9` and `_`, the first a letter.
     #[inline(always)]
@@ -167,12 +168,13 @@ impl<'a> Name<'a> {
     pub(crate) fn is_same(&self, kept: &NameBuf) -> bool
         ensures { result ≡ bytes_eq self.now kept.now }
     {
-        self.text == kept.text()
+        is_same_text(self.text, kept.text())
     }
 
     /// The same name, to be kept.
     pub(crate) fn to_owned(&self) -> NameBuf
-        ensures { result ≡ self.now }
+        ensures same { result ≡ self.now }
+        ensures well_formed { is_name self.now ≡ true }
     {
         let mut text = ArrayVec::new();
         // A name has at most as many bytes as that has room for.

@@ -9,7 +9,7 @@ use crate::declaration::Keyword;
 use crate::fault::{Fault, Refusal, TreeFault};
 use crate::names::Names;
 use crate::tables::Tables;
-use crate::text::{first_line, first_word};
+use crate::text::{after_word, first_line, first_word};
 use smi_limits::MOST_BYTES_OF_A_LINE;
 use std::alloc::Global;
 
@@ -76,6 +76,12 @@ impl Tables {
     {
         if line.len() > MOST_BYTES_OF_A_LINE {
             return Err(Refusal::Faulty(Fault::LineTooLong));
+        }
+        if self.is_begun()
+            && let Some(text) = after_word(line, b"move")
+        {
+            // Most lines of a long file declare moves.
+            return self.read_move(text);
         }
         let Some((first, rest)) = first_word(line) else {
             return Ok(());

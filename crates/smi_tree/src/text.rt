@@ -1,7 +1,8 @@
 //! How bytes are cut into lines, and lines into words.
 
-ghost use Rattle.std.specs.Prelude.{◌≡◌, ◌<◌, ◌≤◌, [], ◌∷◌, length, take, MatchOption};
+ghost use Rattle.std.specs.Prelude.{◌≡◌, ◌<◌, ◌≤◌, [], ◌∷◌, ◌++◌, length, take, MatchOption, IfSome};
 ghost use Rattle.std.specs.List.{position_or_len, list_all};
+ghost use Rattle.std.specs.Str.{bytes_eq};
 ghost use Rattle.std.specs.Str.Lines.{lines, strip_carriage_return};
 ghost use Rattle.smi_tree.specs.Text.{cuts, is_line_feed, words};
 ghost use Rattle.smi_tree.specs.Name.{is_name_byte};
@@ -49,6 +50,39 @@ pub(crate) fn length_before(text: &[u8], mark: Mark) -> usize
         }
     }
     text.len()
+}
+
+/// Whether two texts are the same: as they are short, byte by byte.
+#[inline(always)]
+pub(crate) fn is_same_text(text: &[u8], other: &[u8]) -> bool
+    ensures { result ≡ bytes_eq text.now other.now }
+{
+    if text.len() != other.len() {
+        return false;
+    }
+    for place in 0..text.len() {
+        if text[place] != other[place] {
+            return false;
+        }
+    }
+    true
+}
+
+/// What follows a word and the space after it, where a text begins with these.
+#[inline(always)]
+pub(crate) fn after_word<'a>(text: &'a [u8], word: &[u8]) -> Option<&'a [u8]>
+    ensures { IfSome result (λ rest. text.now ≡ word.now ++ 32 ∷ rest.now) }
+{
+    if text.len() < word.len() {
+        return None;
+    }
+    let (front, rest) = text.split_at(word.len());
+    let (next, rest) = rest.split_first()?;
+    if *next == b' ' && is_same_text(front, word) {
+        Some(rest)
+    } else {
+        None
+    }
 }
 
 /// How many bytes stand before the first line feed of a text, all where there is none.
