@@ -18,7 +18,7 @@ use Rattle.sqlite.specs.State.{State, mode_of, text_of, shows_rows, HasCause, Fa
 use Rattle.sqlite.specs.State.{ExecutesIn, IsMisplaced, IsNoStatement, IsNotRun, store_error}
 use Rattle.sqlite.proofs.Callers.{IsPlain, command_of, statement_of}
 use Rattle.sqlite_tied.specs.Compute.{everything}
-use Rattle.smi_stable.specs.SqlTable.{create_text, replace_text, stable_schema, no_schema}
+use Rattle.smi_stable.specs.SqlTable.{create_text, upsert_text, stable_schema, no_schema}
 use Rattle.smi_stable.specs.SqlFault.{fault_of, HasReason}
 use Rattle.smi_stable.proofs.SqlTexts.{create_is}
 use Rattle.smi_stable.proofs.SqlMakes.{create_plain, create_text_is}
@@ -57,17 +57,17 @@ is_statement s sql params e whole (inr h) =
 abbrev four : Row
 four = Null ∷ Null ∷ Null ∷ Null ∷ []
 
-replace_whole : IsWhole replace_text 4 (understood stable_schema replace_text)
+upsert_whole : IsWhole upsert_text 4 (understood stable_schema upsert_text)
 unfolding understood everything
-replace_whole = (refl, refl, refl)
+upsert_whole = (refl, refl, refl)
 
 -- a save is prepared on the table of stable rows, if the connection does not fail
 pub prepared : (old new : State) (e : Error) → old.now.schema ≡ stable_schema → IsTrue old.is_open
-    → ((params : Row) → IsNotRun old new replace_text params e) → HasReason old new (fault_of e)
+    → ((params : Row) → IsNotRun old new upsert_text params e) → HasReason old new (fault_of e)
 unfolding IsNotRun
 prepared old new e has live h = elim (h four) [
-  | inl it ↦ absurd (is_statement old replace_text four e
-      (subst (λ s. IsWhole replace_text 4 (understood s replace_text)) (sym has) replace_whole) it.0)
+  | inl it ↦ absurd (is_statement old upsert_text four e
+      (subst (λ s. IsWhole upsert_text 4 (understood s upsert_text)) (sym has) upsert_whole) it.0)
   | inr it ↦ reason old new ⊥ e live (λ never. never) it
 ]
 

@@ -5,7 +5,6 @@ use Rattle.std.proofs.lemmas.Bool.{cases_Bool}
 use Rattle.sqlite.specs.Order.{Row}
 use Rattle.std.proofs.Common.{[], ◌∷◌}
 use Rattle.sqlite.specs.declared.types.Value.TheVariants.{Blob}
-use Rattle.sqlite.specs.Edit.{next_rowid}
 use Rattle.sqlite.specs.Tree.{Trees}
 use Rattle.sqlite.specs.Effect.{Database}
 use Rattle.sqlite.specs.declared.error.Error.{Error}
@@ -15,14 +14,16 @@ use Rattle.sqlite.specs.Command.TheVariants.{DropTable, DropIndex, Begin, Commit
 use Rattle.sqlite.specs.Command.TheVariants.{Release, RollbackTo, Nothing, CreateView, DropView, Rows}
 use Rattle.sqlite_schema.specs.declared.command.Returning.{Returning}
 use Rattle.sqlite.specs.State.{State, HasCleanDisk, Runs, IsUnchanged, IsRolledBack, Survives, Executes, ExecutesIn}
-use Rattle.sqlite.specs.State.{IsNotRun, CommitsBy, shows_rows}
+use Rattle.sqlite.specs.State.{IsNotRun, IsLive, CommitsBy, shows_rows}
 use Rattle.smi_rows.specs.declared.key.Key.{Key}
-use Rattle.smi_stable.specs.SqlTable.{replace_text}
+use Rattle.smi_stable.specs.SqlTable.{upsert_text}
+use Rattle.sqlite_schema.specs.Rules.{Keeps}
+use Rattle.sqlite_schema.specs.declared.schema.Constraint.TheVariants.{Datatype, Unique}
 use Rattle.smi_stable.specs.SqlRows.{IsKeyed}
 use Rattle.smi_rows.specs.Store.{IsSame, with_row}
 use Rattle.smi_stable.specs.SqlReady.{IsAtRest, rows_in, rows_of, LeavesEither}
 use Rattle.smi_stable.proofs.SqlKeys.{key-agrees}
-use Rattle.smi_stable.proofs.SqlSaves.{Replaces, values, replaces, commits}
+use Rattle.smi_stable.proofs.SqlSaves.{Saves, values, saved, commits}
 use Rattle.smi_stable.proofs.SqlReplaced.{replaced, still_keyed}
 
 pub fails : (old new : State) (sql : List ℕ) (params : Row) (e : Error) → Executes sql params old new (Err e)
@@ -94,45 +95,49 @@ was_open old new sql params count auto h = elim (cases_Bool (shows_rows false h.
   | inr runs ↦ ran_open old new _ _ _ _ count auto (rw runs at h.2)
 ]
 
-same_rows : (old new : Trees) (key : Key) (b : List ℕ) → IsKeyed (old 0)
-    → Replaces (old 0) (new 0) (pos key.station) (pos key.domain) (pos key.operator) b
-    → IsSame (rows_in new) (with_row key b (rows_in old))
-same_rows old new key b keyed h k =
-    replaced (old 0) (pos key.station) (pos key.domain) (pos key.operator) b keyed (new 0) h (pos k.station)
-    (pos k.domain) (pos k.operator)
-    ∙ ap (λ t. if t then Some b else rows_in old k) (key-agrees key k (Blob b ∷ []) (next_rowid (old 0)))
+same_rows : (old : State) (new : Trees) (key : Key) (b : List ℕ) → IsTrue old.is_open → IsLive old → IsAtRest old
+    → Saves (old.now.trees 0) (new 0) (pos key.station) (pos key.domain) (pos key.operator) b
+    → IsSame (rows_in new) (with_row key b (rows_of old))
+same_rows old new key b was live r h k =
+    let rules = (live was).0.obeys.rules in
+    let typed = subst (λ x. Keeps Datatype x old.now.trees) r.schema (rules Datatype) in
+    let unique = subst (λ x. Keeps Unique x old.now.trees) r.schema (rules Unique) in
+    replaced old.now.trees r.keyed (pos key.station) (pos key.domain) (pos key.operator) b (new 0) typed unique h
+    (pos k.station) (pos k.domain) (pos k.operator)
+    ∙ ap (λ t. if t then Some b else rows_of old k) (key-agrees key k (Blob b ∷ []) (pos 0))
 
 pub saves : (old new : State) (key : Key) (b : List ℕ) (count : ℕ) → old.in_transaction ≡ false
-    → (IsTrue old.is_open → IsAtRest old)
-    → Executes replace_text (values (pos key.station) (pos key.domain) (pos key.operator) b) old new (Ok count)
+    → (IsTrue old.is_open → IsAtRest old) → IsLive old
+    → Executes upsert_text (values (pos key.station) (pos key.domain) (pos key.operator) b) old new (Ok count)
     → (new.in_transaction ≡ false) × IsTrue new.is_open × IsAtRest new
     × IsSame (rows_of new) (with_row key b (rows_of old))
-saves old new key b count auto rest h =
-    let r = rest (was_open old new replace_text _ count auto h) in
-    let it = replaces old new (pos key.station) (pos key.domain) (pos key.operator) b count r.schema h in
+saves old new key b count auto rest live h =
+    let was = was_open old new upsert_text _ count auto h in
+    let r = rest was in
+    let it = saved old new (pos key.station) (pos key.domain) (pos key.operator) b count r.schema r.keyed h in
     let shown = it.0.shown in
     let committed : new.committed ≡ new.now = shown.committed_is ∙ rw auto refl in (
       shown.mode ∙ auto,
       shown.is_open,
       record {
         schema = it.1;
-        keyed = still_keyed (old.now.trees 0) (new.now.trees 0) (pos key.station)
-            (pos key.domain) (pos key.operator) b r.keyed it.2;
+        keyed = still_keyed old.now.trees r.keyed (pos key.station) (pos key.domain) (pos key.operator) b
+            (new.now.trees 0) it.2;
         settled = committed;
       },
-      same_rows old.now.trees new.now.trees key b r.keyed it.2,
+      same_rows old new.now.trees key b was live r it.2,
     )
 
 -- a crash leaves the rows as before or as saved, where the last commit is all that it could leave before
-pub crashes : (old new : State) (key : Key) (b : List ℕ) → IsAtRest old
+pub crashes : (old new : State) (key : Key) (b : List ℕ) → IsTrue old.is_open → IsLive old → IsAtRest old
     → ((db : Trees) → old.may_leave db → db ≡ old.committed.trees) → HasCleanDisk new
-    → Survives old new (CommitsBy replace_text (values (pos key.station) (pos key.domain) (pos key.operator) b) old)
+    → Survives old new (CommitsBy upsert_text (values (pos key.station) (pos key.domain) (pos key.operator) b) old)
     → LeavesEither old new key b
-crashes old new key b r only clean s db may = elim (s.crash clean db may) [
+crashes old new key b was live r only clean s db may = elim (s.crash clean db may) [
   | inl before ↦ inl (λ k. ap (λ (t : Trees). rows_in t k) (only db before ∙ ap (λ (d : Database). d.trees) r.settled))
   | inr after ↦
-      inr (same_rows old.now.trees db key b r.keyed
-      (commits old (pos key.station) (pos key.domain) (pos key.operator) b db r.schema after))
+      inr (same_rows old db key b was live r
+      (commits old (pos key.station) (pos key.domain) (pos key.operator) b db r.schema r.keyed after))
 ]
 
 pub not_run : (old new : State) (sql : List ℕ) (params : Row) (e : Error) → IsNotRun old new sql params e

@@ -3,7 +3,7 @@ use Rattle.std.proofs.Common.{◌≡◌, ◌⊎◌, inl, inr, ℤ, List, [], ◌
 use Rattle.std.proofs.Common.{cond, ◌&&◌, Some, option_map, Ordering, Less, Equal, Greater, refl, sym, ap, subst, ◌∙◌}
 use Rattle.std.proofs.Common.{true≢false, length, arith}
 use Rattle.std.specs.List.Sorted.{IsPermutation}
-use Rattle.std.specs.Ordering.{is_ne}
+use Rattle.std.specs.Ordering.{is_eq, is_ne}
 use Rattle.std.proofs.lemmas.Bool.{and_parts, and_from, not-true}
 use Rattle.std.proofs.lemmas.Cmp.{tied_itself}
 use Rattle.std.proofs.lemmas.List.Sorted.{length_permutation}
@@ -12,7 +12,9 @@ use Rattle.sqlite.specs.declared.types.Value.TheVariants.{Null, Int}
 use Rattle.sqlite.specs.Order.{Row, column, value_cmp, bytes}
 use Rattle.sqlite_value.specs.Keys.{plain}
 use Rattle.sqlite_sql.specs.Ops.{binary, is_true, from_truth}
-use Rattle.sqlite_schema.specs.Rules.{agree, differ, Keeps}
+use Rattle.sqlite_schema.specs.Rules.{agree, equal, differ, Keeps}
+use Rattle.sqlite.specs.Collation.TheVariants.{Binary}
+use Rattle.sqlite.specs.Edit.{id_in}
 use Rattle.sqlite_schema.specs.declared.schema.Constraint.TheVariants.{Unique}
 use Rattle.sqlite_rules.specs.Lists.{Has}
 use Rattle.sqlite_rules.proofs.ListLemmas.{all_has, some_from}
@@ -38,7 +40,7 @@ unfolding binary
 same_ints m n h = not_ne (value_cmp (Int m) (Int n)) h
 
 module _ (db : Trees) (keyed : IsKeyed (db 0)) (unique : Keeps Unique stable_schema db) (s d o : ℤ) where
-  only : (a b : Row) → Has (db 0) a → Has (db 0) b → has_key s d o a ≡ true → has_key s d o b ≡ true → a ≡ b
+  pub only : (a b : Row) → Has (db 0) a → Has (db 0) b → has_key s d o a ≡ true → has_key s d o b ≡ true → a ≡ b
   only a b at there p q =
       let key : Row = Null ∷ Int s ∷ Int d ∷ Int o ∷ [] in
       let places = 1 ∷ 2 ∷ 3 ∷ [] in
@@ -53,6 +55,32 @@ module _ (db : Trees) (keyed : IsKeyed (db 0)) (unique : Keeps Unique stable_sch
       let j = int_is (rowid b) (all_has _ (db 0) b keyed.1 there) in
       tied_same (db 0) a b keyed.0 at there (rw (i, j) (same_ints _ _ (rw (i, j) at same)))
 
+tied : (o : Ordering) → is_true (from_truth (Some (is_eq o))) ≡ true → o ≡ Equal
+tied Less h = absurd (true≢false (sym h))
+tied Equal h = refl
+tied Greater h = absurd (true≢false (sym h))
+
+tied_ints : (m n : ℤ) → equal Binary (Int m) (Int n) ≡ true → value_cmp (Int m) (Int n) ≡ Equal
+unfolding binary
+tied_ints m n h = tied (value_cmp (Int m) (Int n)) h
+
+itself : (n : ℤ) → (equal Binary (Int n) (Int n) && true) ≡ true
+unfolding binary
+itself n = ap (λ e. is_true (from_truth (Some (is_eq e))) && true) (tied_itself value_cmp_total (Int n))
+
+-- the one row that has a row's rowid is that row
+pub same_id : (rows : List Row) → IsKeyed rows → (r : Row) → Has rows r
+    → ((equal Binary (rowid r) (rowid r) && true) ≡ true)
+    × ((x : Row) → Has rows x → (equal Binary (rowid x) (rowid r) && true) ≡ true → x ≡ r)
+same_id rows keyed r at =
+    let i = int_is (rowid r) (all_has _ rows r keyed.1 at) in (
+      rw i (itself (id_in (rowid r))),
+      λ x there p.
+          let j = int_is (rowid x) (all_has _ rows x keyed.1 there) in
+          let alike : equal Binary (rowid x) (rowid r) ≡ true = (and_parts _ _ p).0 in
+          tied_same rows x r keyed.0 there at (rw (i, j) (tied_ints _ _ (rw (i, j) at alike))),
+    )
+
 module _ {X : Type 0} (p : X → Bool) where
   first_kept : (xs : List X) → find p xs ≡ slice_get (filter p xs) 0
   first_kept [] = refl
@@ -65,7 +93,7 @@ module _ {X : Type 0} (p : X → Bool) where
   none_kept (x ∷ xs) none = rw (not_true (p x) (none x (inl refl))) (none_kept xs (λ y h. none y (inr h)))
 
 -- at most one row of a table passes
-one_kept : (p : Row → Bool) (rows : List Row) → IsKeyed rows
+pub one_kept : (p : Row → Bool) (rows : List Row) → IsKeyed rows
     → ((a b : Row) → Has rows a → Has rows b → p a ≡ true → p b ≡ true → a ≡ b)
     → (filter p rows ≡ []) ⊎ ((r : Row) × (filter p rows ≡ r ∷ []))
 one_kept p [] keyed same = inl refl

@@ -1,18 +1,20 @@
 //! The statements of a store over SQL, each alone in a call.
 
 ghost use Rattle.std.specs.Prelude.{◌≡◌, ◌≢◌, ◌⊎◌, [], OnOk, OnErr, IfOk, IfErr, IsTrue, pos};
-ghost use Rattle.sqlite.specs.State.{HasCleanDisk, Executes, Survives, CommitsBy, IsUnchanged, IsRolledBack};
+ghost use Rattle.sqlite.specs.State.{HasCleanDisk, Executes, Survives, CommitsBy, IsUnchanged, IsRolledBack, IsLive};
 ghost use Rattle.sqlite.specs.Held.{state};
 ghost use Rattle.smi_rows.specs.Store.{IsSame, with_row, IfNotSaved, IfUnsure};
 ghost use Rattle.smi_stable.specs.SqlReady.{IsReady, rows_of, LeavesEither, key_values};
 ghost use Rattle.smi_stable.specs.SqlFault.{fault_of, HasReason};
-ghost use Rattle.smi_stable.specs.SqlTable.{replace_text, create_text, stable_schema};
+ghost use Rattle.smi_stable.specs.SqlTable.{upsert_text, create_text, stable_schema};
 
 use smi_rows::{Key, StoreFault};
 use sqlite::{Alter, Connection, Error, ErrorCode, params};
 
+// A row that is there is changed where it stands: one page is written, where taking it out and putting it in again
+// would write a page of the table's index and mostly a second one of the table with it.
 const SAVE: &str =
-    "INSERT OR REPLACE INTO stable_rows (station, domain, operator, bytes) VALUES (?1, ?2, ?3, ?4)";
+    "INSERT INTO stable_rows (station, domain, operator, bytes) VALUES (?1, ?2, ?3, ?4) ON CONFLICT (station, domain, operator) DO UPDATE SET bytes = excluded.bytes";
 
 const MAKE: &str =
     "CREATE TABLE stable_rows (station INTEGER NOT NULL, domain INTEGER NOT NULL, operator INTEGER NOT NULL, bytes BLOB NOT NULL, PRIMARY KEY (station, domain, operator)) STRICT";
@@ -30,10 +32,13 @@ pub(crate) fn fault_of(error: Error) -> StoreFault
 
 fn put<S: Alter>(conn: &mut Connection<S>, key: Key, bytes: &[u8]) -> Result<usize, Error>
     ensures runs { HasCleanDisk (state S.Store conn.new)
-        → Executes replace_text (key_values key bytes.now) (state S.Store conn.old) (state S.Store conn.new) result }
+        → Executes upsert_text (key_values key bytes.now) (state S.Store conn.old) (state S.Store conn.new) result }
     ensures survives { Survives (state S.Store conn.old) (state S.Store conn.new)
-        (CommitsBy replace_text (key_values key bytes.now) (state S.Store conn.old)) }
+        (CommitsBy upsert_text (key_values key bytes.now) (state S.Store conn.old)) }
+    ensures live { IsLive (state S.Store conn.old) }
 {
+    // Whoever asks for the schema learns that the rows obey it: each key stands once, and is three numbers.
+    let _schema = conn.schema();
     conn.execute(
         SAVE,
         params![

@@ -10,7 +10,8 @@ returns-in-Ok-clause-ready g c ready clean =
     let old = state g.S.Store c.args.conn.now in
     let new = state g.S.Store c.put.new.conn in
     let before = ready (clean_before old new _ c.put.ensures.survives clean) in
-    let s = saves old new c.args.key c.args.bytes.now c.in-Ok.field-0 before.0 before.1 (c.in-Ok.ensures.runs clean) in
+    let s = saves old new c.args.key c.args.bytes.now c.in-Ok.field-0 before.0 before.1 c.put.ensures.live
+    (c.in-Ok.ensures.runs clean) in
     (s.0, λ live. s.2)
 
 pub returns-in-Ok-clause-saved : goal.returns-in-Ok-clause-saved
@@ -18,7 +19,8 @@ returns-in-Ok-clause-saved g c ready clean =
     let old = state g.S.Store c.args.conn.now in
     let new = state g.S.Store c.put.new.conn in
     let before = ready (clean_before old new _ c.put.ensures.survives clean) in
-    let s = saves old new c.args.key c.args.bytes.now c.in-Ok.field-0 before.0 before.1 (c.in-Ok.ensures.runs clean) in
+    let s = saves old new c.args.key c.args.bytes.now c.in-Ok.field-0 before.0 before.1 c.put.ensures.live
+    (c.in-Ok.ensures.runs clean) in
     (s.1, s.3)
 
 pub returns-in-Ok-clause-crash : goal.returns-in-Ok-clause-crash
@@ -26,7 +28,7 @@ returns-in-Ok-clause-crash g c ready clean live =
     let old = state g.S.Store c.args.conn.now in
     let new = state g.S.Store c.put.new.conn in
     let before = ready (clean_before old new _ c.put.ensures.survives clean) in
-    crashes old new c.args.key c.args.bytes.now (before.1 live)
+    crashes old new c.args.key c.args.bytes.now live c.put.ensures.live (before.1 live)
     (λ db may. g.met.S.Store.settled c.args.conn.now.store db live may) clean c.put.ensures.survives
 
 pub returns-in-Err-clause-ready : goal.returns-in-Err-clause-ready
@@ -50,7 +52,7 @@ returns-in-Err-clause-crash g c ready clean live =
     let old = state g.S.Store c.args.conn.now in
     let new = state g.S.Store c.put.new.conn in
     let before = ready (clean_before old new _ c.put.ensures.survives clean) in
-    crashes old new c.args.key c.args.bytes.now (before.1 live)
+    crashes old new c.args.key c.args.bytes.now live c.put.ensures.live (before.1 live)
     (λ db may. g.met.S.Store.settled c.args.conn.now.store db live may) clean c.put.ensures.survives
 
 pub returns-in-Ok-clause-clean : goal.returns-in-Ok-clause-clean
