@@ -4,7 +4,8 @@
 //! datagram, an operator's [`Order`], a device's report, or a tick. What each event does is defined
 //! under `specs/`, in the words of docs/PROTOCOL.md. An [`Item`] is one thing that a schedule lets happen to the
 //! stations of a tree; a schedule makes a trace, which is a list of [`Line`]s (specs/Schedule.antt), and [`examples`]
-//! shows the definitions at work. How a schedule is written or drawn and how a trace reads stand in crates of their own.
+//! shows the definitions at work. How a schedule is written or drawn and how a trace reads stand in crates of their
+//! own.
 #![tactic(auto)]
 
 mod entry;

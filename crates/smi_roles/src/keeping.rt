@@ -10,7 +10,7 @@ use smi_tree::Tree;
 pub fn has_domain(tree: &Tree, domain: u16) -> bool
     ensures { result ≡ spec.has_domain tree.now domain }
 {
-    1 <= domain && domain <= tree.domain_count()
+    0 < domain && domain <= tree.domain_count()
 }
 
 /// Whether the tree has an object.

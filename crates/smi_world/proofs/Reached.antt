@@ -16,7 +16,8 @@ use Rattle.smi_protocol.specs.declared.entry.Entry.{Entry}
 use Rattle.smi_protocol.specs.declared.item.Item.{Item}
 use Rattle.smi_protocol.specs.declared.item.Item.TheVariants as item
 use Rattle.smi_protocol.specs.declared.item.Moment.TheVariants as moment
-use Rattle.smi_protocol.specs.Schedule.{Arrival, World, Turn, arrival_of, changed, done_by, failed, failing, first_world}
+use Rattle.smi_protocol.specs.Schedule.{Arrival, World, Turn, arrival_of, changed, done_by, failed, failing}
+use Rattle.smi_protocol.specs.Schedule.{first_world}
 use Rattle.smi_protocol.specs.Schedule.{is_at, nothing, opening_of, restarted, stepped, stopped_behind, turn}
 use Rattle.smi_law.specs.World.{MayCome, Reaches, goes_on, noted, opens, stops, with_station}
 use Rattle.smi_law.proofs.Bridge.{Arrives, arrives, turned}
