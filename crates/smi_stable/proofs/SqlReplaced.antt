@@ -89,7 +89,8 @@ module _ (p : Row → Bool) where
   -- a row is put among others in the place of those that pass with it
   placed : (rows left : List Row) (new : Row) → is_taken left new ≡ false → (p new ≡ true → find p left ≡ None)
       → (p new ≡ false → find p left ≡ find p rows)
-      → option_map bytes_of (find p (put_row new left)) ≡ cond (p new) (Some (bytes_of new)) (option_map bytes_of (find p rows))
+      → option_map bytes_of (find p (put_row new left))
+      ≡ cond (p new) (Some (bytes_of new)) (option_map bytes_of (find p rows))
   placed rows left new free gone stays = go (p new) refl
     where
       go : (b : Bool) → p new ≡ b → option_map bytes_of (find p (put_row new left))

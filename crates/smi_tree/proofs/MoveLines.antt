@@ -139,8 +139,8 @@ unfolding with_move
 move-by h class from action to = refl
 
 by-found : (h : Hierarchy) (x : Result (ℕ × ClassTable) Fault) (y z target : Result ℕ Fault) (class from action : ℕ)
-    (table : ClassTable) (which : ClassKind) → x ≡ Ok (class, table) → table.kind ≡ which → y ≡ Ok from → z ≡ Ok action →
-    move_by h x y z target ≡ found_move h class which from action target
+    (table : ClassTable) (which : ClassKind) → x ≡ Ok (class, table) → table.kind ≡ which → y ≡ Ok from → z ≡ Ok action
+    → move_by h x y z target ≡ found_move h class which from action target
 by-found h x y z target class from action table which class_is kind_is from_is action_is =
     rw (class_is, from_is, action_is)
     (ap (λ (k : ClassKind). found_move h class k from action target) kind_is)

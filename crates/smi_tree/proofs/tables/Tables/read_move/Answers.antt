@@ -19,8 +19,8 @@ returns-in_err-to c =
     let begin = c.in-Some.ensures in
     let action = c.in-Some-after_name.ensures in
     same-said h _ _ (Err c.in_err-to.field-0.0)
-    (move-read_last h begin.0 begin.1 action.0 _ _ _ (Err c.in_err-to.field-0.0) begin.8 begin.3 begin.4 action.3 action.1
-    (sym c.in_err-to.ensures)) (search rules)
+    (move-read_last h begin.0 begin.1 action.0 _ _ _ (Err c.in_err-to.field-0.0) begin.8 begin.3 begin.4 action.3
+    action.1 (sym c.in_err-to.ensures)) (search rules)
 
 pub returns-in-Some-after_name : goal.returns-in-Some-after_name
 returns-in-Some-after_name c =
@@ -29,8 +29,8 @@ returns-in-Some-after_name c =
     let action = c.in-Some-after_name.ensures in
     let numbered = ap (λ (g : Hierarchy). number_of g.action_names action.0) (sym c.self.view_is) ∙ action.2 in
     same-said c.add_move_from.new.self _ _ _
-    (move-read_last h begin.0 begin.1 action.0 _ _ _ (Ok c.in_ok-to.to) begin.8 begin.3 begin.4 action.3 action.1
-    (sym c.in_ok-to.ensures))
+    (move-read_last h begin.0 begin.1 action.0 _ _ _ (Ok c.in_ok-to.to) begin.8 begin.3 begin.4 action.3
+    action.1 (sym c.in_ok-to.ensures))
     (c.add_move_from.ensures begin.0 begin.1 action.0 begin.2 begin.5 begin.6 begin.7
     (known-number h.action_names action.0 _ numbered))
 
