@@ -1,17 +1,14 @@
 //! Worked rows byte for byte: what stations send, and the rows that they save, as docs/EXAMPLES.md and docs/FORMATS.md
 //! write them.
 
-use crate::plays::{A, B, BOB, CONFIGURE, DCS, READY, START, TPC, TREE};
+use crate::plays::{Input, Made, Play};
+use crate::tables;
+use crate::tables::{A, B, BOB, Bytes, CONFIGURE, DCS, READY, START, TPC, Table};
 use smi_message::encode;
 use smi_out::Out;
-use smi_protocol::{Event, Order};
-use smi_rows::{Key, MemoryStable, SavedRow, Stable};
-use smi_station::Station;
-use smi_tree::Tree;
-use std::alloc::{AllocError, Global};
+use smi_protocol::Order;
+use smi_rows::{Key, SavedRow};
 use std::test::Fail;
-
-pub(crate) type Bytes = [u8; 44];
 
 // "A take": operator 2, at station 2, takes domain 1 of tree 17, which it last saw free at epoch 0.
 pub(crate) const TAKE: Bytes = [
@@ -120,26 +117,8 @@ const ROW_TWO: &[u8] = &[
 // The boot 1 of a station.
 const ROW_BOOT: &[u8] = &[2, 0, 0, 0, 0, 0, 0, 1];
 
-/// What comes to a station: an order, a report, a tick, or a datagram that was sent before, from 1.
-#[derive(Clone, Copy)]
-enum Input {
-    Order(u16, Order),
-    Report(u16, u16),
-    Tick,
-    Deliver(usize),
-}
-
 /// A row under its key.
-type Saved = (Key, &'static [u8]);
-
-/// What comes to which station, the bytes that it sends then, and the row that it has then.
-#[derive(Clone, Copy)]
-struct Play {
-    station: u16,
-    input: Input,
-    sent: &'static [Bytes],
-    saved: Saved,
-}
+pub(crate) type Saved = (Key, &'static [u8]);
 
 const fn boot(station: u16) -> Saved {
     (
@@ -156,8 +135,7 @@ const fn row(station: u16, input: Input, sent: &'static [Bytes], saved: Saved) -
     Play {
         station,
         input,
-        sent,
-        saved,
+        made: Made::Bytes(sent, saved),
     }
 }
 
@@ -184,7 +162,7 @@ const fn of_bob(bytes: &'static [u8]) -> Saved {
 }
 
 /// BOB takes DCS, has it run an action, and is told that TPC is not held; A watches the unit of TPC.
-fn datagrams() -> [Play; 11] {
+pub(crate) fn sent() -> [Play; 11] {
     let configure = Order::Do(DCS, CONFIGURE);
     let manual = Order::Manual(DCS, TPC);
     [
@@ -203,7 +181,7 @@ fn datagrams() -> [Play; 11] {
 }
 
 /// BOB takes TPC, and orders two commands there before he has heard of the first.
-fn rows() -> [Play; 5] {
+pub(crate) fn saved() -> [Play; 5] {
     let configure = Order::Do(TPC, CONFIGURE);
     let start = Order::Do(TPC, START);
     [
@@ -226,7 +204,7 @@ fn rows() -> [Play; 5] {
 }
 
 /// Whether these are the bytes of what is sent.
-fn are_sent(out: &Out, sent: &[Bytes]) -> bool {
+pub(crate) fn are_sent(out: &Out, sent: &[Bytes]) -> bool {
     let datagrams = out.datagrams();
     datagrams.len() == sent.len()
         && datagrams
@@ -236,95 +214,16 @@ fn are_sent(out: &Out, sent: &[Bytes]) -> bool {
 }
 
 /// Whether a row is there.
-fn is_saved(list: &[SavedRow], wanted: Saved) -> bool {
+pub(crate) fn is_saved(list: &[SavedRow], wanted: Saved) -> bool {
     list.iter().any(|row| row.key == wanted.0 && row.bytes.as_slice() == wanted.1)
-}
-
-/// One row at its station: whether it sends these bytes and has this row then.
-fn act(
-    station: &mut Station<'_, MemoryStable>,
-    out: &mut Out,
-    sent: &[Bytes],
-    play: &Play,
-) -> bool {
-    let heard = match play.input {
-        Input::Order(operator, order) => station.step(Event::Order(operator, order), out),
-        Input::Report(device, state) => station.step(Event::Report(device, state), out),
-        Input::Tick => station.step(Event::Tick, out),
-        Input::Deliver(number) => match sent.get(number.wrapping_sub(1)) {
-            Some(bytes) => station.step(Event::Datagram(bytes), out),
-            None => return false,
-        },
-    };
-    heard.is_ok()
-        && are_sent(out, play.sent)
-        && station
-            .stable_mut()
-            .load()
-            .is_ok_and(|list| is_saved(&list, play.saved))
-}
-
-/// How many plays, from the first on, came out so.
-fn play_all(
-    alloc: Global,
-    a: &mut Station<'_, MemoryStable>,
-    b: &mut Station<'_, MemoryStable>,
-    plays: &[Play],
-) -> Result<usize, AllocError> {
-    let mut sent = Vec::new(alloc);
-    let mut out = Out::new();
-    let mut good = 0;
-    for play in plays {
-        let done = if play.station == A {
-            act(a, &mut out, &sent, play)
-        } else {
-            act(b, &mut out, &sent, play)
-        };
-        if !done {
-            return Ok(good);
-        }
-        good = good.wrapping_add(1);
-        for bytes in play.sent {
-            sent.push(*bytes)?;
-        }
-    }
-    Ok(good)
-}
-
-/// One function owns a station, and ends in one place.
-fn with_b(
-    alloc: Global,
-    tree: &Tree,
-    a: &mut Station<'_, MemoryStable>,
-    plays: &[Play],
-) -> Result<usize, Fail> {
-    match Station::open(alloc, tree, B, MemoryStable::new(alloc)) {
-        Ok(mut b) => Ok(play_all(alloc, a, &mut b, plays)?),
-        Err(_) => Err(Fail::from("B did not open")),
-    }
-}
-
-fn played(alloc: Global, tree: &Tree, plays: &[Play]) -> Result<usize, Fail> {
-    match Station::open(alloc, tree, A, MemoryStable::new(alloc)) {
-        Ok(mut a) => with_b(alloc, tree, &mut a, plays),
-        Err(_) => Err(Fail::from("A did not open")),
-    }
-}
-
-fn both(alloc: Global, tree: &Tree) -> Result<[usize; 2], Fail> {
-    let datagrams = played(alloc, tree, &datagrams())?;
-    let rows = played(alloc, tree, &rows())?;
-    Ok([datagrams, rows])
-}
-
-fn at_tree(alloc: Global) -> Result<[usize; 2], Fail> {
-    let tree = Tree::read(alloc, TREE)?;
-    both(alloc, &tree)
 }
 
 #[test]
 fn sent_and_saved_byte_for_byte(rt: HostRuntime) -> Result<(), Fail> {
-    let good = at_tree(rt.alloc())?;
+    let good = [
+        tables::count_of(rt.alloc(), Table::Sent),
+        tables::count_of(rt.alloc(), Table::Saved),
+    ];
     assert_eq!(rt; good, [11, 5]);
     Ok(())
 }

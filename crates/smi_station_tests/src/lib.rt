@@ -12,3 +12,5 @@ mod plays;
 mod refusals;
 #[cfg(test)]
 mod starts;
+#[cfg(test)]
+mod tables;

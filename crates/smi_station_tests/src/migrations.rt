@@ -2,11 +2,12 @@
 //! rows were saved anew, what the rows are then, and that another one saves the rest, and a third nothing.
 
 use crate::starts::{
-    A, B, BOOT, BOOT_1, HELD, HELD_1, HELD_2, Rows, SHORT_1, TAKEN, TAKEN_1, TREE, has, key,
-    rows_of, save_all,
+    BOOT, BOOT_1, HELD, HELD_1, HELD_2, Rows, SHORT_1, TAKEN, TAKEN_1, filled, has, key, rows_of,
 };
+use crate::tables;
+use crate::tables::{A, B, Store, Table};
 use smi_protocol::OpenFault;
-use smi_rows::{MemoryStable, Plan, PlannedStable, StoreFault};
+use smi_rows::{Plan, StoreFault};
 use smi_station::migrate;
 use smi_tree::Tree;
 use std::alloc::Global;
@@ -88,48 +89,46 @@ fn cases() -> [Case; 11] {
     ]
 }
 
-/// Whether a case comes out as told.
-fn is_as_told(alloc: Global, tree: &Tree, case: &Case) -> Result<bool, StoreFault> {
-    let mut store = PlannedStable::new(MemoryStable::new(alloc));
-    save_all(&mut store, case.before)?;
+/// Whether a case comes out as told at a store that has its rows.
+fn is_so(alloc: Global, tree: &Tree, store: &mut Store, case: &Case) -> bool {
     if let Some((nth, plan)) = case.fails {
         if nth > 0 {
             store.plan(nth, plan);
         }
     }
-    let first = migrate(alloc, tree, case.station, &mut store);
-    let is_between = has(&mut store, case.between)?;
-    let second = migrate(alloc, tree, case.station, &mut store);
-    let is_after = has(&mut store, case.after)?;
-    let third = migrate(alloc, tree, case.station, &mut store);
+    let first = migrated(alloc, tree, store, case.station);
+    let is_between = has(store, case.between);
+    let second = migrated(alloc, tree, store, case.station);
+    let is_after = has(store, case.after);
+    let third = migrated(alloc, tree, store, case.station);
     let is_last = third == Ok(0) || third == case.second;
-    Ok(first == case.first && second == case.second && is_between && is_after && is_last)
+    first == case.first && second == case.second && is_between && is_after && is_last
+}
+
+fn migrated(alloc: Global, tree: &Tree, store: &mut Store, station: u16) -> End {
+    migrate(alloc, tree, station, store)
+}
+
+fn is_as_told(alloc: Global, tree: &Tree, case: &Case) -> bool {
+    let mut store = filled(alloc, case.before);
+    is_so(alloc, tree, &mut store, case)
 }
 
 /// How many cases, from the first on, come out as told.
-fn count_of(alloc: Global, tree: &Tree) -> Result<usize, StoreFault> {
+pub(crate) fn count_of(alloc: Global, tree: &Tree) -> usize {
     let mut good = 0;
     for case in &cases() {
-        if !is_as_told(alloc, tree, case)? {
-            return Ok(good);
+        if !is_as_told(alloc, tree, case) {
+            return good;
         }
         good = good.wrapping_add(1);
     }
-    Ok(good)
-}
-
-// One function owns the tree: whatever owns one is dear to prove.
-fn over_tree(alloc: Global) -> Result<usize, Fail> {
-    let tree = Tree::read(alloc, TREE)?;
-    match count_of(alloc, &tree) {
-        Ok(good) => Ok(good),
-        Err(_) => Err(Fail::from("the store failed")),
-    }
+    good
 }
 
 #[test]
 fn migrations_that_stop(rt: HostRuntime) -> Result<(), Fail> {
-    let good = over_tree(rt.alloc())?;
+    let good = tables::count_of(rt.alloc(), Table::Migrations);
     assert_eq!(rt; good, 11);
     Ok(())
 }

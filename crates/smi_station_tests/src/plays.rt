@@ -1,37 +1,17 @@
 //! Worked examples, played on two stations that exchange their datagrams.
 
+use crate::tables::{
+    A, ANN, B, BOB, Bytes, CONFIGURE, DCS, READY, TPC, Table, Tried, rows_in, step,
+};
+use crate::{bytes, tables};
 use smi_grant::{Holder, Shown, Version};
 use smi_message::encode;
 use smi_out::Out;
 use smi_protocol::{Event, Heard, Order};
-use smi_rows::MemoryStable;
-use smi_station::Station;
-use smi_tree::Tree;
 use std::alloc::{AllocError, Global};
 use std::test::Fail;
 
-pub(crate) const TREE: &[u8] =
-    b"tree 17\nstate OFF\nstate READY\nstate RUNNING\nstate ERROR\naction CONFIGURE\naction START\naction STOP\nstation A 127.0.0.1:9001\nstation B 127.0.0.1:9002\noperator ANN A\noperator BOB B\ndevclass DEV OFF\nmove DEV OFF CONFIGURE READY\nmove DEV READY START RUNNING\nunitclass UNIT OFF\naccept UNIT CONFIGURE\naccept UNIT START\nany UNIT ERROR ERROR\nall UNIT RUNNING RUNNING\nall UNIT READY READY\nall UNIT OFF OFF\ndomain DCS A UNIT -\ndomain TPC B UNIT DCS\ndevice HV TPC DEV\n";
-
-pub(crate) const A: u16 = 1;
-
-pub(crate) const B: u16 = 2;
-
-pub(crate) const ANN: u16 = 1;
-
-pub(crate) const BOB: u16 = 2;
-
-pub(crate) const DCS: u16 = 1;
-
-pub(crate) const TPC: u16 = 2;
-
 const HV: u16 = 3;
-
-pub(crate) const CONFIGURE: u16 = 1;
-
-pub(crate) const START: u16 = 2;
-
-pub(crate) const READY: u16 = 2;
 
 // The kinds of datagrams, as their fourth byte has them.
 const TAKE: u8 = 2;
@@ -42,22 +22,30 @@ const RUN: u8 = 4;
 
 const TELL: u8 = 5;
 
-/// What comes to a station: an order, or the datagram that was sent as this one, from 1.
+/// What comes to a station: an order, a report, a tick, or the datagram that was sent as this one, from 1.
 #[derive(Clone, Copy)]
-enum Input {
+pub(crate) enum Input {
     Order(u16, Order),
+    Report(u16, u16),
+    Tick,
     Deliver(usize),
 }
 
-/// What comes to which station, and what it has to make of it: kinds and receivers of what it sends, and whom it
-/// answers with which code.
+/// What the station has to make of it.
 #[derive(Clone, Copy)]
-struct Play {
-    station: u16,
-    input: Input,
-    heard: Heard,
-    sent: &'static [(u8, u16)],
-    answers: &'static [(u16, u16)],
+pub(crate) enum Made {
+    /// What it hears, the kinds and receivers of what it sends, and whom it answers with which code.
+    Told(Heard, &'static [(u8, u16)], &'static [(u16, u16)]),
+    /// The bytes that it sends, and a row that it has then.
+    Bytes(&'static [Bytes], bytes::Saved),
+}
+
+/// What comes to which station.
+#[derive(Clone, Copy)]
+pub(crate) struct Play {
+    pub station: u16,
+    pub input: Input,
+    pub made: Made,
 }
 
 const fn row(
@@ -70,9 +58,7 @@ const fn row(
     Play {
         station,
         input,
-        heard,
-        sent,
-        answers,
+        made: Made::Told(heard, sent, answers),
     }
 }
 
@@ -160,168 +146,163 @@ fn taken_and_dropped() -> [Play; 9] {
 }
 
 /// The kind and the receiver of a datagram, by its bytes.
-fn address(bytes: &[u8; 44]) -> (u8, u16) {
+fn address(bytes: &Bytes) -> (u8, u16) {
     (bytes[3], u16::from_be_bytes([bytes[6], bytes[7]]))
 }
 
-/// Whether a step has handed out what the row says.
-fn is_as_told(out: &Out, row: &Play) -> bool {
-    let sent = out.datagrams();
-    let answers = out.answers();
-    sent.len() == row.sent.len()
-        && answers.len() == row.answers.len()
-        && sent
+/// Whether a step has handed out datagrams of these kinds to these receivers, and these answers.
+fn is_as_told(out: &Out, sent: &[(u8, u16)], answers: &[(u16, u16)]) -> bool {
+    let datagrams = out.datagrams();
+    let given = out.answers();
+    datagrams.len() == sent.len()
+        && given.len() == answers.len()
+        && datagrams
             .iter()
-            .zip(row.sent)
+            .zip(sent)
             .all(|(datagram, wanted)| address(&encode(datagram)) == *wanted)
-        && answers.iter().zip(row.answers).all(|(answer, wanted)| (
-            answer.operator,
-            answer.told.code,
-        ) == *wanted)
+        && given.iter().zip(answers).all(|(answer, wanted)| (answer.operator, answer.told.code)
+            == *wanted)
 }
 
 /// What is sent goes after all that was sent before.
-fn keep(sent: &mut Vec<[u8; 44]>, out: &Out) -> Result<(), AllocError> {
+fn keep(sent: &mut Vec<Bytes>, out: &Out) -> Result<(), AllocError> {
     for datagram in out.datagrams() {
         sent.push(encode(datagram))?;
     }
     Ok(())
 }
 
-/// One row at its station: whether it came out as told.
-fn act(
-    station: &mut Station<'_, MemoryStable>,
-    out: &mut Out,
-    sent: &[[u8; 44]],
-    row: &Play,
-) -> bool {
-    let heard = match row.input {
-        Input::Order(operator, order) => station.step(Event::Order(operator, order), out),
+fn event_of(sent: &[Bytes], input: Input) -> Option<Event<'_>> {
+    match input {
+        Input::Order(operator, order) => Some(Event::Order(operator, order)),
+        Input::Report(device, state) => Some(Event::Report(device, state)),
+        Input::Tick => Some(Event::Tick),
         Input::Deliver(number) => match sent.get(number.wrapping_sub(1)) {
-            Some(bytes) => station.step(Event::Datagram(bytes), out),
-            None => return false,
+            Some(bytes) => Some(Event::Datagram(bytes)),
+            None => None,
         },
-    };
-    heard == Ok(row.heard) && is_as_told(out, row)
+    }
 }
 
-/// A worked example at its two stations: how many rows came out as told.
-fn play_all(
+/// Whether the store of a station has a row.
+fn has(station: &mut Tried<'_>, wanted: bytes::Saved) -> bool {
+    match rows_in(station.stable_mut()) {
+        Ok(list) => bytes::is_saved(&list, wanted),
+        Err(_) => false,
+    }
+}
+
+/// One row at its station: whether it comes out as told.
+fn act(station: &mut Tried<'_>, out: &mut Out, sent: &[Bytes], play: &Play) -> bool {
+    let Some(event) = event_of(sent, play.input) else {
+        return false;
+    };
+    let heard = step(station, out, event);
+    match play.made {
+        Made::Told(wanted, sent, answers) => heard == Ok(wanted) && is_as_told(out, sent, answers),
+        Made::Bytes(sent, saved) => {
+            heard.is_ok() && bytes::are_sent(out, sent) && has(station, saved)
+        }
+    }
+}
+
+/// How many rows, from the first on, come out as told.
+pub(crate) fn count_of(
     alloc: Global,
-    a: &mut Station<'_, MemoryStable>,
-    b: &mut Station<'_, MemoryStable>,
-    rows: &[Play],
-) -> Result<usize, AllocError> {
+    a: &mut Tried<'_>,
+    b: &mut Tried<'_>,
+    out: &mut Out,
+    plays: &[Play],
+) -> usize {
     let mut sent = Vec::new(alloc);
-    let mut out = Out::new();
+    play_all(a, b, out, &mut sent, plays)
+}
+
+fn play_all(
+    a: &mut Tried<'_>,
+    b: &mut Tried<'_>,
+    out: &mut Out,
+    sent: &mut Vec<Bytes>,
+    plays: &[Play],
+) -> usize {
     let mut good = 0;
-    for row in rows {
-        let done = if row.station == A {
-            act(a, &mut out, &sent, row)
+    for play in plays {
+        let is_so = if play.station == A {
+            act(a, out, sent.as_slice(), play)
         } else {
-            act(b, &mut out, &sent, row)
+            act(b, out, sent.as_slice(), play)
         };
-        if !done {
-            return Ok(good);
+        if !is_so || keep(sent, out).is_err() {
+            return good;
         }
         good = good.wrapping_add(1);
-        keep(&mut sent, &out)?;
     }
-    Ok(good)
+    good
 }
 
 /// Epoch, holder and last number of a domain.
 type Stands = (u64, Holder, u32);
 
-/// What a station tells of itself at the end.
+/// What a station tells of itself: of a domain, and what that and the device show.
 type Told = (Option<Stands>, Option<Shown>, Option<Shown>);
 
-fn told(station: &Station<'_, MemoryStable>, domain: u16) -> Told {
+fn told(station: &Tried<'_>, domain: u16) -> Told {
     let stands = station
         .record(domain)
         .map(|record| (record.epoch, record.holder, record.last));
     (stands, station.current(domain), station.current(HV))
 }
 
-/// How many rows came out as told, and what the stations then tell of DCS and of TPC.
-type Played = Result<(usize, Told, Told), Fail>;
-
-/// A worked example at A and B, of which B is still to start. One function owns a station, and ends in one place.
-fn with_b(alloc: Global, tree: &Tree, a: &mut Station<'_, MemoryStable>, rows: &[Play]) -> Played {
-    match Station::open(alloc, tree, B, MemoryStable::new(alloc)) {
-        Ok(mut b) => at_both(alloc, a, &mut b, rows),
-        Err(_) => Err(Fail::from("B did not open")),
+/// One more where A tells this of DCS at the end, and B this of TPC.
+fn ended(good: usize, a: &Tried<'_>, b: &Tried<'_>, of_a: Told, of_b: Told) -> usize {
+    if told(a, DCS) == of_a && told(b, TPC) == of_b {
+        good.wrapping_add(1)
+    } else {
+        good
     }
 }
 
-fn at_both(
+const fn shown(object: u16, sequence: u32, state: u16) -> Option<Shown> {
+    Some(Shown {
+        object,
+        version: Version { boot: 1, sequence },
+        state,
+    })
+}
+
+pub(crate) fn of_configured(
     alloc: Global,
-    a: &mut Station<'_, MemoryStable>,
-    b: &mut Station<'_, MemoryStable>,
-    rows: &[Play],
-) -> Played {
-    let good = play_all(alloc, a, b, rows)?;
-    Ok((good, told(a, DCS), told(b, TPC)))
+    a: &mut Tried<'_>,
+    b: &mut Tried<'_>,
+    out: &mut Out,
+) -> usize {
+    let good = count_of(alloc, a, b, out, &configured());
+    let held = Some((1, Holder::Operator(ANN), 2));
+    let below = Some((1, Holder::Domain(DCS), 1));
+    let of_b = (below, shown(TPC, 1, READY), shown(HV, 1, READY));
+    ended(good, a, b, (held, shown(DCS, 0, 1), None), of_b)
 }
 
-/// A worked example at stations that start.
-fn played(alloc: Global, tree: &Tree, rows: &[Play]) -> Played {
-    match Station::open(alloc, tree, A, MemoryStable::new(alloc)) {
-        Ok(mut a) => with_b(alloc, tree, &mut a, rows),
-        Err(_) => Err(Fail::from("A did not open")),
-    }
-}
-
-const fn ready(object: u16) -> Option<Shown> {
-    Some(Shown {
-        object,
-        version: Version {
-            boot: 1,
-            sequence: 1,
-        },
-        state: READY,
-    })
-}
-
-const fn off(object: u16) -> Option<Shown> {
-    Some(Shown {
-        object,
-        version: Version {
-            boot: 1,
-            sequence: 0,
-        },
-        state: 1,
-    })
-}
-
-fn at_tree(alloc: Global, tree: &Tree) -> Result<[(usize, Told, Told); 2], Fail> {
-    let configured = played(alloc, tree, &configured())?;
-    let dropped = played(alloc, tree, &taken_and_dropped())?;
-    Ok([configured, dropped])
-}
-
-fn both(alloc: Global) -> Result<[(usize, Told, Told); 2], Fail> {
-    let tree = Tree::read(alloc, TREE)?;
-    at_tree(alloc, &tree)
+pub(crate) fn of_dropped(
+    alloc: Global,
+    a: &mut Tried<'_>,
+    b: &mut Tried<'_>,
+    out: &mut Out,
+) -> usize {
+    let good = count_of(alloc, a, b, out, &taken_and_dropped());
+    let free = Some((0, Holder::Free, 0));
+    let dropped = Some((2, Holder::Free, 0));
+    let of_b = (dropped, shown(TPC, 0, 1), shown(HV, 0, 1));
+    ended(good, a, b, (free, shown(DCS, 0, 1), None), of_b)
 }
 
 #[test]
 fn worked_examples(rt: HostRuntime) -> Result<(), Fail> {
-    let held = both(rt.alloc())?;
-    assert_eq!(rt;
-        held,
-        [
-            (
-                14,
-                (Some((1, Holder::Operator(ANN), 2)), off(DCS), None),
-                (Some((1, Holder::Domain(DCS), 1)), ready(TPC), ready(HV)),
-            ),
-            (
-                9,
-                (Some((0, Holder::Free, 0)), off(DCS), None),
-                (Some((2, Holder::Free, 0)), off(TPC), off(HV)),
-            ),
-        ]
-    );
+    let good = [
+        tables::count_of(rt.alloc(), Table::Configured),
+        tables::count_of(rt.alloc(), Table::TakenAndDropped),
+    ];
+    // Each row, and what the stations tell at the end.
+    assert_eq!(rt; good, [15, 10]);
     Ok(())
 }

@@ -2,24 +2,17 @@
 //! "Refusals", "Orders" and "A step"): nothing is handed out but the answer, and no row changes.
 
 use crate::bytes::TAKE;
-use crate::plays::{A, ANN, B, BOB, CONFIGURE, DCS, TPC, TREE};
+use crate::tables;
+use crate::tables::{A, ANN, BOB, CONFIGURE, DCS, TPC, Table, Tried, rows_in, step};
 use smi_out::Out;
 use smi_protocol::{Event, Heard, Order, StepFault};
-use smi_rows::{Key, MemoryStable, Plan, PlannedStable, SavedRow, Stable, StoreFault};
-use smi_station::Station;
-use smi_tree::Tree;
+use smi_rows::{Key, Plan, SavedRow, Stable};
 use std::alloc::{AllocError, Global};
 use std::test::Fail;
 
-// One operator, and eighteen domains.
-const CROWD: &[u8] =
-    b"tree 17\nstate OFF\naction GO\nstation A 127.0.0.1:9001\noperator ANN A\nunitclass UNIT OFF\ndomain D1 A UNIT -\ndomain D2 A UNIT -\ndomain D3 A UNIT -\ndomain D4 A UNIT -\ndomain D5 A UNIT -\ndomain D6 A UNIT -\ndomain D7 A UNIT -\ndomain D8 A UNIT -\ndomain D9 A UNIT -\ndomain D10 A UNIT -\ndomain D11 A UNIT -\ndomain D12 A UNIT -\ndomain D13 A UNIT -\ndomain D14 A UNIT -\ndomain D15 A UNIT -\ndomain D16 A UNIT -\ndomain D17 A UNIT -\ndomain D18 A UNIT -\n";
-
-type Tried<'a> = Station<'a, PlannedStable<MemoryStable>>;
-
 /// What comes to a station.
 #[derive(Clone, Copy)]
-enum Input {
+pub(crate) enum Input {
     /// The take of "A take".
     Take,
     /// The same with another byte at this place.
@@ -36,7 +29,7 @@ enum Input {
 
 /// What a station makes of that.
 #[derive(Clone, Copy)]
-enum Wanted {
+pub(crate) enum Wanted {
     Refused(u16),
     /// Nothing is saved.
     Fault(StepFault),
@@ -48,10 +41,10 @@ enum Wanted {
     Same(usize),
 }
 
-type Row = (Input, Wanted);
+pub(crate) type Row = (Input, Wanted);
 
 /// Of a datagram, in the order in which the tests are made.
-fn of_datagrams() -> [Row; 17] {
+pub(crate) fn of_datagrams() -> [Row; 17] {
     [
         (Input::Short, Wanted::Refused(1)),
         (Input::Changed(0, 0x54), Wanted::Refused(2)),
@@ -77,7 +70,7 @@ fn of_datagrams() -> [Row; 17] {
 }
 
 /// Of an operator who holds nothing, and then takes TPC.
-fn of_orders() -> [Row; 12] {
+pub(crate) fn of_orders() -> [Row; 12] {
     let take = Order::Take(TPC);
     [
         (Input::Order(ANN, take), Wanted::Refused(26)),
@@ -121,7 +114,7 @@ fn of_a_crowd() -> [Row; 10] {
 }
 
 /// Of an order whose save fails, and of what comes then.
-fn of_saves() -> [Row; 14] {
+pub(crate) fn of_saves() -> [Row; 14] {
     let (take, drop) = (Order::Take(TPC), Order::Drop(TPC));
     let stopped = Wanted::Fault(StepFault::Stopped);
     [
@@ -151,30 +144,20 @@ fn of_saves() -> [Row; 14] {
     ]
 }
 
-/// A step with the bytes of an input.
-fn read(
-    station: &mut Tried<'_>,
-    out: &mut Out,
-    place: usize,
-    value: u8,
-) -> Result<Heard, StepFault> {
+/// The bytes of the take come, with what the input changes of them.
+fn read(station: &mut Tried<'_>, out: &mut Out, input: Input) -> Result<Heard, StepFault> {
     let mut bytes = TAKE;
-    if let Some(byte) = bytes.get_mut(place) {
-        *byte = value;
+    if let Input::Changed(place, value) = input {
+        if let Some(byte) = bytes.get_mut(place) {
+            *byte = value;
+        }
     }
-    station.step(Event::Datagram(&bytes), out)
-}
-
-fn order(
-    station: &mut Tried<'_>,
-    out: &mut Out,
-    plan: Plan,
-    event: Event<'_>,
-) -> Result<Heard, StepFault> {
-    station.stable_mut().plan(1, plan);
-    let heard = station.step(event, out);
-    station.stable_mut().unplan();
-    heard
+    let length = if matches!(input, Input::Short) {
+        43
+    } else {
+        44
+    };
+    step(station, out, Event::Datagram(&bytes[..length]))
 }
 
 fn restart(alloc: Global, station: &mut Tried<'_>, out: &mut Out) -> Result<Heard, StepFault> {
@@ -185,6 +168,14 @@ fn restart(alloc: Global, station: &mut Tried<'_>, out: &mut Out) -> Result<Hear
     }
 }
 
+fn fail(station: &mut Tried<'_>, plan: Plan) {
+    station.stable_mut().plan(1, plan);
+}
+
+fn fail_no_more(station: &mut Tried<'_>) {
+    station.stable_mut().unplan();
+}
+
 /// The input comes.
 fn come(
     alloc: Global,
@@ -193,14 +184,15 @@ fn come(
     input: Input,
 ) -> Result<Heard, StepFault> {
     match input {
-        Input::Take => station.step(Event::Datagram(&TAKE), out),
-        Input::Changed(place, value) => read(station, out, place, value),
-        Input::Short => station.step(Event::Datagram(&TAKE[..43]), out),
-        Input::Order(operator, what) => station.step(Event::Order(operator, what), out),
+        Input::Take | Input::Changed(_, _) | Input::Short => read(station, out, input),
+        Input::Order(operator, what) => step(station, out, Event::Order(operator, what)),
         Input::Failing(plan, operator, what) => {
-            order(station, out, plan, Event::Order(operator, what))
+            fail(station, plan);
+            let heard = step(station, out, Event::Order(operator, what));
+            fail_no_more(station);
+            heard
         }
-        Input::Tick => station.step(Event::Tick, out),
+        Input::Tick => step(station, out, Event::Tick),
         Input::Restart => restart(alloc, station, out),
     }
 }
@@ -246,38 +238,43 @@ fn are_same(one: &[SavedRow], other: &[SavedRow]) -> bool {
             && a.bytes.as_slice() == b.bytes.as_slice())
 }
 
-/// How many rows, from the first on, came out as wanted.
-fn count_of(alloc: Global, station: &mut Tried<'_>, rows: &[Row]) -> Result<usize, StoreFault> {
-    let mut out = Out::new();
+/// Whether a row comes out as wanted at a station that has these rows.
+fn is_as_wanted(
+    alloc: Global,
+    station: &mut Tried<'_>,
+    out: &mut Out,
+    before: &[SavedRow],
+    row: Row,
+) -> bool {
+    let heard = come(alloc, station, out, row.0);
+    match rows_in(station.stable_mut()) {
+        Ok(after) => is_so(row, heard, out, are_same(before, &after)),
+        Err(_) => false,
+    }
+}
+
+fn is_good(alloc: Global, station: &mut Tried<'_>, out: &mut Out, row: Row) -> bool {
+    match rows_in(station.stable_mut()) {
+        Ok(before) => is_as_wanted(alloc, station, out, &before, row),
+        Err(_) => false,
+    }
+}
+
+/// How many rows, from the first on, come out as wanted.
+pub(crate) fn count_of(
+    alloc: Global,
+    station: &mut Tried<'_>,
+    out: &mut Out,
+    rows: &[Row],
+) -> usize {
     let mut good = 0;
     for row in rows {
-        let before = station.stable_mut().load()?;
-        let heard = come(alloc, station, &mut out, row.0);
-        let after = station.stable_mut().load()?;
-        if !is_so(*row, heard, &out, are_same(&before, &after)) {
-            return Ok(good);
+        if !is_good(alloc, station, out, *row) {
+            return good;
         }
         good = good.wrapping_add(1);
     }
-    Ok(good)
-}
-
-/// One function owns a station, and ends in one place.
-fn tried(
-    alloc: Global,
-    tree: &Tree,
-    number: u16,
-    store: PlannedStable<MemoryStable>,
-    rows: &[Row],
-) -> Result<usize, StoreFault> {
-    match Station::open(alloc, tree, number, store) {
-        Ok(mut station) => count_of(alloc, &mut station, rows),
-        Err(_) => Err(StoreFault::Device),
-    }
-}
-
-fn blank(alloc: Global) -> PlannedStable<MemoryStable> {
-    PlannedStable::new(MemoryStable::new(alloc))
+    good
 }
 
 /// The row of the operator of the crowd.
@@ -302,54 +299,36 @@ fn crowded(alloc: Global) -> Result<Vec<u8>, AllocError> {
     Ok(row)
 }
 
-/// A store with the row of the operator of the crowd.
-fn store_of_a_crowd(alloc: Global) -> Result<PlannedStable<MemoryStable>, StoreFault> {
-    let mut store = blank(alloc);
-    let Ok(row) = crowded(alloc) else {
-        return Err(StoreFault::Memory);
-    };
+/// The station is started again with the row of the operator of the crowd.
+fn crowd(alloc: Global, station: &mut Tried<'_>, row: &[u8]) -> bool {
     let key = Key {
         station: A,
         domain: 0,
         operator: 1,
     };
-    store.save(key, row.as_slice())?;
-    Ok(store)
+    station.stable_mut().save(key, row).is_ok() && station.restart(alloc).is_ok()
 }
 
-/// Over the worked tree: of datagrams, of orders, and of saves that fail.
-fn over_tree(alloc: Global, tree: &Tree) -> Result<[usize; 3], StoreFault> {
-    let datagrams = tried(alloc, tree, A, blank(alloc), &of_datagrams())?;
-    let orders = tried(alloc, tree, B, blank(alloc), &of_orders())?;
-    let saves = tried(alloc, tree, B, blank(alloc), &of_saves())?;
-    Ok([datagrams, orders, saves])
-}
-
-fn over_crowd(alloc: Global, tree: &Tree) -> Result<usize, StoreFault> {
-    let store = store_of_a_crowd(alloc)?;
-    tried(alloc, tree, A, store, &of_a_crowd())
-}
-
-// One function owns a tree: whatever owns one is dear to prove.
-fn of_worked(alloc: Global) -> Result<[usize; 3], Fail> {
-    let tree = Tree::read(alloc, TREE)?;
-    match over_tree(alloc, &tree) {
-        Ok(good) => Ok(good),
-        Err(_) => Err(Fail::from("the store failed, or no station opened")),
-    }
-}
-
-fn of_crowd(alloc: Global) -> Result<usize, Fail> {
-    let tree = Tree::read(alloc, CROWD)?;
-    match over_crowd(alloc, &tree) {
-        Ok(good) => Ok(good),
-        Err(_) => Err(Fail::from("the store failed, or no station opened")),
+pub(crate) fn of_crowd(alloc: Global, station: &mut Tried<'_>, out: &mut Out) -> usize {
+    let is_there = match crowded(alloc) {
+        Ok(row) => crowd(alloc, station, row.as_slice()),
+        Err(_) => false,
+    };
+    if is_there {
+        count_of(alloc, station, out, &of_a_crowd())
+    } else {
+        0
     }
 }
 
 #[test]
 fn refusals_and_faults(rt: HostRuntime) -> Result<(), Fail> {
-    let good = (of_worked(rt.alloc())?, of_crowd(rt.alloc())?);
-    assert_eq!(rt; good, ([17, 12, 14], 10));
+    let good = [
+        tables::count_of(rt.alloc(), Table::Datagrams),
+        tables::count_of(rt.alloc(), Table::Orders),
+        tables::count_of(rt.alloc(), Table::Saves),
+        tables::count_of(rt.alloc(), Table::Crowd),
+    ];
+    assert_eq!(rt; good, [17, 12, 14, 10]);
     Ok(())
 }

@@ -1,16 +1,14 @@
 //! Starts over a store in memory.
 
+use crate::tables;
+use crate::tables::{A, B, Store, Table, Tried, blank, rows_in};
 use smi_grant::Holder;
 use smi_protocol::OpenFault;
-use smi_rows::{Key, MemoryStable, SavedRow, Stable, StoreFault};
+use smi_rows::{Key, SavedRow, Stable};
 use smi_station::Station;
 use smi_tree::Tree;
 use std::alloc::Global;
 use std::test::Fail;
-
-// Stations A 1 and B 2, operators ANN 1 at A and BOB 2 at B, domains DCS 1 at A and TPC 2 at B under it.
-pub(crate) const TREE: &[u8] =
-    b"tree 17\nstate OFF\naction CONFIGURE\naction START\nstation A 127.0.0.1:9001\nstation B 127.0.0.1:9002\noperator ANN A\noperator BOB B\nunitclass UNIT OFF\ndomain DCS A UNIT -\ndomain TPC B UNIT DCS\n";
 
 pub(crate) const fn key(station: u16, domain: u16, operator: u16) -> Key {
     Key {
@@ -19,10 +17,6 @@ pub(crate) const fn key(station: u16, domain: u16, operator: u16) -> Key {
         operator,
     }
 }
-
-pub(crate) const A: u16 = 1;
-
-pub(crate) const B: u16 = 2;
 
 // The boot 2 of a station, in the newest schema and in the first.
 pub(crate) const BOOT: &[u8] = &[2, 0, 0, 0, 0, 0, 0, 2];
@@ -76,11 +70,13 @@ pub(crate) fn rows_of(boot: &'static [u8], domain: &'static [u8], operator: &'st
     ]
 }
 
-pub(crate) fn save_all<S: Stable>(store: &mut S, rows: Rows) -> Result<(), StoreFault> {
+/// A store with these rows. One that memory was refused for has fewer, so that nothing comes out as told.
+pub(crate) fn filled(alloc: Global, rows: Rows) -> Store {
+    let mut store = blank(alloc);
     for (key, bytes) in rows {
-        store.save(key, bytes)?;
+        let _ = store.save(key, bytes);
     }
-    Ok(())
+    store
 }
 
 fn are(list: &[SavedRow], rows: Rows) -> bool {
@@ -90,49 +86,32 @@ fn are(list: &[SavedRow], rows: Rows) -> bool {
 }
 
 /// Whether the store has these rows and no other.
-pub(crate) fn has<S: Stable>(store: &mut S, rows: Rows) -> Result<bool, StoreFault> {
-    let list = store.load()?;
-    Ok(are(&list, rows))
+pub(crate) fn has(store: &mut Store, rows: Rows) -> bool {
+    match rows_in(store) {
+        Ok(list) => are(&list, rows),
+        Err(_) => false,
+    }
 }
 
-/// The boot of a station, and who holds DCS there.
-fn told(station: &Station<'_, MemoryStable>) -> (u32, Option<Holder>) {
-    (
+/// The boot of a station, and who holds DCS there; or why it does not start.
+type Outcome = Result<(u32, Option<Holder>), OpenFault>;
+
+fn told(station: &Tried<'_>) -> Outcome {
+    Ok((
         station.boot(),
         station.record(1).map(|record| record.holder),
-    )
+    ))
 }
 
 /// What a start at a store comes to, and the store then.
-fn started(
-    alloc: Global,
-    tree: &Tree,
-    station: u16,
-    store: MemoryStable,
-) -> (Result<(u32, Option<Holder>), OpenFault>, MemoryStable) {
+fn started(alloc: Global, tree: &Tree, station: u16, store: Store) -> (Outcome, Store) {
     match Station::open(alloc, tree, station, store) {
-        Ok(station) => (Ok(told(&station)), station.into_stable()),
+        Ok(station) => (told(&station), station.into_stable()),
         Err((fault, store)) => (Err(fault), store),
     }
 }
 
-type Outcome = Result<(u32, Option<Holder>), OpenFault>;
-
-/// A start at a store of these rows, and whether the store then has those.
-fn start(
-    alloc: Global,
-    tree: &Tree,
-    station: u16,
-    before: Rows,
-    after: Rows,
-) -> Result<(Outcome, bool), StoreFault> {
-    let mut store = MemoryStable::new(alloc);
-    save_all(&mut store, before)?;
-    let (start, mut store) = started(alloc, tree, station, store);
-    let left = has(&mut store, after)?;
-    Ok((start, left))
-}
-
+/// A station, the rows of its store before and after the start, and what it comes to.
 type Start = (u16, Rows, Rows, Outcome);
 
 fn starts() -> [Start; 7] {
@@ -171,27 +150,28 @@ fn starts() -> [Start; 7] {
     ]
 }
 
-fn starts_as_told(alloc: Global, tree: &Tree) -> Result<bool, StoreFault> {
-    for (station, before, after, wanted) in starts() {
-        if start(alloc, tree, station, before, after)? != (wanted, true) {
-            return Ok(false);
-        }
-    }
-    Ok(true)
+/// Whether a start comes out as told.
+fn is_as_told(alloc: Global, tree: &Tree, case: Start) -> bool {
+    let (station, before, after, wanted) = case;
+    let (outcome, mut store) = started(alloc, tree, station, filled(alloc, before));
+    outcome == wanted && has(&mut store, after)
 }
 
-// One function owns the tree: whatever owns one is dear to prove.
-fn holds(alloc: Global) -> Result<bool, Fail> {
-    let tree = Tree::read(alloc, TREE)?;
-    match starts_as_told(alloc, &tree) {
-        Ok(held) => Ok(held),
-        Err(_) => Err(Fail::from("the store failed")),
+/// How many starts, from the first on, come out as told.
+pub(crate) fn count_of(alloc: Global, tree: &Tree) -> usize {
+    let mut good = 0;
+    for case in starts() {
+        if !is_as_told(alloc, tree, case) {
+            return good;
+        }
+        good = good.wrapping_add(1);
     }
+    good
 }
 
 #[test]
 fn starts_over_rows(rt: HostRuntime) -> Result<(), Fail> {
-    let held = holds(rt.alloc())?;
-    assert!(rt; held);
+    let good = tables::count_of(rt.alloc(), Table::Starts);
+    assert_eq!(rt; good, 7);
     Ok(())
 }

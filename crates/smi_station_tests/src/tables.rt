@@ -1,0 +1,133 @@
+//! The tables that these tests go over, and the trees, stations and stores that they are gone over with.
+//!
+//! Whatever owns one of those is dear to prove at each of its ends. So one function owns each, and what is tested stands
+//! in functions over references. For the same reason a station is asked for a step in one place.
+
+use crate::{bytes, migrations, plays, refusals, starts};
+use smi_out::Out;
+use smi_protocol::{Event, Heard, StepFault};
+use smi_rows::{MemoryStable, PlannedStable, SavedRow, Stable, StoreFault};
+use smi_station::Station;
+use smi_tree::Tree;
+use std::alloc::Global;
+
+/// Stations A 1 and B 2, operators ANN 1 at A and BOB 2 at B, domains DCS 1 at A and TPC 2 at B under it, and a device.
+const WORKED: &[u8] =
+    b"tree 17\nstate OFF\nstate READY\nstate RUNNING\nstate ERROR\naction CONFIGURE\naction START\naction STOP\nstation A 127.0.0.1:9001\nstation B 127.0.0.1:9002\noperator ANN A\noperator BOB B\ndevclass DEV OFF\nmove DEV OFF CONFIGURE READY\nmove DEV READY START RUNNING\nunitclass UNIT OFF\naccept UNIT CONFIGURE\naccept UNIT START\nany UNIT ERROR ERROR\nall UNIT RUNNING RUNNING\nall UNIT READY READY\nall UNIT OFF OFF\ndomain DCS A UNIT -\ndomain TPC B UNIT DCS\ndevice HV TPC DEV\n";
+
+/// One operator, and eighteen domains of the first station.
+const CROWD: &[u8] =
+    b"tree 17\nstate OFF\naction GO\nstation A 127.0.0.1:9001\nstation B 127.0.0.1:9002\noperator ANN A\nunitclass UNIT OFF\ndomain D1 A UNIT -\ndomain D2 A UNIT -\ndomain D3 A UNIT -\ndomain D4 A UNIT -\ndomain D5 A UNIT -\ndomain D6 A UNIT -\ndomain D7 A UNIT -\ndomain D8 A UNIT -\ndomain D9 A UNIT -\ndomain D10 A UNIT -\ndomain D11 A UNIT -\ndomain D12 A UNIT -\ndomain D13 A UNIT -\ndomain D14 A UNIT -\ndomain D15 A UNIT -\ndomain D16 A UNIT -\ndomain D17 A UNIT -\ndomain D18 A UNIT -\n";
+
+pub(crate) const A: u16 = 1;
+
+pub(crate) const B: u16 = 2;
+
+pub(crate) const ANN: u16 = 1;
+
+pub(crate) const BOB: u16 = 2;
+
+pub(crate) const DCS: u16 = 1;
+
+pub(crate) const TPC: u16 = 2;
+
+pub(crate) const CONFIGURE: u16 = 1;
+
+pub(crate) const START: u16 = 2;
+
+pub(crate) const READY: u16 = 2;
+
+pub(crate) type Bytes = [u8; 44];
+
+pub(crate) type Store = PlannedStable<MemoryStable>;
+
+pub(crate) type Tried<'a> = Station<'a, Store>;
+
+/// A table, each row of which says what comes, and what has to be made of it.
+#[derive(Clone, Copy, PartialEq, Eq)]
+pub(crate) enum Table {
+    Configured,
+    TakenAndDropped,
+    Sent,
+    Saved,
+    Datagrams,
+    Orders,
+    Saves,
+    Crowd,
+    Starts,
+    Migrations,
+}
+
+/// How many rows of a table, from the first on, come out as told; none where its tree is refused or no station opens.
+pub(crate) fn count_of(alloc: Global, table: Table) -> usize {
+    let text = if table == Table::Crowd { CROWD } else { WORKED };
+    match Tree::read(alloc, text) {
+        Ok(tree) => over_tree(alloc, &tree, table),
+        Err(_) => 0,
+    }
+}
+
+fn over_tree(alloc: Global, tree: &Tree, table: Table) -> usize {
+    match table {
+        Table::Starts => starts::count_of(alloc, tree),
+        Table::Migrations => migrations::count_of(alloc, tree),
+        _ => with_a(alloc, tree, table),
+    }
+}
+
+fn with_a(alloc: Global, tree: &Tree, table: Table) -> usize {
+    match Station::open(alloc, tree, A, blank(alloc)) {
+        Ok(mut a) => with_b(alloc, tree, &mut a, table),
+        Err(_) => 0,
+    }
+}
+
+fn with_b(alloc: Global, tree: &Tree, a: &mut Tried<'_>, table: Table) -> usize {
+    match Station::open(alloc, tree, B, blank(alloc)) {
+        Ok(mut b) => with_out(alloc, a, &mut b, table),
+        Err(_) => 0,
+    }
+}
+
+fn with_out(alloc: Global, a: &mut Tried<'_>, b: &mut Tried<'_>, table: Table) -> usize {
+    let mut out = Out::new();
+    at_both(alloc, a, b, &mut out, table)
+}
+
+fn at_both(
+    alloc: Global,
+    a: &mut Tried<'_>,
+    b: &mut Tried<'_>,
+    out: &mut Out,
+    table: Table,
+) -> usize {
+    match table {
+        Table::Configured => plays::of_configured(alloc, a, b, out),
+        Table::TakenAndDropped => plays::of_dropped(alloc, a, b, out),
+        Table::Sent => plays::count_of(alloc, a, b, out, &bytes::sent()),
+        Table::Saved => plays::count_of(alloc, a, b, out, &bytes::saved()),
+        Table::Datagrams => refusals::count_of(alloc, a, out, &refusals::of_datagrams()),
+        Table::Orders => refusals::count_of(alloc, b, out, &refusals::of_orders()),
+        Table::Saves => refusals::count_of(alloc, b, out, &refusals::of_saves()),
+        Table::Crowd => refusals::of_crowd(alloc, a, out),
+        Table::Starts | Table::Migrations => 0,
+    }
+}
+
+/// A store that is empty, and fails at no save unless it is told to.
+pub(crate) fn blank(alloc: Global) -> Store {
+    PlannedStable::new(MemoryStable::new(alloc))
+}
+
+pub(crate) fn step(
+    station: &mut Tried<'_>,
+    out: &mut Out,
+    event: Event<'_>,
+) -> Result<Heard, StepFault> {
+    station.step(event, out)
+}
+
+/// The rows of a store, by rising key.
+pub(crate) fn rows_in(store: &mut Store) -> Result<Vec<SavedRow>, StoreFault> {
+    store.load()
+}
