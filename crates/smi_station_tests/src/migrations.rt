@@ -1,13 +1,12 @@
 //! Migrations of rows of older schemas, also such that stop in the middle (docs/FORMATS.md, "Stable rows"): how many
 //! rows were saved anew, what the rows are then, and that another one saves the rest, and a third nothing.
 
-use crate::starts::{
-    BOOT, BOOT_1, HELD, HELD_1, HELD_2, Rows, SHORT_1, TAKEN, TAKEN_1, filled, has, key, rows_of,
-};
+use crate::starts::{BOOT_1, HELD_1, HELD_2, Rows, SHORT_1, TAKEN_1, filled, has, rows_of};
 use crate::tables;
 use crate::tables::{A, B, Store, Table};
 use smi_protocol::OpenFault;
 use smi_rows::{Plan, StoreFault};
+use smi_samples::{BOOT, HELD, TAKEN, key};
 use smi_station::migrate;
 use smi_tree::Tree;
 use std::alloc::Global;

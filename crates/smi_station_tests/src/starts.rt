@@ -5,22 +5,13 @@ use crate::tables::{A, B, Store, Table, Tried, blank, rows_in};
 use smi_grant::Holder;
 use smi_protocol::OpenFault;
 use smi_rows::{Key, SavedRow, Stable};
+use smi_samples::{BOOT, HELD, TAKEN, key};
 use smi_station::Station;
 use smi_tree::Tree;
 use std::alloc::Global;
 use std::test::Fail;
 
-pub(crate) const fn key(station: u16, domain: u16, operator: u16) -> Key {
-    Key {
-        station,
-        domain,
-        operator,
-    }
-}
-
-// The boot 2 of a station, in the newest schema and in the first.
-pub(crate) const BOOT: &[u8] = &[2, 0, 0, 0, 0, 0, 0, 2];
-
+// The boot 2 of a station in the first schema.
 pub(crate) const BOOT_1: &[u8] = &[1, 0, 0, 0, 0, 0, 0, 2];
 
 // The next boot, and the last that there is.
@@ -28,16 +19,12 @@ const NEXT: &[u8] = &[2, 0, 0, 0, 0, 0, 0, 3];
 
 const LAST: &[u8] = &[2, 0, 0, 0, 0xEE, 0x6B, 0x28, 0x00];
 
-// BOB holds DCS at epoch 1.
-pub(crate) const TAKEN: &[u8] = &[
-    2, 1, 0, 2, 0, 0, 0, 0, 0, 0, 0, 1, 0, 0, 0, 0, 0, 0, 0, 0, 0, 0, 0, 0,
-];
-
+// BOB holds DCS at epoch 1: in the first schema.
 pub(crate) const TAKEN_1: &[u8] = &[
     1, 1, 0, 2, 0, 0, 0, 0, 0, 0, 0, 1, 0, 0, 0, 0, 0, 0, 0, 0, 0, 0, 0, 0,
 ];
 
-// The same row without its last byte.
+// The same in the newest schema, without its last byte.
 const SHORT: &[u8] = &[
     2, 1, 0, 2, 0, 0, 0, 0, 0, 0, 0, 1, 0, 0, 0, 0, 0, 0, 0, 0, 0, 0, 0,
 ];
@@ -47,11 +34,7 @@ pub(crate) const SHORT_1: &[u8] = &[
     1, 1, 0, 2, 0, 0, 0, 0, 0, 0, 0, 1, 0, 0, 0, 0, 0, 0, 0, 0, 0, 0, 0,
 ];
 
-// BOB holds TPC at epoch 1, and no command is issued: in the newest schema, in the second, and in the first.
-pub(crate) const HELD: &[u8] = &[
-    3, 0, 0, 1, 0, 2, 2, 0, 0, 0, 0, 0, 0, 0, 0, 1, 0, 0, 0, 0, 0, 0, 0, 0,
-];
-
+// BOB holds TPC at epoch 1, and no command is issued: in the second schema, and in the first.
 pub(crate) const HELD_2: &[u8] = &[
     2, 0, 0, 1, 0, 2, 2, 0, 0, 0, 0, 0, 0, 0, 0, 1, 0, 0, 0, 0, 0, 0, 0, 0,
 ];

@@ -7,13 +7,10 @@ use crate::{bytes, migrations, plays, refusals, starts};
 use smi_out::Out;
 use smi_protocol::{Event, Heard, StepFault};
 use smi_rows::{MemoryStable, PlannedStable, SavedRow, Stable, StoreFault};
+use smi_samples::WORKED;
 use smi_station::Station;
 use smi_tree::Tree;
 use std::alloc::Global;
-
-/// Stations A 1 and B 2, operators ANN 1 at A and BOB 2 at B, domains DCS 1 at A and TPC 2 at B under it, and a device.
-const WORKED: &[u8] =
-    b"tree 17\nstate OFF\nstate READY\nstate RUNNING\nstate ERROR\naction CONFIGURE\naction START\naction STOP\nstation A 127.0.0.1:9001\nstation B 127.0.0.1:9002\noperator ANN A\noperator BOB B\ndevclass DEV OFF\nmove DEV OFF CONFIGURE READY\nmove DEV READY START RUNNING\nunitclass UNIT OFF\naccept UNIT CONFIGURE\naccept UNIT START\nany UNIT ERROR ERROR\nall UNIT RUNNING RUNNING\nall UNIT READY READY\nall UNIT OFF OFF\ndomain DCS A UNIT -\ndomain TPC B UNIT DCS\ndevice HV TPC DEV\n";
 
 /// One operator, and eighteen domains of the first station.
 const CROWD: &[u8] =
