@@ -19,3 +19,6 @@ mod work;
 pub use ends::{Desk, Finished, Seat};
 pub use meeting::open_seats;
 pub use work::Work;
+
+#[cfg(test)]
+mod tests;

@@ -1,4 +1,4 @@
-//! Tests of links, boards, seats and publishers by their public functions: here, so that those crates are proved once.
+//! Tests of links, boards and publishers by their public functions: here, so that those crates are proved once.
 #![tactic(auto)]
 
 #[cfg(test)]
@@ -7,5 +7,3 @@ mod boards;
 mod links;
 #[cfg(test)]
 mod publishing;
-#[cfg(test)]
-mod seats;

@@ -3,8 +3,8 @@
 ghost use Rattle.std.specs.Prelude.{◌≡◌, ◌<◌, IfOk, IfSome};
 ghost use Rattle.smi_operator.specs.Sides.{post_at, seat_count};
 
+use crate::{Desk, Seat, Work, open_seats};
 use smi_grant::Record;
-use smi_operator::{Desk, Seat, Work, open_seats};
 use smi_protocol::{Mark, Order, Told};
 use std::alloc::Global;
 use std::test::Fail;

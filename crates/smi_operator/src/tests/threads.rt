@@ -3,7 +3,7 @@
 ghost use Rattle.std.specs.Prelude.{◌≡◌, ◌<◌, IfOk};
 ghost use Rattle.smi_operator.specs.Sides.{seat_count, IsSeatAt, SameSeat, SameDesk, Ends};
 
-use smi_operator::{Desk, Finished, Seat, open_seats};
+use crate::{Desk, Finished, Seat, open_seats};
 use smi_protocol::Order;
 use std::alloc::Global;
 use std::test::Fail;
