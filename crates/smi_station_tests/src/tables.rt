@@ -1,7 +1,7 @@
 //! The tables that these tests go over, and the trees, stations and stores that they are gone over with.
 //!
-//! Whatever owns one of those is dear to prove at each of its ends. So one function owns each, and what is tested stands
-//! in functions over references. For the same reason a station is asked for a step in one place.
+//! Whatever owns one of those is dear to prove at each of its ends. So one function owns each, and what is tested
+//! stands in functions over references. For the same reason a station is asked for a step in one place.
 
 use crate::{bytes, migrations, plays, refusals, starts};
 use smi_out::Out;
@@ -11,7 +11,7 @@ use smi_station::Station;
 use smi_tree::Tree;
 use std::alloc::Global;
 
-/// Stations A 1 and B 2, operators ANN 1 at A and BOB 2 at B, domains DCS 1 at A and TPC 2 at B under it, and a device.
+/// Stations A 1 and B 2, operators ANN 1 at A and BOB 2 at B, domains DCS 1 at A and TPC 2 at B under it, with HV 3.
 const WORKED: &[u8] =
     b"tree 17\nstate OFF\nstate READY\nstate RUNNING\nstate ERROR\naction CONFIGURE\naction START\naction STOP\nstation A 127.0.0.1:9001\nstation B 127.0.0.1:9002\noperator ANN A\noperator BOB B\ndevclass DEV OFF\nmove DEV OFF CONFIGURE READY\nmove DEV READY START RUNNING\nunitclass UNIT OFF\naccept UNIT CONFIGURE\naccept UNIT START\nany UNIT ERROR ERROR\nall UNIT RUNNING RUNNING\nall UNIT READY READY\nall UNIT OFF OFF\ndomain DCS A UNIT -\ndomain TPC B UNIT DCS\ndevice HV TPC DEV\n";
 
