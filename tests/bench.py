@@ -180,7 +180,7 @@ def check_store(path, kept):
     """The store as Python's own SQLite reads it: whole, and of each domain the row that was saved last."""
     # Each row once, and then the saves.
     last = {place: place for place in range(kept)}
-    last.update({save % kept: save for save in range(SAVES)})
+    last.update({save % kept: save for save in range(kept, kept + SAVES)})
     with sqlite3.connect(path) as file:
         rows = file.execute("SELECT * FROM stable_rows ORDER BY station, domain, operator").fetchall()
         whole = file.execute("PRAGMA integrity_check").fetchall()

@@ -1,5 +1,5 @@
-/* Saves of stable rows by SQLite's C library, as smi_bench makes them: a log that is written ahead, each save one
-   statement that is handed to the device before it returns. Prints the microseconds of so many saves to a new store
+/* Saves of stable rows by SQLite's C library, as smi_bench makes them: a log that is written ahead, each save the same
+   statement, handed to the device before it returns. Prints the microseconds of so many saves to a new store
    that has so many rows, each there before.
 
    usage: saves STORE SAVES ROWS */
@@ -21,7 +21,7 @@ static void check(int code, int wanted) {
     }
 }
 
-/* The nth save: the domains of one station in turn, then the next one's; no two that follow one another are alike. */
+/* The nth save: the domains of one station in turn, then the next one's; no two have the same bytes. */
 static void save(unsigned nth, unsigned rows) {
     unsigned char row[24] = {2, 1, 0, 2, 0, 0, 0, 0, 0, 0, 0, 1};
     unsigned place = nth % rows;
@@ -47,11 +47,11 @@ int main(int count, char **words) {
     check(sqlite3_exec(store, "PRAGMA journal_mode = WAL; PRAGMA synchronous = FULL;"
         "CREATE TABLE stable_rows (station INTEGER NOT NULL, domain INTEGER NOT NULL, operator INTEGER NOT NULL,"
         " bytes BLOB NOT NULL, PRIMARY KEY (station, domain, operator)) STRICT", NULL, NULL, NULL), SQLITE_OK);
-    check(sqlite3_prepare_v2(store, "INSERT OR REPLACE INTO stable_rows VALUES (?1, ?2, ?3, ?4)", -1, &statement, NULL),
-        SQLITE_OK);
+    check(sqlite3_prepare_v2(store, "INSERT INTO stable_rows VALUES (?1, ?2, ?3, ?4)"
+        " ON CONFLICT (station, domain, operator) DO UPDATE SET bytes = excluded.bytes", -1, &statement, NULL), SQLITE_OK);
     for (unsigned nth = 0; nth < rows; nth++) save(nth, rows);
     double start = now();
-    for (unsigned nth = 0; nth < saves; nth++) save(nth, rows);
+    for (unsigned nth = 0; nth < saves; nth++) save(rows + nth, rows);
     printf("%u saves: %.0f us\n", saves, now() - start);
     sqlite3_finalize(statement);
     return sqlite3_close(store) == SQLITE_OK ? 0 : 1;

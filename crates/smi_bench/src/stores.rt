@@ -24,7 +24,7 @@ fn key(nth: u32, rows: u32) -> Key {
     }
 }
 
-/// The bytes of the nth save. No two that follow one another are the same.
+/// The bytes of the nth save. No two saves have the same.
 fn bytes(nth: u32) -> [u8; 24] {
     let mut row = ROW;
     row[12..16].copy_from_slice(&nth.to_be_bytes());
@@ -35,8 +35,10 @@ fn store_fault<E: Drop>(_error: E) -> io::Error {
     io::Error::other("the store failed")
 }
 
-fn save_all<S: Stable>(store: &mut S, saves: u32, rows: u32) -> Result<(), StoreFault> {
-    for nth in 0..saves {
+/// So many saves from the nth on.
+fn save_all<S: Stable>(store: &mut S, nth: u32, saves: u32, rows: u32) -> Result<(), StoreFault> {
+    for save in 0..saves {
+        let nth = nth.wrapping_add(save);
         store.save(key(nth, rows), &bytes(nth))?;
     }
     Ok(())
@@ -64,9 +66,10 @@ fn timed(
     saves: u32,
     rows: u32,
 ) -> io::Result<Duration> {
-    save_all(store, rows, rows).map_err(store_fault)?;
+    save_all(store, 0, rows, rows).map_err(store_fault)?;
     let start = Instant::now(rt)?;
-    save_all(store, saves, rows).map_err(store_fault)?;
+    // Those that were there get other bytes: a row that is saved as it is would not have to be written.
+    save_all(store, rows, saves, rows).map_err(store_fault)?;
     start.elapsed(rt)
 }
 
