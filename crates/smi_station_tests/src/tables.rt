@@ -14,7 +14,7 @@ use std::alloc::Global;
 
 /// One operator, and eighteen domains of the first station.
 const CROWD: &[u8] =
-    b"tree 17\nstate OFF\naction GO\nstation A 127.0.0.1:9001\nstation B 127.0.0.1:9002\noperator ANN A\nunitclass UNIT OFF\ndomain D1 A UNIT -\ndomain D2 A UNIT -\ndomain D3 A UNIT -\ndomain D4 A UNIT -\ndomain D5 A UNIT -\ndomain D6 A UNIT -\ndomain D7 A UNIT -\ndomain D8 A UNIT -\ndomain D9 A UNIT -\ndomain D10 A UNIT -\ndomain D11 A UNIT -\ndomain D12 A UNIT -\ndomain D13 A UNIT -\ndomain D14 A UNIT -\ndomain D15 A UNIT -\ndomain D16 A UNIT -\ndomain D17 A UNIT -\ndomain D18 A UNIT -\n";
+    b"tree 17\nstate OFF\naction GO\nstation A 127.0.0.1:9001\nstation B 127.0.0.1:9002\noperator ANN A\nunitclass UNIT OFF\ndomain N1 A UNIT -\ndomain N2 A UNIT -\ndomain N3 A UNIT -\ndomain N4 A UNIT -\ndomain N5 A UNIT -\ndomain N6 A UNIT -\ndomain N7 A UNIT -\ndomain N8 A UNIT -\ndomain N9 A UNIT -\ndomain N10 A UNIT -\ndomain N11 A UNIT -\ndomain N12 A UNIT -\ndomain N13 A UNIT -\ndomain N14 A UNIT -\ndomain N15 A UNIT -\ndomain N16 A UNIT -\ndomain N17 A UNIT -\ndomain N18 A UNIT -\n";
 
 pub(crate) const A: u16 = 1;
 
