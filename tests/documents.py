@@ -137,9 +137,12 @@ def crate_lines():
 
 
 def worked_cases():
-    """The lines of examples/worked.tree are those that a law of smi_protocol reads."""
+    """The lines of examples/worked.tree are those that a law of smi_protocol reads, and those that tests share."""
+    lines = read("examples", "worked.tree").splitlines()
     told = section_of_lines(read("crates", "smi_protocol", "specs", "examples", "WorkedTree.antt"))
-    yield "the worked tree of the laws is examples/worked.tree", told == read("examples", "worked.tree").splitlines()
+    yield "the worked tree of the laws is examples/worked.tree", told == lines
+    shared = re.search(r'WORKED: &\[u8\] =\s*b"([^"]*)"', read("crates", "smi_samples", "src", "trees.rt"))
+    yield "the worked tree of the tests is examples/worked.tree", shared and shared[1].split("\\n") == [*lines, ""]
 
 
 def section_of_lines(text):
@@ -160,7 +163,7 @@ def crate_cases():
     layers = re.search(r"^```\n(the program.*?)^```$", architecture, flags=re.M | re.S)
     heights = {name: -place for place, line in enumerate(layers[1].splitlines() if layers else [])
                for name in re.findall(r"\bsmi\w*", line[18:])}
-    beside = {name for name in crates if name.endswith(("_tests", "_bench", "_trial"))}
+    beside = {name for name in crates if name.endswith(("_tests", "_samples", "_bench", "_trial"))}
     yield "ARCHITECTURE.md draws the crates", set(heights) == set(crates) - beside
     yield "ARCHITECTURE.md: layers stand on lower ones", all(
         heights[name] > heights[it] for name in heights for it in crates.get(name, ()) if it in heights)
