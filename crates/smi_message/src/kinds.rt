@@ -11,8 +11,6 @@ use crate::layout::Spelled;
 use smi_grant::{Command, Holder, LAST_EPOCH, LAST_NUMBER, Phase, Record, Version, is_outcome};
 use smi_limits::{LAST_BOOT, LAST_SEQUENCE, MOST_DOMAINS, MOST_OBJECTS, MOST_STATES};
 
-/// The greatest boot and the greatest sequence.
-
 // ---- the fields of what is said
 
 /// The fields of a datagram; those that its kind does not use are zero.
