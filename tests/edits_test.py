@@ -1,7 +1,9 @@
-"""Whether tools/edits.py tells apart what the prover refuses and what it does not.
+"""Whether tools/edits.py tells apart what the prover refuses and what it does not, and whether the record of what was
+refused rests on all that other crates are proved from.
 
 The edits of tests/edits/ are tried on smi_grant, all together: one is wrong, and none of the others may be told as
-refused, though one of them is in a function that calls the refused one. The last line is 'N passed, M failed'.
+refused, though one of them is in a function that calls the refused one. A file of a built library is read without the
+functions that only its own module sees, and with all others. The last line is 'N passed, M failed'.
 
 usage: edits_test.py [SINCE]
 
@@ -26,6 +28,25 @@ WANTED = {
     "text_that_is_not_there": edits.BAD,
 }
 
+# A file of a library, and the part of it that crates above can't read.
+HIDDEN = """# [ inline ( never ) ] fn halved ( number : u16 ) -> u16
+    requires { number ≤ 8 }
+    ensures { result ≡ half number } ;
+"""
+LIBRARY = """pub const MOST : u16 = ( 8_u16 ) ;
+pub trait Link {
+    ghost failures: { Self → ℕ };
+fn send ( & mut self , number : u16 ) -> bool
+        ensures failures { failures self.old ≤ failures self.new } ;
+}
+%simpl Wire {
+# [ inline ( always ) ] pub fn new ( ) -> Wire
+        ensures { result ≡ fresh } ;
+%s}
+pub fn sent ( number : u16 ) -> u16
+    ensures { result ≡ half number } ;
+"""
+
 
 def main():
     os.chdir(kit.ROOT)
@@ -36,10 +57,11 @@ def main():
     for line in wrong:
         print("FAILED " + line)
     # what was told of them has to end in a failed run
-    refused, others = edits.summary({"smi_grant": found})
-    counted = (refused, others) == (1, len(WANTED) - 1)
-    print("%d passed, %d failed" % (len(WANTED) - len(wrong) + counted, len(wrong) + (not counted)))
-    sys.exit(1 if wrong or not counted else 0)
+    counted = edits.summary({"smi_grant": found}) == (1, len(WANTED) - 1)
+    read = kit.public(LIBRARY % (HIDDEN, HIDDEN)) == LIBRARY % ("", "")
+    failed = len(wrong) + (not counted) + (not read)
+    print("%d passed, %d failed" % (len(WANTED) + 2 - failed, failed))
+    sys.exit(1 if failed else 0)
 
 
 main()

@@ -137,7 +137,7 @@ def reader_of(crate, text, start, end):
     line = text[text.rfind("\n", 0, start) + 1:text.find("\n", end)]
     named = re.match(r"const (\w+): [^\n]*;$", line)
     places = set()
-    for at in kit.files(crate, kit.BELOW) if named else ():
+    for at in kit.files(crate, kit.PROVED) if named else ():
         with open(os.path.join(kit.ROOT, at), encoding="utf-8") as file:
             whole = file.read()
         inside = os.path.relpath(os.path.join(kit.ROOT, at), crate.folder)

@@ -6,10 +6,10 @@ It runs `rt ci`; on the programs that this has built the cases of tests/command_
 of the examples (tests/shift.py), the tools beside the program (tests/pictures.py), the documents (tests/documents.py)
 and a short soak (tests/soak.py); and the edits in crates/CRATE/edits/ (tools/edits.py) of each crate whose sum is not
 in the record edits.ok: a line of it says that all edits of the crate were seen refused, with the same toolchain, tools,
-sources, specs, proofs and edits, and the same sources, specs and proofs of the crates below it. What is not tried for
-that is counted apart and not as passed. --all reads no record, tries the edits of every crate, and writes the record.
---record tries the edits of these crates alone, and writes the lines of those of which all are refused; the lines of
-other crates stay.
+sources, specs, proofs and edits, and the same contracts, definitions and lemmas of the crates below it. What is not
+tried for that is counted apart and not as passed. --all reads no record, tries the edits of every crate, and writes the
+record. --record tries the edits of these crates alone, and writes the lines of those of which all are refused; the
+lines of other crates stay.
 
 The last line is 'N passed, M failed'.
 """
@@ -141,10 +141,11 @@ def unfit(crates):
     return sum(edit.how == edits.BAD for edit in found)
 
 
-def try_edits(is_whole, since, sums):
+def try_edits(is_whole, since):
     """The edits of the crates that the record lacks, or of all."""
     part = Part("edits")
     crates = [crate for crate in kit.crates() if count_of([crate])]
+    sums = {crate.name: kit.sum_of(crate) for crate in crates}
     known = {} if is_whole else recorded()
     skipped = [crate for crate in crates if known.get(crate.name) == sums[crate.name]]
     trying = [crate for crate in crates if crate not in skipped]
@@ -162,11 +163,13 @@ def try_edits(is_whole, since, sums):
 def record(names):
     """The edits of these crates, and their lines of the record where all are refused."""
     crates = [crate for crate in kit.crates() if crate.name in names]
-    before = {crate.name: kit.sum_of(crate) for crate in crates}
+    before = {crate.name: kit.own_sum(crate) for crate in kit.crates()}
     tried = edits.try_all(crates, "edits")
     well = {name for name, of in tried.items() if of and all(it.how == edits.REFUSED for it in of)}
-    same = {crate.name for crate in crates if kit.sum_of(crate) == before[crate.name]}
-    write_record({**recorded(), **{name: before[name] for name in well & same}})
+    if all(kit.own_sum(crate) == before[crate.name] for crate in kit.crates()):
+        write_record({**recorded(), **{crate.name: kit.sum_of(crate) for crate in crates if crate.name in well}})
+    else:
+        print("something has changed meanwhile, so the record stays as it was")
     print("%d refused, %d not" % edits.summary(tried))
     sys.exit(0 if well == set(names) else 1)
 
@@ -180,7 +183,7 @@ def main():
         sys.exit(__doc__.split("\n\n")[1])
     os.chdir(kit.ROOT)
     since = time.time()
-    sums = {crate.name: kit.sum_of(crate) for crate in kit.crates()}
+    sums = {crate.name: kit.own_sum(crate) for crate in kit.crates()}
     print(free_space(), flush=True)
     told = Told()
     parts = [Part("proofs and tests").end(*run(["rt", "ci"], told))]
@@ -197,8 +200,8 @@ def main():
                             ("a short soak", ["tests/soak.py", "bin/smi", "--seconds", str(SOAKED)])]:
             part = Part(name)
             parts.append(part.end(*run([sys.executable, *words])))
-        parts.append(try_edits(is_whole, since, sums))
-    changed = [crate.name for crate in kit.crates() if kit.sum_of(crate) != sums[crate.name]]
+        parts.append(try_edits(is_whole, since))
+    changed = [crate.name for crate in kit.crates() if kit.own_sum(crate) != sums[crate.name]]
     for part in parts:
         print(part)
     if changed:

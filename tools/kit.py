@@ -4,14 +4,19 @@ import hashlib
 import importlib.machinery
 import importlib.util
 import os
+import re
 import shutil
 import subprocess
 import sys
 
 ROOT = os.path.dirname(os.path.dirname(os.path.abspath(__file__)))
-# What a verdict on a crate's edits rests on: the crate's own files, and of the crates below it all but their edits.
-OWN, BELOW = ("src", "specs", "proofs", "edits"), ("src", "specs", "proofs")
+# The folders of a crate that the prover reads, and those on which the verdicts on its edits rest.
+PROVED = ("src", "specs", "proofs")
+OWN = (*PROVED, "edits")
 TOOLS = ("tools/kit.py", "tools/edits.py")
+# In a library as it is built: a trait, or a function that stands in no trait and only its own module sees.
+TRAIT_OR_PRIVATE = re.compile(r"^((?:# \[.*\] )*(?:pub (?:\( \w+ \) )?)?trait .*\n(?:[^}].*\n)*\}\n)"
+                              r"|^(?:# \[.*\] )*fn .*\n(?: .*\n)*", re.MULTILINE)
 # How a line of comment begins, by the kind of file.
 COMMENTS = {".rt": b"//", ".antt": b"--"}
 
@@ -58,17 +63,53 @@ def without_comments(path, data):
     return b"\n".join(line for line in data.split(b"\n") if not mark or not line.lstrip().startswith(mark))
 
 
-def sum_of(crate):
-    """A sum of all that the refusal of the crate's edits rests on.
+def public(text):
+    """A file of a built library without the functions that nobody else can call."""
+    return TRAIT_OR_PRIVATE.sub(lambda found: found[1] or "", text)
 
-    Neither the time nor the place of a file is part of it, nor are lines of comments.
-    """
+
+def stated(crate):
+    """What a crate above this one can be proved from, by the library as it was built: file by file its items, with the
+    clauses of functions and without their bodies, its definitions, and the lemmas that stand beside no function."""
+    lang, found = os.path.join(crate.rlib, "lang"), []
+    for part in ("src", "antt"):
+        for at, folders, names in os.walk(os.path.join(lang, part)):
+            if os.path.relpath(at, lang) == "antt/proofs":
+                folders.clear()
+            folders.sort()
+            names = [it for it in sorted(names) if it.endswith(tuple(COMMENTS))]
+            found += [os.path.relpath(os.path.join(at, it), lang) for it in names]
+    if not found:
+        sys.exit("%s is not built" % crate.name)
+    for path in found:
+        with open(os.path.join(lang, path), "rb") as file:
+            text = without_comments(path, file.read()).decode()
+        yield crate.name, path, public(text) if path.startswith("src") else text
+
+
+def own_sum(crate):
+    """A sum of the crate's own files, but for lines of comments. Neither the time nor the place of a file is part of
+    it."""
+    whole = hashlib.sha256()
+    for path in files(crate, OWN):
+        with open(os.path.join(ROOT, path), "rb") as file:
+            whole.update(repr((path, without_comments(path, file.read()))).encode())
+    return whole.hexdigest()
+
+
+def sum_of(crate):
+    """A sum of all that the refusal of the crate's edits rests on, once the libraries below it are built: the
+    toolchain, the tools, the crate's own files, and what those libraries say to crates above them. The bodies of their
+    functions are no part of it, since a function is proved from the contracts of what it calls."""
     whole = hashlib.sha256(version().encode())
     below = sorted(crate.below(), key=lambda it: it.name)
     for it in [crate, *below]:
         whole.update(repr((it.name, sorted(it.of_kit), sorted(dep.name for dep in it.deps))).encode())
-    paths = [*TOOLS, *files(crate, OWN)] + [path for it in below for path in files(it, BELOW)]
-    for path in paths:
+    for path in TOOLS:
         with open(os.path.join(ROOT, path), "rb") as file:
-            whole.update(repr((path, without_comments(path, file.read()))).encode())
+            whole.update(repr((path, file.read())).encode())
+    whole.update(own_sum(crate).encode())
+    for it in below:
+        for told in stated(it):
+            whole.update(repr(told).encode())
     return whole.hexdigest()
