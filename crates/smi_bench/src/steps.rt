@@ -1,10 +1,9 @@
-//! How long steps of a station take, over a store in memory or in a file.
+//! How long steps of a station take, over a store in memory.
 
-use crate::stores;
 use smi_message::encode;
 use smi_out::Out;
 use smi_protocol::{Event, Heard, Order};
-use smi_stable::{MemoryStable, Stable};
+use smi_stable::MemoryStable;
 use smi_station::Station;
 use smi_tree::Tree;
 use std::time::{Duration, Instant};
@@ -58,11 +57,7 @@ struct Desk {
 }
 
 /// A step, which is counted; what the station sends itself waits.
-fn step<S: Stable>(
-    station: &mut Station<'_, S>,
-    desk: &mut Desk,
-    event: Event<'_>,
-) -> io::Result<()> {
+fn step(station: &mut Kept<'_>, desk: &mut Desk, event: Event<'_>) -> io::Result<()> {
     let heard = station.step(event, &mut desk.out);
     let sent = desk.out.datagrams();
     desk.counted.steps = desk.counted.steps.wrapping_add(1);
@@ -141,9 +136,9 @@ fn asking(tree: &Tree, own: u16, kind: u8, epoch: u32) -> [u8; 44] {
 }
 
 /// The first operator takes the first domain at every even epoch, and drops it at every odd one.
-fn take_and_drop<S: Stable>(
+fn take_and_drop(
     tree: &Tree,
-    station: &mut Station<'_, S>,
+    station: &mut Kept<'_>,
     desk: &mut Desk,
     count: u32,
 ) -> io::Result<()> {
@@ -360,67 +355,4 @@ fn over_tree(
         Ok(tree) => at_station(rt, &tree, kind, count),
         Err(_) => Err(io::Error::other("a faulty tree")),
     }
-}
-
-/// Prints how long so many datagrams take that take the first domain and drop it, at the first station, where the
-/// rows lie in a new file.
-pub fn print_stored(rt: &HostRuntime, path: &str, store: &str, count: u32) -> io::Result<()> {
-    let bytes = fs::read(rt, path)?;
-    let (time, counted) = stored_over_tree(rt, bytes.as_slice(), store, count)?;
-    println!(rt;
-        "{} steps: {} us, {} made",
-        counted.steps,
-        time.as_micros(),
-        counted.made
-    )
-}
-
-fn stored_over_tree(
-    rt: &HostRuntime,
-    bytes: &[u8],
-    store: &str,
-    count: u32,
-) -> io::Result<(Duration, Counted)> {
-    match Tree::read(rt.alloc(), bytes) {
-        Ok(tree) => stored_at_station(rt, &tree, store, count),
-        Err(_) => Err(io::Error::other("a faulty tree")),
-    }
-}
-
-fn stored_at_station(
-    rt: &HostRuntime,
-    tree: &Tree,
-    store: &str,
-    count: u32,
-) -> io::Result<(Duration, Counted)> {
-    match Station::open(rt.alloc(), tree, 1, stores::opened(rt, store)?) {
-        Ok(mut station) => stored_at_desk(rt, tree, &mut station, count),
-        Err(_) => Err(io::Error::other("no station opened")),
-    }
-}
-
-fn stored_at_desk<S: Stable>(
-    rt: &HostRuntime,
-    tree: &Tree,
-    station: &mut Station<'_, S>,
-    count: u32,
-) -> io::Result<(Duration, Counted)> {
-    let mut desk = Desk {
-        out: Out::new(),
-        waiting: Vec::new(rt.alloc()),
-        counted: NOTHING,
-    };
-    stored(rt, tree, station, &mut desk, count)
-}
-
-fn stored<S: Stable>(
-    rt: &HostRuntime,
-    tree: &Tree,
-    station: &mut Station<'_, S>,
-    desk: &mut Desk,
-    count: u32,
-) -> io::Result<(Duration, Counted)> {
-    let start = Instant::now(rt)?;
-    take_and_drop(tree, station, desk, count)?;
-    Ok((start.elapsed(rt)?, desk.counted))
 }

@@ -44,24 +44,20 @@ fn save_all<S: Stable>(store: &mut S, nth: u32, saves: u32, rows: u32) -> Result
     Ok(())
 }
 
-/// A store in a file, which is made where there is none.
-pub fn opened(rt: &HostRuntime, path: &str) -> io::Result<SqliteStable<FileStore<File>>> {
+/// How long so many saves take over SQL, in a store that has each of so many keys once.
+pub fn save_time(rt: &HostRuntime, path: &str, saves: u32, rows: u32) -> io::Result<Duration> {
     let connection = Connection::open(rt, path).map_err(store_fault)?;
     match SqliteStable::adopt(connection) {
-        Ok(store) => Ok(store),
+        Ok(mut store) => {
+            let time = timed(rt, &mut store, saves, rows);
+            store.release().close().map_err(store_fault)?;
+            time
+        }
         Err((fault, connection)) => {
             let _ = connection.close();
             Err(store_fault(fault))
         }
     }
-}
-
-/// How long so many saves take over SQL, in a store that has each of so many keys once.
-pub fn save_time(rt: &HostRuntime, path: &str, saves: u32, rows: u32) -> io::Result<Duration> {
-    let mut store = opened(rt, path)?;
-    let time = timed(rt, &mut store, saves, rows);
-    store.release().close().map_err(store_fault)?;
-    time
 }
 
 fn timed(
