@@ -166,12 +166,13 @@ def record(names):
     before = {crate.name: kit.own_sum(crate) for crate in kit.crates()}
     tried = edits.try_all(crates, "edits")
     well = {name for name, of in tried.items() if of and all(it.how == edits.REFUSED for it in of)}
-    if all(kit.own_sum(crate) == before[crate.name] for crate in kit.crates()):
+    is_same = all(kit.own_sum(crate) == before[crate.name] for crate in kit.crates())
+    if is_same:
         write_record({**recorded(), **{crate.name: kit.sum_of(crate) for crate in crates if crate.name in well}})
     else:
         print("something has changed meanwhile, so the record stays as it was")
     print("%d refused, %d not" % edits.summary(tried))
-    sys.exit(0 if well == set(names) else 1)
+    sys.exit(0 if is_same and well == set(names) else 1)
 
 
 def main():
