@@ -6,6 +6,8 @@ pub mod Saving
 pub mod Starts
 pub mod Rewritten
 pub mod Migrated
+pub mod ToldRows
+pub mod Renewals
 pub mod Twice
 pub mod Changes
 pub mod SavedAgain

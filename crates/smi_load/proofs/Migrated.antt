@@ -1,7 +1,6 @@
 -- Rows written anew one after the other come to all rows in their newest schemas.
 use Rattle.std.proofs.Common.{ℕ, zero, suc, ◌≡◌, ◌≤◌, ◌<◌, ◌+◌, ◌*◌, ◌^◌, ◌⊎◌, inl, inr, Bool, true, false, List, []}
-use Rattle.std.proofs.Common.{◌∷◌, length, take, Option, Some, None, Result, Ok, Err, refl, sym, ap, ◌∙◌, subst}
-use Rattle.std.proofs.Common.{arith}
+use Rattle.std.proofs.Common.{◌∷◌, length, take, Option, Some, None, Result, Ok, Err, refl, sym, ap, ◌∙◌, subst, arith}
 use Rattle.std.specs.Prelude.{◌==◌, ◌&&◌, not, nat_lt, count_by, if◌then◌else◌, option_and_then, option_map}
 use Rattle.std.specs.List.{AllByRecursion, cons_option}
 use Rattle.std.specs.Option.{option_map_or}
@@ -23,20 +22,16 @@ use Rattle.smi_rows.specs.Reading.{row_of}
 use Rattle.smi_rows.specs.Schema.{newest}
 use Rattle.smi_rows.specs.Store.{IsListing, IsSame, Rows, Saved, found_in, is_before, rises, rises_after, same_key}
 use Rattle.smi_rows.specs.Store.{saved}
-use Rattle.smi_rows.proofs.Keys.{after-else, before-other, same-is, same-itself}
+use Rattle.smi_rows.proofs.Keys.{same-is}
 use Rattle.smi_rows.proofs.Laws.{read_is_row}
-use Rattle.smi_protocol.specs.Grants.{Grants, no_grants}
-use Rattle.smi_protocol.specs.Loading.{AllRead, IsFirstFault, IsStation, read, said}
+use Rattle.smi_protocol.specs.Loading.{read, said}
 use Rattle.smi_protocol.specs.declared.fault.OpenFault.{OpenFault}
-use Rattle.smi_protocol.specs.declared.fault.OpenFault.TheVariants as open_fault
 use Rattle.smi_protocol.proofs.Ranges.{kept_there, number_within}
 use Rattle.smi_protocol.proofs.Tables.{number_is}
-use Rattle.smi_load.specs.Migrating.{Counts, IsPartly, IsSavedPartly, IsToRenew, Migrates, SaysTheSame, about}
-use Rattle.smi_load.specs.Migrating.{all_told, in_newest, in_newest_if, is_older, is_renewed, newest_bytes, over}
-use Rattle.smi_load.specs.Migrating.{renewal, renewals, schema_in}
-use Rattle.smi_load.specs.Restoring.{Comes, and_then, as_told, restored, said_to}
-use Rattle.smi_load.proofs.Opening.{all_read, before_chain, clash, first_of, first_refused, not_again, not_behind}
-use Rattle.smi_load.proofs.Opening.{not_found, over_found, rest_rises}
+use Rattle.smi_load.specs.Migrating.{IsPartly, SaysTheSame, about, all_told, in_newest, in_newest_if, is_older}
+use Rattle.smi_load.specs.Migrating.{is_renewed, newest_bytes, over, renewal, renewals, schema_in}
+use Rattle.smi_load.specs.Restoring.{and_then, said_to}
+use Rattle.smi_load.proofs.Opening.{before_chain, clash, first_of, not_again, not_found, over_found, rest_rises}
 use Rattle.smi_load.proofs.Rewritten.{key_about, newest_reads, newest_stays}
 use Rattle.smi_load.proofs.SoundLoading.{said_row}
 use Rattle.smi_load.proofs.Taking.{row_about, told_none, told_own}
@@ -506,152 +501,3 @@ module _ (h : Hierarchy) (number : ℕ) where
       wholly after is k =
           is k ∙ ap (λ (r : Rows). over r anew_rows k) (sym same_rows) ∙ over_all list listing.rises told k
           ∙ ap (λ (r : Rows). in_newest h number r k) same_rows
-
--- Faults.
-
--- rows that are told are read, and the first that is not told is refused as where a station starts
-module _ (h : Hierarchy) (number : ℕ) where
-  told_restores : (list : List Saved) (g : Grants) → all_told h number list ≡ Ok tt
-      → (k : Grants) × (restored h number g list ≡ Ok k)
-  told_restores [] g told = (g, refl)
-  told_restores (r ∷ more) g told = by (said_to h number r) told (λ j t. told_restores more j t)
-    where
-      by : (x : Result (Option Row) OpenFault) → and_then (λ s. all_told h number more) x ≡ Ok tt
-          → ((j : Grants) → all_told h number more ≡ Ok tt → (k : Grants) × (restored h number j more ≡ Ok k))
-          → (k : Grants)
-          × (and_then (λ j. restored h number j more) (and_then (λ s. Ok (as_told h g r.key s)) x) ≡ Ok k)
-      by (Ok o) rest later = later (as_told h g r.key o) rest
-      by (Err fault) rest later = absurd cc
-
-  told_refuses : (list : List Saved) (g : Grants) (fault : OpenFault) → all_told h number list ≡ Err fault
-      → restored h number g list ≡ Err fault
-  told_refuses [] g fault told = absurd cc
-  told_refuses (r ∷ more) g fault told = by (said_to h number r) told (λ j t. told_refuses more j fault t)
-    where
-      by : (x : Result (Option Row) OpenFault) → and_then (λ s. all_told h number more) x ≡ Err fault
-          → ((j : Grants) → all_told h number more ≡ Err fault → restored h number j more ≡ Err fault)
-          → and_then (λ j. restored h number j more) (and_then (λ s. Ok (as_told h g r.key s)) x) ≡ Err fault
-      by (Ok o) rest later = later (as_told h g r.key o) rest
-      by (Err f) rest later = let same : f ≡ fault = cc in ap Err same
-
-  module _ (list : List Saved) (rows : Rows) (listing : IsListing rows list) where
-    all_same : found_in list ≡ rows
-    all_same = fun_ext listing.same
-
-    pub told_read : all_told h number list ≡ Ok tt → AllRead h number rows
-    told_read told = let k = told_restores list no_grants told in
-        subst (AllRead h number) all_same (all_read h number list no_grants k.0 k.1)
-
-    pub told_faults : (X : Type 0) → IsStation h number true → (fault : OpenFault)
-        → Comes {X = Unit {0}} (Err fault) (all_told h number list) → Migrates {X = X} h number rows (Err fault)
-    told_faults X there open_fault.NoSuchStation is =
-        absurd (first_refused h number list no_grants open_fault.NoSuchStation listing.rises
-        (told_refuses list no_grants open_fault.NoSuchStation is))
-    told_faults X there (open_fault.Row k code) is = (
-      there,
-      subst (λ (r : Rows). IsFirstFault h number r k code) all_same
-          (first_refused h number list no_grants (open_fault.Row k code) listing.rises
-          (told_refuses list no_grants (open_fault.Row k code) is)),
-    )
-    told_faults X there open_fault.BootsSpent is =
-        first_refused h number list no_grants open_fault.BootsSpent listing.rises
-        (told_refuses list no_grants open_fault.BootsSpent is)
-    told_faults X there (open_fault.Store fault) is = there
-    told_faults X there open_fault.Memory is = tt
-
--- Rows have one listing.
-
-either_before : (a b : Key) → (same_key a b ≡ true) ⊎ ((is_before a b ≡ true) ⊎ (is_before b a ≡ true))
-either_before a b = by (same_key a b) (is_before a b) refl refl
-  where
-    by : (s t : Bool) → same_key a b ≡ s → is_before a b ≡ t
-        → (same_key a b ≡ true) ⊎ ((is_before a b ≡ true) ⊎ (is_before b a ≡ true))
-    by true t s e = inl s
-    by false true s e = inr (inl e)
-    by false false s e = inr (inr (after-else a b e s))
-
-first_found : (r : Saved) (xs : List Saved) → found_in (r ∷ xs) r.key ≡ Some r.bytes
-first_found r xs = ap (λ t. if t then Some r.bytes else found_in xs r.key) (same-itself r.key)
-
-not_first : (r s : Saved) (xs : List Saved) → rises (s ∷ xs) ≡ true → is_before r.key s.key ≡ true
-    → found_in (s ∷ xs) r.key ≡ None
-not_first r s xs rising first =
-    ap (λ t. if t then Some s.bytes else found_in xs r.key) (before-other r.key s.key first)
-    ∙ not_found s.key xs r.key rising (not_behind s.key r.key first)
-
-pub listed_once : (xs ys : List Saved) → rises xs ≡ true → rises ys ≡ true
-    → ((k : Key) → found_in xs k ≡ found_in ys k) → xs ≡ ys
-listed_once [] [] x y same = refl
-listed_once [] (s ∷ ys) x y same = let wrong : None ≡ Some s.bytes = same s.key ∙ first_found s ys in absurd cc
-listed_once (r ∷ xs) [] x y same = let wrong : None ≡ Some r.bytes = sym (same r.key) ∙ first_found r xs in absurd cc
-listed_once (r ∷ xs) (s ∷ ys) x y same = elim (either_before r.key s.key) [
-  | inl here ↦ whole here (listed_once xs ys (rest_rises r xs x) (rest_rises s ys y))
-  | inr apart ↦ elim apart [
-    | inl first ↦ let wrong : Some r.bytes ≡ None = sym (first_found r xs) ∙ same r.key ∙ not_first r s ys y first in
-        absurd cc
-    | inr second ↦ let wrong : Some s.bytes ≡ None = sym (first_found s ys) ∙ sym (same s.key)
-        ∙ not_first s r xs x second in absurd cc
-  ]
-]
-  where
-    whole : same_key r.key s.key ≡ true → (((k : Key) → found_in xs k ≡ found_in ys k) → xs ≡ ys) → r ∷ xs ≡ s ∷ ys
-    whole here later =
-        let keys : r.key ≡ s.key = same-is r.key s.key here in
-        let found : Some r.bytes ≡ Some s.bytes = sym (first_found r xs) ∙ same r.key ∙ ap (found_in (s ∷ ys)) keys
-        ∙ first_found s ys in
-        let bytes : r.bytes ≡ s.bytes = cc in
-        let one : r ≡ s = ap (λ k. saved k r.bytes) keys ∙ ap (λ b. saved s.key b) bytes in
-        ap (λ (z : Saved). z ∷ xs) one ∙ ap (λ zs. s ∷ zs) (later (λ k. other k (same_key r.key k) refl))
-      where
-        other : (k : Key) (t : Bool) → same_key r.key k ≡ t → found_in xs k ≡ found_in ys k
-        other k true is =
-            not_again r xs k x is
-            ∙ sym (not_again s ys k y (ap (λ j. same_key j k) (sym (same-is r.key s.key here)) ∙ is))
-        other k false is =
-            sym (ap (λ u. if u then Some r.bytes else found_in xs k) is) ∙ same k
-            ∙ ap (λ u. if u then Some s.bytes else found_in ys k)
-            (ap (λ j. same_key j k) (sym (same-is r.key s.key here)) ∙ is)
-
--- What is to be saved anew.
-
-module _ (h : Hierarchy) (number : ℕ) (rows : Rows) (items : List Saved) (to : IsToRenew h number rows items) where
-  -- of the rows as they were loaded
-  module _ (loaded : Rows) (same : IsSame loaded rows) where
-    pub saved_partly : (after : Rows) → IsSavedPartly loaded items after → IsPartly h number rows after
-    saved_partly after part =
-        partly h number to.list to.told rows to.listing part.count after
-        (λ k. part.rows k ∙ ap (λ (r : Rows). over r (take part.count items) k) (fun_ext same)
-        ∙ ap (λ (xs : List Saved). over rows (take part.count xs) k) to.renewed)
-
-    pub saved_wholly : (after : Rows) → IsSame after (over loaded items) → IsSame after (in_newest h number rows)
-    saved_wholly after is =
-        wholly h number to.list to.told rows to.listing after
-        (λ k. is k ∙ ap (λ (r : Rows). over r items k) (fun_ext same)
-        ∙ ap (λ (xs : List Saved). over rows xs k) to.renewed)
-
-  pub few_to_renew : IsTree h → length items < 2 ^ 32
-  few_to_renew tree = subst (λ (xs : List Saved). length xs < 2 ^ 32) (sym to.renewed)
-      (few_renewals h number tree to.list to.listing.rises to.told)
-
-  pub count_to_renew : (list : List Saved) → IsListing rows list → length items ≡ count_by (is_renewed number) list
-  count_to_renew list listing =
-      ap length to.renewed ∙ counted h number to.list to.told
-      ∙ ap (λ (xs : List Saved). count_by (is_renewed number) xs)
-      (listed_once to.list list to.listing.rises listing.rises (λ k. to.listing.same k ∙ sym (listing.same k)))
-
-  -- so many there are
-  pub are_counted : (n : ℕ) → n ≡ length items → Counts number rows n
-  are_counted n is = record {
-    list = to.list;
-    listing = to.listing;
-    count = is ∙ ap length to.renewed ∙ counted h number to.list to.told;
-  }
-
--- rows that are unchanged are partly renewed
-pub none_renewed : (h : Hierarchy) (number : ℕ) (before after : Rows) → IsSame after before
-    → IsPartly h number before after
-none_renewed h number before after same = record {
-  each = λ k. inl (same k);
-  rising = λ j k first. inr (same k);
-  same = λ k. ap (option_and_then (λ b. read (row_of h k b))) (same k);
-}

@@ -5,7 +5,7 @@ use Rattle.smi_protocol.specs.Loading.{IsStation}
 use Rattle.smi_protocol.specs.declared.fault.OpenFault.{OpenFault}
 use Rattle.smi_load.specs.Migrating.{Migrates, all_told, only_told}
 use Rattle.smi_load.specs.Restoring.{Comes}
-use Rattle.smi_load.proofs.Migrated.{told_faults, told_read}
+use Rattle.smi_load.proofs.ToldRows.{told_faults, told_read}
 use Rattle.smi_load.proofs.migrating.loaded_renewals.Goals as goal
 
 pub returns-clause-migrates : goal.returns-clause-migrates
