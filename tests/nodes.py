@@ -20,6 +20,7 @@ import threading
 import time
 
 import growths
+import pages
 import stores
 import trees
 
@@ -291,6 +292,12 @@ def store_cases(program, folder):
     os.chmod(sealed, 0o755)
 
 
+def page_cases(program, folder):
+    """How long the pages of a node's store are."""
+    tree = write_tree(folder, free_ports(2))
+    yield from pages.cases(lambda path: ran(program, [tree, "A", path, "--turns", FEW]), folder)
+
+
 def second_case(program, folder):
     """A second node on a store is refused, and the first goes on."""
     tree = write_tree(folder, free_ports(2))
@@ -461,9 +468,8 @@ def growth_cases(program, folder):
 
 
 # These run side by side, and those after them.
-CASES = [three_case, killed_case, line_cases, shown_case, store_cases, second_case, row_cases, address_cases,
-         console_cases,
-         hostile_case, growth_cases]
+CASES = [three_case, killed_case, line_cases, shown_case, store_cases, page_cases, second_case, row_cases,
+         address_cases, console_cases, hostile_case, growth_cases]
 ALONE = [rest_case]
 
 

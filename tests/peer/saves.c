@@ -1,5 +1,5 @@
-/* Saves of stable rows by SQLite's C library, as smi_bench makes them: a log that is written ahead, each save the same
-   statement, handed to the device before it returns. Prints the microseconds of so many saves to a new store
+/* Saves of stable rows by SQLite's C library, as smi_bench makes them: pages of 512 bytes, a log that is written ahead,
+   each save the same statement, handed to the device before it returns. Prints the microseconds of so many saves to a new store
    that has so many rows, each there before.
 
    usage: saves STORE SAVES ROWS */
@@ -44,7 +44,7 @@ int main(int count, char **words) {
     if (count != 4) return 2;
     unsigned saves = (unsigned)strtoul(words[2], NULL, 10), rows = (unsigned)strtoul(words[3], NULL, 10);
     check(sqlite3_open(words[1], &store), SQLITE_OK);
-    check(sqlite3_exec(store, "PRAGMA journal_mode = WAL; PRAGMA synchronous = FULL;"
+    check(sqlite3_exec(store, "PRAGMA page_size = 512; PRAGMA journal_mode = WAL; PRAGMA synchronous = FULL;"
         "CREATE TABLE stable_rows (station INTEGER NOT NULL, domain INTEGER NOT NULL, operator INTEGER NOT NULL,"
         " bytes BLOB NOT NULL, PRIMARY KEY (station, domain, operator)) STRICT", NULL, NULL, NULL), SQLITE_OK);
     check(sqlite3_prepare_v2(store, "INSERT INTO stable_rows VALUES (?1, ?2, ?3, ?4)"

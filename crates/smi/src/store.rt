@@ -51,7 +51,7 @@ impl Stores for HostRuntime {
         let Ok(path) = str::from_utf8(path) else {
             return Err(StoreFault::Device);
         };
-        match Connection::open(self, path) {
+        match smi_file::open(self, path) {
             Ok(connection) => adopted(connection),
             Err(Error::SqliteFailure(ErrorCode::OutOfMemory)) => Err(StoreFault::Memory),
             Err(_) => Err(StoreFault::Device),

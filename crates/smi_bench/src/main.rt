@@ -5,9 +5,10 @@
 //! many saves to a new store that has so many rows, each there before, and of as many writes to a new
 //! file. `smi_bench steps TREE KIND COUNT` prints the microseconds of steps of a station over a store in
 //! memory, and what was counted of them: of `take` and `state` so many datagrams, of `do` so many orders
-//! and what the station then sends itself, of `tick` and `due` so many ticks. `smi_bench act TREE ITEMS`
-//! prints the microseconds of so many drawn items in a world, and `smi_bench steady TREE ITEMS` of those among
-//! them that start no station again. Without words it measures nothing.
+//! and what the station then sends itself, of `tick` and `due` so many ticks. `smi_bench stored TREE STORE COUNT`
+//! prints the same of datagrams that take a domain and drop it, where the rows lie in a new file.
+//! `smi_bench act TREE ITEMS` prints the microseconds of so many drawn items in a world, and
+//! `smi_bench steady TREE ITEMS` of those among them that start no station again. Without words it measures nothing.
 #![tactic(auto)]
 
 mod acts;
@@ -29,6 +30,12 @@ fn main(rt: HostRuntime) -> io::Result<()> {
             &rt,
             tree.as_str(),
             kind.as_str(),
+            number(count.as_str()),
+        ),
+        [_, what, tree, store, count] if what.as_str() == "stored" => steps::print_stored(
+            &rt,
+            tree.as_str(),
+            store.as_str(),
             number(count.as_str()),
         ),
         [_, what, tree, items] if what.as_str() == "act" => {

@@ -1,9 +1,10 @@
-//! How long steps of a station take, over a store in memory.
+//! How long steps of a station take, over a store in memory or in a file.
 
+use crate::stores;
 use smi_message::encode;
 use smi_out::Out;
 use smi_protocol::{Event, Heard, Order};
-use smi_stable::MemoryStable;
+use smi_stable::{MemoryStable, Stable};
 use smi_station::Station;
 use smi_tree::Tree;
 use std::time::{Duration, Instant};
@@ -22,7 +23,7 @@ enum Kind {
     State,
     /// Nothing is due: a tick of the last station.
     Tick,
-    /// A tick of the first station, whose operators take all they may.
+    /// A tick of the first station, whose operators take all they may and watch objects.
     Due,
 }
 
@@ -57,7 +58,11 @@ struct Desk {
 }
 
 /// A step, which is counted; what the station sends itself waits.
-fn step(station: &mut Kept<'_>, desk: &mut Desk, event: Event<'_>) -> io::Result<()> {
+fn step<S: Stable>(
+    station: &mut Station<'_, S>,
+    desk: &mut Desk,
+    event: Event<'_>,
+) -> io::Result<()> {
     let heard = station.step(event, &mut desk.out);
     let sent = desk.out.datagrams();
     desk.counted.steps = desk.counted.steps.wrapping_add(1);
@@ -136,9 +141,9 @@ fn asking(tree: &Tree, own: u16, kind: u8, epoch: u32) -> [u8; 44] {
 }
 
 /// The first operator takes the first domain at every even epoch, and drops it at every odd one.
-fn take_and_drop(
+fn take_and_drop<S: Stable>(
     tree: &Tree,
-    station: &mut Kept<'_>,
+    station: &mut Station<'_, S>,
     desk: &mut Desk,
     count: u32,
 ) -> io::Result<()> {
@@ -214,13 +219,22 @@ fn show(tree: &Tree, station: &mut Kept<'_>, desk: &mut Desk, count: u32) -> io:
     Ok(())
 }
 
-/// Every operator of the station takes as many domains as it may.
+/// How many of the last objects the first operator watches at most.
+const MOST_WATCHED: u16 = 48;
+
+/// Every operator of the station takes as many domains as it may, and the first one watches the last objects. Over the
+/// tree at every limit 192 datagrams are due then: 64 at each tick, since every third one ends with the last object.
 fn ask_for_all(tree: &Tree, station: &mut Kept<'_>, desk: &mut Desk) -> io::Result<()> {
     for operator in station.operators() {
         for number in 0..tree.domain_count() {
             let take = Order::Take(number.wrapping_add(1));
             step(station, desk, Event::Order(*operator, take))?;
         }
+    }
+    let last = tree.object_count();
+    for number in last.saturating_sub(MOST_WATCHED)..last {
+        let watch = Order::Watch(number.wrapping_add(1));
+        step(station, desk, Event::Order(1, watch))?;
     }
     desk.waiting.clear();
     Ok(())
@@ -355,4 +369,74 @@ fn over_tree(
         Ok(tree) => at_station(rt, &tree, kind, count),
         Err(_) => Err(io::Error::other("a faulty tree")),
     }
+}
+
+/// Prints how long so many datagrams take that take the first domain and drop it, at the first station, where the
+/// rows lie in a new file.
+pub fn print_stored(rt: &HostRuntime, tree: &str, path: &str, count: u32) -> io::Result<()> {
+    let bytes = fs::read(rt, tree)?;
+    let (time, counted) = stored_over_tree(rt, bytes.as_slice(), path, count)?;
+    println!(rt;
+        "{} steps: {} us, {} made",
+        counted.steps,
+        time.as_micros(),
+        counted.made
+    )
+}
+
+fn stored_over_tree(
+    rt: &HostRuntime,
+    bytes: &[u8],
+    path: &str,
+    count: u32,
+) -> io::Result<(Duration, Counted)> {
+    match Tree::read(rt.alloc(), bytes) {
+        Ok(tree) => stored_at_station(rt, &tree, path, count),
+        Err(_) => Err(io::Error::other("a faulty tree")),
+    }
+}
+
+fn stored_at_station(
+    rt: &HostRuntime,
+    tree: &Tree,
+    path: &str,
+    count: u32,
+) -> io::Result<(Duration, Counted)> {
+    match Station::open(rt.alloc(), tree, 1, stores::opened(rt, path)?) {
+        Ok(mut station) => {
+            let time = stored_at_desk(rt, tree, &mut station, count);
+            stores::close(station.into_stable())?;
+            time
+        }
+        Err((_, store)) => {
+            stores::close(store)?;
+            Err(io::Error::other("no station opened"))
+        }
+    }
+}
+
+fn stored_at_desk<S: Stable>(
+    rt: &HostRuntime,
+    tree: &Tree,
+    station: &mut Station<'_, S>,
+    count: u32,
+) -> io::Result<(Duration, Counted)> {
+    let mut desk = Desk {
+        out: Out::new(),
+        waiting: Vec::new(rt.alloc()),
+        counted: NOTHING,
+    };
+    stored(rt, tree, station, &mut desk, count)
+}
+
+fn stored<S: Stable>(
+    rt: &HostRuntime,
+    tree: &Tree,
+    station: &mut Station<'_, S>,
+    desk: &mut Desk,
+    count: u32,
+) -> io::Result<(Duration, Counted)> {
+    let start = Instant::now(rt)?;
+    take_and_drop(tree, station, desk, count)?;
+    Ok((start.elapsed(rt)?, desk.counted))
 }

@@ -1,7 +1,7 @@
 //! Saves of stable rows, beside plain writes of the same bytes.
 
 use smi_stable::{Key, SqliteStable, Stable, StoreFault};
-use sqlite::{Connection, File, FileStore};
+use sqlite::{File, FileStore};
 use std::fs;
 use std::io::{self, Write};
 use std::time::{Duration, Instant};
@@ -44,20 +44,29 @@ fn save_all<S: Stable>(store: &mut S, nth: u32, saves: u32, rows: u32) -> Result
     Ok(())
 }
 
-/// How long so many saves take over SQL, in a store that has each of so many keys once.
-pub fn save_time(rt: &HostRuntime, path: &str, saves: u32, rows: u32) -> io::Result<Duration> {
-    let connection = Connection::open(rt, path).map_err(store_fault)?;
+/// A store in a file, which is made where there is none.
+pub fn opened(rt: &HostRuntime, path: &str) -> io::Result<SqliteStable<FileStore<File>>> {
+    let connection = smi_file::open(rt, path).map_err(store_fault)?;
     match SqliteStable::adopt(connection) {
-        Ok(mut store) => {
-            let time = timed(rt, &mut store, saves, rows);
-            store.release().close().map_err(store_fault)?;
-            time
-        }
+        Ok(store) => Ok(store),
         Err((fault, connection)) => {
             let _ = connection.close();
             Err(store_fault(fault))
         }
     }
+}
+
+/// The file of a store is closed.
+pub fn close(store: SqliteStable<FileStore<File>>) -> io::Result<()> {
+    store.release().close().map_err(store_fault)
+}
+
+/// How long so many saves take over SQL, in a store that has each of so many keys once.
+pub fn save_time(rt: &HostRuntime, path: &str, saves: u32, rows: u32) -> io::Result<Duration> {
+    let mut store = opened(rt, path)?;
+    let time = timed(rt, &mut store, saves, rows);
+    close(store)?;
+    time
 }
 
 fn timed(

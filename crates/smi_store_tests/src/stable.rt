@@ -1,5 +1,6 @@
 //! Stores, by rows as docs/FORMATS.md writes them.
 
+mod begun;
 mod disks;
 mod saved;
 mod stopped;

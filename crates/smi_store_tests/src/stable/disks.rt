@@ -58,7 +58,7 @@ pub(super) fn opened(alloc: Global) -> Result<Store, Fail> {
 }
 
 /// The files once the machine is back.
-fn back(files: Disks) -> Disks {
+pub(super) fn back(files: Disks) -> Disks {
     let mut files = files;
     files.log.crash();
     files.db.crash();
