@@ -3,7 +3,7 @@
 Answers are measured beside a bare pipe and beside the same program in plain Rust, or in C where there is no rustc
 (tests/peer): in turn, medians of seven rounds after one that does not count; and in instructions a datagram where
 valgrind is installed. Drawn schedules have the median of as many rounds, with nothing beside them. Saves are measured
-in as many rounds beside the same saves by SQLite's C library, over pages as long, in turn: medians, and the median of
+in fifteen rounds beside the same saves by SQLite's C library, over pages as long, in turn: medians, and the median of
 the rounds' ratios. Of steps in memory each figure is the best of five rounds, of trees the best of twenty, of the
 program and of the plain measure alike.
 
@@ -29,6 +29,8 @@ ROUNDS = 5
 ITEMS = 1_000_000
 # The programs that answer are run in turn so often, after one run that does not count.
 TURNS = 7
+# A disk disturbs saves more than a processor disturbs answers, so those have more rounds.
+SAVE_TURNS = 15
 # A tree is read in a millisecond, which other work on the machine disturbs more.
 TREE_ROUNDS = 20
 GRANTS = 500_000
@@ -256,7 +258,7 @@ def on_disk(bench, measure):
     memory. What is compared is measured in turn, since the disk is now faster and now slower.
     """
     runs = []
-    for _ in range(1 + TURNS):
+    for _ in range(1 + SAVE_TURNS):
         with tempfile.TemporaryDirectory(dir=os.path.dirname(bench)) as folder:
             runs.append(measure(folder))
     return list(zip(*runs[1:]))
