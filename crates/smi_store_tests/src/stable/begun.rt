@@ -56,22 +56,36 @@ fn torn(page: &[u8], length: usize, zeros: usize) -> [u8; PAGE_BYTES] {
     bytes
 }
 
-/// Whether files with these bytes are begun, and the file is what it should be then.
-fn becomes(alloc: Global, log: &[u8], db: &[u8]) -> Result<Option<bool>, Fail> {
-    let mut files = files(alloc, log, db, u64::MAX)?;
-    let told = begun(&mut files)?;
+/// Whether files are begun, and the file is what it should be then.
+fn told_of(files: &mut Disks, db: &[u8]) -> Option<bool> {
+    let told = begun(files).ok()?;
     let bytes = files.db.inner().bytes();
     let is_so = if told { is_begun(bytes) } else { bytes == db };
-    Ok(if is_so { Some(told) } else { None })
+    if is_so { Some(told) } else { None }
+}
+
+fn becomes(alloc: Global, log: &[u8], db: &[u8]) -> Result<Option<bool>, Fail> {
+    let mut files = files(alloc, log, db, u64::MAX)?;
+    Ok(told_of(&mut files, db))
+}
+
+/// What a file is begun with.
+fn first_page(alloc: Global) -> Result<[u8; PAGE_BYTES], Fail> {
+    let mut files = files(alloc, &[], &[], u64::MAX)?;
+    let told = told_of(&mut files, &[]);
+    let page = torn(files.db.inner().bytes(), PAGE_BYTES, 0);
+    if told == Some(true) {
+        Ok(page)
+    } else {
+        Err("a new file is not begun")?
+    }
 }
 
 #[test]
 fn new_files_alone_are_begun(rt: HostRuntime) -> Result<(), Fail> {
     let alloc = rt.alloc();
-    let mut whole = files(alloc, &[], &[], u64::MAX)?;
-    assert!(rt; begun(&mut whole)?);
-    let page = whole.db.inner().bytes();
-    let mut other = torn(page, PAGE_BYTES, 0);
+    let page = &first_page(alloc)?;
+    let mut other = *page;
     other[511] = 1;
     let empty: &[u8] = &[];
     for (log, db, wanted) in [
