@@ -1,6 +1,6 @@
 /* Saves of stable rows by SQLite's C library, as smi_bench makes them: pages of 512 bytes, a log that is written ahead,
-   each save the same statement, handed to the device before it returns. Prints the microseconds of so many saves to a new store
-   that has so many rows, each there before.
+   each save the same statement, handed to the device before it returns. Prints the microseconds of so many saves to a
+   new store that has so many rows, each there before.
 
    usage: saves STORE SAVES ROWS */
 #include <sqlite3.h>

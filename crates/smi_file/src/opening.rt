@@ -1,6 +1,6 @@
 //! Opening the file of a store.
 
-ghost use Rattle.std.specs.Prelude.{◌≡◌, false, IsTrue, IfOk, IfErr};
+ghost use Rattle.std.specs.Prelude.{◌≡◌, true, false, codes, Err, IsTrue, IfOk, IfErr};
 ghost use Rattle.sqlite_store.specs.FileStore.{view};
 ghost use Rattle.sqlite.specs.State.{HasCleanDisk};
 ghost use Rattle.sqlite.specs.Held.{IsNew};
@@ -17,8 +17,10 @@ use std::io::ErrorKind;
 ///
 /// # Errors
 ///
-/// As `Connection::open` of `sqlite`, which opens it then.
+/// As `Connection::open` of `sqlite`, which opens it then; `:memory:` and a URI name no file. A file that was not there
+/// may be left, with nothing or its first page in it.
 pub fn open(rt: &HostRuntime, path: &str) -> Result<Connection<FileStore<File>>, Error>
+    ensures memory { path.now ≡ codes ":memory:" → result ≡ Err (Error.SqliteFailure ErrorCode.CannotOpen) }
     ensures named { IfErr result (λ e. IsTrue (is_open_error e)) }
     ensures opened { IfOk result (λ c. HasCleanDisk (file_state c) → IsOpened c) }
     ensures plain { IfOk result (λ c. HasCleanDisk (file_state c) → (view c.store).has_sums ≡ false) }
@@ -31,12 +33,14 @@ pub fn open(rt: &HostRuntime, path: &str) -> Result<Connection<FileStore<File>>,
     {
         return Err(Error::SqliteFailure(ErrorCode::OutOfMemory));
     }
-    // Any other fault comes again here, and is told.
+    // Whatever else went wrong, `sqlite` tells of the file as it is, or makes it if it is still empty.
     Connection::open(rt, path)
 }
 
 /// Whether SQLite opens no file by this path.
-fn names_no_file(path: &str) -> bool {
+fn names_no_file(path: &str) -> bool
+    ensures memory { path.now ≡ codes ":memory:" → result ≡ true }
+{
     path == ":memory:" || path.starts_with("file:")
 }
 
