@@ -1,3 +1,4 @@
 pub mod Link
 pub mod Memory
+pub mod Patience
 pub mod Udp

@@ -15,6 +15,7 @@ mod frame;
 mod growth;
 mod link;
 mod memory;
+mod patience;
 mod udp;
 
 pub use link::{DATAGRAM_BYTES, DatagramLink, LinkFault, MOST_BYTES, Reception};

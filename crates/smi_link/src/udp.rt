@@ -1,28 +1,33 @@
 use crate::link::{DatagramLink, LinkFault, Reception};
+use crate::patience::{MOST_PATIENCE, Patience};
 use smi_tally::Tally;
 use std::io;
 use std::io::ErrorKind;
 use std::marker::Model;
 use std::net::{Net, SocketAddr, UdpSocket};
-use std::time::Duration;
-
-/// How long a call of `receive` waits for a datagram, in milliseconds.
-const PATIENCE: u64 = 10;
+use std::time::{Clock, Duration, Instant};
 
 /// A link over a UDP socket (RFC 768), which tells nothing of its datagrams.
 ///
-/// A call of `receive` waits ten milliseconds at most, and then nothing has come. A datagram over 44
-/// bytes is received as its first 45. A send to a station without an address is a fault.
+/// A call of `receive` waits ten milliseconds at most, and then nothing has come. Nothing has also come once ten
+/// milliseconds have passed by the clock since the first call after the last `Nothing`, however many datagrams wait
+/// in the socket: they are given by later calls. So whoever receives again and again is told `Nothing` close to a
+/// hundred times a second under load. Where the clock can't be read, a call waits as if it were the first. A datagram
+/// over 44 bytes is received as its first 45. A send to a station without an address is a fault.
 ///
 /// Contracts see the addresses, by station from 1, and how often the link failed.
 #[derive(Drop)]
-pub struct UdpLink {
+pub struct UdpLink<C: Clock + Drop> {
     socket: UdpSocket,
     peers: Vec<SocketAddr>,
     faults: Tally,
+    clock: C,
+    patience: Patience,
+    /// How long the socket itself waits, in milliseconds.
+    waits: u64,
 }
 
-impl Model for UdpLink {
+impl<C: Clock + Drop> Model for UdpLink<C> {
     ghost use Rattle.smi_link.specs.Udp.{Peered};
 
     ghost Value = { Peered };
@@ -30,29 +35,37 @@ impl Model for UdpLink {
     ghost view = { λ l. record { peers = l.peers.items; failures = l.faults.count } };
 }
 
-impl UdpLink {
+impl<C: Clock + Drop> UdpLink<C> {
     ghost use Rattle.std.specs.Prelude.{◌≡◌, OnOk, IfOk, IfSome, slice_get};
     ghost use Rattle.smi_link.specs.Udp.{HasAddress, address_of};
 
     /// A link over a socket, where the stations, by number from 1, are reached at these addresses.
     ///
     /// Its error is that of the socket, which then is closed.
-    pub fn over(socket: UdpSocket, peers: Vec<SocketAddr>) -> io::Result<UdpLink>
+    pub fn over(socket: UdpSocket, clock: C, peers: Vec<SocketAddr>) -> io::Result<UdpLink<C>>
         ensures peers { IfOk result (λ link. link.peers ≡ peers.items) }
         ensures failures { IfOk result (λ link. link.failures ≡ 0) }
     {
-        socket.set_read_timeout(Some(Duration::from_millis(PATIENCE)))?;
+        socket.set_read_timeout(Some(Duration::from_millis(MOST_PATIENCE)))?;
         Ok(UdpLink {
             socket,
             peers,
             faults: Tally::zero(),
+            clock,
+            patience: Patience::new(),
+            waits: MOST_PATIENCE,
         })
     }
 
     /// A link of a station at its own address, the `station`-th of these from 1.
     ///
     /// Its error is that the station has no address, or that it could not be had.
-    pub fn open<R: Net>(rt: &R, station: u16, peers: Vec<SocketAddr>) -> io::Result<UdpLink>
+    pub fn open<R: Net>(
+        rt: &R,
+        clock: C,
+        station: u16,
+        peers: Vec<SocketAddr>,
+    ) -> io::Result<UdpLink<C>>
         ensures own { OnOk result (HasAddress peers.items station) }
         ensures peers { IfOk result (λ link. link.peers ≡ peers.items) }
         ensures failures { IfOk result (λ link. link.failures ≡ 0) }
@@ -61,7 +74,7 @@ impl UdpLink {
         let Some(address) = own.and_then(|place| peers.get(place)) else {
             return Err(io::Error::from(ErrorKind::InvalidInput));
         };
-        UdpLink::over(UdpSocket::bind(rt, *address)?, peers)
+        UdpLink::over(UdpSocket::bind(rt, *address)?, clock, peers)
     }
 
     /// Where a station is reached.
@@ -71,9 +84,42 @@ impl UdpLink {
         let place = usize::from(station).checked_sub(1)?;
         self.peers.get(place).copied()
     }
+
+    /// How long this call may wait, in milliseconds.
+    fn patience(&mut self) -> u64
+        ensures { self.new ≡ self.old }
+    {
+        match Instant::now(&self.clock) {
+            Ok(now) => self.patience.left(now),
+            Err(_) => MOST_PATIENCE,
+        }
+    }
+
+    /// The socket waits no longer than so many milliseconds from now on, or as long as before where that fails.
+    fn wait_at_most(&mut self, waits: u64)
+        ensures { self.new ≡ self.old }
+    {
+        if self.waits != waits
+            && self
+                .socket
+                .set_read_timeout(Some(Duration::from_millis(waits)))
+                .is_ok()
+        {
+            self.waits = waits;
+        }
+    }
+
+    /// Nothing has come: patience begins anew.
+    fn nothing(&mut self) -> Reception
+        ensures nothing { result ≡ Reception.Nothing }
+        ensures same { self.new ≡ self.old }
+    {
+        self.patience = Patience::new();
+        Reception::Nothing
+    }
 }
 
-impl DatagramLink for UdpLink {
+impl<C: Clock + Drop> DatagramLink for UdpLink<C> {
     ghost use Rattle.std.specs.Prelude.{None, ℕ, List, ◌≡◌, OnOk};
     ghost use Rattle.smi_link.specs.Link.{Receives, Sends, CountsReception, CountsSend};
     ghost use Rattle.smi_link.specs.Udp.{HasAddress};
@@ -89,9 +135,14 @@ impl DatagramLink for UdpLink {
         ensures failures { CountsReception result self.old.failures self.new.failures }
         ensures peers { self.new.peers ≡ self.old.peers }
     {
+        let patience = self.patience();
+        if patience == 0 {
+            return self.nothing();
+        }
+        self.wait_at_most(patience);
         match self.socket.recv_from(buffer) {
             Ok((count, _)) => Reception::Received(count),
-            Err(error) if error.kind() == ErrorKind::WouldBlock => Reception::Nothing,
+            Err(error) if error.kind() == ErrorKind::WouldBlock => self.nothing(),
             Err(_) => {
                 self.faults.raise();
                 Reception::Fault

@@ -41,7 +41,7 @@ fn whole_datagrams_over_udp(rt: HostRuntime) -> Result<(), Fail> {
     let mut peers = Vec::new(rt.alloc());
     peers.push(here)?;
     peers.push(there.local_addr()?)?;
-    let mut link = UdpLink::over(socket, peers)?;
+    let mut link = UdpLink::over(socket, &rt, peers)?;
     assert_eq!(rt; link.receive(&mut buffer), Reception::Nothing);
     for datagram in [&long[..44], &long[..43], &long[..45], &long[..]] {
         there.send_to(datagram, here)?;
