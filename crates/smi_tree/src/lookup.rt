@@ -58,7 +58,7 @@ impl Tree {
         requires most { station ≤ station_count self.now }
         ensures { entry self.now.addresses station ≡ Some result }
     {
-        self.tables.addresses[usize::from(station) - 1]
+        self.parts.tables.addresses[usize::from(station) - 1]
     }
 
     /// The operators of a station, by number.
@@ -67,7 +67,7 @@ impl Tree {
         requires most { station ≤ station_count self.now }
         ensures { result.now ≡ operators_of self.now station }
     {
-        &self.operators[usize::from(station) - 1]
+        &self.parts.operators[usize::from(station) - 1]
     }
 
     /// The station of an operator.
@@ -76,7 +76,7 @@ impl Tree {
         requires most { operator ≤ operator_count self.now }
         ensures { entry self.now.homes operator ≡ Some result }
     {
-        self.tables.homes[usize::from(operator) - 1]
+        self.parts.tables.homes[usize::from(operator) - 1]
     }
 
     /// The station, the class and the parent of a domain.
@@ -85,14 +85,14 @@ impl Tree {
         requires most { domain ≤ domain_count self.now }
         ensures { entry self.now.domains domain ≡ Some result }
     {
-        self.tables.domains[usize::from(domain) - 1]
+        self.parts.tables.domains[usize::from(domain) - 1]
     }
 
     /// The domain above a domain, none for a root.
     pub fn parent(&self, domain: u16) -> Option<u16>
         ensures { result ≡ parent_of self.now domain }
     {
-        parent_in(&self.tables.domains, domain)
+        parent_in(&self.parts.tables.domains, domain)
     }
 
     /// The children of a domain, by number.
@@ -101,7 +101,7 @@ impl Tree {
         requires most { domain ≤ domain_count self.now }
         ensures { result.now ≡ children_of self.now domain }
     {
-        &self.children[usize::from(domain) - 1]
+        &self.parts.children[usize::from(domain) - 1]
     }
 
     /// The devices of a domain, by number.
@@ -110,14 +110,14 @@ impl Tree {
         requires most { domain ≤ domain_count self.now }
         ensures { result.now ≡ devices_of self.now domain }
     {
-        &self.devices[usize::from(domain) - 1]
+        &self.parts.devices[usize::from(domain) - 1]
     }
 
     /// The child of a domain that a target is below or is, where the target is below the domain.
     pub fn child_towards(&self, domain: u16, target: u16) -> Option<u16>
         ensures { result ≡ child_towards self.now domain target }
     {
-        towards(&self.tables.domains, domain, target)
+        towards(&self.parts.tables.domains, domain, target)
     }
 
     /// Whether a chain of parents leads from a target to a domain. No domain is below itself.
@@ -133,17 +133,17 @@ impl Tree {
         requires most { device ≤ device_count self.now }
         ensures { entry self.now.devices device ≡ Some result }
     {
-        self.tables.devices.rows()[usize::from(device) - 1]
+        self.parts.tables.devices.rows()[usize::from(device) - 1]
     }
 
     /// The state to which an action moves a device: its own where its class has no row for the two.
     pub fn moved(&self, device: u16, state: u16, action: u16) -> u16
         ensures { result ≡ moved self.now device state action }
     {
-        let Some(row) = entry(self.tables.devices.rows(), device) else {
+        let Some(row) = entry(self.parts.tables.devices.rows(), device) else {
             return state;
         };
-        match self.tables.moves.find(row.class, state, action) {
+        match self.parts.tables.moves.find(row.class, state, action) {
             Some(found) => found.to,
             None => state,
         }
@@ -153,16 +153,16 @@ impl Tree {
     fn class_of_domain(&self, domain: u16) -> Option<&Class>
         ensures { option_copied result ≡ class_of_domain self.now domain }
     {
-        let row = entry(&self.tables.domains, domain)?;
-        entry(&self.tables.classes, row.class)
+        let row = entry(&self.parts.tables.domains, domain)?;
+        entry(&self.parts.tables.classes, row.class)
     }
 
     /// The table of a device's class.
     fn class_of_device(&self, device: u16) -> Option<&Class>
         ensures { option_copied result ≡ class_of_device self.now device }
     {
-        let row = entry(self.tables.devices.rows(), device)?;
-        entry(&self.tables.classes, row.class)
+        let row = entry(self.parts.tables.devices.rows(), device)?;
+        entry(&self.parts.tables.classes, row.class)
     }
 
     /// Whether a domain accepts an action.

@@ -17,6 +17,13 @@ use std::marker::Model;
 /// file"), and each number in it is one that is there.
 #[derive(Debug, Drop)]
 pub struct Tree {
+    // Behind a box, so that a place that drops a tree is not dear to prove.
+    pub(crate) parts: Box<Parts>,
+}
+
+/// What a tree is made of.
+#[derive(Debug, Drop)]
+pub(crate) struct Parts {
     pub(crate) tables: Tables,
     /// The children of each domain, by number.
     pub(crate) children: Vec<Vec<u16>>,
@@ -33,9 +40,10 @@ impl Model for Tree {
 
     ghost use Rattle.smi_tree.specs.Indexed.{IsIndexed};
 
-    ghost view = { λ t. t.tables };
+    ghost view = { λ t. t.parts.value.tables };
 
-    ghost invariant = { λ t. IsIndexed t.tables t.children.items t.devices.items t.operators.items };
+    ghost invariant = { λ t. IsIndexed t.parts.value.tables t.parts.value.children.items t.parts.value.devices.items
+        t.parts.value.operators.items };
 }
 
 /// Numbers, grouped by what they belong to.
@@ -99,11 +107,14 @@ impl Tree {
         ensures { IfOk result (λ tree. tree ≡ tables) }
     {
         let (children, devices, operators) = lists_of(alloc, &tables)?;
-        Ok(Tree {
+        let parts = Parts {
             tables,
             children,
             devices,
             operators,
+        };
+        Ok(Tree {
+            parts: Box::new(alloc, parts)?,
         })
     }
 
@@ -112,7 +123,7 @@ impl Tree {
         ensures value { result ≡ self.now.number }
         ensures tree { IsTree self.now }
     {
-        self.tables.number
+        self.parts.tables.number
     }
 
     /// How many states there are, 1 at least.
@@ -120,7 +131,7 @@ impl Tree {
         ensures value { result ≡ state_count self.now }
         ensures tree { IsTree self.now }
     {
-        self.tables.state_names.len() as u16
+        self.parts.tables.state_names.len() as u16
     }
 
     /// How many actions there are, 1 at least.
@@ -128,7 +139,7 @@ impl Tree {
         ensures value { result ≡ action_count self.now }
         ensures tree { IsTree self.now }
     {
-        self.tables.action_names.len() as u16
+        self.parts.tables.action_names.len() as u16
     }
 
     /// How many stations there are, 1 at least.
@@ -136,7 +147,7 @@ impl Tree {
         ensures value { result ≡ station_count self.now }
         ensures tree { IsTree self.now }
     {
-        self.tables.station_names.len() as u16
+        self.parts.tables.station_names.len() as u16
     }
 
     /// How many operators there are, 1 at least.
@@ -144,7 +155,7 @@ impl Tree {
         ensures value { result ≡ operator_count self.now }
         ensures tree { IsTree self.now }
     {
-        self.tables.operator_names.len() as u16
+        self.parts.tables.operator_names.len() as u16
     }
 
     /// How many domains there are, 1 at least.
@@ -152,7 +163,7 @@ impl Tree {
         ensures value { result ≡ domain_count self.now }
         ensures tree { IsTree self.now }
     {
-        self.tables.domain_names.len() as u16
+        self.parts.tables.domain_names.len() as u16
     }
 
     /// How many devices there are.
@@ -160,7 +171,7 @@ impl Tree {
         ensures value { result ≡ device_count self.now }
         ensures tree { IsTree self.now }
     {
-        self.tables.device_names.len() as u16
+        self.parts.tables.device_names.len() as u16
     }
 
     /// How many units and devices there are.
@@ -176,7 +187,7 @@ impl Tree {
         requires most { state ≤ state_count self.now }
         ensures { entry self.now.state_names state ≡ Some result.now }
     {
-        self.tables.state_names.name(state)
+        self.parts.tables.state_names.name(state)
     }
 
     /// The name of an action.
@@ -185,7 +196,7 @@ impl Tree {
         requires most { action ≤ action_count self.now }
         ensures { entry self.now.action_names action ≡ Some result.now }
     {
-        self.tables.action_names.name(action)
+        self.parts.tables.action_names.name(action)
     }
 
     /// The name of a station.
@@ -194,7 +205,7 @@ impl Tree {
         requires most { station ≤ station_count self.now }
         ensures { entry self.now.station_names station ≡ Some result.now }
     {
-        self.tables.station_names.name(station)
+        self.parts.tables.station_names.name(station)
     }
 
     /// The name of an operator.
@@ -203,7 +214,7 @@ impl Tree {
         requires most { operator ≤ operator_count self.now }
         ensures { entry self.now.operator_names operator ≡ Some result.now }
     {
-        self.tables.operator_names.name(operator)
+        self.parts.tables.operator_names.name(operator)
     }
 
     /// The name of a domain.
@@ -212,7 +223,7 @@ impl Tree {
         requires most { domain ≤ domain_count self.now }
         ensures { entry self.now.domain_names domain ≡ Some result.now }
     {
-        self.tables.domain_names.name(domain)
+        self.parts.tables.domain_names.name(domain)
     }
 
     /// The name of a device.
@@ -221,7 +232,7 @@ impl Tree {
         requires most { device ≤ device_count self.now }
         ensures { entry self.now.device_names device ≡ Some result.now }
     {
-        self.tables.device_names.name(device)
+        self.parts.tables.device_names.name(device)
     }
 
     /// The name of a unit or a device.
@@ -243,7 +254,7 @@ impl Tree {
         ensures number { result ≡ number_of self.now.state_names name.now }
         ensures within { IfSome result (IsBetween 1 (state_count self.now)) }
     {
-        self.tables.state_names.find(&Sought::of(name))
+        self.parts.tables.state_names.find(&Sought::of(name))
     }
 
     /// The number of an action by its name.
@@ -251,7 +262,7 @@ impl Tree {
         ensures number { result ≡ number_of self.now.action_names name.now }
         ensures within { IfSome result (IsBetween 1 (action_count self.now)) }
     {
-        self.tables.action_names.find(&Sought::of(name))
+        self.parts.tables.action_names.find(&Sought::of(name))
     }
 
     /// The number of a station by its name.
@@ -259,7 +270,7 @@ impl Tree {
         ensures number { result ≡ number_of self.now.station_names name.now }
         ensures within { IfSome result (IsBetween 1 (station_count self.now)) }
     {
-        self.tables.station_names.find(&Sought::of(name))
+        self.parts.tables.station_names.find(&Sought::of(name))
     }
 
     /// The number of an operator by its name.
@@ -267,7 +278,7 @@ impl Tree {
         ensures number { result ≡ number_of self.now.operator_names name.now }
         ensures within { IfSome result (IsBetween 1 (operator_count self.now)) }
     {
-        self.tables.operator_names.find(&Sought::of(name))
+        self.parts.tables.operator_names.find(&Sought::of(name))
     }
 
     /// The number of a domain by its name.
@@ -275,7 +286,7 @@ impl Tree {
         ensures number { result ≡ number_of self.now.domain_names name.now }
         ensures within { IfSome result (IsBetween 1 (domain_count self.now)) }
     {
-        self.tables.domain_names.find(&Sought::of(name))
+        self.parts.tables.domain_names.find(&Sought::of(name))
     }
 
     /// The number of a device by its name.
@@ -283,7 +294,7 @@ impl Tree {
         ensures number { result ≡ number_of self.now.device_names name.now }
         ensures within { IfSome result (IsBetween 1 (device_count self.now)) }
     {
-        self.tables.device_names.find(&Sought::of(name))
+        self.parts.tables.device_names.find(&Sought::of(name))
     }
 
     /// The number of a unit or a device by its name.
