@@ -9,6 +9,7 @@ ghost use Rattle.smi_node.specs.Linked.{shown_by};
 use crate::sending::send_all;
 use crate::showing::publish;
 use crate::telling::{mark_newest, tell_all, tell_newest};
+use crate::witness::{Nobody, Witness};
 use smi_link::DatagramLink;
 use smi_operator::Desk;
 use smi_out::Out;
@@ -122,8 +123,8 @@ fn follow<L: DatagramLink, J: BoardId, R: Wait>(
     }
 }
 
-/// [`carry`], with the operators of the station at hand.
-pub(crate) fn carry_for<S: Stable, L: DatagramLink, J: BoardId, R: Wait>(
+/// [`carry`], with the operators of the station at hand, before a witness.
+pub(crate) fn carry_for<S: Stable, L: DatagramLink, J: BoardId, V: Witness, R: Wait>(
     rt: &R,
     operators: &[u16],
     station: &mut Station<'_, S>,
@@ -133,6 +134,7 @@ pub(crate) fn carry_for<S: Stable, L: DatagramLink, J: BoardId, R: Wait>(
     link: &mut L,
     desk: &mut Desk,
     board: &mut Board<J>,
+    witness: &mut V,
 ) -> Result<(), CarryFault>
     ensures { Carries (StepsTo S.is_honest S.is_open S.rows S.saves S.failures) operators.now event.entry seat
         out.new (node station.old (edges (shown_by L.received L.handed L.failures link.old) desk.old board.old))
@@ -141,6 +143,7 @@ pub(crate) fn carry_for<S: Stable, L: DatagramLink, J: BoardId, R: Wait>(
 {
     let is_report = is_report(&event);
     let made = step(station, event, out);
+    witness.saw(&made, out);
     if is_stopped_by(&made) {
         return Err(CarryFault::Stopped);
     }
@@ -184,5 +187,17 @@ pub fn carry<S: Stable, L: DatagramLink, J: BoardId, R: Wait>(
         (fault_in result) }
 {
     let operators = station.operators();
-    carry_for(rt, operators, station, event, seat, out, link, desk, board)
+    let mut witness = Nobody;
+    carry_for(
+        rt,
+        operators,
+        station,
+        event,
+        seat,
+        out,
+        link,
+        desk,
+        board,
+        &mut witness,
+    )
 }

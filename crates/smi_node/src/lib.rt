@@ -2,7 +2,8 @@
 //!
 //! [`carry`] takes one event to the station and carries on what follows its step: datagrams are sent, a shown state is
 //! published, and answers go to the orders in work that they are of. [`serve`] does nothing but that, turn after turn,
-//! with what comes over the link and what the seats give: begin there. Both are for any store, any link and any board;
+//! with what comes over the link and what the seats give: begin there. [`serve_before`] is the same with a [`Witness`],
+//! who is told of each step. All are for any store, any link and any board;
 //! neither opens or reads anything, and what they wait for is the link and the board's readers.
 //!
 //! What they leave is a relation between the node before and after (`specs/Carried.antt` for one event,
@@ -15,6 +16,8 @@ mod sending;
 mod serving;
 mod showing;
 mod telling;
+mod witness;
 
 pub use carrying::{CarryFault, carry};
-pub use serving::{ServeFault, serve};
+pub use serving::{ServeFault, serve, serve_before};
+pub use witness::{Nobody, Witness};

@@ -11,6 +11,7 @@ ghost use Rattle.smi_node.specs.Turning.{HearsSo, TurnsSo, ended_by, in_a_row};
 
 use crate::carrying::{CarryFault, carry_for};
 use crate::telling::tell_newest;
+use crate::witness::{Nobody, Witness};
 use smi_link::{DatagramLink, Reception};
 use smi_operator::Desk;
 use smi_out::Out;
@@ -65,7 +66,7 @@ fn event_of(who: Option<u16>, order: Order) -> Option<Event<'static>>
 }
 
 /// An order is carried as its event, or told that it is not for this station.
-fn obey<S: Stable, L: DatagramLink, J: BoardId, R: Wait>(
+fn obey<S: Stable, L: DatagramLink, J: BoardId, V: Witness, R: Wait>(
     rt: &R,
     operators: &[u16],
     seat: usize,
@@ -75,6 +76,7 @@ fn obey<S: Stable, L: DatagramLink, J: BoardId, R: Wait>(
     link: &mut L,
     desk: &mut Desk,
     board: &mut Board<J>,
+    witness: &mut V,
 ) -> Result<(), CarryFault>
     ensures { Obeys (carrying (StepsTo S.is_honest S.is_open S.rows S.saves S.failures) operators.now) seat
         event.entry (node station.old (edges (shown_by L.received L.handed L.failures link.old) desk.old board.old))
@@ -92,6 +94,7 @@ fn obey<S: Stable, L: DatagramLink, J: BoardId, R: Wait>(
             link,
             desk,
             board,
+            witness,
         ),
         None => {
             tell_newest(desk, Some(seat), NOT_HERE);
@@ -101,7 +104,7 @@ fn obey<S: Stable, L: DatagramLink, J: BoardId, R: Wait>(
 }
 
 /// A seat gives at most one order, which is obeyed at once.
-fn serve_seat<S: Stable, L: DatagramLink, J: BoardId, R: Wait>(
+fn serve_seat<S: Stable, L: DatagramLink, J: BoardId, V: Witness, R: Wait>(
     rt: &R,
     operators: &[u16],
     who: Option<u16>,
@@ -111,6 +114,7 @@ fn serve_seat<S: Stable, L: DatagramLink, J: BoardId, R: Wait>(
     link: &mut L,
     desk: &mut Desk,
     board: &mut Board<J>,
+    witness: &mut V,
 ) -> Result<(), CarryFault>
     requires { seat < seat_count desk.old }
     ensures { ServesSeat (carrying (StepsTo S.is_honest S.is_open S.rows S.saves S.failures) operators.now) who seat
@@ -129,13 +133,14 @@ fn serve_seat<S: Stable, L: DatagramLink, J: BoardId, R: Wait>(
             link,
             desk,
             board,
+            witness,
         ),
         None => Ok(()),
     }
 }
 
 /// Each seat is served, by number.
-fn serve_seats<S: Stable, L: DatagramLink, J: BoardId, R: Wait>(
+fn serve_seats<S: Stable, L: DatagramLink, J: BoardId, V: Witness, R: Wait>(
     rt: &R,
     operators: &[u16],
     station: &mut Station<'_, S>,
@@ -143,6 +148,7 @@ fn serve_seats<S: Stable, L: DatagramLink, J: BoardId, R: Wait>(
     link: &mut L,
     desk: &mut Desk,
     board: &mut Board<J>,
+    witness: &mut V,
 ) -> Result<(), CarryFault>
     ensures { ServesAll (carrying (StepsTo S.is_honest S.is_open S.rows S.saves S.failures) operators.now)
         operators.now (seat_count desk.old) (node station.old
@@ -153,7 +159,9 @@ fn serve_seats<S: Stable, L: DatagramLink, J: BoardId, R: Wait>(
     let seats = desk.seat_count();
     for seat in 0..seats {
         let who = speaker(operators, seats, seat);
-        match serve_seat(rt, operators, who, seat, station, out, link, desk, board) {
+        match serve_seat(
+            rt, operators, who, seat, station, out, link, desk, board, witness,
+        ) {
             Ok(()) => {}
             Err(fault) => return Err(fault),
         }
@@ -175,7 +183,7 @@ fn has_come(carried: Result<(), CarryFault>) -> Result<bool, CarryFault>
 ghost use Rattle.std.specs.Prelude.{false};
 
 /// What comes over the link is carried: a datagram as its delivery, nothing as a tick. Whether the link failed.
-fn hear<S: Stable, L: DatagramLink, J: BoardId, R: Wait>(
+fn hear<S: Stable, L: DatagramLink, J: BoardId, V: Witness, R: Wait>(
     rt: &R,
     operators: &[u16],
     station: &mut Station<'_, S>,
@@ -183,6 +191,7 @@ fn hear<S: Stable, L: DatagramLink, J: BoardId, R: Wait>(
     link: &mut L,
     desk: &mut Desk,
     board: &mut Board<J>,
+    witness: &mut V,
 ) -> Result<bool, CarryFault>
     ensures { HearsSo (carrying (StepsTo S.is_honest S.is_open S.rows S.saves S.failures) operators.now)
         (node station.old (edges (shown_by L.received L.handed L.failures link.old) desk.old board.old))
@@ -192,7 +201,9 @@ fn hear<S: Stable, L: DatagramLink, J: BoardId, R: Wait>(
     match link.receive(&mut buffer) {
         Reception::Received(count) => {
             let event = Event::Datagram(&buffer[..count]);
-            has_come(carry_for(rt, operators, station, event, None, out, link, desk, board))
+            has_come(carry_for(
+                rt, operators, station, event, None, out, link, desk, board, witness,
+            ))
         }
         Reception::Nothing => has_come(carry_for(
             rt,
@@ -204,13 +215,14 @@ fn hear<S: Stable, L: DatagramLink, J: BoardId, R: Wait>(
             link,
             desk,
             board,
+            witness,
         )),
         Reception::Fault => Ok(true),
     }
 }
 
 /// One turn. Whether the link failed in it.
-fn turn<S: Stable, L: DatagramLink, J: BoardId, R: Wait>(
+fn turn<S: Stable, L: DatagramLink, J: BoardId, V: Witness, R: Wait>(
     rt: &R,
     operators: &[u16],
     station: &mut Station<'_, S>,
@@ -218,14 +230,15 @@ fn turn<S: Stable, L: DatagramLink, J: BoardId, R: Wait>(
     link: &mut L,
     desk: &mut Desk,
     board: &mut Board<J>,
+    witness: &mut V,
 ) -> Result<bool, CarryFault>
     ensures { TurnsSo (carrying (StepsTo S.is_honest S.is_open S.rows S.saves S.failures) operators.now)
         operators.now
         (node station.old (edges (shown_by L.received L.handed L.failures link.old) desk.old board.old))
         (node station.new (edges (shown_by L.received L.handed L.failures link.new) desk.new board.new)) result }
 {
-    match hear(rt, operators, station, out, link, desk, board) {
-        Ok(failed) => match serve_seats(rt, operators, station, out, link, desk, board) {
+    match hear(rt, operators, station, out, link, desk, board, witness) {
+        Ok(failed) => match serve_seats(rt, operators, station, out, link, desk, board, witness) {
             Ok(()) => Ok(failed),
             Err(fault) => Err(fault),
         },
@@ -249,6 +262,36 @@ fn ended_by(fault: CarryFault) -> ServeFault
         CarryFault::Stopped => ServeFault::Stopped,
         CarryFault::Memory => ServeFault::Memory,
     }
+}
+
+/// Serves as [`serve`] does, and by the same contract; each step is told to a witness.
+pub fn serve_before<S: Stable, L: DatagramLink, J: BoardId, V: Witness, R: Wait>(
+    rt: &R,
+    station: &mut Station<'_, S>,
+    link: &mut L,
+    desk: &mut Desk,
+    board: &mut Board<J>,
+    witness: &mut V,
+    turns: u32,
+) -> Result<(), ServeFault>
+    ensures { Serves (carrying (StepsTo S.is_honest S.is_open S.rows S.saves S.failures)
+        (operators_in station.old.core)) (operators_in station.old.core) turns
+        (node station.old (edges (shown_by L.received L.handed L.failures link.old) desk.old board.old))
+        (node station.new (edges (shown_by L.received L.handed L.failures link.new) desk.new board.new)) result }
+{
+    let operators = station.operators();
+    let mut out = Out::new();
+    let mut faults: u32 = 0;
+    for _ in 0..turns {
+        match turn(rt, operators, station, &mut out, link, desk, board, witness) {
+            Ok(failed) => faults = in_a_row(faults, failed),
+            Err(fault) => return Err(ended_by(fault)),
+        }
+        if faults == MOST_FAULTS {
+            return Err(ServeFault::Link);
+        }
+    }
+    Ok(())
 }
 
 /// Serves a station for so many turns.
@@ -275,17 +318,6 @@ pub fn serve<S: Stable, L: DatagramLink, J: BoardId, R: Wait>(
         (node station.old (edges (shown_by L.received L.handed L.failures link.old) desk.old board.old))
         (node station.new (edges (shown_by L.received L.handed L.failures link.new) desk.new board.new)) result }
 {
-    let operators = station.operators();
-    let mut out = Out::new();
-    let mut faults: u32 = 0;
-    for _ in 0..turns {
-        match turn(rt, operators, station, &mut out, link, desk, board) {
-            Ok(failed) => faults = in_a_row(faults, failed),
-            Err(fault) => return Err(ended_by(fault)),
-        }
-        if faults == MOST_FAULTS {
-            return Err(ServeFault::Link);
-        }
-    }
-    Ok(())
+    let mut witness = Nobody;
+    serve_before(rt, station, link, desk, board, &mut witness, turns)
 }

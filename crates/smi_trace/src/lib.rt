@@ -3,8 +3,9 @@
 //! [`spell`] puts the text of a [`Line`](smi_protocol::Line) into a buffer, and [`write_lines`] writes lines one by one
 //! through such a buffer, so that no text of a whole trace is ever kept. A line's words are put together in `entries`
 //! and `orders`; how a name, a holder or a number is written stands in `names` and `words`. The lines stand in
-//! docs/FORMATS.md, "Traces". Two lines that no trace has, and a running node prints, are put together from the same
-//! words: how a report ended ([`spell_report`]), and what a board shows of an object ([`spell_board`]).
+//! docs/FORMATS.md, "Traces". Three lines that no trace has, and a running node prints, are put together from the same
+//! words: how a report ended ([`spell_report`]), what a board shows of an object ([`spell_board`]), and which orders
+//! are under way ([`spell_waiting`]).
 #![tactic(auto)]
 
 mod entries;
@@ -17,5 +18,5 @@ mod words;
 mod write;
 
 pub use line::spell;
-pub use node::{spell_board, spell_report};
+pub use node::{spell_board, spell_report, spell_waiting};
 pub use write::{Unwritten, write_line, write_lines};

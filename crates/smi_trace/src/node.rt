@@ -1,16 +1,16 @@
 //! The lines that a running node prints and no trace has.
 
 ghost use Rattle.std.specs.Prelude.{◌≡◌, ◌∷◌, [], OnOk, MatchResult, codes};
-ghost use Rattle.smi_trace.specs.Node.{board_text, report_text};
+ghost use Rattle.smi_trace.specs.Node.{board_text, report_text, waiting_text};
 ghost use Rattle.smi_trace.specs.Text.{line_of};
 ghost use Rattle.smi_trace.specs.Words.{object_word};
 
 use crate::entries::push_shown;
 use crate::names;
 use crate::orders::{push_answer, push_order};
-use crate::words::{begin, end, push_called, push_word};
+use crate::words::{begin, end, push_called, push_number, push_word};
 use smi_grant::Shown;
-use smi_protocol::Told;
+use smi_protocol::{Order, Told};
 use smi_tree::Tree;
 use std::alloc::AllocError;
 
@@ -76,6 +76,43 @@ pub fn spell_board(
     ensures { MatchResult result (λ _. text.new.items ≡ board_text tree.now object shown) (λ _. text.new.items ≡ []) }
 {
     let spelled = spell_shown(text, tree, object, shown);
+    if spelled.is_err() {
+        text.clear();
+    }
+    spelled
+}
+
+fn spell_under_way(
+    text: &mut Vec<u8>,
+    tree: &Tree,
+    operator: u16,
+    order: Order,
+    seconds: u64,
+) -> Result<(), AllocError>
+    ensures { OnOk result (text.new.items ≡ waiting_text tree.now operator order seconds) }
+{
+    begin(text, b"way")?;
+    push_called(text, names::operator(tree, operator), operator)?;
+    push_order(text, tree, order)?;
+    push_number(text, seconds)?;
+    end(text)
+}
+
+/// Puts the line of an operator's order that is under way into a buffer, in place of what was there, with the seconds
+/// since it was given.
+///
+/// Out of memory is answered only where the buffer was refused more, and then the buffer is empty.
+pub fn spell_waiting(
+    text: &mut Vec<u8>,
+    tree: &Tree,
+    operator: u16,
+    order: Order,
+    seconds: u64,
+) -> Result<(), AllocError>
+    ensures { MatchResult result (λ _. text.new.items ≡ waiting_text tree.now operator order seconds)
+        (λ _. text.new.items ≡ []) }
+{
+    let spelled = spell_under_way(text, tree, operator, order, seconds);
     if spelled.is_err() {
         text.clear();
     }

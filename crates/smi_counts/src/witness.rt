@@ -1,0 +1,33 @@
+//! A witness who counts.
+
+use crate::counts::{Counts, raise};
+use smi_node::Witness;
+use smi_out::Out;
+use smi_protocol::{Heard, StepFault};
+use std::alloc::Global;
+use std::sync::Arc;
+
+/// Counts what the steps of a node answer.
+#[derive(Drop)]
+pub struct Counter {
+    counts: Arc<Counts, Global>,
+}
+
+impl Counter {
+    /// A witness who counts here.
+    pub fn new(counts: Arc<Counts, Global>) -> Counter {
+        Counter { counts }
+    }
+}
+
+impl Witness for Counter {
+    fn saw(&mut self, made: &Result<Heard, StepFault>, _out: &Out) {
+        match made {
+            Ok(Heard::Refused(refusal)) => self.counts.refuse(*refusal),
+            Ok(Heard::Same) | Err(StepFault::Stopped) => {}
+            Ok(Heard::Done) => raise(&self.counts.saved),
+            Err(StepFault::NotStored) => raise(&self.counts.unsaved),
+            Err(StepFault::Memory) => raise(&self.counts.unmade),
+        }
+    }
+}
