@@ -1,23 +1,12 @@
 //! `smi`: the program of the control hierarchy.
 //!
-//! What its commands do is proved in `smi_cli`: [`answer`], [`check`] and [`rows`], and of a simulation in `smi_sim`.
-//! `program` reads the command line and opens files, and `main` has the runtime. A node is run by `smi_crew`.
+//! `main` has the runtime. What the words of its command line ask for is said by `smi_line` and done by `smi_commands`.
 #![tactic(auto)]
 
-mod file;
-mod line;
-mod node;
-mod program;
-mod sim;
-mod store;
-mod tree;
-mod words;
-
-use crate::status::no_memory;
-use program::program;
-pub use smi_cli::{answer, check, rows, status};
+use smi_cli::status::no_memory;
+use smi_commands::program;
+use smi_line::words_of;
 use std::process::ExitCode;
-use words::words_of;
 
 fn main(rt: HostRuntime) -> ExitCode {
     let mut faults = rt.stderr();

@@ -5,11 +5,15 @@ ghost use Rattle.std.specs.Prelude.{◌≡◌};
 use crate::attending::{Post, attend};
 use crate::bell::Bell;
 use crate::opening::{link_fault, opening_fault, stopped};
+use crate::reading::{Ending, Input, read_all};
+use crate::wicket::Wicket;
+use crossbeam_channel::{Receiver, Sender, bounded};
 use smi_cli::status::{Status, no_memory};
+use smi_counts::{CountedLink, Counter, Counts};
 use smi_limits::MOST_OPERATORS_OF_A_STATION;
-use smi_link::UdpLink;
-use smi_node::{ServeFault, serve};
-use smi_operator::{Desk, open_seats};
+use smi_link::{DatagramLink, UdpLink};
+use smi_node::{ServeFault, Witness, serve_before};
+use smi_operator::{Desk, Seat, open_seats};
 use smi_rows::Stable;
 use smi_station::{Station, migrate};
 use smi_tree::{Address, Tree};
@@ -36,9 +40,24 @@ pub struct Plan {
     pub tree: Arc<Tree, Global>,
     /// The number of its station, from 1.
     pub station: u16,
-    /// How many turns it serves.
-    pub turns: u32,
+    /// How long it serves.
+    pub turns: Turns,
 }
+
+/// How long a node serves.
+#[derive(Clone, Copy, Debug, PartialEq, Eq)]
+pub enum Turns {
+    /// So many turns.
+    Count(u32),
+    /// Until it is ended, or a fault ends it.
+    Endless,
+}
+
+/// How many turns an endless node serves at once, before it begins again with all that it has.
+const TURNS_AT_ONCE: u32 = 1_000_000;
+
+/// How many lines that were read may wait for the thread at the front.
+const LINES: usize = 16;
 
 /// Why a node that has opened its station does not serve.
 #[derive(Clone, Copy, Debug, PartialEq, Eq)]
@@ -79,59 +98,98 @@ fn addresses(alloc: Global, tree: &Tree) -> Result<Vec<SocketAddr>, AllocError> 
 }
 
 /// The link of a station at its own address, and a bell to it.
-fn linked<H: Net + AllocGlobal>(
-    rt: &H,
+fn linked<'a, H: Net + Clock + AllocGlobal>(
+    rt: &'a H,
     tree: &Tree,
     station: u16,
-) -> Result<(UdpLink, Bell), Halt> {
+) -> Result<(UdpLink<&'a H>, Bell), Halt> {
     let peers = addresses(rt.alloc(), tree)?;
     let place = usize::from(station).saturating_sub(1);
     let own = peers.get(place).copied().ok_or(Halt::Link)?;
-    let link = UdpLink::open(rt, station, peers)?;
+    let link = UdpLink::open(rt, rt, station, peers)?;
     let bell = Bell::hung(rt, own)?;
     Ok((link, bell))
 }
 
+/// A wicket for each seat: those of the operators, and behind them nobody's.
+fn wickets(alloc: Global, operators: &[u16], seats: Vec<Seat>) -> Result<Vec<Wicket>, AllocError> {
+    let mut wickets = Vec::with_capacity(alloc, seats.len())?;
+    for (place, seat) in seats.into_iter().enumerate() {
+        wickets.push(Wicket::new(alloc, operators.get(place).copied(), seat)?)?;
+    }
+    Ok(wickets)
+}
+
 /// The seats of a station's operators and one for reports, their desk, and last its link.
-fn posted<J: BoardId, H: Net + AllocGlobal>(
-    rt: &H,
+fn posted<'a, J: BoardId, H: Net + Clock + AllocGlobal>(
+    rt: &'a H,
     plan: &Plan,
     operators: &[u16],
     glance: Glance<J>,
-) -> Result<(UdpLink, Desk, Post<J>), Halt> {
+    counts: Arc<Counts, Global>,
+) -> Result<(UdpLink<&'a H>, Desk, Post<J>), Halt> {
+    let alloc = rt.alloc();
     let count = operators.len().min(MOST_OPERATORS_OF_A_STATION) + 1;
-    let (seats, desk) = open_seats(rt.alloc(), count)?;
-    let operators = Vec::from_slice(rt.alloc(), operators)?;
+    let (seats, desk) = open_seats(alloc, count)?;
+    let wickets = wickets(alloc, operators, seats)?;
+    let operators = Vec::from_slice(alloc, operators)?;
     let (link, bell) = linked(rt, &plan.tree, plan.station)?;
-    let post = Post {
-        operators,
-        seats,
-        glance,
-        bell,
-    };
+    let post = Post::new(alloc, operators, wickets, glance, bell, counts)?;
     Ok((link, desk, post))
 }
 
 /// Reads lines up to the end of the input.
-fn attend_all<J: BoardId, H: Wait + Clock + AllocGlobal, I: Read + Drop, O: Write, E: Write>(
-    rt: &H,
-    tree: &Tree,
-    post: &mut Post<J>,
-    input: I,
-    output: &mut O,
-    faults: &mut E,
-) {
+fn read_input<H: Wait + AllocGlobal, I: Read + Drop>(rt: &H, input: I, lines: &Sender<Input>) {
     let alloc = rt.alloc();
     match BufReader::new(alloc, input) {
-        Ok(mut reader) => attend(rt, alloc, tree, post, &mut reader, output, faults),
+        Ok(mut reader) => read_all(rt, alloc, &mut reader, lines),
         Err(_) => {
-            no_memory(faults);
+            let _ = lines.send(rt, Input::Ended(Ending::Memory));
         }
     }
 }
 
-/// Starts the thread that reads lines. Nobody joins it: it ends with the program, or before.
+/// Starts the thread that reads lines. Nobody joins it: it ends with the input, with the thread at the front, or with
+/// the program.
+fn begin_reading<
+    H: Wait + Threads + AllocGlobal + Clone + Drop + Send + 'static,
+    I: Read + Drop + Send + 'static,
+>(rt: &H, input: I, lines: Sender<Input>) -> Result<(), AllocError> {
+    let there = rt.clone()?;
+    let begun = spawn(rt, move || read_input(&there, input, &lines));
+    match begun {
+        Ok(_thread) => Ok(()),
+        Err(_refused) => Err(AllocError),
+    }
+}
+
+/// Starts the thread at the front. Nobody joins it: it ends with the program, or before.
 fn begin_attending<
+    J: BoardId + Send + Sync + 'static,
+    H: Wait + Threads + Clock + AllocGlobal + Clone + Drop + Send + 'static,
+    O: Write + Drop + Send + 'static,
+    E: Write + Drop + Send + 'static,
+>(
+    rt: &H,
+    tree: Arc<Tree, Global>,
+    post: Post<J>,
+    lines: Receiver<Input>,
+    output: O,
+    faults: E,
+) -> Result<(), AllocError> {
+    let there = rt.clone()?;
+    let begun = spawn(rt, move || {
+        let (mut post, mut output, mut faults) = (post, output, faults);
+        attend(&there, &tree, &mut post, &lines, &mut output, &mut faults)
+    });
+    match begun {
+        Ok(_thread) => Ok(()),
+        Err(_refused) => Err(AllocError),
+    }
+}
+
+/// Starts both threads of a console.
+fn begin_console<
     J: BoardId + Send + Sync + 'static,
     H: Wait + Threads + Clock + AllocGlobal + Clone + Drop + Send + 'static,
     I: Read + Drop + Send + 'static,
@@ -143,20 +201,14 @@ fn begin_attending<
     post: Post<J>,
     console: Console<I, O, E>,
 ) -> Result<(), AllocError> {
-    let there = rt.clone()?;
-    let begun = spawn(rt, move || {
-        let mut post = post;
-        let Console {
-            input,
-            mut output,
-            mut faults,
-        } = console;
-        attend_all(&there, &tree, &mut post, input, &mut output, &mut faults)
-    });
-    match begun {
-        Ok(_thread) => Ok(()),
-        Err(_refused) => Err(AllocError),
-    }
+    let Console {
+        input,
+        output,
+        faults,
+    } = console;
+    let (sender, receiver) = bounded(rt.alloc(), LINES)?;
+    begin_attending(rt, tree, post, receiver, output, faults)?;
+    begin_reading(rt, input, sender)
 }
 
 /// Tells how a service ended.
@@ -166,6 +218,35 @@ fn ended<F: Write>(served: Result<(), ServeFault>, faults: &mut F) -> Status {
         Err(ServeFault::Stopped) => stopped(faults),
         Err(ServeFault::Memory) => no_memory(faults),
         Err(ServeFault::Link) => link_fault(faults),
+    }
+}
+
+/// Counts that both sides share.
+fn counted(alloc: Global) -> Result<Arc<Counts, Global>, Halt> {
+    match Arc::new(alloc, Counts::new()) {
+        Ok(counts) => Ok(counts),
+        Err(_refused) => Err(Halt::Memory),
+    }
+}
+
+/// Serves so many turns, or until a fault ends it.
+fn served<S: Stable, L: DatagramLink, J: BoardId, V: Witness, R: Wait>(
+    rt: &R,
+    turns: Turns,
+    station: &mut Station<'_, S>,
+    link: &mut L,
+    desk: &mut Desk,
+    board: &mut Board<J>,
+    witness: &mut V,
+) -> Result<(), ServeFault> {
+    match turns {
+        Turns::Count(turns) => serve_before(rt, station, link, desk, board, witness, turns),
+        Turns::Endless => {
+            for _ in rt.forever() {
+                serve_before(rt, station, link, desk, board, witness, TURNS_AT_ONCE)?;
+            }
+            unreachable!()
+        }
     }
 }
 
@@ -186,10 +267,22 @@ fn crewed<
     glance: Glance<J>,
     console: Console<I, O, E>,
 ) -> Result<Result<(), ServeFault>, Halt> {
-    let (mut link, mut desk, post) = posted(rt, plan, station.operators(), glance)?;
+    let counts = counted(rt.alloc())?;
+    let shared = Arc::try_clone(&counts)?;
+    let (link, mut desk, post) = posted(rt, plan, station.operators(), glance, shared)?;
     let tree = Arc::try_clone(&plan.tree)?;
-    begin_attending(rt, tree, post, console)?;
-    Ok(serve(rt, station, &mut link, &mut desk, board, plan.turns))
+    begin_console(rt, tree, post, console)?;
+    let mut link = CountedLink::over(link, Arc::try_clone(&counts)?);
+    let mut witness = Counter::new(counts);
+    Ok(served(
+        rt,
+        plan.turns,
+        station,
+        &mut link,
+        &mut desk,
+        board,
+        &mut witness,
+    ))
 }
 
 /// The one glance of a board.
@@ -258,9 +351,9 @@ fn opened<
 /// Runs a node, and gives its store back.
 ///
 /// The rows of its station are brought into their newest schema, the station is opened, its seats and its board are
-/// made, and last its socket; then it is served for so many turns, while another thread reads the console. What is
-/// amiss is told in one line on `faults`, and the status says how the node ended. That thread tells its own faults on
-/// those of the console, and they end it alone.
+/// made, and last its socket; then it is served, for so many turns or until a fault, while other threads have the
+/// console. What is amiss is told in one line on `faults`, and the status says how the node ended. Those threads tell
+/// their own faults on those of the console, and these end the console alone.
 pub fn run<
     S: Stable,
     H: Net + Wait + Threads + Clock + AllocGlobal + Clone + Drop + Send + 'static,

@@ -1,16 +1,15 @@
 //! The commands, over any files, input and outputs.
 
-use crate::line::{Line, line_of};
 use crate::node::run_node;
 use crate::sim::simulate;
-use crate::store::Stores;
 use crate::tree::tree_bytes;
-use crate::words::{Words, bytes_of};
 use smi_cli::answer::{Answered, answer};
 use smi_cli::check::check;
 use smi_cli::rows::Listed;
 use smi_cli::status::{Status, no_memory, read_fault, store_fault, write_fault, wrong_line};
 use smi_crew::Console;
+use smi_disks::Stores;
+use smi_line::{Line, Words, bytes_of, line_of};
 use std::alloc::Global;
 use std::io::{BufWriter, ErrorKind, Read, Write};
 use std::net::Net;

@@ -1,6 +1,6 @@
 //! The words of the command line as the system gives them, which need not be text.
 
-use std::alloc::AllocError;
+use std::alloc::{AllocError, Global};
 use std::env::FillError;
 use std::rt::Env;
 
@@ -18,7 +18,7 @@ pub struct Words {
 }
 
 /// The words of the command line. It fails only where memory ran out.
-pub fn words_of(rt: &HostRuntime) -> Result<Words, AllocError> {
+pub fn words_of<H: Env + AllocGlobal>(rt: &H) -> Result<Words, AllocError> {
     let mut words = Words {
         texts: Vec::new(rt.alloc()),
         bytes: Vec::new(rt.alloc()),
@@ -27,23 +27,21 @@ pub fn words_of(rt: &HostRuntime) -> Result<Words, AllocError> {
     for place in 0..usize::MAX {
         match rt.arg(place, buffer.as_mut_slice()) {
             Ok(count) => add(
-                rt,
+                rt.alloc(),
                 &mut words,
                 buffer.as_slice().get(..count).unwrap_or(&[]),
             )?,
             Err(FillError::NotPresent) => break,
             // The system takes no such word.
-            Err(FillError::TooLong) => add(rt, &mut words, &[u8::MAX])?,
+            Err(FillError::TooLong) => add(rt.alloc(), &mut words, &[u8::MAX])?,
         }
     }
     Ok(words)
 }
 
-fn add(rt: &HostRuntime, words: &mut Words, bytes: &[u8]) -> Result<(), AllocError> {
-    words
-        .texts
-        .push(String::from_utf8_lossy(rt.alloc(), bytes)?)?;
-    words.bytes.push(Vec::from_slice(rt.alloc(), bytes)?)?;
+fn add(alloc: Global, words: &mut Words, bytes: &[u8]) -> Result<(), AllocError> {
+    words.texts.push(String::from_utf8_lossy(alloc, bytes)?)?;
+    words.bytes.push(Vec::from_slice(alloc, bytes)?)?;
     Ok(())
 }
 

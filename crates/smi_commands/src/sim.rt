@@ -1,14 +1,13 @@
 //! A simulation: its tree file is read, and then its schedule, or one is drawn.
 
-use crate::file;
-use crate::line::{Schedule, SimLine};
 use crate::tree::read_tree;
-use crate::words::{Words, bytes_behind, bytes_of};
 use smi_cli::status::{no_memory, read_fault};
-use smi_sim::{sim, sim_drawn};
+use smi_disks::open;
+use smi_line::{Schedule, SimLine, Words, bytes_behind, bytes_of};
+use smi_sim::{sim, sim_drawn, sim_drawn_settled, sim_settled};
 use smi_tree::Tree;
 use std::alloc::Global;
-use std::io::{BufWriter, ErrorKind, Write};
+use std::io::{BufWriter, ErrorKind, Read, Write};
 use std::rt::Files;
 
 /// Simulates as its line says, and answers the exit status.
@@ -40,10 +39,14 @@ fn simulate_on<H: Files + AllocGlobal, W: Write + Drop, F: Write>(
     match line.schedule {
         Schedule::File(path) => {
             let path = bytes_behind(words, line.tree, path);
-            simulate_file(host, tree, path, &mut writer, faults)
+            simulate_file(host, tree, path, line.settles, &mut writer, faults)
         }
         Schedule::Drawn { seed, steps } => {
-            sim_drawn(alloc, tree, seed, steps, &mut writer, faults)
+            if line.settles {
+                sim_drawn_settled(alloc, tree, seed, steps, &mut writer, faults)
+            } else {
+                sim_drawn(alloc, tree, seed, steps, &mut writer, faults)
+            }
         }
     }
 }
@@ -52,12 +55,30 @@ fn simulate_file<H: Files + AllocGlobal, W: Write, F: Write>(
     host: &H,
     tree: &Tree,
     path: &[u8],
+    settles: bool,
     writer: &mut W,
     faults: &mut F,
 ) -> u8 {
-    match file::open(host, path) {
-        Ok(mut schedule) => sim(host.alloc(), tree, &mut schedule, writer, faults),
+    match open(host, path) {
+        Ok(schedule) => simulate_lines(host.alloc(), tree, schedule, settles, writer, faults),
         Err(e) if e.kind() == ErrorKind::OutOfMemory => no_memory(faults).code(),
         Err(_) => read_fault(faults).code(),
+    }
+}
+
+// Over any reader, since what `sim` says is dear to prove of a host's files.
+fn simulate_lines<R: Read + Drop, W: Write, F: Write>(
+    alloc: Global,
+    tree: &Tree,
+    schedule: R,
+    settles: bool,
+    writer: &mut W,
+    faults: &mut F,
+) -> u8 {
+    let mut schedule = schedule;
+    if settles {
+        sim_settled(alloc, tree, &mut schedule, writer, faults)
+    } else {
+        sim(alloc, tree, &mut schedule, writer, faults)
     }
 }

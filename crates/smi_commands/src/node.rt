@@ -1,12 +1,11 @@
 //! A node: its tree file is read, its station found, its store opened, and then it is run.
 
-use crate::line::NodeLine;
-use crate::store::{FileStable, Stores, close};
 use crate::tree::read_tree;
-use crate::words::{Words, bytes_of};
 use smi_cli::status::{Status, no_memory, store_fault, wrong_line};
-use smi_crew::{Console, Plan, run};
-use smi_stable::StoreFault;
+use smi_crew::{Console, Plan, Turns, run};
+use smi_disks::Stores;
+use smi_line::{NodeLine, Words, bytes_of};
+use smi_rows::StoreFault;
 use smi_tree::Tree;
 use std::alloc::Global;
 use std::io::{Read, Write};
@@ -28,6 +27,14 @@ fn shared<F: Write>(
     }
 }
 
+/// How long a node serves that serves so many turns, or without end where none are given.
+fn turns_of(turns: Option<u32>) -> Turns {
+    match turns {
+        Some(count) => Turns::Count(count),
+        None => Turns::Endless,
+    }
+}
+
 /// What a node of this line is run with, as far as its words say it.
 fn plan_of<H: Files + AllocGlobal, F: Write>(
     host: &H,
@@ -41,18 +48,14 @@ fn plan_of<H: Files + AllocGlobal, F: Write>(
         Some(station) => Ok(Plan {
             tree,
             station,
-            turns: line.turns,
+            turns: turns_of(line.turns),
         }),
         None => Err(wrong_line(faults)),
     }
 }
 
 /// The store of a path, or what is told of it.
-fn opened<H: Stores, F: Write>(
-    host: &H,
-    path: &[u8],
-    faults: &mut F,
-) -> Result<FileStable, Status> {
+fn opened<H: Stores, F: Write>(host: &H, path: &[u8], faults: &mut F) -> Result<H::Open, Status> {
     match host.open(path) {
         Ok(stable) => Ok(stable),
         Err(StoreFault::Memory) => Err(no_memory(faults)),
@@ -81,7 +84,7 @@ pub fn run_node<
     match opened(host, bytes_of(words, line.store), faults) {
         Ok(stable) => {
             let (status, stable) = run(host, &plan, stable, console, faults);
-            close(stable);
+            host.close(stable);
             status
         }
         Err(status) => status,

@@ -1,21 +1,16 @@
-//! Where the stable rows of a station are kept: a file of SQLite, and its log beside it.
-//!
-//! A node opens its store by itself: SQLite's exclusive lock stands on the file as long as the node runs, so that a
-//! second node is refused.
-//!
-//! A listing reads both files alone. It lists a copy of them in memory, so that it needs no leave to
-//! write, makes and leaves nothing, and stands in nobody's way: a station may run on the store, and any
-//! number of listings beside it.
+//! A listing of a store: of a copy of its files in memory, so that it needs no leave to write, makes and leaves
+//! nothing, and stands in nobody's way: a station may run on the store, and any number of listings beside it.
 
 use crate::file::{beside, bytes_of, resolved};
 use smi_cli::rows::{Listed, rows};
 use smi_stable::{SqliteStable, StoreFault};
-use sqlite::{Connection, Error, ErrorCode, File, FileStore, Files, Options};
+use sqlite::{Alter, Connection, Error, ErrorCode, FileStore, Files, Options};
 use sqlite_disk::{Disk, Memory};
 use std::alloc::Global;
 use std::io::{self, ErrorKind, Write};
+use std::rt;
 use std::thread::sleep;
-use std::time::Duration;
+use std::time::{Clock, Duration};
 
 /// How often a store is read again that was written in the meantime, a millisecond later.
 const MOST_TRIES: u32 = 200;
@@ -26,52 +21,17 @@ const ROOM: usize = 64 * 1024;
 
 const CALLS: u32 = 1_024;
 
-/// A store in a file.
-pub type FileStable = SqliteStable<FileStore<File>>;
-
-/// What opens and lists stores by their paths.
-pub trait Stores {
-    /// Writes the rows of a store, a line each.
-    fn list<W: Write>(&self, path: &[u8], writer: &mut W) -> Listed;
-
-    /// Opens a store, or makes it, for one who writes it alone: while it is open, nobody else can open it so.
-    fn open(&self, path: &[u8]) -> Result<FileStable, StoreFault>;
-}
-
-impl Stores for HostRuntime {
-    fn list<W: Write>(&self, path: &[u8], writer: &mut W) -> Listed {
-        match copied(self, path) {
-            Ok(copy) => list_copy(self.alloc(), &copy, writer),
-            Err(e) if e.kind() == ErrorKind::OutOfMemory => Listed::Memory,
-            Err(_) => Listed::StoreFault,
-        }
+/// Writes the rows of a store, a line each.
+pub fn list<H: rt::Files + Clock + AllocGlobal, W: Write>(
+    host: &H,
+    path: &[u8],
+    writer: &mut W,
+) -> Listed {
+    match copied(host, path) {
+        Ok(copy) => list_copy(host.alloc(), &copy, writer),
+        Err(e) if e.kind() == ErrorKind::OutOfMemory => Listed::Memory,
+        Err(_) => Listed::StoreFault,
     }
-
-    fn open(&self, path: &[u8]) -> Result<FileStable, StoreFault> {
-        let Ok(path) = str::from_utf8(path) else {
-            return Err(StoreFault::Device);
-        };
-        match smi_file::open(self, path) {
-            Ok(connection) => adopted(connection),
-            Err(Error::SqliteFailure(ErrorCode::OutOfMemory)) => Err(StoreFault::Memory),
-            Err(_) => Err(StoreFault::Device),
-        }
-    }
-}
-
-fn adopted(connection: Connection<FileStore<File>>) -> Result<FileStable, StoreFault> {
-    match SqliteStable::adopt(connection) {
-        Ok(stable) => Ok(stable),
-        Err((fault, connection)) => {
-            let _ = connection.close();
-            Err(fault)
-        }
-    }
-}
-
-/// Closes a store: its log is copied into its file, as far as that can be done.
-pub fn close(stable: FileStable) {
-    let _ = stable.release().close();
 }
 
 /// The bytes of a store's file and of its log, and whether no other program is changing the file.
@@ -84,15 +44,15 @@ struct Copy {
 
 /// Both files as they were at one moment: read until two readings are the same. Between the first
 /// reading of the one and the second of the other nothing was written then.
-fn copied(rt: &HostRuntime, path: &[u8]) -> io::Result<Copy> {
-    let path = resolved(rt, path)?;
+fn copied<H: rt::Files + Clock + AllocGlobal>(host: &H, path: &[u8]) -> io::Result<Copy> {
+    let path = resolved(host, path)?;
     for _ in 0..MOST_TRIES {
-        let first = read(rt, path.as_slice())?;
-        let second = read(rt, path.as_slice())?;
+        let first = read(host, path.as_slice())?;
+        let second = read(host, path.as_slice())?;
         if second.is_settled && are_same(&first, &second) {
             return Ok(second);
         }
-        sleep(rt, Duration::from_millis(1));
+        sleep(host, Duration::from_millis(1));
     }
     Err(io::Error::from(ErrorKind::ResourceBusy))
 }
@@ -101,15 +61,15 @@ fn are_same(some: &Copy, other: &Copy) -> bool {
     some.db.as_slice() == other.db.as_slice() && some.log.as_slice() == other.log.as_slice()
 }
 
-fn read(rt: &HostRuntime, path: &[u8]) -> io::Result<Copy> {
-    let Some(db) = bytes_of(rt, path)? else {
+fn read<H: rt::Files + AllocGlobal>(host: &H, path: &[u8]) -> io::Result<Copy> {
+    let Some(db) = bytes_of(host, path)? else {
         return Err(io::Error::from(ErrorKind::NotFound));
     };
-    let log = bytes_of(rt, beside(rt.alloc(), path, b"-wal")?.as_slice())?;
-    let journal = bytes_of(rt, beside(rt.alloc(), path, b"-journal")?.as_slice())?;
+    let log = bytes_of(host, beside(host.alloc(), path, b"-wal")?.as_slice())?;
+    let journal = bytes_of(host, beside(host.alloc(), path, b"-journal")?.as_slice())?;
     Ok(Copy {
         db,
-        log: log.unwrap_or(Vec::new(rt.alloc())),
+        log: log.unwrap_or(Vec::new(host.alloc())),
         is_settled: !journal.is_some_and(|bytes| is_to_be_played_back(bytes.as_slice())),
     })
 }
@@ -158,31 +118,45 @@ fn list_in<W: Write>(alloc: Global, files: Files<Memory>, writer: &mut W) -> Lis
     match Connection::open_files(alloc, files, Options::new(1)) {
         Ok(connection) => list_over(connection, writer),
         Err((Error::SqliteFailure(ErrorCode::OutOfMemory), _)) => Listed::Memory,
-        Err((_, left)) => found_out(Listed::StoreFault, &left.into_files()),
+        Err((_, left)) => found_out(Listed::StoreFault, left.into_files().may_be_used()),
     }
 }
 
-/// A disk in memory that failed was refused an allocation: what looks like a faulty store is none then.
-fn found_out(listed: Listed, files: &Files<Memory>) -> Listed {
-    if listed == Listed::StoreFault && !files.may_be_used() {
+/// A disk in memory that may not be used any more was refused an allocation: what looks like a faulty store is none
+/// then.
+fn found_out(listed: Listed, may_be_used: bool) -> Listed {
+    if listed == Listed::StoreFault && !may_be_used {
         Listed::Memory
     } else {
         listed
     }
 }
 
-fn list_over<W: Write>(connection: Connection<FileStore<Memory>>, writer: &mut W) -> Listed {
+/// A store that is given up, and tells whether its disk may still be used.
+trait Ending: Alter + Drop {
+    fn ends_well(self) -> bool;
+}
+
+impl Ending for FileStore<Memory> {
+    fn ends_well(self) -> bool {
+        self.close().may_be_used()
+    }
+}
+
+// Over any store, since each function that names the store of SQLite is dear to prove.
+fn list_over<S: Ending, W: Write>(connection: Connection<S>, writer: &mut W) -> Listed {
     match SqliteStable::adopt(connection) {
-        Ok(mut stable) => {
+        Ok(stable) => {
+            let mut stable = stable;
             let listed = rows(&mut stable, writer);
-            found_out(listed, &stable.release().into_store().close())
+            found_out(listed, stable.release().into_store().ends_well())
         }
         Err((fault, connection)) => {
             let listed = match fault {
                 StoreFault::Memory => Listed::Memory,
                 StoreFault::Device | StoreFault::Unsure => Listed::StoreFault,
             };
-            found_out(listed, &connection.into_store().close())
+            found_out(listed, connection.into_store().ends_well())
         }
     }
 }

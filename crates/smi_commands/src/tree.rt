@@ -1,7 +1,7 @@
 //! The tree file of a command line.
 
-use crate::file;
 use smi_cli::status::{Status, no_memory, read_fault};
+use smi_disks::open;
 use smi_limits::MOST_BYTES_OF_A_FILE;
 use smi_tree::{Tree, TreeFault};
 use std::alloc::Global;
@@ -14,7 +14,7 @@ const MOST_TREE_BYTES: u64 = MOST_BYTES_OF_A_FILE as u64 + 1;
 /// The bytes of a tree file, or as many as show that it is too long.
 pub fn tree_bytes<H: Files + AllocGlobal>(host: &H, path: &[u8]) -> io::Result<Vec<u8>> {
     let mut bytes = Vec::new(host.alloc());
-    file::open(host, path)?
+    open(host, path)?
         .take(MOST_TREE_BYTES)
         .read_to_end(&mut bytes)?;
     Ok(bytes)

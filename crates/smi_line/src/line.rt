@@ -1,0 +1,193 @@
+//! What a command line asks for.
+
+use clap::error::ErrorKind;
+use clap::{Arg, ArgAction, ArgMatches, Command, Error};
+use smi_tree::number_within;
+use std::alloc::Global;
+
+/// The most turns of a node, and how many it serves where none are given.
+const MOST_TURNS: u32 = 1_000_000;
+
+/// The most items of a drawn schedule.
+const MOST_STEPS: u64 = 1_000_000;
+
+/// What the command line asks for.
+#[derive(Clone, Copy)]
+pub enum Line<'a> {
+    /// Answer the datagrams of the standard input.
+    Answer,
+    /// Check the tree file of this path.
+    Check(&'a str),
+    /// List the rows of the store of this path.
+    Rows(&'a str),
+    /// Simulate a schedule.
+    Sim(SimLine<'a>),
+    /// Run a node.
+    Node(NodeLine<'a>),
+    /// The words are none of the forms: so are `help` and `--help`.
+    Wrong,
+    /// There was no memory to read the words.
+    NoMemory,
+}
+
+/// A simulation: the path of its tree, its schedule, and whether it goes on until nothing is under way.
+#[derive(Clone, Copy)]
+pub struct SimLine<'a> {
+    pub tree: &'a str,
+    pub schedule: Schedule<'a>,
+    pub settles: bool,
+}
+
+/// A schedule: the path of its file, or how it is drawn.
+#[derive(Clone, Copy)]
+pub enum Schedule<'a> {
+    File(&'a str),
+    Drawn { seed: u64, steps: u64 },
+}
+
+/// A node: the path of its tree, the name of its station, the path of its store, and how long it serves.
+#[derive(Clone, Copy)]
+pub struct NodeLine<'a> {
+    pub tree: &'a str,
+    pub station: &'a str,
+    pub store: &'a str,
+    /// How many turns it serves, none where it serves without end.
+    pub turns: Option<u32>,
+}
+
+/// What the words of a command line ask for, the program's own name first.
+pub fn line_of(alloc: Global, words: &[String]) -> Line<'_> {
+    // No form has the word that ends the options.
+    if words.iter().skip(1).any(|word| word.as_str() == "--") {
+        return Line::Wrong;
+    }
+    match parsed(alloc, words) {
+        Ok(line) => line,
+        Err(e) if e.kind() == ErrorKind::OutOfMemory => Line::NoMemory,
+        Err(_) => Line::Wrong,
+    }
+}
+
+fn parsed<'a>(alloc: Global, words: &'a [String]) -> Result<Line<'a>, Error> {
+    let command = forms(alloc)?;
+    let matches = command.try_get_matches_from(words)?;
+    Ok(line_in(&matches))
+}
+
+/// What the words ask for that were found to be a form.
+fn line_in<'a>(matches: &ArgMatches<'a>) -> Line<'a> {
+    match matches.subcommand() {
+        Some(("answer", _)) => Line::Answer,
+        Some(("check", given)) => given.get_str("TREE").map_or(Line::Wrong, Line::Check),
+        Some(("rows", given)) => given.get_str("STORE").map_or(Line::Wrong, Line::Rows),
+        Some(("sim", given)) => sim_line(given).map_or(Line::Wrong, Line::Sim),
+        Some(("node", given)) => node_line(given).map_or(Line::Wrong, Line::Node),
+        _ => Line::Wrong,
+    }
+}
+
+/// All forms of the command line.
+fn forms<'a>(alloc: Global) -> Result<Command<'a>, Error> {
+    let command = Command::new(alloc, "smi").subcommand(Command::new(alloc, "answer"))?;
+    let command = with_form(command, check_command(alloc))?;
+    let command = with_form(command, rows_command(alloc))?;
+    let command = with_form(command, sim_command(alloc))?;
+    with_form(command, node_command(alloc))
+}
+
+fn with_form<'a>(
+    command: Command<'a>,
+    form: Result<Command<'a>, Error>,
+) -> Result<Command<'a>, Error> {
+    Ok(command.subcommand(form?)?)
+}
+
+fn check_command<'a>(alloc: Global) -> Result<Command<'a>, Error> {
+    with_word(alloc, Command::new(alloc, "check"), "TREE")
+}
+
+fn rows_command<'a>(alloc: Global) -> Result<Command<'a>, Error> {
+    with_word(alloc, Command::new(alloc, "rows"), "STORE")
+}
+
+/// A form with one more word that has to stand there.
+fn with_word<'a>(alloc: Global, form: Command<'a>, name: &'a str) -> Result<Command<'a>, Error> {
+    Ok(form.arg(Arg::new(alloc, name).required(true))?)
+}
+
+fn sim_command<'a>(alloc: Global) -> Result<Command<'a>, Error> {
+    let form = with_word(alloc, Command::new(alloc, "sim"), "TREE")?;
+    let form = form.arg(Arg::new(alloc, "SCHEDULE"))?;
+    let form = form.arg(Arg::new(alloc, "N").long("seed"))?;
+    let form = form.arg(Arg::new(alloc, "M").long("steps"))?;
+    Ok(form.arg(flag(alloc, "settle"))?)
+}
+
+/// An option that has no value.
+fn flag<'a>(alloc: Global, name: &'a str) -> Arg<'a> {
+    Arg::new(alloc, name).long(name).action(ArgAction::SetTrue)
+}
+
+fn sim_line<'a>(given: &ArgMatches<'a>) -> Option<SimLine<'a>> {
+    Some(SimLine {
+        tree: given.get_str("TREE")?,
+        schedule: schedule_of(given)?,
+        settles: given.get_flag("settle"),
+    })
+}
+
+/// The schedule of a simulation: a file, or both a seed and how many items it draws.
+fn schedule_of<'a>(given: &ArgMatches<'a>) -> Option<Schedule<'a>> {
+    match (
+        given.get_str("SCHEDULE"),
+        given.get_str("N"),
+        given.get_str("M"),
+    ) {
+        (Some(path), None, None) => Some(Schedule::File(path)),
+        (None, Some(seed), Some(steps)) => Some(Schedule::Drawn {
+            seed: seed_of(seed)?,
+            steps: number_within(0, MOST_STEPS, steps.as_bytes())?,
+        }),
+        _ => None,
+    }
+}
+
+/// The seed that a word stands for: digits alone, at most 2^64 - 1.
+fn seed_of(word: &str) -> Option<u64> {
+    if word.as_bytes().iter().all(u8::is_ascii_digit) {
+        word.parse().ok()
+    } else {
+        None
+    }
+}
+
+fn node_command<'a>(alloc: Global) -> Result<Command<'a>, Error> {
+    let form = with_word(alloc, Command::new(alloc, "node"), "TREE")?;
+    let form = with_word(alloc, form, "STATION")?;
+    let form = with_word(alloc, form, "STORE")?;
+    let form = form.arg(Arg::new(alloc, "T").long("turns"))?;
+    Ok(form.arg(flag(alloc, "endless"))?)
+}
+
+fn node_line<'a>(given: &ArgMatches<'a>) -> Option<NodeLine<'a>> {
+    Some(NodeLine {
+        tree: given.get_str("TREE")?,
+        station: given.get_str("STATION")?,
+        store: given.get_str("STORE")?,
+        turns: turns_of(given.get_str("T"), given.get_flag("endless"))?,
+    })
+}
+
+/// How long a node serves: as many turns as a word says, without end where that is asked for, and without either the
+/// most turns. Both are no form.
+fn turns_of(word: Option<&str>, is_endless: bool) -> Option<Option<u32>> {
+    match (word, is_endless) {
+        (Some(word), false) => {
+            let turns = number_within(1, u64::from(MOST_TURNS), word.as_bytes())?;
+            Some(Some(u32::try_from(turns).ok()?))
+        }
+        (None, true) => Some(None),
+        (None, false) => Some(Some(MOST_TURNS)),
+        (Some(_), true) => None,
+    }
+}
