@@ -16,3 +16,11 @@ IsFaulty streamed.Memory = ⊥
 -- a line of these is faulty
 abbrev pub HasFault : Hierarchy → List (List ℕ) → Type 0
 HasFault h ls = IsFaulty (ending_of h ls)
+
+-- the exit status of each end
+abbrev pub status_of : Streamed → ℕ
+status_of streamed.Ended = 0
+status_of (streamed.Faulty number code) = 1
+status_of streamed.ReadFault = 3
+status_of streamed.WriteFault = 3
+status_of streamed.Memory = 4

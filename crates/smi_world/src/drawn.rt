@@ -16,7 +16,7 @@ use std::alloc::Global;
 use std::io::Write;
 
 /// Draws items and makes them, and writes their lines.
-fn stream_items<W: Write>(
+pub(crate) fn stream_items<W: Write>(
     alloc: Global,
     world: &mut World<'_>,
     drawer: &mut Drawer,

@@ -8,3 +8,10 @@ pub(crate) struct Post<'a> {
     /// Whether a save that failed has stopped it.
     pub is_out: bool,
 }
+
+impl Post<'_> {
+    /// Whether the station makes no step until it starts again.
+    pub(crate) fn is_stopped(&self) -> bool {
+        self.is_out || self.station.is_stopped()
+    }
+}

@@ -42,6 +42,13 @@ pub(crate) struct Desk {
     text: Vec<u8>,
 }
 
+impl Desk {
+    /// Room for a text.
+    pub(crate) fn text(&mut self) -> &mut Vec<u8> {
+        &mut self.text
+    }
+}
+
 /// Makes an item, and writes its lines.
 pub(crate) fn write_item<W: Write>(
     alloc: Global,
@@ -87,7 +94,7 @@ pub(crate) fn write_opening<W: Write>(
 }
 
 /// How a stream ended that could not be written.
-fn unwritten(fault: Unwritten) -> Streamed
+pub(crate) fn unwritten(fault: Unwritten) -> Streamed
     ensures not_done { IsDone result → ⊥ }
     ensures not_read { result ≡ ReadFault → ⊥ }
 {
@@ -137,7 +144,7 @@ ghost use Rattle.smi_schedule.specs.Line.{item_in};
 ghost use Rattle.smi_world.specs.Streaming.{IsFault, lines_after, world_after};
 
 /// Makes the items of a reader's lines, and writes their lines.
-fn stream_on<R: Read, W: Write>(
+pub(crate) fn stream_on<R: Read, W: Write>(
     alloc: Global,
     world: &mut World<'_>,
     reader: &mut R,

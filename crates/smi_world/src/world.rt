@@ -85,6 +85,7 @@ impl<'a> World<'a> {
     ghost use Rattle.smi_schedule.specs.Naming.{has_item as names};
     ghost use Rattle.smi_world.specs.Posts.{IsAt, IsMade};
     ghost use Rattle.smi_world.specs.Tasks.{IsUnmade};
+    ghost use Rattle.std.specs.Prelude.{length};
 
     /// All stations of the tree start for the first time. Out of memory is answered only where an allocation was
     /// refused.
@@ -127,5 +128,19 @@ impl<'a> World<'a> {
             Ok(()) => Ok(()),
             Err(_) => Err(ActFault::Memory),
         }
+    }
+
+    /// The stations, by number.
+    pub(crate) fn posts(&self) -> &[Post<'a>]
+        ensures { result.now ≡ self.now.posts }
+    {
+        self.posts.as_slice()
+    }
+
+    /// How many datagrams were sent.
+    pub(crate) fn sent_count(&self) -> u64
+        ensures { result ≡ length self.now.sent }
+    {
+        self.sent.len() as u64
     }
 }
