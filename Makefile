@@ -5,7 +5,7 @@ SOURCES := crates.txt $(shell find crates -path '*/out' -prune -o -type f \( -na
 # So many crates are proved side by side: one for each processor, and 4 GB for each.
 LANES := $(shell awk -v most=$$(nproc) '/^MemAvailable/ { fit = int($$2 / 4000000); print fit < 1 ? 1 : fit < most ? fit : most }' /proc/meminfo)
 
-.PHONY: smi run try test gate record check cases nodes soak shift tools documents pictures edits edits-test costs bench
+.PHONY: smi run try test gate record check cases nodes soak crowd shift tools documents pictures edits edits-test costs bench
 
 # The program, proved and built, at bin/smi.
 smi: bin/smi
@@ -16,14 +16,17 @@ bin/smi: $(SOURCES)
 	mkdir -p bin
 	cp crates/smi/out/smi bin/smi
 
-# The main job on a real input: each datagram and its answer, in hexadecimal beside what they say.
-run: bin/smi
-	python3 tools/show.py examples/one-domain.datagrams bin/smi answer
+# The main job on a real input: each datagram and its answer, in hexadecimal beside what they say. By the proved program
+# where it is built of these sources, and else by an unproved one, in some minutes.
+run:
+	@if $(MAKE) -q bin/smi; then python3 tools/show.py examples/one-domain.datagrams bin/smi answer; \
+	else $(MAKE) --no-print-directory try; fi
 
-# The same answers in some three minutes, from the program as it is written: NOTHING of it is proved before it runs.
+# The same answers from the program as it is written: NOTHING of it is proved before it runs.
 try:
 	cd crates/smi && python3 ../../tools/show.py ../../examples/one-domain.datagrams rt try -- answer
-	@echo 'not proved: make run proves the program and then runs it'
+	@echo 'Nothing of this was proved before it ran. make smi proves the program and builds bin/smi.'
+	@python3 tools/libraries.py --estimate smi
 
 # What each change has to pass: every proof and test from nothing, the command lines, and the edits of each crate
 # whose sum is not in edits.ok. The last line is 'N passed, M failed'.
@@ -53,6 +56,10 @@ nodes: bin/smi
 # Three nodes behind a proxy that loses, repeats, delays and reorders, with kills: make soak WORDS='--seconds 3600 --seed 7'.
 soak: bin/smi
 	@python3 tests/soak.py bin/smi $(WORDS)
+
+# A crowd of nodes, 16 or as many as are asked for: what they cost and how soon they answer: make crowd WORDS='--stations 128'.
+crowd: bin/smi
+	@python3 tests/crowd.py bin/smi $(WORDS)
 
 # The shift of examples/shift.schedule over the whole detector: what must hold at each place, or at those with a text.
 shift: bin/smi

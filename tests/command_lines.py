@@ -30,6 +30,7 @@ import paths
 import plays
 import random_calls
 import schedules
+import settling
 import stores
 import trees
 
@@ -184,6 +185,7 @@ def main():
         others += limits.rows_case(program, at_limits, only)
         others += random_calls.cases(trial, only)
         others += schedules.cases(program, room(folder, "of schedules"), only)
+        others += settling.cases(program, only)
         others += plays.cases(trial, room(folder, "of plays"), only)
         for name, held in others:
             done.append(held)

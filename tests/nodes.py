@@ -11,6 +11,7 @@ import itertools
 import os
 import queue
 import shutil
+import signal
 import socket
 import sqlite3
 import subprocess
@@ -23,8 +24,11 @@ import growths
 import pages
 import stores
 import trees
+import wires
 
 PATIENCE = 30
+# How long the answer of a flooded node is waited for, in seconds: a flood may hold it up, but not for long.
+SOON = 15
 # How many turns a node serves in a case that looks only at how it begins, and in one that talks to it.
 FEW, SOME = 20, 3000
 
@@ -191,6 +195,30 @@ LINES = [
     ("order ANN drop DCS", "told ANN drop DCS 0"),
     ("order ANN drop DCS", "told ANN drop DCS 21"),
     ("order ANN do DCS START", "told ANN do DCS START 21"),
+    ("@ show DCS", "line 32 fault 1"),
+    ("@0123456789abcdefg show DCS", "line 33 fault 1"),
+    ("@\x7f show DCS", "line 34 fault 1"),
+    ("@a" + " " * 199 + "show DCS", "line 35 fault 10"),
+]
+
+
+# Lines with tags at a node of station A whose ANN waits for TPC, and what is printed for each.
+TAGGED = [
+    ("@1 show TPC", "@1 board TPC none"),
+    ("  @a\tshow   DCS\r", "@a board DCS none"),
+    ("@report report HV READY", "@report told report HV READY 26"),
+    ("@1 order ANN", "@1 fault 2"),
+    ("@1 order ANN grab DCS", "@1 fault 1"),
+    ("@1 order BOB take TPC", "@1 fault 5"),
+    ("@1 show dcs", "@1 fault 3"),
+    ("@1 deliver 1", "@1 fault 1"),
+    ("@1", "@1 fault 2"),
+    ("@1 # show DCS", "@1 fault 2"),
+    ("@1 under", "@1 fault 2"),
+    ("@1 under way now", "@1 fault 2"),
+    ("@1 counts all", "@1 fault 2"),
+    ("@0123456789abcdef show DCS", "@0123456789abcdef board DCS none"),
+    ("@!~ show DCS", "@!~ board DCS none"),
 ]
 
 
@@ -371,6 +399,8 @@ def address_cases(program, folder):
     for words in [[], [tree], [tree, "A"], [tree, "A", store, "B"], [tree, "A", store, "--turns"],
                   [tree, "A", store, "--help"],
                   ["help"], [tree, "A", store, "--turns", "5", "--turns", "5"], [tree, "A", store, "--steps", "5"],
+                  [tree, "A", store, "--endless", "--turns", "5"], [tree, "A", store, "--endless", "--endless"],
+                  [tree, "A", store, "--endless=1"], [tree, "A", store, "--endless", "5"],
                   [tree, "A", store, "--", "--turns", "5"]] + [
                       [tree, "A", store, "--turns", turns] for turns in ("0", "1000001", "-1", "1.5", "x", "",
                                                                          "00000000001")]:
@@ -419,6 +449,193 @@ def hostile_case(program, folder):
         "told ANN take DCS 0", "told ANN do DCS CONFIGURE 0", "told ANN ask DCS ANN 1 1 settled 0"]
 
 
+def tag_case(program, folder):
+    """Lines with tags, while the first line waits for a station that is away: none of them waits for it."""
+    tree = write_tree(folder, free_ports(2))
+    node = Node(program, [tree, "A", os.path.join(folder, "A"), "--endless"])
+    node.say("order ANN take TPC")
+    node.say("show TPC")
+    # While the first order waits, DCS may not join it: orders of one operator join each other on one domain alone.
+    answers = [(line, node.ask(line)) for line, _ in TAGGED]
+    yield "lines with tags", answers == TAGGED
+    node.say("@w order ANN take DCS")
+    told = [node.ask("@u under way")]
+    time.sleep(2)
+    node.say("@u under  way")
+    told += [node.lines.get(timeout=PATIENCE) for _ in range(5)]
+    # The seconds of each order are looked at apart from the rest of its line.
+    seconds = [int(line.rsplit(" ", 1)[1]) for line in told if " way ANN " in line]
+    wanted = ["@u way ANN take TPC", "@u way ANN take DCS", "@u under way"] * 2
+    yield "orders under way", [line.rsplit(" ", 1)[0] for line in told] == wanted and told[2] == told[5] \
+        == "@u under way 2" and all(0 <= first < later for first, later in zip(seconds[:2], seconds[2:]))
+    other = Node(program, [tree, "B", os.path.join(folder, "B"), "--endless"])
+    ends = [node.lines.get(timeout=PATIENCE) for _ in range(3)]
+    # What the board shows by then is whether a state of the station that came up was faster than its answer.
+    boards = ["board TPC none", "board TPC 1.0 OFF"]
+    yield "the order that waited, and the lines that waited for it", ends[0] == "told ANN take TPC 0" \
+        and sorted("board" if it in boards else it for it in ends[1:]) == ["@w told ANN take DCS 0", "board"]
+    node.kill()
+    other.kill()
+
+
+def many_tags_case(program, folder):
+    """Eight commands of one operator under way at once, and forty orders of another sent without waiting: each is
+    answered once, behind its tag."""
+    tree = write_tree(folder, free_ports(2))
+    node = Node(program, [tree, "A", os.path.join(folder, "A"), "--endless"])
+    told = [node.ask("order ANN take DCS")]
+    for place in range(40):
+        node.say("@%d order ANN do DCS CONFIGURE" % place)
+    told += [node.lines.get(timeout=PATIENCE) for _ in range(40)]
+    wanted = ["told ANN take DCS 0"] + ["@%d told ANN do DCS CONFIGURE 0" % place for place in range(40)]
+    # A command that a later one has overtaken is told 8: it has ended, and how was not seen.
+    yield "forty commands at once", [line.replace("CONFIGURE 8", "CONFIGURE 0") for line in told] == wanted
+    node.kill()
+
+
+def counts_of(node):
+    """What a node has counted, by name."""
+    words = node.ask("@c counts").split()
+    assert words[:2] == ["@c", "counts"], words
+    return dict(zip(words[2::2], map(int, words[3::2])))
+
+
+def count_cases(program, folder):
+    """What a node counts: each number rises by what was done to it."""
+    ports = free_ports(2)
+    node = Node(program, [write_tree(folder, ports), "A", os.path.join(folder, "A"), "--endless"])
+    first, begun = counts_of(node), time.monotonic()
+    names = ["received", "sent", "unsent", "ticks", "faults", "saved", "unsaved", "unmade"]
+    names += ["refused%d" % refusal for refusal in [*range(1, 10), *range(21, 27)]]
+    yield "names of counts", list(first) == names
+    ask = bytes.fromhex("534d01010002000100010000" + "00" * 18 + "0011" + "00" * 12)
+    refused = {1: b"x" * 43, 2: b"T" + ask[1:], 3: ask[:2] + b"\x03" + ask[3:], 4: ask[:3] + b"\x09" + ask[4:],
+               5: ask[:9] + b"\x00" + ask[10:], 6: ask[:43] + b"\x01", 7: ask[:31] + b"\x12" + ask[32:],
+               8: ask[:7] + b"\x02" + ask[8:], 9: ask[:9] + b"\x02" + ask[10:]}
+    with socket.socket(socket.AF_INET, socket.SOCK_DGRAM) as other:
+        for refusal, data in refused.items():
+            for _ in range(refusal):
+                other.sendto(data, ("127.0.0.1", ports[0]))
+        other.sendto(ask, ("127.0.0.1", ports[0]))
+    told = [node.ask("order ANN " + order) for order in ("drop DCS", "take DCS", "take DCS", "exclude DCS DCS")]
+    time.sleep(0.5)
+    later = counts_of(node)
+    risen = {name: later[name] - first[name] for name in names}
+    yield "orders that are counted", told == ["told ANN drop DCS 21", "told ANN take DCS 0", "told ANN take DCS 23",
+                                              "told ANN exclude DCS DCS 2"]
+    # Four orders, and so four wake-ups, of no bytes. Each datagram that is refused is one that came.
+    yield "refused datagrams are counted", [risen["refused%d" % it] for it in range(1, 10)] == [5, *range(2, 10)]
+    yield "refused orders are counted", [risen["refused%d" % it] for it in range(21, 27)] == [1, 0, 1, 0, 0, 0]
+    # The link takes, the record is granted, the link learns it; the command is issued, runs and is heard of.
+    yield "saves are counted", risen["saved"] == 6 and later["unsaved"] == later["unmade"] == 0
+    # Besides those refused and the wake-ups: the question, and what the station sent to itself, TAKE, TELL, RUN and
+    # TELL. A tick between an order and its answer sends once more, and is answered once more.
+    more = risen["received"] - sum(refused) - 4 - 1 - 4
+    yield "datagrams that came are counted", more in range(0, 2 * risen["ticks"] + 1, 2)
+    yield "ticks are counted", 10 < risen["ticks"] < 100 * (time.monotonic() - begun) + 10 and later["faults"] == 0
+    # Each tick repeats the WATCH of TPC; beside these went four datagrams to itself with those that were sent again,
+    # and the TELL to B. Counts that are read one after the other may differ by one.
+    went = risen["sent"] + risen["unsent"] - risen["ticks"] - more
+    yield "datagrams that went are counted", went in (4, 5, 6)
+    node.kill()
+
+
+def endless_case(program, folder):
+    """More than two million turns of a node, by a flood of datagrams that are none; it keeps what it had, and answers
+    meanwhile. A signal ends it, and what was answered is saved."""
+    ports = free_ports(2)
+    words = [write_tree(folder, ports), "B", os.path.join(folder, "B"), "--endless"]
+    node = Node(program, words)
+    told = [node.ask(line) for line in ("report HV READY", "order BOB watch HV", "order BOB take TPC")]
+    counts, took, until = counts_of(node), [], time.monotonic() + 300
+    with socket.socket(socket.AF_INET, socket.SOCK_DGRAM) as other:
+        other.connect(("127.0.0.1", ports[1]))
+        while counts["received"] < 2_100_000 and time.monotonic() < until:
+            for _ in range(20_000):
+                other.send(b"x")
+            begun = time.monotonic()
+            counts = counts_of(node)
+            took.append(time.monotonic() - begun)
+    yield "two million turns", counts["received"] >= 2_100_000
+    yield "answered in a flood", max(took) < SOON
+    yield "states are kept over all turns", told == ["told report HV READY 0", "told BOB watch HV 0",
+                                                     "told BOB take TPC 0"] \
+        and node.ask("show HV") == "board HV 1.1 READY" and node.ask("order BOB take TPC") == "told BOB take TPC 23"
+    node.child.terminate()
+    yield "ended by a signal", node.end()[2] == -signal.SIGTERM
+    node = Node(program, words, preexec_fn=lambda: signal.signal(signal.SIGINT, signal.SIG_DFL))
+    node.ask("show HV")
+    node.child.send_signal(signal.SIGINT)
+    yield "ended by another signal", node.end()[2] == -signal.SIGINT
+    yield "what was answered is saved", ((2, 2, 0), "020100020000000000000001" + "00" * 12) in stores.rows_in(words[2])
+
+
+# The session of README.md: who types what, and what is printed. Station C comes up while the third line waits.
+SESSION = [
+    ("A", "order ANN take DCS", "told ANN take DCS 0"),
+    ("A", "order ANN include DCS TPC", "told ANN include DCS TPC 0"),
+    ("A", "order ANN include DCS MUON", "told ANN include DCS MUON 0"),
+    ("A", "order ANN do DCS CONFIGURE", "told ANN do DCS CONFIGURE 0"),
+    ("B", "order BOB take TPC", "told BOB take TPC 5"),
+    ("A", "order ANN exclude DCS TPC", "told ANN exclude DCS TPC 0"),
+    ("B", "order BOB take TPC", "told BOB take TPC 0"),
+    ("B", "order BOB do TPC START", "told BOB do TPC START 0"),
+    ("B", "order BOB drop TPC", "told BOB drop TPC 0"),
+    ("A", "order ANN include DCS TPC", "told ANN include DCS TPC 0"),
+    ("A", "show TPC", "board TPC 1.2 RUNNING"),
+]
+LATE, GIVEN_BACK = SESSION[2], SESSION[5:]
+
+
+def asked_until(node, line, wanted, patience):
+    """What a node answers to a line: an order once, and what it shows until it is what is wanted."""
+    until = time.monotonic() + patience
+    answer = node.ask(line, patience)
+    while line.startswith("show") and answer not in (wanted, None) and time.monotonic() < until:
+        time.sleep(0.02)
+        answer = node.ask(line, patience)
+    return answer
+
+
+def play(running, start_late, seconds):
+    """The session, and its end again and again for so long: each line that was typed, with its answer."""
+    until, told = time.monotonic() + seconds, []
+    for entry in itertools.chain(SESSION, itertools.cycle(GIVEN_BACK)):
+        name, line, wanted = entry
+        late = threading.Timer(0.3, start_late) if entry is LATE else None
+        late and late.start()
+        told.append((name, line, asked_until(running[name], line, wanted, SOON)))
+        late and late.join()
+        is_over = len(told) >= len(SESSION) and time.monotonic() > until
+        if told[-1] != entry or is_over and entry is SESSION[-1]:
+            return told
+
+
+def flooded_case(program, folder):
+    """Single bytes come to a node as fast as they can be sent, for a second and a half: each order is answered."""
+    ports, running = free_ports(3), {}
+    tree = write_tree(folder, ports)
+
+    def start(name):
+        running[name] = Node(program, [tree, name, os.path.join(folder, name), "--endless"])
+        wires.when_bound(ports["ABC".index(name)])
+
+    start("A")
+    start("B")
+    flood = wires.Sender(ports[0], 0, [(0, b"x")])
+    told = play(running, lambda: start("C"), 1.5)
+    is_whole = flood.is_running() and all(node.child.poll() is None for node in running.values())
+    _, _, speed = flood.end()
+    for node in running.values():
+        node.kill()
+    wanted = list(itertools.islice(itertools.chain(SESSION, itertools.cycle(GIVEN_BACK)), len(told)))
+    if told != wanted:
+        print("answered %s in place of %s" % (told[-1], wanted[-1]), file=sys.stderr)
+    yield "a flooded node: each order is answered", len(told) >= len(SESSION) and told == wanted
+    yield "a flooded node: it runs on, and so does the flood", is_whole
+    yield "a flooded node: how much comes", speed > 2_000
+
+
 def rest_case(program, folder):
     """A node at rest leaves the processor alone, and an order to it is served at once."""
     tree = write_tree(folder, free_ports(2))
@@ -444,6 +661,14 @@ def rest_case(program, folder):
     yield "an order to a node at rest", sorted(took)[len(took) // 2] < 0.005
 
 
+def is_without_memory(ran, whole):
+    """Whether a node to which one allocation was refused did all the same, or told its order so, or said so and ended,
+    or its console did."""
+    out, err, status = ran
+    return ran == whole or ran == (whole[0].replace(b"DCS 0", b"DCS 33"), b"", 0) or whole[0].startswith(out) \
+        and err == b"no memory\n" and status in (0, 4)
+
+
 def growth_cases(program, folder):
     """Growths of a node refused, one in each run: it says so, or its reading thread does, or the order is told so, or
     it does without. Every eighth growth is tried."""
@@ -452,25 +677,27 @@ def growth_cases(program, folder):
     with open(given, "w", encoding="ascii") as file:
         file.write("order ANN take DCS\nshow TPC\n")
 
-    def words(place):
-        return ["node", tree, "A", os.path.join(folder, "store%d" % place), "--turns", "12"]
+    def words(place, turns=12):
+        return ["node", tree, "A", os.path.join(folder, "store%d-%d" % (place, turns)), "--turns", str(turns)]
 
-    count, whole = growths.counted(program, words(0), given, refusing, folder)
+    count, whole = growths.counted(program, words(0, 200), given, refusing, folder)
     yield "growths of a node: all %d" % count, whole == (b"told ANN take DCS 0\nboard TPC none\n", b"", 0)
     told = 0
     for growth in range(1, count + 1, 8):
-        out, err, status = growths.run(program, words(growth), given, {"LD_PRELOAD": refusing, "REFUSE": str(growth)})
-        told += (out, err, status) != whole
-        yield "growths of a node: %d" % growth, (out, err, status) == whole or (out, err, status) == (
-            whole[0].replace(b"DCS 0", b"DCS 33"), b"",
-            0) or whole[0].startswith(out) and err == b"no memory\n" and status in (0, 4)
+        # on a machine that is busy a node may have served its few turns before its console has printed
+        for turns in (12, 200):
+            ran = growths.run(program, words(growth, turns), given, {"LD_PRELOAD": refusing, "REFUSE": str(growth)})
+            if is_without_memory(ran, whole):
+                break
+        told += ran != whole
+        yield "growths of a node: %d" % growth, is_without_memory(ran, whole)
     yield "growths of a node: %d of them needed" % told, told > 0
 
 
 # These run side by side, and those after them.
 CASES = [three_case, killed_case, line_cases, shown_case, store_cases, page_cases, second_case, row_cases,
-         address_cases, console_cases, hostile_case, growth_cases]
-ALONE = [rest_case]
+         address_cases, console_cases, hostile_case, growth_cases, tag_case, many_tags_case]
+ALONE = [rest_case, count_cases, endless_case, flooded_case]
 
 
 def cases(program, folder, only=""):

@@ -111,10 +111,14 @@ def words_cases(program, folder):
         ["--seed", "18446744073709551616", "--steps", "1"], ["--seed", "1", "--steps", "1000001"],
         ["--seed", "1", "--seed", "1", "--steps", "1"], ["--", schedule],
     ]
+    wrong += [["--settle"], [schedule, "--settle", "--settle"], [schedule, "--settle=1"], ["--settle", "--seed", "1"]]
     right = [["--seed", "0", "--steps", "0"], ["--steps", "00", "--seed", "18446744073709551615"],
              ["--seed=1", "--steps=0"]]
     cases = [("sim with the words %s" % words, sim(program, words) == (b"", b"wrong line\n", 2)) for words in wrong]
     cases += [("sim with the words %s" % words, sim(program, words) == (OPENING, b"", 0)) for words in right]
+    settled = OPENING + b"settled after 0 items\n"
+    cases += [("sim with the words %s" % words, sim(program, words) == (settled, b"", 0))
+              for words in ([schedule, "--settle"], ["--settle", "--seed", "0", "--steps", "0"])]
     cases.append(("sim of a schedule that is nowhere", sim(program, [os.path.join(folder, "no such file")])
                   == (b"", b"read fault\n", 3)))
     cases.append(("sim of a schedule that is a folder", sim(program, [folder]) == (OPENING, b"read fault\n", 3)))
@@ -125,6 +129,50 @@ def words_cases(program, folder):
         done = subprocess.run([program, "sim", TREE, schedule], stdout=full, stderr=subprocess.PIPE, check=False)
     cases.append(("sim on a device that is full", (done.stderr, done.returncode) == (b"write fault\n", 3)))
     return cases
+
+
+# Schedules that go on until nothing is under way, with what is printed after the opening. Each round is the ticks of A
+# and B, with a start before where one has stopped, and then the delivery of what was sent since the round before.
+SETTLED = [
+    # What the order sent is not delivered. In the first round it is sent again as 3, and B grants it; in the second
+    # come A's view of TPC and BOB's answer, and what the ticks have sent once more.
+    ("a take that was lost", b"order BOB take TPC\n", b"""sent 1 TAKE B B TPC
+sent 2 WATCH A B TPC
+sent 3 TAKE B B TPC
+sent 4 STATE B A TPC
+granted TPC 1 BOB
+sent 5 TELL B B TPC
+sent 6 WATCH A B TPC
+sent 7 TAKE B B TPC
+showed A TPC 1.0 OFF
+learned BOB TPC 1
+told BOB take TPC 0
+sent 8 STATE B A TPC
+sent 9 TELL B B TPC
+settled after 10 items
+"""),
+    # A save that was left unsure has stopped B: it starts again, and nothing of the order is left.
+    ("a station that has stopped", b"fail B before order BOB take TPC\n", b"""sent 1 WATCH A B TPC
+booted B 2
+passed TPC 2.0 OFF
+passed HV 2.0 OFF
+sent 2 STATE B A TPC
+settled after 4 items
+"""),
+    ("a schedule with a faulty line", b"order BOB take TPC\nwalk\n", b"sent 1 TAKE B B TPC\n"),
+]
+
+
+def settled_cases(program, folder):
+    """Schedules that are led to rest, and one that is faulty and is not."""
+    found = []
+    for name, text, printed in SETTLED:
+        path = os.path.join(folder, "schedule")
+        with open(path, "wb") as file:
+            file.write(text)
+        told = (b"", 0) if printed.endswith(b"items\n") else (b"schedule line 2 fault 1\n", 1)
+        found.append(("settled: " + name, sim(program, [path, "--settle"]) == (OPENING + printed, *told)))
+    return found
 
 
 def long_cases(program, folder):
@@ -155,6 +203,6 @@ def cases(program, folder, only=""):
     """All of them, by name."""
     found = [("play " + name, items) for name, items in read_plays().items() if only in "play " + name]
     done = [(name, play_case(program, folder, items)) for name, items in found]
-    for part in (text_cases, words_cases, long_cases):
+    for part in (text_cases, words_cases, settled_cases, long_cases):
         done += [(name, held) for name, held in part(program, folder) if only in name]
     return done

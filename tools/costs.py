@@ -1,12 +1,15 @@
 """Measures what crates cost the gate, in processor seconds: the proof, the tests and the edits, each from nothing.
 
-usage: costs.py [CRATE..]
+usage: costs.py [CRATE..] | costs.py --table
 
-A row for each crate, in the form of the table of docs/GATE.md. The tests are a second proof of the crate, with its test
-functions. What other work runs on the machine makes the figures larger.
+It writes their lines into costs.txt, the others staying as they are, and the table of docs/GATE.md anew from all
+lines; --table does the latter alone. The tests are a second proof of the crate, with its test functions. What other
+work runs on the machine makes the figures larger.
 """
 
+import collections
 import os
+import re
 import subprocess
 import sys
 import tempfile
@@ -36,26 +39,58 @@ def seconds_of_edits(crate):
 
 
 def told(value):
-    return "not proved" if value is None else "%.0f" % value
+    return "-" if value is None else format(value, ",")
+
+
+def table(found):
+    """The table of docs/GATE.md, with the sum of each column at the end."""
+    rows = ["| Crate | Proof | Tests | Edits |", "|---|---|---|---|"]
+    for name, cost in found.items():
+        edits_told = "-" if not cost.edits else "%d in %s" % (cost.edits, told(cost.tried))
+        rows.append("| `%s` | %s | %s | %s |" % (name, told(cost.proof), told(cost.tests), edits_told))
+    sums = [sum(it for it in column if it) for column in zip(*found.values())]
+    rows.append("| all | %s | %s | %d in %s |" % (told(sums[0]), told(sums[1]), sums[2], told(sums[3])))
+    return "\n".join(rows) + "\n"
+
+
+def write_table():
+    """Puts the table into docs/GATE.md, in place of the one that stands there."""
+    path = os.path.join(kit.ROOT, "docs", "GATE.md")
+    with open(path, encoding="utf-8") as file:
+        text = file.read()
+    made, count = re.subn(r"\| Crate \| Proof \| Tests \| Edits \|\n(\|.*\n)+", lambda _: table(kit.costs()), text)
+    if count != 1:
+        sys.exit("docs/GATE.md has no table of costs")
+    with open(path, "w", encoding="utf-8") as file:
+        file.write(made)
+
+
+def measured(crate):
+    """What the crate costs; a figure that could not be had is none, and that is told."""
+    proof = seconds(crate, False)
+    tests = seconds(crate, True) if crate.has_tests() else None
+    count, refused, used = seconds_of_edits(crate)
+    if proof is None or count != refused:
+        print("%s: %s, %d of %d edits not refused" % (crate.name, "not proved" if proof is None else "proved",
+                                                     count - refused, count))
+    return kit.Cost(proof, tests, count or None, used if count else None)
 
 
 def main():
     os.chdir(kit.ROOT)
-    kit.rtlib.guarded()
-    os.environ["RT_JOBS"] = "1"
-    rows = []
-    for crate in kit.crates(sys.argv[1:]):
-        for dep in crate.below():
-            if dep.build_rlib(["--jobs", "1"], anew=False):
-                sys.exit("%s is not built" % dep.name)
-        proof = seconds(crate, False)
-        tests = told(seconds(crate, True)) if crate.has_tests() else "-"
-        count, refused, used = seconds_of_edits(crate)
-        tried = "%d in %.0f" % (count, used) if count == refused else "%d of %d not refused" % (count - refused, count)
-        tried = tried if count else "-"
-        rows.append("| `%s` | %s | %s | %s |" % (crate.name, told(proof), tests, tried))
-        print(rows[-1], flush=True)
-    print("\n".join(rows))
+    names = sys.argv[1:]
+    if names != ["--table"]:
+        kit.rtlib.guarded()
+        os.environ["RT_JOBS"] = "1"
+        for crate in kit.crates(names):
+            for dep in crate.below():
+                if dep.build_rlib(["--jobs", "1"], anew=False):
+                    sys.exit("%s is not built" % dep.name)
+            found = collections.OrderedDict(kit.costs())
+            found[crate.name] = measured(crate)
+            kit.write_costs(found)
+            print("%s: %s" % (crate.name, found[crate.name]), flush=True)
+    write_table()
 
 
 main()

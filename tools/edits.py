@@ -7,18 +7,21 @@ and lines `old:` and `new:`), with a line `function:` that names the function wh
 edits whose names have that text, and --from those in FOLDER in place of the crate's own. Where EDITS_SAID names a
 folder, what the prover says of each copy is kept there.
 
-Edits of different functions are written into one copy of the crate, and the prover is asked for these functions alone,
-from nothing, in a folder of this run. An edit counts as refused only where a goal of its own function is not proved: a
-function is proved from the contracts of what it calls, whatever becomes of their bodies, and a copy in which a goal of
-an unedited function fails tells nothing. What is not refused so is tried again without those that were, and at last
-alone. A copy that does not compile is halved. An edit that is about more than the body of one function, as of a
-definition or of a constant that several read, is tried alone; one with no line `function:` too, as the toolchain tries
-it, over the whole crate.
+Edits are written into one copy of the crate, those of one function each into a twin of it that stands beside it under
+a name of its own, where that can be; and the prover is asked for these functions alone, from nothing, in a folder of
+this run. Beside such twins stands one that nothing has changed: where it is not proved, the others tell nothing. An
+edit counts as refused only where a goal of its own function is not proved: a function is proved from the contracts of
+what it calls, whatever becomes of their bodies, and a copy in which a goal of an unedited function fails tells
+nothing. What is not refused so is tried again without those that were, and at last alone. A copy that does not compile
+is halved. An edit that is about more than the body of one function, as of a definition or of a constant that several
+read, is tried alone, and counts as refused too where its function is a law that rests on a lemma which is not proved
+any more; one with no line `function:` is tried alone as the toolchain tries it, over the whole crate.
 
 The last line is 'N refused, M not'. The status is 0 where each was refused.
 """
 
 import argparse
+import collections
 import os
 import re
 import shutil
@@ -36,9 +39,13 @@ FOLDERS = ("edits", "must-fail")
 MOST = 30
 # What an edit that was read is answered with.
 REFUSED, PASSED, BAD, AGAIN = "refused", "NOT REFUSED", "BAD EDIT", "again"
+# The mark of a twin that is as the function stands.
+SAME = "same"
 FUNCTION = re.compile(r"( *)(?:pub(?:\([a-z]+\))? )?(const )?(?:unsafe )?fn (\w+)")
 # An error in a proof file which says no more than that the edit took a name away.
 LOST_NAME = re.compile(r"has no field|is not in scope|has no `|was not admitted")
+# An error in any proof file.
+LEMMA = re.compile(r"(?m)^(?:\./)?proofs/\S+\.antt:\d+:\d+: error: (.*)$")
 printing = threading.Lock()
 
 
@@ -78,12 +85,28 @@ def enclosing(text, start, end):
     return None
 
 
+def item_of(lines, head):
+    """The lines of the whole function whose head is there: from its comments and attributes to the end of its body."""
+    body, first = body_of(lines, head), head
+    while first and lines[first - 1].strip() and lines[first - 1].lstrip().startswith(("#[", "//", "unfolding(", ")]")):
+        first -= 1
+    return range(first, body[-1] + 1)
+
+
+def is_in_trait(lines, head):
+    """Whether the function is one of a trait or of an impl of one: then it can't stand twice."""
+    if not FUNCTION.match(lines[head])[1]:
+        return False
+    owner = next((it for it in reversed(lines[:head]) if re.match(r"(unsafe )?(impl|pub trait|trait)\b", it)), "")
+    return not owner.startswith("impl") or " for " in owner
+
+
 class Edit:
     """An edit as it stands in its file, and what was found of it."""
 
     def __init__(self, crate, path):
         self.name, self.path = os.path.basename(path)[:-len(".edit")], path
-        self.how, self.why, self.tries = AGAIN, "", 0
+        self.how, self.why, self.tries, self.twin, self.is_lone = AGAIN, "", 0, 0, False
         with open(path, encoding="utf-8") as file:
             text = file.read()
         named = re.findall(r"(?m)^function: *(\S+)$", text)
@@ -96,10 +119,38 @@ class Edit:
         places = [place_of(crate, *cut) for cut in self.cuts]
         self.is_wide = not self.function or any(not it or it[2] != self.function.split("::")[-1] for it in places)
         self.touched = {self.function, *places}
+        self.place = places[0] if len(set(places)) == 1 and places[0] and can_stand_twice(crate, *places[0]) else None
 
     def clashes(self, other):
-        """Whether the two cannot stand in one copy, each with a function of its own."""
-        return self.is_wide or other.is_wide or not self.touched.isdisjoint(other.touched)
+        """Whether the two cannot stand in one copy, each with a function of its own or a twin of the same one."""
+        if self.is_wide or other.is_wide:
+            return True
+        return not self.touched.isdisjoint(other.touched) and not (self.may_be_twin and other.may_be_twin)
+
+    @property
+    def may_be_twin(self):
+        """Whether the edited function can stand beside the one that it is made of."""
+        return not self.is_lone and self.place is not None and self.touched == {self.function, self.place}
+
+    def same(self):
+        """The twin of the function that no edit has changed."""
+        return "%s__%s" % (self.function, SAME)
+
+    def named(self):
+        """The function as it is called in a copy in which this edit is a twin, or stands in its own place."""
+        return self.function + ("__%d" % self.twin if self.twin else "")
+
+
+def can_stand_twice(crate, path, head, name, is_constant):
+    """Whether a function can have a twin beside it: a plain one, with no closure that has a proof of its own."""
+    with open(os.path.join(crate.folder, path), encoding="utf-8") as file:
+        lines = file.read().split("\n")
+    found = FUNCTION.match(lines[head])
+    if not found or found[3] != name or is_constant or is_in_trait(lines, head):
+        return False
+    folders = [at for at, names, _ in os.walk(os.path.join(crate.folder, "proofs")) if os.path.basename(at) == name
+               and names]
+    return not folders and "|" not in "".join(lines[it] for it in body_of(lines, head)).replace("||", "")
 
 
 def cut_of(crate, path, new):
@@ -149,17 +200,63 @@ def reader_of(crate, text, start, end):
 
 
 def write_copy(crate, edits, room):
-    """Writes the crate into the folder, with these edits."""
+    """Writes the crate into the folder, with these edits: each in the place of its function, or of a twin of it."""
     for part in kit.rtlib.PARTS:
         if os.path.isdir(os.path.join(crate.folder, part)):
             shutil.copytree(os.path.join(crate.folder, part), os.path.join(room, part))
+    seen = collections.Counter()
+    for edit in edits:
+        edit.twin = seen[edit.function] + 1 if seen[edit.function] else 0
+        seen[edit.function] += 1
+    twins = [twin_of(crate, edit, edit.cuts, edit.twin) for edit in edits if edit.twin]
+    same = {edit.function: edit for edit in edits if edit.twin}.values()
+    twins += [twin_of(crate, edit, [], SAME) for edit in same]
+    cuts = [cut for edit in edits if not edit.twin for cut in edit.cuts] + twins
     # from the last one on, so that each still stands where it was found
-    cuts = sorted((cut for edit in edits for cut in edit.cuts), key=lambda it: (it[0], -it[1]))
-    for path, start, end, new in cuts:
+    for path, start, end, new in sorted(cuts, key=lambda it: (it[0], -it[1])):
         with open(os.path.join(room, path), encoding="utf-8") as file:
             text = file.read()
         with open(os.path.join(room, path), "w", encoding="utf-8") as file:
             file.write(text[:start] + new + text[end:])
+    for edit, mark in [(edit, edit.twin) for edit in edits if edit.twin] + [(edit, SAME) for edit in same]:
+        write_proofs(edit, mark, room)
+
+
+def twin_of(crate, edit, its_cuts, mark):
+    """The cut that puts the function with these cuts, under a name of its own, behind the one that it is made of."""
+    path, head, name, _ = edit.place
+    with open(os.path.join(crate.folder, path), encoding="utf-8") as file:
+        text = file.read()
+    lines = text.split("\n")
+    item = item_of(lines, head)
+    begin = sum(len(it) + 1 for it in lines[:item[0]])
+    end = begin + sum(len(lines[it]) + 1 for it in item)
+    whole = text
+    for _, start, stop, new in sorted(its_cuts, key=lambda it: -it[1]):
+        whole = whole[:start] + new + whole[stop:]
+    twin = whole[begin:end + len(whole) - len(text)]
+    renamed = re.sub(r"\bfn %s\b" % name, "fn %s__%s" % (name, mark), twin, count=1)
+    return path, end, end, "\n" + renamed
+
+
+def write_proofs(edit, mark, room):
+    """What is written of the proof of the function is written of its twin too."""
+    name = edit.place[2]
+    for at, _, _ in list(os.walk(os.path.join(room, "proofs"))):
+        if at.split(os.sep)[-1] == name and is_proof_of(edit.function, os.path.relpath(at, room)):
+            made = "%s__%s" % (at, mark)
+            shutil.copytree(at, made)
+            for file_name in os.listdir(made):
+                with open(os.path.join(made, file_name), encoding="utf-8") as file:
+                    text = file.read()
+                with open(os.path.join(made, file_name), "w", encoding="utf-8") as file:
+                    file.write(re.sub(r"\.%s\.(Goals|Given|Statement)\b" % name,
+                                      lambda it: ".%s__%s.%s" % (name, mark, it[1]), text))
+
+
+def is_proof_of(function, folder):
+    """Whether the folder below proofs/ is that of the function."""
+    return folder.split(os.sep)[1:] == function.split("::")[1:]
 
 
 def check(crate, edits, kept):
@@ -167,8 +264,8 @@ def check(crate, edits, kept):
     with tempfile.TemporaryDirectory(prefix="copy-", dir=os.path.dirname(kept)) as room:
         write_copy(crate, edits, room)
         words = [kit.rtlib.RATTLE, "check", *crate.words(["--jobs", "1"], keeps=False), "--incremental", kept]
-        for edit in edits:
-            words += ["--only", edit.function]
+        for name in {it for edit in edits for it in [edit.named()] + ([edit.same()] if edit.twin else [])}:
+            words += ["--only", name]
         said = os.path.join(room, "said")
         with open(said, "wb") as out:
             child = subprocess.Popen([*kit.rtlib.guarded(), *words], cwd=room, stdin=subprocess.DEVNULL, stdout=out,
@@ -203,18 +300,28 @@ def goals_of(functions, said):
     return own
 
 
+def set_apart(said, batch):
+    """Edits of functions that are not proved as a twin that nothing has changed: what is said of their twins tells
+    nothing, and they are tried again in their own places."""
+    for edit in batch:
+        if edit.twin and not re.search(r"(?m)^fn %s: proved" % re.escape(edit.same()), said):
+            for other in batch:
+                if other.function == edit.function:
+                    other.how, other.is_lone = AGAIN, True
+
+
 def strays(said, edits):
     """The functions with unproved goals of their own that no edit is about: none, since a function is proved from the
     contracts of what it calls."""
     functions = dict(re.findall(r"(?m)^(?:fn|impl) (\S+): (.*)$", said))
-    edited = {it for edit in edits for it in lines_of(edit.function, said)}
+    edited = {it for edit in edits for it in lines_of(edit.named(), said)}
     return [it for it, line in functions.items() if it not in edited and goals_of({it: line}, said)]
 
 
 def verdict(edit, said, is_alone, is_clear):
     """How the edit fared, and why. Where the copy is not clear, another edit may be to blame for what failed."""
-    lines = lines_of(edit.function, said)
-    line = lines.get(edit.function)
+    lines = lines_of(edit.named(), said)
+    line = lines.get(edit.named())
     if not line or not re.search(r"(?m)^only=\d+ proved=\d+$", said):
         first = [it for it in said.split("\n") if it.startswith(("error", "rattle"))] or [said.strip()[:200]]
         return (BAD if is_alone else AGAIN), "it was not checked: %s" % first[0][:300]
@@ -224,6 +331,11 @@ def verdict(edit, said, is_alone, is_clear):
     goals = goals_of(lines, said)
     if goals and (is_alone or is_clear):
         return REFUSED, goals[0][:160]
+    if is_alone and edit.is_wide and not line.startswith("proved"):
+        # what its law rests on: a lemma that no longer holds of the definition
+        lemmas = [it for it in LEMMA.findall(said) if not LOST_NAME.search(it)]
+        if lemmas:
+            return REFUSED, lemmas[0][:160]
     if not is_alone:
         return AGAIN, line[:300]
     return PASSED, "%s: %s" % (edit.function, line[:300])
@@ -250,6 +362,7 @@ def try_together(crate, edits, kept):
                 % (crate.name, stray[0]))
         for edit in batch:
             edit.how, edit.why = verdict(edit, said, is_alone, not stray)
+        set_apart(said, batch)
         if os.environ.get("EDITS_SAID"):
             with open("%s/%s-%d" % (os.environ["EDITS_SAID"], crate.name, time.time_ns()), "w",
                       encoding="utf-8") as file:
@@ -281,8 +394,8 @@ def try_crate(crate, folders, room, only=""):
         try_together(crate, [edit for edit in good if edit.function], kept)
         for edit in good:
             if not edit.function:
-                is_refused, text = kit.rt.must_fail(crate, edit.path, ["--jobs", "1"], kept)
-                edit.how, edit.why = (REFUSED if is_refused else PASSED), text
+                outcome, edit.why = kit.rt.must_fail(crate, edit.path, ["--jobs", "1"], kept)
+                edit.how = REFUSED if outcome == kit.rt.REFUSED else PASSED
     for edit in edits:
         say("%s/%s: %s%s" % (crate.name, edit.name, edit.how, ": " + edit.why if edit.how != REFUSED else ""))
     return edits

@@ -3,13 +3,13 @@
 usage: gate.py [--all | --record CRATE..]
 
 It runs `rt ci`; on the programs that this has built the cases of tests/command_lines.py and tests/nodes.py, the shift
-of the examples (tests/shift.py), the tools beside the program (tests/pictures.py), the documents (tests/documents.py)
-and a short soak (tests/soak.py); and the edits in crates/CRATE/edits/ (tools/edits.py) of each crate whose sum is not
-in the record edits.ok: a line of it says that all edits of the crate were seen refused, with the same toolchain, tools,
-sources, specs, proofs and edits, and the same contracts, definitions and lemmas of the crates below it. What is not
-tried for that is counted apart and not as passed. --all reads no record, tries the edits of every crate, and writes the
-record. --record tries the edits of these crates alone, and writes the lines of those of which all are refused; the
-lines of other crates stay.
+of the examples (tests/shift.py), the tools beside the program (tests/pictures.py), the documents (tests/documents.py),
+a crowd of nodes (tests/crowd.py) and a short soak (tests/soak.py); and the edits in crates/CRATE/edits/
+(tools/edits.py) of each crate whose sum is not in the record edits.ok: a line of it says that all edits of the crate
+were seen refused, with the same toolchain, tools, sources, specs, proofs and edits, and the same contracts, definitions
+and lemmas of the crates below it. What is not tried for that is counted apart and not as passed. --all reads no record,
+tries the edits of every crate, and writes the record. --record tries the edits of these crates alone, and writes the
+lines of those of which all are refused; the lines of other crates stay.
 
 The last line is 'N passed, M failed'.
 """
@@ -29,6 +29,9 @@ RECORD = os.path.join(kit.ROOT, "edits.ok")
 PROGRAMS = ("smi", "smi_trial")
 # How long the short soak takes, in seconds.
 SOAKED = 40
+# How much wider the limits of times are than those of `make crowd`, on a machine of which nothing is known, and for how
+# many seconds an answer is waited for.
+SLACK, PATIENT = 20, 30
 # How many lines of each crate that failed are told again at the end.
 TOLD_AGAIN = 12
 HEAD = "# The crates whose edits were all seen refused, each with the sum of what that rests on (tools/gate.py).\n"
@@ -59,9 +62,10 @@ class Told:
     """The last lines that were told of each crate, to be told again of those that failed."""
 
     def __init__(self):
-        self.last, self.name, self.failed = {}, None, []
+        self.last, self.name, self.failed, self.kept = {}, None, [], 0
 
     def take(self, line):
+        self.kept += bool(re.fullmatch(r"rt: \S+ is kept: an earlier run .*\n", line))
         begun = re.fullmatch(r"== (\S+?)(: its tests)?\n", line)
         ended = re.fullmatch(r"rt: (\S+?)(: its tests are)? (NOT )?PROVED\n", line, re.IGNORECASE)
         if begun:
@@ -72,6 +76,10 @@ class Told:
             self.name = None
         elif self.name:
             self.last[self.name].append(line)
+
+    def more(self):
+        """How much was not proved, since an earlier run of the same files on this machine had proved it."""
+        return "; %d of %d crates kept by earlier runs" % (self.kept, len(kit.crates())) if self.kept else ""
 
     def tell(self):
         for name in self.failed:
@@ -187,7 +195,8 @@ def main():
     sums = {crate.name: kit.own_sum(crate) for crate in kit.crates()}
     print(free_space(), flush=True)
     told = Told()
-    parts = [Part("proofs and tests").end(*run(["rt", "ci"], told))]
+    part = Part("proofs and tests")
+    parts = [part.end(*run(["rt", "ci"], told), told.more())]
     told.tell()
     print(free_space())
     if not parts[0].failed:
@@ -198,6 +207,7 @@ def main():
                             ("a shift", ["tests/shift.py", "bin/smi"]),
                             ("tools", ["tests/pictures.py", "bin/smi"]),
                             ("documents", ["tests/documents.py", "bin/smi"]),
+                            ("a crowd", ["tests/crowd.py", "bin/smi", "--slack", str(SLACK), "--patience", str(PATIENT)]),
                             ("a short soak", ["tests/soak.py", "bin/smi", "--seconds", str(SOAKED)])]:
             part = Part(name)
             parts.append(part.end(*run([sys.executable, *words])))

@@ -1,5 +1,6 @@
 """What the tools take from the toolchain and from this repository: its crates, their commands and their sums."""
 
+import collections
 import hashlib
 import importlib.machinery
 import importlib.util
@@ -17,6 +18,9 @@ TOOLS = ("tools/kit.py", "tools/edits.py")
 # In a library as it is built: a trait, or a function that stands in no trait and only its own module sees.
 TRAIT_OR_PRIVATE = re.compile(r"^((?:# \[.*\] )*(?:pub (?:\( \w+ \) )?)?trait .*\n(?:[^}].*\n)*\}\n)"
                               r"|^(?:# \[.*\] )*fn .*\n(?: .*\n)*", re.MULTILINE)
+# What crates cost, in processor seconds: their proof, their tests, how many edits they have and what these take.
+COSTS = os.path.join(ROOT, "costs.txt")
+Cost = collections.namedtuple("Cost", "proof tests edits tried", defaults=(None, None, None, None))
 # How a line of comment begins, by the kind of file.
 COMMENTS = {".rt": b"//", ".antt": b"--"}
 
@@ -40,6 +44,26 @@ def crates(names=()):
     if unknown:
         sys.exit("no crate of crates.txt: %s" % ", ".join(sorted(unknown)))
     return [crate for crate in found if not names or crate.name in names]
+
+
+def costs():
+    """The record of what crates cost, by name; a figure that was not measured is none."""
+    if not os.path.isfile(COSTS):
+        return {}
+    with open(COSTS, encoding="ascii") as file:
+        rows = [line.split() for line in file if line.strip() and not line.startswith("#")]
+    return {name: Cost(*(None if it == "-" else int(it) for it in figures)) for name, *figures in rows}
+
+
+def write_costs(found):
+    """Writes the record, a line a crate in the order of crates.txt."""
+    with open(COSTS, "w", encoding="ascii") as file:
+        file.write("# What crates cost from nothing, in processor seconds: proof, tests, edits (how many, and seconds)."
+                   "\n# Written by make costs (tools/costs.py).\n")
+        for crate in crates():
+            if crate.name in found:
+                file.write("%s %s\n" % (crate.name, " ".join("-" if it is None else str(round(it))
+                                                             for it in found[crate.name])))
 
 
 def version():

@@ -1,24 +1,57 @@
 """Proves and builds the libraries below some crates, several side by side, each once those that it stands on are there.
 
-usage: libraries.py [--lanes N] CRATE.. | libraries.py --one CRATE
+usage: libraries.py [--lanes N] CRATE.. | libraries.py --one CRATE | libraries.py --estimate CRATE..
 
 `rt lib` would do the same one library after the other, since it keeps others out of all crates below the one that it
 builds. Here each library is built by a process of its own (--one), and only once all below it stand still.
 
 What was built and has not changed is left as it is. A line tells of each library that is proved, with the processor
-seconds that it took, from nothing where nothing was kept. The first that fails ends the run, once those beside it have
-ended: what it said is printed, and the status is 1.
+seconds that it took, from nothing where nothing was kept, and how long the rest will take, by the record of costs.txt
+(tools/costs.py) and by how much faster or slower this run is. The first that fails ends the run, once those beside it
+have ended: what it said is printed, and the status is 1. A run that is interrupted leaves what it has proved, and the
+next one goes on from there. --estimate says what the libraries that are missing will take, and builds nothing.
 """
 
 import argparse
 import collections
 import concurrent.futures
+import math
 import os
 import subprocess
 import sys
 import tempfile
 
 import kit
+
+# What a library is taken to cost, in processor seconds, that the record does not have.
+UNKNOWN = 60
+
+
+class Pace:
+    """How much work is left, by the record, and how fast the work that is done went."""
+
+    def __init__(self, crates, lanes):
+        known = {name: cost.proof for name, cost in kit.costs().items() if cost.proof}
+        self.cost = {crate.name: known.get(crate.name, UNKNOWN) for crate in crates}
+        self.behind = {}
+        for crate in reversed(crates):
+            above = [self.behind[it.name] for it in crates if crate.name in {dep.name for dep in it.deps}]
+            self.behind[crate.name] = self.cost[crate.name] + max(above, default=0)
+        self.lanes, self.left, self.wanted, self.used = lanes, set(self.cost), 0, 0
+
+    def done(self, crate, seconds):
+        """The library has taken so many processor seconds."""
+        self.left.discard(crate.name)
+        self.wanted, self.used = self.wanted + self.cost[crate.name], self.used + seconds
+
+    def minutes(self):
+        """How many minutes the rest takes at least: its work over all lanes, and its longest chain in one."""
+        speed = self.used / self.wanted if self.wanted > UNKNOWN else 1
+        work = sum(self.cost[name] for name in self.left) / self.lanes
+        return math.ceil(max([work, *(self.behind[name] for name in self.left)]) * speed / 60)
+
+    def told(self):
+        return "; some %d minutes left" % self.minutes() if self.left else ""
 
 
 def build(crate):
@@ -43,7 +76,7 @@ def heights(crates):
 
 def build_all(crates, lanes):
     """Builds the libraries, so many side by side, and returns whether all are there."""
-    above, waiting, running, ended, well = heights(crates), list(crates), {}, 0, True
+    above, waiting, running, ended, well, pace = heights(crates), list(crates), {}, 0, True, Pace(crates, lanes)
     with concurrent.futures.ThreadPoolExecutor(lanes) as pool:
         while running or well and waiting:
             missing = {it.name for it in [*waiting, *running.values()]}
@@ -54,8 +87,10 @@ def build_all(crates, lanes):
             for done in concurrent.futures.wait(running, return_when=concurrent.futures.FIRST_COMPLETED).done:
                 crate, (is_built, said, seconds) = running.pop(done), done.result()
                 well, ended = well and is_built, ended + 1
-                print("%s: %s, %.0f seconds (%d of %d)" % (crate.name, "proved" if is_built else "NOT PROVED\n" + said,
-                                                           seconds, ended, len(crates)), flush=True)
+                pace.done(crate, seconds)
+                print("%s: %s, %.0f seconds (%d of %d%s)" % (crate.name,
+                                                             "proved" if is_built else "NOT PROVED\n" + said, seconds,
+                                                             ended, len(crates), pace.told()), flush=True)
     return well
 
 
@@ -63,6 +98,7 @@ def main():
     words = argparse.ArgumentParser(description=__doc__.split("\n\n")[0])
     words.add_argument("--lanes", type=int, default=1, help="how many are proved side by side")
     words.add_argument("--one", metavar="CRATE", help="build this library alone")
+    words.add_argument("--estimate", action="store_true", help="say what the missing libraries will take")
     words.add_argument("crates", nargs="*", metavar="CRATE")
     said = words.parse_args()
     if said.one:
@@ -70,7 +106,17 @@ def main():
         sys.exit(kit.crates([said.one])[0].build_rlib([], anew=False))
     below = {it.name for crate in kit.crates(said.crates) for it in crate.below()}
     missing = [it for it in kit.crates() if it.name in below and not it.is_built()]
-    sys.exit(0 if build_all(missing, said.lanes) else 1)
+    if said.estimate:
+        pace = Pace(missing, os.cpu_count() or 1)
+        print("%d libraries are to be proved, which takes some %d minutes here." % (len(missing), pace.minutes())
+              if missing else "All libraries below are proved.")
+        return
+    try:
+        is_well = build_all(missing, said.lanes)
+    except KeyboardInterrupt:
+        print("interrupted: what is proved stays so, and the next run goes on from there", flush=True)
+        os._exit(130)
+    sys.exit(0 if is_well else 1)
 
 
 if __name__ == "__main__":
