@@ -27,6 +27,11 @@ pub(crate) fn link_fault<F: Write>(faults: &mut F) -> Status {
     told("link fault", faults)
 }
 
+/// Tells that the node can't listen where it was told to.
+pub(crate) fn console_fault<F: Write>(faults: &mut F) -> Status {
+    told("console fault", faults)
+}
+
 /// Tells that the station has stopped.
 pub(crate) fn stopped<F: Write>(faults: &mut F) -> Status {
     told("stopped", faults)

@@ -45,7 +45,8 @@ pub enum Schedule<'a> {
     Drawn { seed: u64, steps: u64 },
 }
 
-/// A node: the path of its tree, the name of its station, the path of its store, and how long it serves.
+/// A node: the path of its tree, the name of its station, the path of its store, how long it serves, and where it
+/// listens for consoles.
 #[derive(Clone, Copy)]
 pub struct NodeLine<'a> {
     pub tree: &'a str,
@@ -53,6 +54,8 @@ pub struct NodeLine<'a> {
     pub store: &'a str,
     /// How many turns it serves, none where it serves without end.
     pub turns: Option<u32>,
+    /// Two consoles at most, each an address or the path of a socket.
+    pub consoles: [Option<&'a str>; 2],
 }
 
 /// What the words of a command line ask for, the program's own name first.
@@ -166,7 +169,9 @@ fn node_command<'a>(alloc: Global) -> Result<Command<'a>, Error> {
     let form = with_word(alloc, form, "STATION")?;
     let form = with_word(alloc, form, "STORE")?;
     let form = form.arg(Arg::new(alloc, "T").long("turns"))?;
-    Ok(form.arg(flag(alloc, "endless"))?)
+    let form = form.arg(flag(alloc, "endless"))?;
+    let console = Arg::new(alloc, "C").long("console");
+    Ok(form.arg(console.action(ArgAction::Append))?)
 }
 
 fn node_line<'a>(given: &ArgMatches<'a>) -> Option<NodeLine<'a>> {
@@ -175,7 +180,18 @@ fn node_line<'a>(given: &ArgMatches<'a>) -> Option<NodeLine<'a>> {
         station: given.get_str("STATION")?,
         store: given.get_str("STORE")?,
         turns: turns_of(given.get_str("T"), given.get_flag("endless"))?,
+        consoles: consoles_of(given.get_strs("C"))?,
     })
+}
+
+/// Where a node listens for consoles: more than two are no form.
+fn consoles_of<'a>(words: Option<&[&'a str]>) -> Option<[Option<&'a str>; 2]> {
+    match words {
+        None => Some([None, None]),
+        Some([one]) => Some([Some(*one), None]),
+        Some([one, other]) => Some([Some(*one), Some(*other)]),
+        Some(_) => None,
+    }
 }
 
 /// How long a node serves: as many turns as a word says, without end where that is asked for, and without either the

@@ -1,5 +1,5 @@
 -- What a line asks of a node.
-use Rattle.std.specs.Prelude.{ℕ, nat_lt, ◌==◌, ok_or, List, [], ◌∷◌, length, Bool, true, false, codes, Option, Some}
+use Rattle.std.specs.Prelude.{ℕ, nat_lt, ◌==◌, ok_or, List, [], ◌∷◌, length, Bool, codes, Option, Some}
 use Rattle.std.specs.Prelude.{None, Result, Ok, Err, if◌then◌else◌}
 use Rattle.std.specs.List.{list_any}
 use Rattle.std.specs.Str.{bytes_eq}
@@ -16,10 +16,10 @@ use Rattle.smi_protocol.specs.declared.item.Item.{Item}
 use Rattle.smi_protocol.specs.declared.item.Item.TheVariants as item
 use Rattle.smi_protocol.specs.declared.item.Deed.TheVariants as deed
 use Rattle.smi_schedule.specs.Line.{item_in}
-use Rattle.smi_crew.specs.declared.said.Kind.{Kind}
-use Rattle.smi_crew.specs.declared.said.Kind.TheVariants as kind
-use Rattle.smi_crew.specs.declared.said.Request.{Request}
-use Rattle.smi_crew.specs.declared.said.Request.TheVariants as request
+use Rattle.smi_front.specs.declared.said.Kind.{Kind}
+use Rattle.smi_front.specs.declared.said.Kind.TheVariants as kind
+use Rattle.smi_front.specs.declared.said.Request.{Request}
+use Rattle.smi_front.specs.declared.said.Request.TheVariants as request
 
 -- the operator is one of these
 abbrev pub is_of : List ℕ → ℕ → Bool

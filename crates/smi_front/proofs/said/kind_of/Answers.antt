@@ -1,7 +1,7 @@
 use Rattle.std.proofs.Common.{refl, arith}
 use Rattle.std.proofs.lemmas.Slice.Eq.{text_from_reads}
 use Rattle.std.specs.Prelude.{codes}
-use Rattle.smi_crew.proofs.said.kind_of.Goals as goal
+use Rattle.smi_front.proofs.said.kind_of.Goals as goal
 
 pub returns-in-report : goal.returns-in-report
 returns-in-report c =

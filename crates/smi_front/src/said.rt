@@ -3,7 +3,7 @@
 ghost use Rattle.std.specs.Prelude.{◌≡◌, ◌≤◌, IsTrue};
 ghost use Rattle.smi_tree.specs.Lookups.{operators_of, station_count};
 ghost use Rattle.smi_tree.specs.Text.{words};
-ghost use Rattle.smi_crew.specs.Said as spec;
+ghost use Rattle.smi_front.specs.Said as spec;
 
 use smi_limits::MOST_BYTES_OF_A_LINE;
 use smi_protocol::{Deed, Item, Order};
