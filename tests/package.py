@@ -3,8 +3,8 @@
 usage: package.py [TEXT]
 
 `make install` is run with bin/smi into a folder of its own, and the package is installed into one and removed from it,
-so nothing of the machine is touched. lintian, zsh and nft look at it where the machine has them. With a TEXT only the cases are run
-whose name has it. The last line is 'N passed, M failed'.
+so nothing of the machine is touched. lintian, zsh and nft look at it where the machine has them. With a TEXT only the
+cases are run whose name has it. The last line is 'N passed, M failed'.
 """
 
 import os

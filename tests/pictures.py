@@ -156,7 +156,7 @@ def trace_cases(program):
     whole = subprocess.run(words, stdout=subprocess.PIPE, check=True).stdout.decode().splitlines()
     yield "a play has its schedule", [line[2:] for line in lines if line.startswith("# ")] == schedule
     yield "a play has its trace", trace == whole
-    # the second of three items, worked out from the rules: a take sends one datagram, and what was never sent is nothing
+    # worked out from the rules
     with tempfile.TemporaryDirectory() as folder:
         path = os.path.join(folder, "schedule")
         for text, wanted in [("order BOB take TPC\n\n# no item\ndeliver 9\ntick A\n", PLAYED),
