@@ -1,5 +1,5 @@
 -- What is lawful in a tree and surely not meant.
-use Rattle.std.specs.Prelude.{ℕ, ◌+◌, ◌==◌, ◌&&◌, ◌||◌, not, Bool, false, List, [], ◌∷◌, Option, find}
+use Rattle.std.specs.Prelude.{ℕ, ◌+◌, ◌==◌, ◌&&◌, ◌||◌, not, Bool, false, [], ◌∷◌, Option, find}
 use Rattle.std.specs.Option.{option_map_or}
 use Rattle.std.specs.List.{list_any, range_with_len}
 use Rattle.smi_tree.specs.Hierarchy.{Hierarchy, entry}
@@ -56,7 +56,7 @@ some_begins h state = some_up_to (domain_count h + device_count h) (λ object. b
 
 unfoldable pub comes_from : Hierarchy → ℕ → ℕ → ℕ → Bool
 comes_from h device from state =
-    not (from == state) && some_up_to (action_count h) (λ action. moved h device from action == state)
+    some_up_to (action_count h) (λ action. not (from == state) && moved h device from action == state)
 
 unfoldable pub comes : Hierarchy → ℕ → ℕ → Bool
 comes h device state = some_up_to (state_count h) (λ from. comes_from h device from state)

@@ -19,14 +19,15 @@ fn begins(tree: &Tree, object: u16, state: u16) -> bool
 fn some_begins(tree: &Tree, state: u16) -> bool
     ensures { result ≡ spec.some_begins tree.now state }
 {
-    (0..tree.object_count() + 1).any(|object| begins(tree, object, state))
+    (0..tree.domain_count() + tree.device_count() + 1).any(|object| begins(tree, object, state))
 }
 
 /// Whether some action brings a device from one state to another.
 fn comes_from(tree: &Tree, device: u16, from: u16, state: u16) -> bool
     ensures { result ≡ spec.comes_from tree.now device from state }
 {
-    from != state && (0..tree.action_count() + 1).any(|action| tree.moved(device, from, action) == state)
+    (0..tree.action_count() + 1).any(|action| from != state
+        && tree.moved(device, from, action) == state)
 }
 
 /// Whether some action brings a device to this state from another one.
