@@ -34,7 +34,7 @@ install: bin/smi
 	install -D -m 644 package/_smi $(DESTDIR)$(ZSH)/_smi
 	install -D -m 644 package/smi.sysusers $(DESTDIR)$(PREFIX)/lib/sysusers.d/smi.conf
 	install -d $(DESTDIR)$(PREFIX)/share/man/man1 $(DESTDIR)$(PREFIX)/lib/systemd/system
-	sed 's#@SHARE@#$(SHARE)#; s#@DOC@#$(DOC)#' package/smi.1 > $(DESTDIR)$(PREFIX)/share/man/man1/smi.1
+	sed 's#@SHARE@#$(SHARE)#g; s#@DOC@#$(DOC)#g' package/smi.1 > $(DESTDIR)$(PREFIX)/share/man/man1/smi.1
 	sed 's#/usr/local/bin/smi#$(BIN)/smi#' examples/smi-node@.service \
 		> $(DESTDIR)$(PREFIX)/lib/systemd/system/smi-node@.service
 	install -d $(DESTDIR)$(SHARE)/tools $(DESTDIR)$(SHARE)/examples $(DESTDIR)$(DOC)/docs/pictures
