@@ -17,7 +17,7 @@ bin/smi: $(SOURCES)
 	mkdir -p bin
 	cp crates/smi/out/smi bin/smi
 
-# Where the program and what belongs to it are put: make install PREFIX=/usr/local DESTDIR=/tmp/staged.
+# Where the program and what belongs to it are put: make install PREFIX=/usr/local DESTDIR=staged.
 PREFIX ?= /usr/local
 DESTDIR ?=
 BIN := $(PREFIX)/bin
