@@ -1,0 +1,16 @@
+//! What is lawful in a tree file and surely not meant.
+//!
+//! There are three kinds: a station with the address of another ([`twin`]), an action that a unit accepts and that
+//! moves no device ([`is_idle`]), and a state that nothing leads to ([`is_unreached`]). Each is a function of the tree,
+//! and takes no memory. [`tell`] writes a line for each that a tree has.
+#![tactic(auto)]
+
+mod actions;
+mod addresses;
+mod states;
+mod telling;
+
+pub use actions::is_idle;
+pub use addresses::twin;
+pub use states::is_unreached;
+pub use telling::tell;
