@@ -5,7 +5,7 @@ SOURCES := crates.txt $(shell find crates -path '*/out' -prune -o -type f \( -na
 # So many crates are proved side by side: one for each processor, and 4 GB for each.
 LANES := $(shell awk -v most=$$(nproc) '/^MemAvailable/ { fit = int($$2 / 4000000); print fit < 1 ? 1 : fit < most ? fit : most }' /proc/meminfo)
 
-.PHONY: smi run try test gate record check cases nodes soak crowd shift tools documents pictures edits edits-test costs bench
+.PHONY: smi run try test gate record check cases nodes consoles soak crowd shift tools documents pictures edits edits-test costs bench
 .PHONY: install deb package
 
 # The program, proved and built, at bin/smi.
@@ -25,7 +25,7 @@ SHARE := $(PREFIX)/share/smi
 DOC := $(PREFIX)/share/doc/lunskaf
 ZSH := $(PREFIX)/share/zsh/site-functions
 # What a crew and whoever runs the machines may want beside the program.
-TOOLS := draw firewall hierarchy lines play record rows show
+TOOLS := console draw firewall hierarchy lines lunskaf play record rows show
 
 # The program, its page, completion, the unit and its user, the tools, examples and documents.
 install: bin/smi
@@ -88,6 +88,10 @@ cases: bin/smi bin/smi_trial
 # Nodes as processes, three of them over UDP among them, or the cases whose name has a text: make nodes ONLY=store.
 nodes: bin/smi
 	@python3 tests/nodes.py bin/smi $(if $(ONLY),'$(ONLY)')
+
+# Many consoles at one node, or the cases whose name has a word: make consoles ONLY=rude.
+consoles: bin/smi
+	@python3 tests/consoles.py bin/smi $(if $(ONLY),'$(ONLY)')
 
 # Three nodes behind a proxy that loses, repeats, delays and reorders, with kills: make soak WORDS='--seconds 3600 --seed 7'.
 soak: bin/smi

@@ -8,7 +8,7 @@ _smi_words()
     for ((place = 2; place < COMP_CWORD; place++)); do
         word=${COMP_WORDS[place]}
         case $word in
-            --seed | --steps | --turns) ((place++)) ;;
+            --console | --seed | --steps | --turns) ((place++)) ;;
             -*) ;;
             *) words+=("$word") ;;
         esac
@@ -25,10 +25,15 @@ _smi()
     fi
     case $before in
         --seed | --steps | --turns) return ;;
+        --console)
+            compopt -o filenames 2> /dev/null
+            mapfile -t COMPREPLY < <(compgen -f -- "$word")
+            return
+            ;;
     esac
     case ${COMP_WORDS[1]} in
         sim) options='--seed --settle --steps' ;;
-        node) options='--endless --turns' ;;
+        node) options='--console --endless --turns' ;;
     esac
     if [[ $word == -* ]]; then
         mapfile -t COMPREPLY < <(compgen -W "$options" -- "$word")

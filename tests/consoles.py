@@ -497,14 +497,24 @@ def supply_case(program, folder):
 
 
 def people_case(program, folder):
-    """tools/console.py: what is typed is answered, and the end of the input is its end."""
+    """tools/console.py: what is typed is answered, and the end of the input is its end; one line as words."""
     place = Place(program, folder)
-    script = [sys.executable, os.path.join(HERE, os.pardir, "tools", "console.py"), place.where, place.tree]
-    done = subprocess.run(script, input="order ANN take LEFT\n@x show L\nhelp\n", stdout=subprocess.PIPE, text=True,
-                          timeout=PATIENCE, check=False)
-    lines = done.stdout.splitlines()
-    yield "a console for people", (sorted(lines[:2]), lines[-1], done.returncode) == (
+
+    def ran(words, text=None):
+        script = [sys.executable, os.path.join(HERE, os.pardir, "tools", "console.py"), *words]
+        done = subprocess.run(script, input=text, stdout=subprocess.PIPE, text=True, timeout=PATIENCE, check=False)
+        return done.stdout.splitlines(), done.returncode
+
+    lines, status = ran(["--tree", place.tree, place.where], "order ANN take LEFT\n@x show L\nhelp\n")
+    yield "a console for people", (sorted(lines[:2]), lines[-1], status) == (
         ["@x board L none", "told ANN take LEFT 0"], "help 11", 0)
+    for line, told, status in [("order ANN ask LEFT", "told ANN ask LEFT ANN 1 0 settled 0", 0),
+                               ("order BOB take LEFT", "told BOB take LEFT 5", 1),
+                               ("order BOB grab LEFT", "line 1 fault 1: a word that no line has there", 1),
+                               ("@x order BOB grab LEFT", "@x fault 1: a word that no line has there", 1),
+                               ("show L", "board L none", 0), ("@x report L OFF", "@x told report L OFF 0", 0)]:
+        yield "one line: " + line, ran([place.where, *line.split()]) == ([told], status)
+    yield "where there is no node", ran([os.path.join(folder, "nowhere"), "help"]) == ([], 1)
     place.node.kill()
 
 

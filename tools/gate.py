@@ -2,7 +2,7 @@
 
 usage: gate.py [--all | --record CRATE..]
 
-It runs `rt ci`; on the programs that this has built the cases of tests/command_lines.py and tests/nodes.py, the shift
+It runs `rt ci`; on the programs that this has built the cases of tests/command_lines.py, tests/nodes.py and tests/consoles.py, the shift
 of the examples (tests/shift.py), the tools beside the program (tests/pictures.py), the documents (tests/documents.py),
 what is installed and packed (tests/package.py), a crowd of nodes (tests/crowd.py) and a short soak (tests/soak.py); and
 the edits in crates/CRATE/edits/ (tools/edits.py) of each crate whose sum is not in the record edits.ok: a line of it
@@ -204,6 +204,7 @@ def main():
         for name, words in [("lines and words", ["tests/words.py"]),
                             ("command lines", ["tests/command_lines.py", "bin/smi", "bin/smi_trial"]),
                             ("nodes", ["tests/nodes.py", "bin/smi"]),
+                            ("consoles", ["tests/consoles.py", "bin/smi"]),
                             ("a shift", ["tests/shift.py", "bin/smi"]),
                             ("tools", ["tests/pictures.py", "bin/smi"]),
                             ("documents", ["tests/documents.py", "bin/smi"]),
