@@ -27,8 +27,9 @@ import trees
 import wires
 
 PATIENCE = 30
-# How long the answer of a flooded node is waited for, in seconds: a flood may hold it up, but not for long.
-SOON = 15
+# How long the answer of a flooded node is waited for, in seconds: a flood may hold it up, but not for long; and where
+# the flood is all that one process can send, since most of what comes from other stations is lost then.
+SOON, LATER = 15, 60
 # How many turns a node serves in a case that looks only at how it begins, and in one that talks to it.
 FEW, SOME = 20, 3000
 
@@ -604,7 +605,7 @@ def play(running, start_late, seconds):
         name, line, wanted = entry
         late = threading.Timer(0.3, start_late) if entry is LATE else None
         late and late.start()
-        told.append((name, line, asked_until(running[name], line, wanted, SOON)))
+        told.append((name, line, asked_until(running[name], line, wanted, LATER)))
         late and late.join()
         is_over = len(told) >= len(SESSION) and time.monotonic() > until
         if told[-1] != entry or is_over and entry is SESSION[-1]:
