@@ -131,7 +131,22 @@ fn wickets(alloc: Global, operators: &[u16], seats: Vec<Seat>) -> Result<Vec<Wic
     Ok(wickets)
 }
 
-/// The seats of a station's operators and one for reports, their desk, and last its link.
+/// The front desk of a node, over these seats.
+fn front_of<J: BoardId>(
+    alloc: Global,
+    plan: &Plan,
+    operators: &[u16],
+    seats: Vec<Seat>,
+    glance: Glance<J>,
+    counts: Arc<Counts, Global>,
+) -> Result<Box<Front<J>>, AllocError> {
+    let wickets = wickets(alloc, operators, seats)?;
+    let operators = Vec::from_slice(alloc, operators)?;
+    let picture = Picture::new(alloc, plan.tree.object_count())?;
+    Front::open(alloc, operators, wickets, glance, counts, picture)
+}
+
+/// The seats of a station's operators and one for reports, at the front, their desk, and last the station's link.
 fn posted<'a, J: BoardId, H: Net + Clock + AllocGlobal>(
     rt: &'a H,
     plan: &Plan,
@@ -142,11 +157,8 @@ fn posted<'a, J: BoardId, H: Net + Clock + AllocGlobal>(
     let alloc = rt.alloc();
     let count = operators.len().min(MOST_OPERATORS_OF_A_STATION) + 1;
     let (seats, desk) = open_seats(alloc, count)?;
-    let wickets = wickets(alloc, operators, seats)?;
-    let operators = Vec::from_slice(alloc, operators)?;
-    let picture = Picture::new(alloc, plan.tree.object_count())?;
+    let front = front_of(alloc, plan, operators, seats, glance, counts)?;
     let (link, bell) = linked(rt, &plan.tree, plan.station)?;
-    let front = Front::open(alloc, operators, wickets, glance, counts, picture)?;
     Ok((link, desk, front, bell))
 }
 
