@@ -31,6 +31,8 @@ ROOT = os.path.dirname(HERE)
 PATIENCE = 20
 # What a reader of a first page can be asked to read.
 README_LINES = 150
+# What is in a command that only looks, and may be given again.
+LOOKS = ("'show ", "tools/rows.py")
 # How often a page is played in one folder.
 PLAYS = 2
 # How long an order has waited, at the end of a line of `under way`.
@@ -407,7 +409,7 @@ class Shell:
 
 
 def shown_in_time(shell, command, wanted):
-    """The same for a command that asks a node what it was shown, which may take a moment."""
+    """The same for a command that only looks at what a node was shown, or has saved, which may take a moment."""
     until = time.monotonic() + PATIENCE
     while True:
         found, wanted = shell.run(command, wanted)
@@ -419,7 +421,7 @@ def shown_in_time(shell, command, wanted):
 def played(shell, commands):
     """Each command of a page in turn, and whether it prints what stands below it, up to the first that does not."""
     for command, wanted in commands:
-        how = shown_in_time if "'show " in command else Shell.run
+        how = shown_in_time if any(it in command for it in LOOKS) else Shell.run
         found, said = how(shell, command, wanted)
         if found != said:
             print("  after %s\n    wanted %s\n    found  %s" % (command, said, found))
