@@ -36,7 +36,7 @@ LOOKS = ("'show ", "tools/rows.py")
 # How often a page is played in one folder.
 PLAYS = 2
 # How long an order has waited, at the end of a line of `under way`.
-WAITED = re.compile(r"^(@\S+ way .*) \d+$")
+WAITED = re.compile(r"^((?:@\S+ )?way .*) \d+$")
 # What of the repository a page of commands finds in its folder.
 FOLDERS = ("docs", "tests", "tools")
 
