@@ -44,9 +44,12 @@ fn place_of(alloc: Global, word: &str) -> Result<Place, AllocError> {
 }
 
 /// Where consoles are listened for.
-fn places_of(alloc: Global, words: &[Option<&str>]) -> Result<Vec<Place>, AllocError> {
+fn places_of(alloc: Global, line: &NodeLine<'_>) -> Result<Vec<Place>, AllocError> {
     let mut places = Vec::new(alloc);
-    for word in words.iter().flatten() {
+    if let Some(word) = line.console {
+        places.push(place_of(alloc, word)?)?;
+    }
+    if let Some(word) = line.second_console {
         places.push(place_of(alloc, word)?)?;
     }
     Ok(places)
@@ -64,7 +67,7 @@ fn plan_of<H: Files + AllocGlobal, F: Write>(
     let Some(station) = tree.station_named(line.station.as_bytes()) else {
         return Err(wrong_line(faults));
     };
-    match places_of(host.alloc(), &line.consoles) {
+    match places_of(host.alloc(), &line) {
         Ok(consoles) => Ok(Plan {
             tree,
             station,

@@ -54,8 +54,9 @@ pub struct NodeLine<'a> {
     pub store: &'a str,
     /// How many turns it serves, none where it serves without end.
     pub turns: Option<u32>,
-    /// Two consoles at most, each an address or the path of a socket.
-    pub consoles: [Option<&'a str>; 2],
+    /// Where it listens for consoles, each an address or the path of a socket; the second only beside a first.
+    pub console: Option<&'a str>,
+    pub second_console: Option<&'a str>,
 }
 
 /// What the words of a command line ask for, the program's own name first.
@@ -175,21 +176,23 @@ fn node_command<'a>(alloc: Global) -> Result<Command<'a>, Error> {
 }
 
 fn node_line<'a>(given: &ArgMatches<'a>) -> Option<NodeLine<'a>> {
+    let (console, second_console) = consoles_of(given.get_strs("C"))?;
     Some(NodeLine {
         tree: given.get_str("TREE")?,
         station: given.get_str("STATION")?,
         store: given.get_str("STORE")?,
         turns: turns_of(given.get_str("T"), given.get_flag("endless"))?,
-        consoles: consoles_of(given.get_strs("C"))?,
+        console,
+        second_console,
     })
 }
 
-/// Where a node listens for consoles: more than two are no form.
-fn consoles_of<'a>(words: Option<&[&'a str]>) -> Option<[Option<&'a str>; 2]> {
+/// Where a node listens for consoles, at two places at most: more are no form.
+fn consoles_of<'a>(words: Option<&[&'a str]>) -> Option<(Option<&'a str>, Option<&'a str>)> {
     match words {
-        None => Some([None, None]),
-        Some([one]) => Some([Some(*one), None]),
-        Some([one, other]) => Some([Some(*one), Some(*other)]),
+        None => Some((None, None)),
+        Some([one]) => Some((Some(*one), None)),
+        Some([one, other]) => Some((Some(*one), Some(*other))),
         Some(_) => None,
     }
 }
