@@ -295,6 +295,18 @@ def rude_case(program, folder):
     slow.say("y" * 1_000_000 + "\nshow L\n")
     yield "one of a million bytes is too long, and the next is heard", [slow.line(), slow.line()] == [
         "line 2 fault 10: more than 200 bytes", "board L none"]
+    gone = [Console(place.where) for _ in range(GUESTS - 3)]
+    for rude in gone:
+        rude.say("order EVE take FAR\nshow L\n")
+        rude.close()
+    time.sleep(STUCK)
+    until, told = time.monotonic() + SLACK, None
+    while time.monotonic() < until and told != "board L none":
+        many = [Console(place.where) for _ in range(GUESTS // 2)]
+        told = many[-1].ask("show L")
+        for console in many:
+            console.close()
+    yield "clients that leave while their orders wait make room", told == "board L none"
     yield "the node is there after all that", place.is_running() and steady.ask("show L") == "board L none"
     place.node.kill()
 

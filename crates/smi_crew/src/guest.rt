@@ -33,7 +33,7 @@ pub(crate) struct Guest {
     is_over: bool,
     /// Whether nothing more is taken.
     is_deaf: bool,
-    /// Since when it has taken nothing of what it is told.
+    /// Since when it has taken nothing of what it is told, or nothing more is taken.
     since: Option<Instant>,
     leaves: bool,
 }
@@ -151,15 +151,14 @@ impl Guest {
     fn write(&mut self, now: Option<Instant>) {
         if self.is_deaf {
             self.caller.written(usize::MAX);
-        }
-        if self.caller.said().is_empty() {
+        } else if self.caller.said().is_empty() {
             self.since = None;
             return;
         }
         if self.since.is_none() {
             self.since = now;
         }
-        if !self.can_write {
+        if self.is_deaf || !self.can_write {
             return;
         }
         match self.stream.write(self.caller.said()) {
@@ -212,7 +211,12 @@ impl Guest {
     }
 
     /// Whether it has something to be told.
-    pub(crate) fn has_unsent(&self) -> bool {
+    fn has_unsent(&self) -> bool {
         !self.caller.said().is_empty()
+    }
+
+    /// Whether it leaves once some time has passed.
+    pub(crate) fn is_timed(&self) -> bool {
+        self.since.is_some()
     }
 }

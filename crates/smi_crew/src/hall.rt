@@ -207,7 +207,7 @@ impl Hall {
         }
         let is_watchful = !front.is_at_rest()
             || self.entrances.iter().any(|entrance| entrance.is_called)
-            || self.guests.iter().any(|guest| guest.has_unsent());
+            || self.guests.iter().any(|guest| guest.is_timed());
         if is_watchful {
             Some(Duration::from_millis(WATCHFUL))
         } else {
