@@ -10,6 +10,7 @@ cases are run whose name has it. The last line is 'N passed, M failed'.
 import os
 import re
 import shutil
+import stat
 import subprocess
 import sys
 import tempfile
@@ -117,6 +118,7 @@ def install_cases(folder):
         and "/usr/share/doc/lunskaf" in page and "@DOC@" not in page
     told = ran([sys.executable, "rows.py"], cwd=os.path.join(top, "share/smi/tools"))
     yield "a tool runs where it is installed", told[0].startswith("usage: rows.py") and told[1] == 1
+    yield from pipe_cases(unit)
     if has("systemd-analyze"):
         path = os.path.join(folder, "smi-node@TRACKER.service")
         # the program need not be on this machine
@@ -124,6 +126,23 @@ def install_cases(folder):
             file.write(unit)
         yield "systemd takes the unit", ran(["systemd-analyze", "verify", "--man=no", path]) == ("", 0)
         os.remove(path)
+
+
+def pipe_cases(unit):
+    """The pipe of the unit: made, kept where it is there, and made in the place of a file that stands there."""
+    before = re.search(r"^ExecStartPre=/bin/sh -c '(.*)'$", unit, flags=re.M)[1]
+    with tempfile.TemporaryDirectory() as folder:
+        path = os.path.join(folder, "orders")
+        command = before.replace("/run/smi-%i/orders", path)
+        yield "the unit makes a pipe", ran(["sh", "-c", command]) == ("", 0) and stat.S_ISFIFO(os.stat(path).st_mode)
+        made = os.stat(path)
+        yield "its group may write to the pipe", made.st_mode & 0o777 == 0o660
+        yield "the unit keeps its pipe", ran(["sh", "-c", command]) == ("", 0) and os.stat(path).st_ino == made.st_ino
+        os.remove(path)
+        with open(path, "w", encoding="ascii") as file:
+            file.write("order ANN take DCS\n")
+        yield "a file in the place of the pipe", ran(["sh", "-c", command]) == ("", 0) \
+            and stat.S_ISFIFO(os.stat(path).st_mode)
 
 
 # Completion
