@@ -3,8 +3,8 @@
 usage: package.py [TEXT]
 
 `make install` is run with bin/smi into a folder of its own, and the package is installed into one and removed from it,
-so nothing of the machine is touched. lintian, zsh and nft look at it where the machine has them. With a TEXT only the
-cases are run whose name has it. The last line is 'N passed, M failed'.
+so nothing of the machine is touched. man, dpkg, lintian, zsh, nft and systemd look at it where the machine has them.
+With a TEXT only the cases are run whose name has it. The last line is 'N passed, M failed'.
 """
 
 import os
@@ -201,6 +201,8 @@ def found_in(root):
 
 
 def package_cases(folder):
+    if not has("dpkg-deb"):
+        return
     made = deb.made(os.path.join(folder, "made"))
     yield "the package has its version", os.path.basename(made) == "lunskaf_%s_amd64.deb" % deb.version()
     with open(made, "rb") as file:
