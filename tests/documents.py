@@ -437,13 +437,13 @@ def page_cases(program, path, commands):
         before = sorted(os.listdir(folder))
         shell = Shell(folder)
         try:
-            for time_ in range(1, PLAYS + 1):
+            for play in range(1, PLAYS + 1):
                 ended = True
                 for command, ended in played(shell, commands):
-                    yield "%s, play %d: %s" % (path, time_, command), ended
+                    yield "%s, play %d: %s" % (path, play, command), ended
                 if not ended:
                     return
-                yield "%s, play %d leaves nothing behind" % (path, time_), sorted(os.listdir(folder)) == before
+                yield "%s, play %d leaves nothing behind" % (path, play), sorted(os.listdir(folder)) == before
         finally:
             shell.end()
 

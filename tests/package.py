@@ -3,13 +3,14 @@
 usage: package.py [TEXT]
 
 `make install` is run with bin/smi into a folder of its own, and the package is installed into one and removed from it,
-so nothing of the machine is touched. lintian, zsh and nft look at it where the machine has them. With a TEXT only the
-cases are run whose name has it. The last line is 'N passed, M failed'.
+so nothing of the machine is touched. man, dpkg, lintian, zsh, nft and systemd look at it where the machine has them.
+With a TEXT only the cases are run whose name has it. The last line is 'N passed, M failed'.
 """
 
 import os
 import re
 import shutil
+import stat
 import subprocess
 import sys
 import tempfile
@@ -117,6 +118,7 @@ def install_cases(folder):
         and "/usr/share/doc/lunskaf" in page and "@DOC@" not in page
     told = ran([sys.executable, "rows.py"], cwd=os.path.join(top, "share/smi/tools"))
     yield "a tool runs where it is installed", told[0].startswith("usage: rows.py") and told[1] == 1
+    yield from pipe_cases(unit)
     if has("systemd-analyze"):
         path = os.path.join(folder, "smi-node@TRACKER.service")
         # the program need not be on this machine
@@ -124,6 +126,23 @@ def install_cases(folder):
             file.write(unit)
         yield "systemd takes the unit", ran(["systemd-analyze", "verify", "--man=no", path]) == ("", 0)
         os.remove(path)
+
+
+def pipe_cases(unit):
+    """The pipe of the unit: made, kept where it is there, and made in the place of a file that stands there."""
+    before = re.search(r"^ExecStartPre=/bin/sh -c '(.*)'$", unit, flags=re.M)[1]
+    with tempfile.TemporaryDirectory() as folder:
+        path = os.path.join(folder, "orders")
+        command = before.replace("/run/smi-%i/orders", path)
+        yield "the unit makes a pipe", ran(["sh", "-c", command]) == ("", 0) and stat.S_ISFIFO(os.stat(path).st_mode)
+        made = os.stat(path)
+        yield "its group may write to the pipe", made.st_mode & 0o777 == 0o660
+        yield "the unit keeps its pipe", ran(["sh", "-c", command]) == ("", 0) and os.stat(path).st_ino == made.st_ino
+        os.remove(path)
+        with open(path, "w", encoding="ascii") as file:
+            file.write("order ANN take DCS\n")
+        yield "a file in the place of the pipe", ran(["sh", "-c", command]) == ("", 0) \
+            and stat.S_ISFIFO(os.stat(path).st_mode)
 
 
 # Completion
@@ -182,6 +201,8 @@ def found_in(root):
 
 
 def package_cases(folder):
+    if not has("dpkg-deb"):
+        return
     made = deb.made(os.path.join(folder, "made"))
     yield "the package has its version", os.path.basename(made) == "lunskaf_%s_amd64.deb" % deb.version()
     with open(made, "rb") as file:

@@ -50,10 +50,12 @@ def version():
 
 
 def moment():
-    """When the package was made, in seconds: the same for the same commit."""
-    words = ["git", "log", "-1", "--format=%ct"]
+    """When the package was made, in seconds: the same for the same commit, or for the same CHANGELOG.md outside git."""
     given = os.environ.get("SOURCE_DATE_EPOCH")
-    return int(given or subprocess.run(words, cwd=ROOT, stdout=subprocess.PIPE, check=True).stdout)
+    if not given and shutil.which("git"):
+        words = ["git", "log", "-1", "--format=%ct"]
+        given = subprocess.run(words, cwd=ROOT, stdout=subprocess.PIPE, stderr=subprocess.DEVNULL, check=False).stdout
+    return int(given or os.path.getmtime(os.path.join(ROOT, "CHANGELOG.md")))
 
 
 def libc(program):

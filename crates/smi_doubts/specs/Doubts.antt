@@ -8,7 +8,7 @@ use Rattle.smi_tree.specs.Lookups.{is_below, unit_state}
 use Rattle.std.specs.Str.{bytes_eq}
 use Rattle.smi_tree.specs.declared.number.Address.{Address}
 
--- some number up to this one passes the test; 0 is the number of nothing
+-- some number up to this one passes the test; 0 is the number of nothing, and the state of a member not shown yet
 abbrev pub some_up_to : ℕ → (ℕ → Bool) → Bool
 some_up_to most test = list_any test (range_with_len 0 (most + 1))
 
