@@ -25,5 +25,6 @@ mod said;
 mod tag;
 mod wicket;
 
-pub use running::{Console, Plan, Turns, run};
+pub use opening::{link_fault, opening_fault, stopped, told};
+pub use running::{Console, Plan, Turns, addresses, run};
 pub use said::{Request, request_in};

@@ -12,7 +12,8 @@ returns-in-Ok-act g c =
     let steps = StepsTo {S = g.row.S.Denot} s.is_honest s.is_open s.rows s.saves s.failures in
     let shows = shown_by g.L.DatagramLink.received g.L.DatagramLink.handed g.L.DatagramLink.failures in
     let first : View (Whole g.row.S.Denot) = view c.args.station.now (shows c.args.link.now) c.args.picture.now in
-    let heard : View (Whole g.row.S.Denot) = view c.hear_all.new.station (shows c.hear_all.new.link) c.hear_all.new.picture in
+    let heard : View (Whole g.row.S.Denot)
+    = view c.hear_all.new.station (shows c.hear_all.new.link) c.hear_all.new.picture in
     let after : View (Whole g.row.S.Denot) = view c.act.new.station (shows c.act.new.link) c.act.new.picture in
     both steps c.args.operator first heard after false c.in-Ok.ensures c.in-Ok-act.ensures
 
@@ -22,6 +23,7 @@ returns-in-Err-act g c =
     let steps = StepsTo {S = g.row.S.Denot} s.is_honest s.is_open s.rows s.saves s.failures in
     let shows = shown_by g.L.DatagramLink.received g.L.DatagramLink.handed g.L.DatagramLink.failures in
     let first : View (Whole g.row.S.Denot) = view c.args.station.now (shows c.args.link.now) c.args.picture.now in
-    let heard : View (Whole g.row.S.Denot) = view c.hear_all.new.station (shows c.hear_all.new.link) c.hear_all.new.picture in
+    let heard : View (Whole g.row.S.Denot)
+    = view c.hear_all.new.station (shows c.hear_all.new.link) c.hear_all.new.picture in
     let after : View (Whole g.row.S.Denot) = view c.act.new.station (shows c.act.new.link) c.act.new.picture in
     both steps c.args.operator first heard after true c.in-Ok.ensures c.in-Err-act.ensures

@@ -11,5 +11,6 @@ returns-clause-keeps g c =
     let steps = StepsTo {S = g.row.S.Denot} s.is_honest s.is_open s.rows s.saves s.failures in
     let shows = shown_by g.L.DatagramLink.received g.L.DatagramLink.handed g.L.DatagramLink.failures in
     let first : View (Whole g.row.S.Denot) = view c.args.station.now (shows c.args.link.now) c.args.picture.now in
-    let after : View (Whole g.row.S.Denot) = view c.hear_and_act.new.station (shows c.hear_and_act.new.link) c.hear_and_act.new.picture in
+    let after : View (Whole g.row.S.Denot)
+    = view c.hear_and_act.new.station (shows c.hear_and_act.new.link) c.hear_and_act.new.picture in
     looks_keep steps c.args.operator first after (has_stopped c.hear_and_act.result) c.hear_and_act.ensures
