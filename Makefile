@@ -5,7 +5,7 @@ SOURCES := crates.txt $(shell find crates -path '*/out' -prune -o -type f \( -na
 # So many crates are proved side by side: one for each processor, and 4 GB for each.
 LANES := $(shell awk -v most=$$(nproc) '/^MemAvailable/ { fit = int($$2 / 4000000); print fit < 1 ? 1 : fit < most ? fit : most }' /proc/meminfo)
 
-.PHONY: smi run try test gate record check cases nodes consoles soak crowd shift tools documents pictures edits edits-test costs bench
+.PHONY: smi run try test gate record check cases nodes consoles soak crowd shift screen browser demo tools documents pictures edits edits-test costs bench
 .PHONY: install deb package
 
 # The program, proved and built, at bin/smi.
@@ -104,6 +104,19 @@ crowd: bin/smi
 # The shift of examples/shift.schedule over the whole detector: what must hold at each place, or at those with a text.
 shift: bin/smi
 	@python3 tests/shift.py bin/smi $(if $(ONLY),'$(ONLY)')
+
+# The screen over HTTP, or the cases whose name has a text: make screen ONLY=hostile.
+screen: bin/smi
+	@python3 tests/screen.py bin/smi $(if $(ONLY),'$(ONLY)')
+
+# The page of the screen in headless Chromium, while the crew's shift is played: skipped where there is none.
+browser: bin/smi
+	@python3 tests/browser.py bin/smi $(if $(ONLY),'$(ONLY)')
+
+# The example detector on this machine, with a screen and the crew's shift: it prints the address to open, and Ctrl-C
+# ends all.
+demo: bin/smi
+	@python3 tools/demo.py bin/smi $(WORDS)
 
 # The tools beside the program, and the pictures that they draw.
 tools: bin/smi

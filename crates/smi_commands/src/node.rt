@@ -79,7 +79,11 @@ fn plan_of<H: Files + AllocGlobal, F: Write>(
 }
 
 /// The store of a path, or what is told of it.
-fn opened<H: Stores, F: Write>(host: &H, path: &[u8], faults: &mut F) -> Result<H::Open, Status> {
+pub(crate) fn opened<H: Stores, F: Write>(
+    host: &H,
+    path: &[u8],
+    faults: &mut F,
+) -> Result<H::Open, Status> {
     match host.open(path) {
         Ok(stable) => Ok(stable),
         Err(StoreFault::Memory) => Err(no_memory(faults)),

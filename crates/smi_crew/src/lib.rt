@@ -27,4 +27,5 @@ mod reading;
 mod running;
 
 pub use doors::Place;
-pub use running::{Console, Plan, Turns, run};
+pub use opening::{link_fault, opening_fault, stopped, told};
+pub use running::{Console, Plan, Turns, addresses, run};

@@ -100,7 +100,7 @@ fn socket_address(address: Address) -> SocketAddr {
 }
 
 /// The addresses of all stations, by number.
-fn addresses(alloc: Global, tree: &Tree) -> Result<Vec<SocketAddr>, AllocError> {
+pub fn addresses(alloc: Global, tree: &Tree) -> Result<Vec<SocketAddr>, AllocError> {
     let mut peers = Vec::new(alloc);
     for station in 1..=tree.station_count() {
         peers.push(socket_address(tree.address(station)))?;
