@@ -83,7 +83,11 @@ class Console:
             return None
 
     def ask(self, line):
-        self.say(line + "\n")
+        """What a line is answered with; where the node has ended the connection, what it said before."""
+        try:
+            self.say(line + "\n")
+        except OSError:
+            pass
         return self.line()
 
     def rest(self):

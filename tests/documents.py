@@ -295,6 +295,7 @@ def order_cases(program):
     """The orders of the handbook are orders over the example detector: a schedule of them is read to its end."""
     text = read("docs", "HANDBOOK.md")
     orders = re.findall(r"[`'](?:@\S+ )?(order [^`'$.]+)[`']", text)
+    orders += re.findall(r"^\$ say \w+ (order [\w ]+?)(?: & .*)?$", text, flags=re.M)
     with tempfile.TemporaryDirectory() as folder:
         path = os.path.join(folder, "schedule")
         with open(path, "w", encoding="ascii") as file:
