@@ -8,7 +8,7 @@ _smi_words()
     for ((place = 2; place < COMP_CWORD; place++)); do
         word=${COMP_WORDS[place]}
         case $word in
-            --console | --seed | --steps | --turns) ((place++)) ;;
+            --console | --host | --http | --seed | --steps | --turns) ((place++)) ;;
             -*) ;;
             *) words+=("$word") ;;
         esac
@@ -20,11 +20,11 @@ _smi()
     local word=${COMP_WORDS[COMP_CWORD]} before=${COMP_WORDS[COMP_CWORD - 1]} options='' words
     COMPREPLY=()
     if ((COMP_CWORD == 1)); then
-        mapfile -t COMPREPLY < <(compgen -W 'answer check node rows sim' -- "$word")
+        mapfile -t COMPREPLY < <(compgen -W 'answer check node rows screen sim' -- "$word")
         return
     fi
     case $before in
-        --seed | --steps | --turns) return ;;
+        --host | --http | --seed | --steps | --turns) return ;;
         --console)
             compopt -o filenames 2> /dev/null
             mapfile -t COMPREPLY < <(compgen -f -- "$word")
@@ -34,6 +34,7 @@ _smi()
     case ${COMP_WORDS[1]} in
         sim) options='--seed --settle --steps' ;;
         node) options='--console --endless --turns' ;;
+        screen) options='--endless --host --http --open --turns' ;;
     esac
     if [[ $word == -* ]]; then
         mapfile -t COMPREPLY < <(compgen -W "$options" -- "$word")
@@ -41,10 +42,10 @@ _smi()
     fi
     _smi_words
     case ${COMP_WORDS[1]}:${#words[@]} in
-        node:1)
+        node:1 | screen:1)
             mapfile -t COMPREPLY < <(compgen -W "$(awk '$1 == "station" {print $2}' "${words[0]}" 2> /dev/null)" -- "$word")
             ;;
-        check:0 | rows:0 | sim:0 | sim:1 | node:0 | node:2)
+        check:0 | rows:0 | sim:0 | sim:1 | node:[02] | screen:[02])
             compopt -o filenames 2> /dev/null
             mapfile -t COMPREPLY < <(compgen -f -- "$word")
             ;;

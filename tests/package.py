@@ -10,7 +10,6 @@ With a TEXT only the cases are run whose name has it. The last line is 'N passed
 import os
 import re
 import shutil
-import stat
 import subprocess
 import sys
 import tempfile
@@ -38,6 +37,9 @@ share/doc/lunskaf/SECURITY.md
 share/doc/lunskaf/CHANGELOG.md
 share/doc/lunskaf/LICENSE
 share/smi/tools/rows.py
+share/smi/tools/console.py
+share/smi/tools/lunskaf.py
+share/smi/examples/supply.py
 share/smi/tools/hierarchy.py
 share/smi/examples/detector.tree
 share/smi/examples/detector-local.tree""".splitlines()
@@ -76,7 +78,7 @@ def page_cases():
     told = re.findall(r"`bin/(smi [^`]+)`", "\n".join(" | ".join(row) for row in rows).replace("\\ | ", "| "))
     for form in told:
         yield "the page has the form %s" % form, form in page
-    yield "the page has all forms", len(told) == 6
+    yield "the page has all forms", len(told) == 7
     numbers = documents.read("docs", "NUMBERS.md")
     orders = [row[0] for row in documents.tables(documents.section(numbers, "How an order ends"))]
     listed = re.findall(r"^(\d+)  +\S", page, flags=re.M)
@@ -111,38 +113,30 @@ def install_cases(folder):
                                              for path, mode in modes.items())
     with open(os.path.join(top, "lib/systemd/system/smi-node@.service"), encoding="ascii") as file:
         unit = file.read()
-    yield "the unit runs what is installed", " /usr/bin/smi node " in unit and "/usr/local" not in unit
+    yield "the unit runs what is installed", "=/usr/bin/smi node " in unit and "/usr/local" not in unit
     with open(os.path.join(top, "share/man/man1/smi.1"), encoding="utf-8") as file:
         page = file.read()
     yield "the page names what is installed", "/usr/share/smi/examples" in page and "@SHARE@" not in page \
         and "/usr/share/doc/lunskaf" in page and "@DOC@" not in page
     told = ran([sys.executable, "rows.py"], cwd=os.path.join(top, "share/smi/tools"))
     yield "a tool runs where it is installed", told[0].startswith("usage: rows.py") and told[1] == 1
-    yield from pipe_cases(unit)
+    yield from console_cases(unit)
     if has("systemd-analyze"):
         path = os.path.join(folder, "smi-node@TRACKER.service")
         # the program need not be on this machine
         with open(path, "w", encoding="ascii") as file:
-            file.write(unit)
+            file.write(unit.replace("/usr/bin/smi", "/bin/true"))
         yield "systemd takes the unit", ran(["systemd-analyze", "verify", "--man=no", path]) == ("", 0)
         os.remove(path)
 
 
-def pipe_cases(unit):
-    """The pipe of the unit: made, kept where it is there, and made in the place of a file that stands there."""
-    before = re.search(r"^ExecStartPre=/bin/sh -c '(.*)'$", unit, flags=re.M)[1]
-    with tempfile.TemporaryDirectory() as folder:
-        path = os.path.join(folder, "orders")
-        command = before.replace("/run/smi-%i/orders", path)
-        yield "the unit makes a pipe", ran(["sh", "-c", command]) == ("", 0) and stat.S_ISFIFO(os.stat(path).st_mode)
-        made = os.stat(path)
-        yield "its group may write to the pipe", made.st_mode & 0o777 == 0o660
-        yield "the unit keeps its pipe", ran(["sh", "-c", command]) == ("", 0) and os.stat(path).st_ino == made.st_ino
-        os.remove(path)
-        with open(path, "w", encoding="ascii") as file:
-            file.write("order ANN take DCS\n")
-        yield "a file in the place of the pipe", ran(["sh", "-c", command]) == ("", 0) \
-            and stat.S_ISFIFO(os.stat(path).st_mode)
+def console_cases(unit):
+    """The unit's console: in a folder of its own, for its user and group alone."""
+    run = re.search(r"^ExecStart=(.*)$", unit, flags=re.M)[1].split()
+    yield "the unit has a console", run[run.index("--console") + 1] == "/run/smi-%i/console"
+    yield "the unit's folder is there and goes", "RuntimeDirectory=smi-%i" in unit.splitlines()
+    mask = int(re.search(r"^UMask=(.*)$", unit, flags=re.M)[1], 8)
+    yield "its group may give orders, and nobody else", 0o777 & ~mask == 0o770
 
 
 # Completion
@@ -158,11 +152,15 @@ printf '%s\n' "${COMPREPLY[@]}" | sort
 """
 
 COMPLETED = [
-    (["smi", ""], ["answer", "check", "node", "rows", "sim"]), (["smi", "s"], ["sim"]), (["smi", "x"], []),
+    (["smi", ""], ["answer", "check", "node", "rows", "screen", "sim"]), (["smi", "s"], ["screen", "sim"]),
+    (["smi", "x"], []),
     (["smi", "node", "three.tree", ""], ["A", "B", "C"]),
     (["smi", "node", "--turns", "5", "three.tree", "B"], ["B"]),
     (["smi", "node", "nowhere", ""], []),
-    (["smi", "node", "-"], ["--endless", "--turns"]), (["smi", "sim", "--s"], ["--seed", "--settle", "--steps"]),
+    (["smi", "node", "-"], ["--console", "--endless", "--turns"]),
+    (["smi", "screen", "-"], ["--endless", "--host", "--http", "--open", "--turns"]),
+    (["smi", "screen", "--http", "127.0.0.1:80", "three.tree", "B"], ["B"]),
+    (["smi", "sim", "--s"], ["--seed", "--settle", "--steps"]),
     (["smi", "sim", "--seed", ""], []), (["smi", "rows", "-"], []),
     (["smi", "check", "thr"], ["three.tree"]), (["smi", "check", "three.tree", "t"], []),
     (["smi", "node", "three.tree", "A", "wor"], ["worked.schedule", "worked.tree"]),
