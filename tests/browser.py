@@ -11,6 +11,7 @@ name has it. Where there is no browser this says so, and counts as skipped. The 
 import os
 import random
 import shutil
+import socket
 import subprocess
 import sys
 import tempfile
@@ -236,7 +237,7 @@ def cases(program, path, folder):
         end = time.monotonic() + 30
         while time.monotonic() < end:
             try:
-                screens.socket.create_connection(tuple_of(detector.http), timeout=1).close()
+                socket.create_connection(tuple_of(detector.http), timeout=1).close()
                 break
             except OSError:
                 time.sleep(0.1)
@@ -263,14 +264,14 @@ def main():
     if not path:
         print("skipped: there is no browser here (Debian's chromium)\n0 passed, 0 failed")
         return
-    folder = tempfile.mkdtemp()
+    folder, done, broken = tempfile.mkdtemp(), [], []
     try:
         done = list(cases(program, path, folder))
     except (OSError, subprocess.SubprocessError, KeyError, TypeError, ValueError) as error:
-        done = [("the browser: %r" % error, False)]
+        broken = [("the browser: %r" % error, False)]
     finally:
         shutil.rmtree(folder, ignore_errors=True)
-    verdict.end([case for case in done if only in case[0]])
+    verdict.end([case for case in done if only in case[0]] + broken)
 
 
 if __name__ == "__main__":

@@ -115,7 +115,9 @@ class Browser:
             self.errors.append(given["entry"]["text"])
 
     def open(self, url):
+        """Goes to a page, and waits until all of it is there."""
         self.call("Page.navigate", url=url)
+        self.waits_for("location.href !== 'about:blank' && document.readyState === 'complete'")
 
     def run(self, script):
         """What an expression is worth on the page."""

@@ -274,7 +274,7 @@ CASES = [line_cases, answer_cases, picture_cases, hostile_cases]
 
 def main():
     program, only = os.path.abspath(sys.argv[1]), sys.argv[2] if len(sys.argv) > 2 else ""
-    folder, done = tempfile.mkdtemp(), []
+    folder, done, broken = tempfile.mkdtemp(), [], []
     try:
         for place, make in enumerate(CASES):
             room = os.path.join(folder, str(place))
@@ -282,10 +282,10 @@ def main():
             try:
                 done += list(make(program, room))
             except (OSError, subprocess.SubprocessError, KeyError, TypeError, ValueError) as error:
-                done.append(("%s: %r" % (make.__name__, error), False))
+                broken.append(("%s: %r" % (make.__name__, error), False))
     finally:
         shutil.rmtree(folder, ignore_errors=True)
-    verdict.end([case for case in done if only in case[0]])
+    verdict.end([case for case in done if only in case[0]] + broken)
 
 
 if __name__ == "__main__":
