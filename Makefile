@@ -5,7 +5,8 @@ SOURCES := crates.txt $(shell find crates -path '*/out' -prune -o -type f \( -na
 # So many crates are proved side by side: one for each processor, and 4 GB for each.
 LANES := $(shell awk -v most=$$(nproc) '/^MemAvailable/ { fit = int($$2 / 4000000); print fit < 1 ? 1 : fit < most ? fit : most }' /proc/meminfo)
 
-.PHONY: smi run try test gate record check cases nodes soak crowd shift tools documents pictures edits edits-test costs bench
+.PHONY: smi run try test gate record check cases nodes consoles soak crowd shift screen browser demo tools documents pictures edits edits-test costs bench
+.PHONY: install deb package
 
 # The program, proved and built, at bin/smi.
 smi: bin/smi
@@ -15,6 +16,41 @@ bin/smi: $(SOURCES)
 	cd crates/smi && rt run -- answer < /dev/null > /dev/null
 	mkdir -p bin
 	cp crates/smi/out/smi bin/smi
+
+# Where the program and what belongs to it are put: make install PREFIX=/usr/local DESTDIR=staged.
+PREFIX ?= /usr/local
+DESTDIR ?=
+BIN := $(PREFIX)/bin
+SHARE := $(PREFIX)/share/smi
+DOC := $(PREFIX)/share/doc/lunskaf
+ZSH := $(PREFIX)/share/zsh/site-functions
+# What a crew and whoever runs the machines may want beside the program.
+TOOLS := console draw firewall hierarchy lines lunskaf play record rows show
+
+# The program, its page, completion, the unit and its user, the tools, examples and documents.
+install: bin/smi
+	install -D -m 755 bin/smi $(DESTDIR)$(BIN)/smi
+	install -D -m 644 package/smi.bash $(DESTDIR)$(PREFIX)/share/bash-completion/completions/smi
+	install -D -m 644 package/_smi $(DESTDIR)$(ZSH)/_smi
+	install -D -m 644 package/smi.sysusers $(DESTDIR)$(PREFIX)/lib/sysusers.d/smi.conf
+	install -d $(DESTDIR)$(PREFIX)/share/man/man1 $(DESTDIR)$(PREFIX)/lib/systemd/system
+	sed 's#@SHARE@#$(SHARE)#g; s#@DOC@#$(DOC)#g' package/smi.1 > $(DESTDIR)$(PREFIX)/share/man/man1/smi.1
+	sed 's#/usr/local/bin/smi#$(BIN)/smi#' examples/smi-node@.service \
+		> $(DESTDIR)$(PREFIX)/lib/systemd/system/smi-node@.service
+	install -d $(DESTDIR)$(SHARE)/tools $(DESTDIR)$(SHARE)/examples $(DESTDIR)$(DOC)/docs/pictures
+	install -m 644 $(TOOLS:%=tools/%.py) $(DESTDIR)$(SHARE)/tools
+	install -m 644 $(filter-out %.service,$(wildcard examples/*)) $(DESTDIR)$(SHARE)/examples
+	install -m 644 README.md SECURITY.md CHANGELOG.md LICENSE $(DESTDIR)$(DOC)
+	install -m 644 docs/*.md $(DESTDIR)$(DOC)/docs
+	install -m 644 docs/pictures/* $(DESTDIR)$(DOC)/docs/pictures
+
+# A package for Debian of the same, in package/out/.
+deb: bin/smi
+	@python3 tools/deb.py package/out
+
+# What is installed and packed, the page, the unit and completion; the last line is 'N passed, M failed'.
+package: bin/smi
+	@python3 tests/package.py $(if $(ONLY),'$(ONLY)')
 
 # The main job on a real input: each datagram and its answer, in hexadecimal beside what they say. By the proved program
 # where it is built of these sources, and else by an unproved one, in some minutes.
@@ -53,6 +89,10 @@ cases: bin/smi bin/smi_trial
 nodes: bin/smi
 	@python3 tests/nodes.py bin/smi $(if $(ONLY),'$(ONLY)')
 
+# Many consoles at one node, or the cases whose name has a word: make consoles ONLY=rude.
+consoles: bin/smi
+	@python3 tests/consoles.py bin/smi $(if $(ONLY),'$(ONLY)')
+
 # Three nodes behind a proxy that loses, repeats, delays and reorders, with kills: make soak WORDS='--seconds 3600 --seed 7'.
 soak: bin/smi
 	@python3 tests/soak.py bin/smi $(WORDS)
@@ -64,6 +104,19 @@ crowd: bin/smi
 # The shift of examples/shift.schedule over the whole detector: what must hold at each place, or at those with a text.
 shift: bin/smi
 	@python3 tests/shift.py bin/smi $(if $(ONLY),'$(ONLY)')
+
+# The screen over HTTP, or the cases whose name has a text: make screen ONLY=hostile.
+screen: bin/smi
+	@python3 tests/screen.py bin/smi $(if $(ONLY),'$(ONLY)')
+
+# The page of the screen in headless Chromium, while the crew's shift is played: skipped where there is none.
+browser: bin/smi
+	@python3 tests/browser.py bin/smi $(if $(ONLY),'$(ONLY)')
+
+# The example detector on this machine, with a screen and the crew's shift: it prints the address to open, and Ctrl-C
+# ends all.
+demo: bin/smi
+	@python3 tools/demo.py bin/smi $(WORDS)
 
 # The tools beside the program, and the pictures that they draw.
 tools: bin/smi

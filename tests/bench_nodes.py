@@ -7,7 +7,7 @@ saves (the operator's row, the domain's, the operator's), each handed to the dev
 one that wakes the station. The floor is a program in C that makes as many plain writes of a page, where a save adds
 three to the log, each handed to the device, and as many datagrams to its own socket (tests/peer/floor.c). Both are run
 in turn, and each figure is the median of the rounds. Then the time from an order to its answer is measured through the
-pipes of a console, of a node at rest and of one that is sent datagrams all along.
+pipes of a console, of a node at rest and of one that is sent datagrams all along; and through its sockets, at rest.
 """
 
 import os
@@ -19,6 +19,9 @@ import tempfile
 import threading
 import time
 
+sys.path.insert(0, os.path.join(os.path.dirname(os.path.abspath(__file__)), os.pardir, "tools"))
+
+import lunskaf
 import nodes
 
 HERE = os.path.dirname(os.path.abspath(__file__))
@@ -73,12 +76,12 @@ def orders(program, folder):
     print("node: %.0f orders a second that save nothing" % (ASKS / took))
 
 
-def latencies(node, line):
+def latencies(ask, line):
     took = []
     for _ in range(ORDERS):
         time.sleep(0.002)
         begun = time.perf_counter()
-        node.ask(line)
+        ask(line)
         took.append(time.perf_counter() - begun)
     took.sort()
     return 1e3 * took[len(took) // 2], 1e3 * took[len(took) * 99 // 100]
@@ -103,9 +106,9 @@ def answers(program, folder):
         if state == "busy":
             other.start()
         node.ask("order ANN watch TPC")
-        plain = latencies(node, "order ANN watch TPC")
+        plain = latencies(node.ask, "order ANN watch TPC")
         node.ask("order ANN take DCS")
-        saved = latencies(node, "order ANN do DCS START")
+        saved = latencies(node.ask, "order ANN do DCS START")
         is_over.set()
         if state == "busy":
             other.join()
@@ -115,6 +118,33 @@ def answers(program, folder):
               % (state, *plain, *saved))
 
 
+class Socket:
+    """A connection with a node's console, without a thread of its own."""
+
+    def __init__(self, where):
+        self.socket = lunskaf.connected(where, 60)
+
+    def ask(self, line):
+        self.socket.sendall(line.encode() + b"\n")
+        told = b""
+        while not told.endswith(b"\n"):
+            told += self.socket.recv(4096)
+        return told
+
+
+def sockets(program, folder):
+    """How long an order that saves nothing waits for its answer over the sockets of a node at rest."""
+    where, port = os.path.join(folder, "console"), nodes.free_ports(1)[0]
+    words = [nodes.write_tree(folder, nodes.free_ports(2)), "A", os.path.join(folder, "socket"), "--console", where,
+             "--console", "127.0.0.1:%d" % port]
+    node = nodes.Node(program, words)
+    node.ask("order ANN watch TPC")
+    for kind, place in [("a Unix socket", where), ("TCP", "127.0.0.1:%d" % port)]:
+        print("node at rest: an order that saves nothing is answered over %s in %.2f ms (99 %%: %.2f)"
+              % (kind, *latencies(Socket(place).ask, "order ANN watch TPC")))
+    node.kill()
+
+
 def main():
     program = os.path.abspath(sys.argv[1])
     # On the disk that the repository is on, as a folder for temporary files may be in memory.
@@ -122,6 +152,7 @@ def main():
         pairs(program, floor_program(folder), folder)
         orders(program, folder)
         answers(program, folder)
+        sockets(program, folder)
 
 
 main()

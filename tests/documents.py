@@ -2,11 +2,13 @@
 
 usage: documents.py SMI [TEXT]
 
-A fenced block of the kind `console` is run, line by line, in one shell: what stands after `$ ` is a command, and the
-lines below it up to the next are what it prints, standard error included. A line `...` stands for any lines up to the
-next command. The block runs in a folder of its own with a copy of the examples, in which stations have ports of their
-own. `make run` and `make test` are not run: that they are targets of the Makefile is looked at. With a TEXT only the
-cases are run whose name has it. The last line is 'N passed, M failed'.
+Each page is played as a reader would play it: its fenced blocks of the kind `console` are run line by line, from the
+top of the page to its end, in one shell and one folder, and then once more. What stands after `$ ` is a command, and
+the lines below it up to the next are what it prints, standard error included. A line `...` stands for any lines up to
+the one below it, or up to the next command; the seconds in a line of `under way` may be any. The folder has a copy of
+the examples, in which stations have ports of their own. `make run` and `make test` are not run: that they are targets
+of the Makefile is looked at. With a TEXT only the cases are run whose name has it. The last line is 'N passed, M
+failed'.
 """
 
 import glob
@@ -29,7 +31,13 @@ ROOT = os.path.dirname(HERE)
 PATIENCE = 20
 # What a reader of a first page can be asked to read.
 README_LINES = 150
-# What of the repository a block of commands finds in its folder.
+# What is in a command that only looks, and may be given again.
+LOOKS = ("'show ", "tools/rows.py")
+# How often a page is played in one folder.
+PLAYS = 2
+# How long an order has waited, at the end of a line of `under way`.
+WAITED = re.compile(r"^((?:@\S+ )?way .*) \d+$")
+# What of the repository a page of commands finds in its folder.
 FOLDERS = ("docs", "tests", "tools")
 
 
@@ -128,6 +136,16 @@ def rule_cases():
             cells = (definitions, functions, edits)
             yield name + ", all names are read", all(cell.count("(") == len(named(cell)) for cell in cells)
     yield "rules of the protocol are told", found > 40
+
+
+def local_cases():
+    """The detector on one machine is the detector, but for its addresses."""
+    here, there = (re.sub(r"^#.*\n|(?<=[A-Z] )[\d.]+:\d+$", "", read("examples", name), flags=re.M)
+                   for name in ("detector-local.tree", "detector.tree"))
+    yield "examples/detector-local.tree is examples/detector.tree", here == there and "station CONTROL \n" in here
+    addresses = re.findall(r"^station \w+ (.*)$", read("examples", "detector-local.tree"), flags=re.M)
+    yield "examples/detector-local.tree has its stations on one machine", len(set(addresses)) == len(addresses) == 6 \
+        and all(it.startswith("127.0.0.1:") for it in addresses)
 
 
 def crate_lines():
@@ -276,7 +294,8 @@ def word_cases():
 def order_cases(program):
     """The orders of the handbook are orders over the example detector: a schedule of them is read to its end."""
     text = read("docs", "HANDBOOK.md")
-    orders = re.findall(r"^    (order .+)$", text, flags=re.M) + re.findall(r"`(order [^`]+)`", text)
+    orders = re.findall(r"[`'](?:@\S+ )?(order [^`'$.]+)[`']", text)
+    orders += re.findall(r"^\$ say \w+ (order [\w ]+?)(?: & .*)?$", text, flags=re.M)
     with tempfile.TemporaryDirectory() as folder:
         path = os.path.join(folder, "schedule")
         with open(path, "w", encoding="ascii") as file:
@@ -306,7 +325,7 @@ def with_own_ports(text, ports):
 
 
 def furnish(folder, program):
-    """A folder that looks like the repository to a block of commands."""
+    """A folder that looks like the repository to a page of commands."""
     os.mkdir(os.path.join(folder, "bin"))
     os.symlink(program, os.path.join(folder, "bin", "smi"))
     for name in FOLDERS:
@@ -317,6 +336,11 @@ def furnish(folder, program):
             text = file.read()
         with open(path, "w", encoding="ascii") as file:
             file.write(with_own_ports(text, nodes.free_ports(text.count("127.0.0.1:"))))
+
+
+def without_seconds(line):
+    """A line without how long an order has waited."""
+    return line and WAITED.sub(r"\1", line)
 
 
 class Shell:
@@ -355,14 +379,25 @@ class Shell:
                 return found if line else found + [None]
             found.append(line)
 
+    def until(self, wanted):
+        """The next line that is this one, after any others, or the last that came where none is."""
+        line = self.line()
+        while line is not None and line != wanted:
+            line = self.line()
+        return line
+
     def run(self, command, wanted):
-        """What a command prints, and what it has to: these lines and no others, or any after `...`."""
+        """What a command prints, and what it has to: these lines and no others, or any where `...` stands."""
         self.say(command)
-        is_open = "..." in wanted
-        wanted = wanted[:wanted.index("...")] if is_open else wanted
-        found = [self.line() for _ in wanted]
+        found = []
+        for above, line in zip([None, *wanted], wanted):
+            if line == "...":
+                found.append(line)
+            else:
+                found.append(without_seconds(self.until(line) if above == "..." else self.line()))
         more = self.rest()
-        return (found if is_open and None not in more else found + more), wanted
+        is_open = wanted[-1:] == ["..."] and None not in more
+        return (found if is_open else found + more), list(map(without_seconds, wanted))
 
     def end(self):
         """Ends the shell and all that it has started: they are a group of their own."""
@@ -375,7 +410,7 @@ class Shell:
 
 
 def shown_in_time(shell, command, wanted):
-    """The same for a command that asks a node what it was shown, which may take a moment."""
+    """The same for a command that only looks at what a node was shown, or has saved, which may take a moment."""
     until = time.monotonic() + PATIENCE
     while True:
         found, wanted = shell.run(command, wanted)
@@ -384,40 +419,55 @@ def shown_in_time(shell, command, wanted):
         time.sleep(0.05)
 
 
-def block_case(program, path, place, commands):
-    """One block: each command in turn."""
+def played(shell, commands):
+    """Each command of a page in turn, and whether it prints what stands below it, up to the first that does not."""
+    for command, wanted in commands:
+        how = shown_in_time if any(it in command for it in LOOKS) else Shell.run
+        found, said = how(shell, command, wanted)
+        if found != said:
+            print("  after %s\n    wanted %s\n    found  %s" % (command, said, found))
+        yield command, found == said
+        if found != said:
+            return
+
+
+def page_cases(program, path, commands):
+    """A page, played from top to bottom in one folder, and again."""
     with tempfile.TemporaryDirectory() as folder:
         furnish(folder, program)
+        before = sorted(os.listdir(folder))
         shell = Shell(folder)
         try:
-            for command, wanted in commands:
-                how = shown_in_time if "'show " in command else Shell.run
-                found, said = how(shell, command, wanted)
-                if found != said:
-                    print("  after %s\n    wanted %s\n    found  %s" % (command, said, found))
-                yield "%s, block %d: %s" % (path, place, command), found == said
-                if found != said:
+            for play in range(1, PLAYS + 1):
+                ended = True
+                for command, ended in played(shell, commands):
+                    yield "%s, play %d: %s" % (path, play, command), ended
+                if not ended:
                     return
+                yield "%s, play %d leaves nothing behind" % (path, play), sorted(os.listdir(folder)) == before
         finally:
             shell.end()
 
 
 def command_cases(program, only):
-    """The blocks of all documents."""
+    """The pages of all documents."""
     count = 0
     for path in documents():
-        for place, commands in enumerate(blocks(path), 1):
-            count += 1
-            if only in path or any(only in command for command, _ in commands):
-                yield from block_case(program, path, place, commands)
-    yield "there are commands to run", count >= 5
+        commands = [command for block in blocks(path) for command in block]
+        count += len(commands)
+        if commands and (only in path or any(only in command for command, _ in commands)):
+            yield from page_cases(program, path, commands)
+    yield "there are commands to run", count >= 100
 
 
 def broken_cases():
     """A command that prints something else, more or less than is said of it is seen, and one that prints it is not."""
     for name, command, wanted, is_right in [
             ("what is said", "echo one; echo two", ["one", "two"], True),
-            ("what begins so", "seq 9", ["1", "..."], True),
+            ("what begins so", "seq 9", ["1", "..."], True), ("what ends so", "seq 9", ["1", "...", "9"], True),
+            ("what goes on", "seq 9", ["1", "...", "8"], False), ("what never comes", "seq 9", ["...", "10"], False),
+            ("how long it waited", "echo '@w way ANN take TPC 7'", ["@w way ANN take TPC 0"], True),
+            ("another that waits", "echo '@w way ANN take DCS 0'", ["@w way ANN take TPC 0"], False),
             ("another line", "echo one", ["two"], False), ("a line more", "echo one; echo two", ["one"], False),
             ("a line less", "echo one", ["one", "two"], False), ("another beginning", "seq 9", ["2", "..."], False)]:
         with tempfile.TemporaryDirectory() as folder:
@@ -432,6 +482,7 @@ def broken_cases():
 def cases(program, only):
     yield from rule_cases()
     yield from worked_cases()
+    yield from local_cases()
     yield from crate_cases()
     yield from promise_cases()
     yield from link_cases()

@@ -27,6 +27,10 @@ import verdict  # noqa: E402 (this stands here)
 
 EXAMPLES, PICTURES = os.path.join(ROOT, "examples"), os.path.join(ROOT, "docs", "pictures")
 SVG = "{http://www.w3.org/2000/svg}"
+# What a short schedule leaves: each station starts, a take is sent, a datagram that was never sent does nothing, and a
+# tick asks for the state of the child below.
+PLAYED = ["booted A 1", "passed DCS 1.0 OFF", "booted B 1", "passed TPC 1.0 OFF", "passed HV 1.0 OFF",
+          "# order BOB take TPC", "sent 1 TAKE B B TPC", "# deliver 9", "# tick A", "sent 2 WATCH A B TPC"]
 # Where in the shift the picture of the detector is taken.
 MOMENT = "# place the tracker runs alone"
 
@@ -152,6 +156,16 @@ def trace_cases(program):
     whole = subprocess.run(words, stdout=subprocess.PIPE, check=True).stdout.decode().splitlines()
     yield "a play has its schedule", [line[2:] for line in lines if line.startswith("# ")] == schedule
     yield "a play has its trace", trace == whole
+    # worked out from the rules
+    with tempfile.TemporaryDirectory() as folder:
+        path = os.path.join(folder, "schedule")
+        for text, wanted in [("order BOB take TPC\n\n# no item\ndeliver 9\ntick A\n", PLAYED),
+                             ("tick B\n# no item\ndelivr 1\n", ["schedule line 3 fault 1"])]:
+            with open(path, "w", encoding="ascii") as file:
+                file.write(text)
+            words = [sys.executable, os.path.join(ROOT, "tools", "play.py"), program, example("worked.tree"), path]
+            done = subprocess.run(words, stdout=subprocess.PIPE, stderr=subprocess.STDOUT, check=False)
+            yield "a play of %d lines" % text.count("\n"), done.stdout.decode().splitlines() == wanted
     sent = sum(line.startswith("sent ") for line in trace)
     came = [words[words.index("deliver") + 1] if "deliver" in words else "recent" for words in map(str.split, schedule)
             if "deliver" in words or "recent" in words]

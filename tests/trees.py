@@ -1,5 +1,7 @@
 """Tree files and what `smi check` says of them, written down from docs/FORMATS.md, "The tree file"."""
 
+import doubts
+
 WORKED = """tree 17
 state OFF
 state READY
@@ -31,6 +33,10 @@ HEAD = ["tree 17", "state S1", "action A1", "station W 1.2.3.4:5", "operator O1 
         "unitclass UNIT S1"]
 ROOT = "domain D1 W UNIT -"
 
+# How two kinds of doubts end.
+BY_WHICH = ", by which no device moves below a domain of its class"
+AND_NO_RULE = ", and no rule or move leads to it"
+
 
 def numbered(form, first, last):
     """One line for each number."""
@@ -40,7 +46,7 @@ def numbered(form, first, last):
 def accepted(name, lines, counts):
     text = lines if isinstance(lines, str) else "\n".join(lines) + "\n"
     words = "tree %d stations %d operators %d domains %d devices %d\n" % counts
-    return name, text.encode("latin-1"), words, "", 0
+    return name, text.encode("latin-1"), words, doubts.told(text), 0
 
 
 def refused(name, lines, line, fault):
@@ -158,6 +164,45 @@ def limits():
     yield refused("a comment of 201 bytes", WORKED + "#" + 200 * "x" + "\r\n", 26, 10)
 
 
+def doubtful():
+    """Lawful files of which something is surely not meant: what is told is written down here."""
+    same = WORKED.replace("127.0.0.1:9002", "127.0.0.1:9001")
+    idle = WORKED.replace("accept UNIT START", "accept UNIT START\naccept UNIT STOP")
+    unreached = WORKED.replace("state ERROR", "state ERROR\nstate PURPLE")
+    above = "unitclass TOP OFF\naccept TOP STOP\naccept TOP CONFIGURE\ndomain DCS A TOP -"
+    apart = "unitclass TOP OFF\naccept TOP START\ndomain MUON B TOP DCS\ndevice HV"
+    no_device = WORKED.replace("unitclass UNIT", "devclass OTHER PURPLE\nmove OTHER OFF STOP PURPLE\nunitclass UNIT")
+    for name, text, told in [
+            ("nothing", WORKED, []),
+            ("a station with the address of another", same, ["station B has the address of station A"]),
+            ("an address with zeros", same.replace("127.0.0.1:9001\nop", "127.000.00.01:09001\nop"),
+             ["station B has the address of station A"]),
+            ("another port", same.replace("127.0.0.1:9001\nop", "127.0.0.1:9011\nop"), []),
+            ("an action that moves nothing", idle, ["domain DCS accepts STOP" + BY_WHICH]),
+            ("a move to where it was", idle.replace("unitclass", "move DEV OFF STOP OFF\nunitclass"),
+             ["domain DCS accepts STOP" + BY_WHICH]),
+            ("an action that moves something", idle.replace("unitclass", "move DEV ERROR STOP OFF\nunitclass"), []),
+            ("a class of its own above", WORKED.replace("domain DCS A UNIT -", above),
+             ["domain DCS accepts STOP" + BY_WHICH]),
+            ("a class whose domain has no device", WORKED.replace("device HV", apart),
+             ["domain MUON accepts START" + BY_WHICH]),
+            ("a state that nothing leads to", unreached, ["nothing begins in state PURPLE" + AND_NO_RULE]),
+            ("a state to which a rule leads that never wins", unreached + "any UNIT ERROR PURPLE\n",
+             ["nothing begins in state PURPLE" + AND_NO_RULE]),
+            ("a state to which a rule leads that wins over two", unreached + "any UNIT OFF PURPLE\n", []),
+            ("a state to which a move leads",
+             unreached.replace("unitclass", "move DEV OFF STOP PURPLE\nunitclass"), []),
+            ("a state of a class that nothing has", no_device.replace("state ERROR", "state ERROR\nstate PURPLE"),
+             ["nothing begins in state PURPLE" + AND_NO_RULE]),
+            ("three doubts",
+             same.replace("accept UNIT START", "accept UNIT STOP").replace("state ERROR", "state ERROR\nstate X"),
+             ["station B has the address of station A", "domain DCS accepts STOP" + BY_WHICH,
+              "nothing begins in state X" + AND_NO_RULE])]:
+        domains = text.count("\ndomain ")
+        words = "tree 17 stations 2 operators 2 domains %d devices 1\n" % domains
+        yield "doubts: " + name, text.encode(), words, "".join("doubt: %s\n" % it for it in told), 0
+
+
 def full():
     """A tree at every limit but those of a domain alone, and domain 1 at these; crates/smi_trial knows it."""
     lines = ["tree 17"] + numbered("state S%d", 1, 64) + numbered("action A%d", 1, 64)
@@ -228,3 +273,4 @@ def all_trees():
     yield from faults()
     yield from limits()
     yield from pairs()
+    yield from doubtful()

@@ -15,7 +15,7 @@ ROOT = os.path.join(os.path.dirname(os.path.abspath(__file__)), "..")
 WIDTH = 120
 COMMENTS = {".rt": re.compile(r"\s*//"), ".antt": re.compile(r"\s*--"), ".py": re.compile(r"\s*#")}
 SOURCES = ["crates/*/src/**/*.rt", "crates/*/specs/**/*.antt", "crates/*/proofs/**/*.antt", "tests/*.py", "tools/*.py"]
-DOCUMENTS = ["README.md", "CONTRIBUTING.md", "CHANGELOG.md", "docs/*.md"]
+DOCUMENTS = ["README.md", "CONTRIBUTING.md", "CHANGELOG.md", "SECURITY.md", "docs/*.md"]
 # The ordinary word for each: allocation, out of memory, unchanged, after, k-th.
 UNUSUAL = re.compile(r"\b(growths?|want of memory|(?:stays?|is|are|stayed) as (?:it was|they were)(?! found)|so-manieth"
                      r"|behind the (?:save|others|first|next|last|opening))\b", re.IGNORECASE)

@@ -2,14 +2,15 @@
 
 usage: gate.py [--all | --record CRATE..]
 
-It runs `rt ci`; on the programs that this has built the cases of tests/command_lines.py and tests/nodes.py, the shift
-of the examples (tests/shift.py), the tools beside the program (tests/pictures.py), the documents (tests/documents.py),
-a crowd of nodes (tests/crowd.py) and a short soak (tests/soak.py); and the edits in crates/CRATE/edits/
-(tools/edits.py) of each crate whose sum is not in the record edits.ok: a line of it says that all edits of the crate
-were seen refused, with the same toolchain, tools, sources, specs, proofs and edits, and the same contracts, definitions
-and lemmas of the crates below it. What is not tried for that is counted apart and not as passed. --all reads no record,
-tries the edits of every crate, and writes the record. --record tries the edits of these crates alone, and writes the
-lines of those of which all are refused; the lines of other crates stay.
+It runs `rt ci`; on the programs that this has built the cases of tests/command_lines.py, tests/nodes.py and
+tests/consoles.py, the shift of the examples (tests/shift.py), the tools beside the program (tests/pictures.py), the
+screen and its page (tests/screen.py, tests/browser.py, tools/page.py), the documents (tests/documents.py), what is
+installed and packed (tests/package.py), a crowd of nodes (tests/crowd.py) and a short soak (tests/soak.py); and the
+edits in crates/CRATE/edits/ (tools/edits.py) of each crate whose sum is not in the record edits.ok: a line of it says
+that all edits of the crate were seen refused, with the same toolchain, tools, sources, specs, proofs and edits, and
+the same contracts, definitions and lemmas of the crates below it. What is not tried for that is counted apart and not
+as passed. --all reads no record, tries the edits of every crate, and writes the record. --record tries the edits of
+these crates alone, and writes the lines of those of which all are refused; the lines of other crates stay.
 
 The last line is 'N passed, M failed'.
 """
@@ -204,9 +205,14 @@ def main():
         for name, words in [("lines and words", ["tests/words.py"]),
                             ("command lines", ["tests/command_lines.py", "bin/smi", "bin/smi_trial"]),
                             ("nodes", ["tests/nodes.py", "bin/smi"]),
+                            ("consoles", ["tests/consoles.py", "bin/smi"]),
                             ("a shift", ["tests/shift.py", "bin/smi"]),
+                            ("the page", ["tools/page.py"]),
+                            ("the screen", ["tests/screen.py", "bin/smi"]),
+                            ("the screen in a browser", ["tests/browser.py", "bin/smi"]),
                             ("tools", ["tests/pictures.py", "bin/smi"]),
                             ("documents", ["tests/documents.py", "bin/smi"]),
+                            ("a package", ["tests/package.py"]),
                             ("a crowd", ["tests/crowd.py", "bin/smi", "--slack", str(SLACK), "--patience", str(PATIENT)]),
                             ("a short soak", ["tests/soak.py", "bin/smi", "--seconds", str(SOAKED)])]:
             part = Part(name)

@@ -2,7 +2,8 @@
 
 usage: rows.py STORE TREE [SMI]
 
-It reads the listing of `smi rows STORE`, by bin/smi where no other program is named, so the store may be in use.
+It reads the listing of `smi rows STORE`, so the store may be in use: by bin/smi where no other program is named, or
+where that is not there by the one that is installed.
 Whether a row is right is for `smi node` to say: a row that is cut or of no known schema is shown as it stands.
 """
 
@@ -13,7 +14,7 @@ import sys
 
 import hierarchy
 
-HERE = os.path.dirname(os.path.abspath(__file__))
+BUILT = os.path.join(os.path.dirname(os.path.abspath(__file__)), "..", "bin", "smi")
 VERBS = {1: "do", 2: "include", 3: "exclude", 4: "manual", 5: "ignore"}
 MODES = {0: "included", 1: "manual", 2: "ignored"}
 # What schemas a row of each kind may have.
@@ -152,7 +153,7 @@ def lines_of(tree, listing):
 def main():
     if len(sys.argv) not in (3, 4):
         sys.exit(__doc__.split("\n\n")[1])
-    program = sys.argv[3] if len(sys.argv) == 4 else os.path.join(HERE, "..", "bin", "smi")
+    program = sys.argv[3] if len(sys.argv) == 4 else BUILT if os.path.isfile(BUILT) else "smi"
     done = subprocess.run([program, "rows", sys.argv[1]], stdout=subprocess.PIPE, check=False)
     for line in lines_of(hierarchy.read(sys.argv[2]), done.stdout.decode()):
         print(line)

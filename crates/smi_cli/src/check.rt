@@ -4,12 +4,14 @@ ghost use Rattle.std.specs.Prelude.{◌≡◌, ◌≢◌, ◌⊎◌, IsErr, IsOk
 ghost use Rattle.smi_tree.specs.File.{tree_of};
 
 use crate::status::{Status, no_memory, write_fault};
+use smi_doubts::tell;
 use smi_tree::{Tree, TreeFault};
 use std::alloc::Global;
 use std::io::Write;
 
 /// Tells how many stations, operators, domains and devices a tree file has, or the line of its first
-/// fault and the fault's number on `faults`, and answers the exit status.
+/// fault and the fault's number on `faults`, and answers the exit status. Of a lawful file it also tells
+/// on `faults` what is surely not meant (docs/FORMATS.md, "Doubts"), which does not change the status.
 ///
 /// It is 0 where the file is one and the line is written, 1 where the file is refused, 3 where the
 /// line could not be written, and 4 where memory ran out. (docs/FORMATS.md, "The tree file".)
@@ -44,7 +46,7 @@ fn checked<W: Write, F: Write>(
     }
 }
 
-/// Tells what the tree has.
+/// Tells what the tree has, and then on `faults` what in it is surely not meant.
 fn told<W: Write, F: Write>(tree: &Tree, writer: &mut W, faults: &mut F) -> Status
     ensures refused { result ≢ Status.Refused }
     ensures line { result ≢ Status.WrongLine }
@@ -61,5 +63,6 @@ fn told<W: Write, F: Write>(tree: &Tree, writer: &mut W, faults: &mut F) -> Stat
     if written.is_err() || writer.flush().is_err() {
         return write_fault(faults);
     }
+    tell(tree, faults);
     Status::Done
 }

@@ -1,6 +1,7 @@
 //! The commands, over any files, input and outputs.
 
 use crate::node::run_node;
+use crate::screen::run_screen;
 use crate::sim::simulate;
 use crate::tree::tree_bytes;
 use smi_cli::answer::{Answered, answer};
@@ -12,7 +13,8 @@ use smi_disks::Stores;
 use smi_line::{Line, Words, bytes_of, line_of};
 use std::alloc::Global;
 use std::io::{BufWriter, ErrorKind, Read, Write};
-use std::net::Net;
+use std::net::{Net, TcpListener, TcpStream};
+use std::random::RandomSource;
 use std::rt::Files;
 use std::sync::Wait;
 use std::thread::Threads;
@@ -21,7 +23,18 @@ use std::time::Clock;
 /// Does what the words of the command line ask for, and answers the exit status. What is amiss is
 /// told in one line on `faults`; what the thread of a node tells that reads lines, on `aside`, which is the same.
 pub fn program<
-    H: Files + Stores + Net + Wait + Threads + Clock + AllocGlobal + Clone + Drop + Send + 'static,
+    H: Files
+        + Stores
+        + Net<Listener = TcpListener, Stream = TcpStream>
+        + RandomSource
+        + Wait
+        + Threads
+        + Clock
+        + AllocGlobal
+        + Clone
+        + Drop
+        + Send
+        + 'static,
     R: Read + Drop + Send + 'static,
     W: Write + Drop + Send + 'static,
     F: Write,
@@ -44,6 +57,7 @@ pub fn program<
             };
             run_node(host, words, line, console, faults).code()
         }
+        Line::Screen(line) => run_screen(host, words, line, faults).code(),
         Line::Wrong => wrong_line(faults).code(),
         Line::NoMemory => no_memory(faults).code(),
     }

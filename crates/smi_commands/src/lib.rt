@@ -1,11 +1,12 @@
 //! The commands of the program, over any files, stores, input and outputs.
 //!
 //! [`program`] does what the words of a command line ask for. What a command does is proved in `smi_cli`, of a
-//! simulation in `smi_sim`; a node is run by `smi_crew`.
+//! simulation in `smi_sim`; a node is run by `smi_crew`, and a screen by `smi_screen`.
 #![tactic(auto)]
 
 mod commands;
 mod node;
+mod screen;
 mod sim;
 mod tree;
 

@@ -2,14 +2,14 @@
 
 use crate::tree::read_tree;
 use smi_cli::status::{Status, no_memory, store_fault, wrong_line};
-use smi_crew::{Console, Plan, Turns, run};
+use smi_crew::{Console, Place, Plan, Turns, run};
 use smi_disks::Stores;
 use smi_line::{NodeLine, Words, bytes_of};
 use smi_rows::StoreFault;
 use smi_tree::Tree;
-use std::alloc::Global;
+use std::alloc::{AllocError, Global};
 use std::io::{Read, Write};
-use std::net::Net;
+use std::net::{Net, SocketAddr, SocketAddrV4};
 use std::rt::Files;
 use std::sync::{Arc, Wait};
 use std::thread::Threads;
@@ -35,6 +35,26 @@ fn turns_of(turns: Option<u32>) -> Turns {
     }
 }
 
+/// Where a console is listened for: at an address, where the word is one, or else at a path.
+fn place_of(alloc: Global, word: &str) -> Result<Place, AllocError> {
+    match word.parse::<SocketAddrV4>() {
+        Ok(address) => Ok(Place::Address(SocketAddr::V4(address))),
+        Err(_) => Ok(Place::Path(String::from_str(alloc, word)?)),
+    }
+}
+
+/// Where consoles are listened for.
+fn places_of(alloc: Global, line: &NodeLine<'_>) -> Result<Vec<Place>, AllocError> {
+    let mut places = Vec::new(alloc);
+    if let Some(word) = line.console {
+        places.push(place_of(alloc, word)?)?;
+    }
+    if let Some(word) = line.second_console {
+        places.push(place_of(alloc, word)?)?;
+    }
+    Ok(places)
+}
+
 /// What a node of this line is run with, as far as its words say it.
 fn plan_of<H: Files + AllocGlobal, F: Write>(
     host: &H,
@@ -44,18 +64,26 @@ fn plan_of<H: Files + AllocGlobal, F: Write>(
 ) -> Result<Plan, Status> {
     let tree = read_tree(host, bytes_of(words, line.tree), faults)?;
     let tree = shared(host.alloc(), tree, faults)?;
-    match tree.station_named(line.station.as_bytes()) {
-        Some(station) => Ok(Plan {
+    let Some(station) = tree.station_named(line.station.as_bytes()) else {
+        return Err(wrong_line(faults));
+    };
+    match places_of(host.alloc(), &line) {
+        Ok(consoles) => Ok(Plan {
             tree,
             station,
             turns: turns_of(line.turns),
+            consoles,
         }),
-        None => Err(wrong_line(faults)),
+        Err(_) => Err(no_memory(faults)),
     }
 }
 
 /// The store of a path, or what is told of it.
-fn opened<H: Stores, F: Write>(host: &H, path: &[u8], faults: &mut F) -> Result<H::Open, Status> {
+pub(crate) fn opened<H: Stores, F: Write>(
+    host: &H,
+    path: &[u8],
+    faults: &mut F,
+) -> Result<H::Open, Status> {
     match host.open(path) {
         Ok(stable) => Ok(stable),
         Err(StoreFault::Memory) => Err(no_memory(faults)),

@@ -3,7 +3,9 @@
 use crate::counts::{Counts, raise};
 use smi_node::Witness;
 use smi_out::Out;
-use smi_protocol::{Heard, StepFault};
+use smi_protocol::{Event, Heard, StepFault};
+use smi_rows::Stable;
+use smi_station::Station;
 use std::alloc::Global;
 use std::sync::Arc;
 
@@ -21,7 +23,13 @@ impl Counter {
 }
 
 impl Witness for Counter {
-    fn saw(&mut self, made: &Result<Heard, StepFault>, _out: &Out) {
+    fn saw<S: Stable>(
+        &mut self,
+        _station: &Station<'_, S>,
+        _event: &Event<'_>,
+        made: &Result<Heard, StepFault>,
+        _out: &Out,
+    ) {
         match made {
             Ok(Heard::Refused(refusal)) => self.counts.refuse(*refusal),
             Ok(Heard::Same) | Err(StepFault::Stopped) => {}

@@ -5,7 +5,7 @@ use smi_protocol::OpenFault;
 use std::io::Write;
 
 /// Tells why a station was not opened on its store, or its rows not brought into their newest schema.
-pub(crate) fn opening_fault<F: Write>(fault: OpenFault, faults: &mut F) -> Status {
+pub fn opening_fault<F: Write>(fault: OpenFault, faults: &mut F) -> Status {
     match fault {
         OpenFault::NoSuchStation => wrong_line(faults),
         OpenFault::Row(key, code) => {
@@ -23,16 +23,22 @@ pub(crate) fn opening_fault<F: Write>(fault: OpenFault, faults: &mut F) -> Statu
 }
 
 /// Tells that the node has no socket, or that its socket failed too often.
-pub(crate) fn link_fault<F: Write>(faults: &mut F) -> Status {
+pub fn link_fault<F: Write>(faults: &mut F) -> Status {
     told("link fault", faults)
 }
 
+/// Tells that the node can't listen where it was told to.
+pub(crate) fn console_fault<F: Write>(faults: &mut F) -> Status {
+    told("console fault", faults)
+}
+
 /// Tells that the station has stopped.
-pub(crate) fn stopped<F: Write>(faults: &mut F) -> Status {
+pub fn stopped<F: Write>(faults: &mut F) -> Status {
     told("stopped", faults)
 }
 
-fn told<F: Write>(what: &str, faults: &mut F) -> Status {
+/// Tells a fault in its line.
+pub fn told<F: Write>(what: &str, faults: &mut F) -> Status {
     let _ = writeln!(faults, "{what}");
     Status::Fault
 }

@@ -1,10 +1,17 @@
 //! The thread that reads lines, and hands them on.
 
-use crate::input::{Cut, MOST, cut_line};
+use crate::chime::Chime;
 use crossbeam_channel::Sender;
-use std::alloc::Global;
-use std::io::Read;
+use smi_front::Cutter;
+use std::alloc::{AllocError, Global};
+use std::io::{ErrorKind, Read};
 use std::sync::Wait;
+
+/// The most lines that are read, and the most reads for a line: after them a reader counts as faulty.
+const MOST: u64 = 1 << 32;
+
+/// How many bytes are read at once.
+const AT_ONCE: usize = 512;
 
 /// How the input ended.
 #[derive(Clone, Copy, Debug, PartialEq, Eq)]
@@ -21,15 +28,60 @@ pub(crate) enum Input {
     Ended(Ending),
 }
 
-/// The next line of the input, or how it ended.
-fn next_input<I: Read>(alloc: Global, reader: &mut I) -> Input {
-    let mut line = Vec::new(alloc);
-    match cut_line(reader, &mut line) {
-        Cut::Line => Input::Line(line),
-        Cut::End => Input::Ended(Ending::End),
-        Cut::ReadFault => Input::Ended(Ending::ReadFault),
-        Cut::Memory => Input::Ended(Ending::Memory),
+/// What one read gives.
+enum Come {
+    More,
+    End,
+    Fault,
+}
+
+/// Reads once, and has what came cut.
+fn read_once<I: Read>(reader: &mut I, cutter: &mut Cutter) -> Result<Come, AllocError> {
+    let mut block = [0u8; AT_ONCE];
+    match reader.read(&mut block) {
+        Ok(0) => Ok(Come::End),
+        Ok(count) => {
+            cutter.fill(block.get(..count).unwrap_or(&[]))?;
+            Ok(Come::More)
+        }
+        Err(e) if e.kind() == ErrorKind::Interrupted => Ok(Come::More),
+        Err(_) => Ok(Come::Fault),
     }
+}
+
+/// The next line of the input, or how it ended. The last line may lack its line feed.
+fn next_line<I: Read>(reader: &mut I, cutter: &mut Cutter) -> Result<Input, AllocError> {
+    for _ in 0..MOST {
+        if let Some(line) = cutter.next()? {
+            return Ok(Input::Line(line));
+        }
+        match read_once(reader, cutter)? {
+            Come::More => {}
+            Come::End => {
+                return Ok(match cutter.rest()? {
+                    Some(line) => Input::Line(line),
+                    None => Input::Ended(Ending::End),
+                });
+            }
+            Come::Fault => break,
+        }
+    }
+    Ok(Input::Ended(Ending::ReadFault))
+}
+
+/// What the input gives next.
+fn next_input<I: Read>(reader: &mut I, cutter: &mut Cutter) -> Input {
+    match next_line(reader, cutter) {
+        Ok(input) => input,
+        Err(_) => Input::Ended(Ending::Memory),
+    }
+}
+
+/// Hands on what the input gives, and wakes the thread at the front. Whether that takes it.
+pub(crate) fn hand_on<R: Wait>(rt: &R, input: Input, lines: &Sender<Input>, chime: &Chime) -> bool {
+    let is_taken = lines.send(rt, input).is_ok();
+    chime.ring();
+    is_taken
 }
 
 /// Hands on line after line, up to the end of the input or until nobody takes them.
@@ -38,13 +90,15 @@ pub(crate) fn read_all<I: Read, R: Wait>(
     alloc: Global,
     reader: &mut I,
     lines: &Sender<Input>,
+    chime: &Chime,
 ) {
+    let mut cutter = Cutter::new(alloc);
     for _ in 0..MOST {
-        let input = next_input(alloc, reader);
+        let input = next_input(reader, &mut cutter);
         let is_last = matches!(input, Input::Ended(_));
-        if lines.send(rt, input).is_err() || is_last {
+        if !hand_on(rt, input, lines, chime) || is_last {
             return;
         }
     }
-    let _ = lines.send(rt, Input::Ended(Ending::ReadFault));
+    hand_on(rt, Input::Ended(Ending::ReadFault), lines, chime);
 }

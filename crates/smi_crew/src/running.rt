@@ -4,12 +4,17 @@ ghost use Rattle.std.specs.Prelude.{◌≡◌};
 
 use crate::attending::{Post, attend};
 use crate::bell::Bell;
-use crate::opening::{link_fault, opening_fault, stopped};
-use crate::reading::{Ending, Input, read_all};
-use crate::wicket::Wicket;
+use crate::chime::{Chime, ChimedLink};
+use crate::doors::Place;
+use crate::hall::Hall;
+use crate::herald::Herald;
+use crate::opening::{console_fault, link_fault, opening_fault, stopped};
+use crate::reading::{Input, read_all};
 use crossbeam_channel::{Receiver, Sender, bounded};
 use smi_cli::status::{Status, no_memory};
 use smi_counts::{CountedLink, Counter, Counts};
+use smi_front::{Front, Picture, Wicket};
+use smi_grant::Shown;
 use smi_limits::MOST_OPERATORS_OF_A_STATION;
 use smi_link::{DatagramLink, UdpLink};
 use smi_node::{ServeFault, Witness, serve_before};
@@ -19,7 +24,8 @@ use smi_station::{Station, migrate};
 use smi_tree::{Address, Tree};
 use smi_view::{Blank, Board, BoardId, Glance, open_board};
 use std::alloc::{AllocError, Global};
-use std::io::{self, BufReader, ErrorKind, Read, Write};
+use std::fs::Files;
+use std::io::{self, ErrorKind, Read, Write};
 use std::marker::Brand;
 use std::net::{Ipv4Addr, Net, SocketAddr, SocketAddrV4};
 use std::sync::{Arc, Wait};
@@ -42,6 +48,8 @@ pub struct Plan {
     pub station: u16,
     /// How long it serves.
     pub turns: Turns,
+    /// Where it listens for consoles, beside the standard input.
+    pub consoles: Vec<Place>,
 }
 
 /// How long a node serves.
@@ -56,14 +64,17 @@ pub enum Turns {
 /// How many turns an endless node serves at once, before it begins again with all that it has.
 const TURNS_AT_ONCE: u32 = 1_000_000;
 
-/// How many lines that were read may wait for the thread at the front.
+/// How many lines that were read, and how many states, may wait for the thread at the front.
 const LINES: usize = 16;
+
+const STATES: usize = 1_024;
 
 /// Why a node that has opened its station does not serve.
 #[derive(Clone, Copy, Debug, PartialEq, Eq)]
 enum Halt {
     Memory,
     Link,
+    Console,
 }
 
 impl From<AllocError> for Halt {
@@ -89,7 +100,7 @@ fn socket_address(address: Address) -> SocketAddr {
 }
 
 /// The addresses of all stations, by number.
-fn addresses(alloc: Global, tree: &Tree) -> Result<Vec<SocketAddr>, AllocError> {
+pub fn addresses(alloc: Global, tree: &Tree) -> Result<Vec<SocketAddr>, AllocError> {
     let mut peers = Vec::new(alloc);
     for station in 1..=tree.station_count() {
         peers.push(socket_address(tree.address(station)))?;
@@ -120,32 +131,49 @@ fn wickets(alloc: Global, operators: &[u16], seats: Vec<Seat>) -> Result<Vec<Wic
     Ok(wickets)
 }
 
-/// The seats of a station's operators and one for reports, their desk, and last its link.
+/// The front desk of a node, over these seats.
+fn front_of<J: BoardId>(
+    alloc: Global,
+    plan: &Plan,
+    operators: &[u16],
+    seats: Vec<Seat>,
+    glance: Glance<J>,
+    counts: Arc<Counts, Global>,
+) -> Result<Box<Front<J>>, AllocError> {
+    let wickets = wickets(alloc, operators, seats)?;
+    let operators = Vec::from_slice(alloc, operators)?;
+    let picture = Picture::new(alloc, plan.tree.object_count())?;
+    Front::open(alloc, operators, wickets, glance, counts, picture)
+}
+
+/// The seats of a station's operators and one for reports, at the front, their desk, and last the station's link.
 fn posted<'a, J: BoardId, H: Net + Clock + AllocGlobal>(
     rt: &'a H,
     plan: &Plan,
     operators: &[u16],
     glance: Glance<J>,
     counts: Arc<Counts, Global>,
-) -> Result<(UdpLink<&'a H>, Desk, Post<J>), Halt> {
+) -> Result<(UdpLink<&'a H>, Desk, Box<Front<J>>, Bell), Halt> {
     let alloc = rt.alloc();
     let count = operators.len().min(MOST_OPERATORS_OF_A_STATION) + 1;
     let (seats, desk) = open_seats(alloc, count)?;
-    let wickets = wickets(alloc, operators, seats)?;
-    let operators = Vec::from_slice(alloc, operators)?;
+    let front = front_of(alloc, plan, operators, seats, glance, counts)?;
     let (link, bell) = linked(rt, &plan.tree, plan.station)?;
-    let post = Post::new(alloc, operators, wickets, glance, bell, counts)?;
-    Ok((link, desk, post))
+    Ok((link, desk, front, bell))
 }
 
-/// Reads lines up to the end of the input.
-fn read_input<H: Wait + AllocGlobal, I: Read + Drop>(rt: &H, input: I, lines: &Sender<Input>) {
-    let alloc = rt.alloc();
-    match BufReader::new(alloc, input) {
-        Ok(mut reader) => read_all(rt, alloc, &mut reader, lines),
-        Err(_) => {
-            let _ = lines.send(rt, Input::Ended(Ending::Memory));
-        }
+/// The hall of a node, with its doors, and a chime to it.
+fn hall_of<H: Files + Net + AllocGlobal>(
+    rt: &H,
+    plan: &Plan,
+) -> Result<(Box<Hall>, Arc<Chime, Global>), Halt> {
+    match Hall::open(rt, rt.alloc(), plan.consoles.as_slice()) {
+        Ok((hall, waker)) => match Arc::new(rt.alloc(), Chime::new(waker)) {
+            Ok(chime) => Ok((hall, chime)),
+            Err(_) => Err(Halt::Memory),
+        },
+        Err(e) if e.kind() == ErrorKind::OutOfMemory => Err(Halt::Memory),
+        Err(_) => Err(Halt::Console),
     }
 }
 
@@ -154,9 +182,13 @@ fn read_input<H: Wait + AllocGlobal, I: Read + Drop>(rt: &H, input: I, lines: &S
 fn begin_reading<
     H: Wait + Threads + AllocGlobal + Clone + Drop + Send + 'static,
     I: Read + Drop + Send + 'static,
->(rt: &H, input: I, lines: Sender<Input>) -> Result<(), AllocError> {
+>(rt: &H, input: I, lines: Sender<Input>, chime: Arc<Chime, Global>) -> Result<(), AllocError> {
     let there = rt.clone()?;
-    let begun = spawn(rt, move || read_input(&there, input, &lines));
+    let alloc = rt.alloc();
+    let begun = spawn(rt, move || {
+        let mut input = input;
+        read_all(&there, alloc, &mut input, &lines, &chime)
+    });
     match begun {
         Ok(_thread) => Ok(()),
         Err(_refused) => Err(AllocError),
@@ -169,18 +201,11 @@ fn begin_attending<
     H: Wait + Threads + Clock + AllocGlobal + Clone + Drop + Send + 'static,
     O: Write + Drop + Send + 'static,
     E: Write + Drop + Send + 'static,
->(
-    rt: &H,
-    tree: Arc<Tree, Global>,
-    post: Post<J>,
-    lines: Receiver<Input>,
-    output: O,
-    faults: E,
-) -> Result<(), AllocError> {
+>(rt: &H, tree: Arc<Tree, Global>, post: Post<J>, output: O, faults: E) -> Result<(), AllocError> {
     let there = rt.clone()?;
     let begun = spawn(rt, move || {
         let (mut post, mut output, mut faults) = (post, output, faults);
-        attend(&there, &tree, &mut post, &lines, &mut output, &mut faults)
+        attend(&there, &tree, &mut post, &mut output, &mut faults)
     });
     match begun {
         Ok(_thread) => Ok(()),
@@ -188,7 +213,16 @@ fn begin_attending<
     }
 }
 
-/// Starts both threads of a console.
+/// What stands at the front beside its threads.
+#[derive(Drop)]
+struct Lobby<J: BoardId> {
+    front: Box<Front<J>>,
+    hall: Box<Hall>,
+    bell: Bell,
+    chime: Arc<Chime, Global>,
+}
+
+/// Starts both threads of a node's console, and answers the way by which they are told states.
 fn begin_console<
     J: BoardId + Send + Sync + 'static,
     H: Wait + Threads + Clock + AllocGlobal + Clone + Drop + Send + 'static,
@@ -198,17 +232,33 @@ fn begin_console<
 >(
     rt: &H,
     tree: Arc<Tree, Global>,
-    post: Post<J>,
+    lobby: Lobby<J>,
     console: Console<I, O, E>,
-) -> Result<(), AllocError> {
+) -> Result<Sender<Shown>, AllocError> {
     let Console {
         input,
         output,
         faults,
     } = console;
-    let (sender, receiver) = bounded(rt.alloc(), LINES)?;
-    begin_attending(rt, tree, post, receiver, output, faults)?;
-    begin_reading(rt, input, sender)
+    let Lobby {
+        front,
+        hall,
+        bell,
+        chime,
+    } = lobby;
+    let (sender, lines) = bounded(rt.alloc(), LINES)?;
+    let (states_sender, states) = bounded(rt.alloc(), STATES)?;
+    let post = Post {
+        front,
+        hall,
+        bell,
+        lines,
+        states,
+        is_plain_over: false,
+    };
+    begin_attending(rt, tree, post, output, faults)?;
+    begin_reading(rt, input, sender, chime)?;
+    Ok(states_sender)
 }
 
 /// Tells how a service ended.
@@ -255,7 +305,7 @@ fn crewed<
     'a,
     J: BoardId + Send + Sync + 'static,
     S: Stable,
-    H: Net + Wait + Threads + Clock + AllocGlobal + Clone + Drop + Send + 'static,
+    H: Files + Net + Wait + Threads + Clock + AllocGlobal + Clone + Drop + Send + 'static,
     I: Read + Drop + Send + 'static,
     O: Write + Drop + Send + 'static,
     E: Write + Drop + Send + 'static,
@@ -269,11 +319,29 @@ fn crewed<
 ) -> Result<Result<(), ServeFault>, Halt> {
     let counts = counted(rt.alloc())?;
     let shared = Arc::try_clone(&counts)?;
-    let (link, mut desk, post) = posted(rt, plan, station.operators(), glance, shared)?;
+    let (link, mut desk, front, bell) = posted(rt, plan, station.operators(), glance, shared)?;
+    let (hall, chime) = hall_of(rt, plan)?;
     let tree = Arc::try_clone(&plan.tree)?;
-    begin_console(rt, tree, post, console)?;
-    let mut link = CountedLink::over(link, Arc::try_clone(&counts)?);
-    let mut witness = Counter::new(counts);
+    let lobby = Lobby {
+        front,
+        hall,
+        bell,
+        chime: Arc::try_clone(&chime)?,
+    };
+    let states = begin_console(rt, tree, lobby, console)?;
+    let link = CountedLink::over(link, Arc::try_clone(&counts)?);
+    let mut link = ChimedLink::over(link, Arc::try_clone(&chime)?);
+    let counter = Counter::new(counts);
+    let there = rt.clone()?;
+    let mut herald = Herald::new(
+        rt.alloc(),
+        there,
+        &plan.tree,
+        station,
+        counter,
+        chime,
+        states,
+    )?;
     Ok(served(
         rt,
         plan.turns,
@@ -281,7 +349,7 @@ fn crewed<
         &mut link,
         &mut desk,
         board,
-        &mut witness,
+        &mut herald,
     ))
 }
 
@@ -296,7 +364,7 @@ fn over_board<
     'a,
     J: BoardId + Send + Sync + 'static,
     S: Stable,
-    H: Net + Wait + Threads + Clock + AllocGlobal + Clone + Drop + Send + 'static,
+    H: Files + Net + Wait + Threads + Clock + AllocGlobal + Clone + Drop + Send + 'static,
     I: Read + Drop + Send + 'static,
     O: Write + Drop + Send + 'static,
     E: Write + Drop + Send + 'static,
@@ -321,7 +389,7 @@ fn over_board<
 /// The station is opened on its store, and served.
 fn opened<
     S: Stable,
-    H: Net + Wait + Threads + Clock + AllocGlobal + Clone + Drop + Send + 'static,
+    H: Files + Net + Wait + Threads + Clock + AllocGlobal + Clone + Drop + Send + 'static,
     I: Read + Drop + Send + 'static,
     O: Write + Drop + Send + 'static,
     E: Write + Drop + Send + 'static,
@@ -341,6 +409,7 @@ fn opened<
                 Ok(served) => ended(served, faults),
                 Err(Halt::Memory) => no_memory(faults),
                 Err(Halt::Link) => link_fault(faults),
+                Err(Halt::Console) => console_fault(faults),
             };
             (status, station.into_stable())
         }
@@ -356,7 +425,7 @@ fn opened<
 /// their own faults on those of the console, and these end the console alone.
 pub fn run<
     S: Stable,
-    H: Net + Wait + Threads + Clock + AllocGlobal + Clone + Drop + Send + 'static,
+    H: Files + Net + Wait + Threads + Clock + AllocGlobal + Clone + Drop + Send + 'static,
     I: Read + Drop + Send + 'static,
     O: Write + Drop + Send + 'static,
     E: Write + Drop + Send + 'static,

@@ -4,6 +4,7 @@ use clap::error::ErrorKind;
 use clap::{Arg, ArgAction, ArgMatches, Command, Error};
 use smi_tree::number_within;
 use std::alloc::Global;
+use std::net::SocketAddr;
 
 /// The most turns of a node, and how many it serves where none are given.
 const MOST_TURNS: u32 = 1_000_000;
@@ -24,6 +25,8 @@ pub enum Line<'a> {
     Sim(SimLine<'a>),
     /// Run a node.
     Node(NodeLine<'a>),
+    /// Run a screen.
+    Screen(ScreenLine<'a>),
     /// The words are none of the forms: so are `help` and `--help`.
     Wrong,
     /// There was no memory to read the words.
@@ -45,13 +48,30 @@ pub enum Schedule<'a> {
     Drawn { seed: u64, steps: u64 },
 }
 
-/// A node: the path of its tree, the name of its station, the path of its store, and how long it serves.
+/// A node: the path of its tree, the name of its station, the path of its store, how long it serves, and where it
+/// listens for consoles.
 #[derive(Clone, Copy)]
 pub struct NodeLine<'a> {
     pub tree: &'a str,
     pub station: &'a str,
     pub store: &'a str,
     /// How many turns it serves, none where it serves without end.
+    pub turns: Option<u32>,
+    /// Where it listens for consoles, each an address or the path of a socket; the second only beside a first.
+    pub console: Option<&'a str>,
+    pub second_console: Option<&'a str>,
+}
+
+/// A screen: the path of its tree, the name of its station, the path of its store, where its guests come, by what name
+/// they know it beside its address, and how long it looks.
+#[derive(Clone, Copy)]
+pub struct ScreenLine<'a> {
+    pub tree: &'a str,
+    pub station: &'a str,
+    pub store: &'a str,
+    pub http: SocketAddr,
+    pub name: Option<&'a str>,
+    /// How many turns it looks, none where it looks without end.
     pub turns: Option<u32>,
 }
 
@@ -82,6 +102,7 @@ fn line_in<'a>(matches: &ArgMatches<'a>) -> Line<'a> {
         Some(("rows", given)) => given.get_str("STORE").map_or(Line::Wrong, Line::Rows),
         Some(("sim", given)) => sim_line(given).map_or(Line::Wrong, Line::Sim),
         Some(("node", given)) => node_line(given).map_or(Line::Wrong, Line::Node),
+        Some(("screen", given)) => screen_line(given).map_or(Line::Wrong, Line::Screen),
         _ => Line::Wrong,
     }
 }
@@ -92,7 +113,8 @@ fn forms<'a>(alloc: Global) -> Result<Command<'a>, Error> {
     let command = with_form(command, check_command(alloc))?;
     let command = with_form(command, rows_command(alloc))?;
     let command = with_form(command, sim_command(alloc))?;
-    with_form(command, node_command(alloc))
+    let command = with_form(command, node_command(alloc))?;
+    with_form(command, screen_command(alloc))
 }
 
 fn with_form<'a>(
@@ -161,21 +183,75 @@ fn seed_of(word: &str) -> Option<u64> {
     }
 }
 
-fn node_command<'a>(alloc: Global) -> Result<Command<'a>, Error> {
-    let form = with_word(alloc, Command::new(alloc, "node"), "TREE")?;
+/// The words of a station that is run: its tree, its name, its store, and how long.
+fn station_command<'a>(alloc: Global, name: &'a str) -> Result<Command<'a>, Error> {
+    let form = with_word(alloc, Command::new(alloc, name), "TREE")?;
     let form = with_word(alloc, form, "STATION")?;
     let form = with_word(alloc, form, "STORE")?;
     let form = form.arg(Arg::new(alloc, "T").long("turns"))?;
-    Ok(form.arg(flag(alloc, "endless"))?)
+    let form = form.arg(flag(alloc, "endless"))?;
+    let console = Arg::new(alloc, "C").long("console");
+    Ok(form.arg(console.action(ArgAction::Append))?)
+}
+
+fn node_command<'a>(alloc: Global) -> Result<Command<'a>, Error> {
+    station_command(alloc, "node")
+}
+
+fn screen_command<'a>(alloc: Global) -> Result<Command<'a>, Error> {
+    let form = station_command(alloc, "screen")?;
+    let form = form.arg(Arg::new(alloc, "ADDRESS").long("http").required(true))?;
+    let form = form.arg(Arg::new(alloc, "NAME").long("host"))?;
+    Ok(form.arg(flag(alloc, "open"))?)
+}
+
+/// The address and the name of a screen. One that is open to other machines has a name, and no other has one.
+fn place_of<'a>(
+    address: &str,
+    name: Option<&'a str>,
+    is_open: bool,
+) -> Option<(SocketAddr, Option<&'a str>)> {
+    let http = SocketAddr::parse_ascii(address.as_bytes()).ok()?;
+    if name.is_some() == is_open && (is_open || http.ip().is_loopback()) {
+        Some((http, name))
+    } else {
+        None
+    }
+}
+
+fn screen_line<'a>(given: &ArgMatches<'a>) -> Option<ScreenLine<'a>> {
+    let address = given.get_str("ADDRESS")?;
+    let (http, name) = place_of(address, given.get_str("NAME"), given.get_flag("open"))?;
+    Some(ScreenLine {
+        tree: given.get_str("TREE")?,
+        station: given.get_str("STATION")?,
+        store: given.get_str("STORE")?,
+        http,
+        name,
+        turns: turns_of(given.get_str("T"), given.get_flag("endless"))?,
+    })
 }
 
 fn node_line<'a>(given: &ArgMatches<'a>) -> Option<NodeLine<'a>> {
+    let (console, second_console) = consoles_of(given.get_strs("C"))?;
     Some(NodeLine {
         tree: given.get_str("TREE")?,
         station: given.get_str("STATION")?,
         store: given.get_str("STORE")?,
         turns: turns_of(given.get_str("T"), given.get_flag("endless"))?,
+        console,
+        second_console,
     })
+}
+
+/// Where a node listens for consoles, at two places at most: more are no form.
+fn consoles_of<'a>(words: Option<&[&'a str]>) -> Option<(Option<&'a str>, Option<&'a str>)> {
+    match words {
+        None => Some((None, None)),
+        Some([one]) => Some((Some(*one), None)),
+        Some([one, other]) => Some((Some(*one), Some(*other))),
+        Some(_) => None,
+    }
 }
 
 /// How long a node serves: as many turns as a word says, without end where that is asked for, and without either the

@@ -143,7 +143,7 @@ pub(crate) fn carry_for<S: Stable, L: DatagramLink, J: BoardId, V: Witness, R: W
 {
     let is_report = is_report(&event);
     let made = step(station, event, out);
-    witness.saw(&made, out);
+    witness.saw(station, &event, &made, out);
     if is_stopped_by(&made) {
         return Err(CarryFault::Stopped);
     }

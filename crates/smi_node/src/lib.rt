@@ -19,5 +19,6 @@ mod telling;
 mod witness;
 
 pub use carrying::{CarryFault, carry};
+pub use sending::send_all;
 pub use serving::{ServeFault, serve, serve_before};
 pub use witness::{Nobody, Witness};

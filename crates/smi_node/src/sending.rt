@@ -14,8 +14,8 @@ fn send_one<L: DatagramLink>(link: &mut L, datagram: &Datagram)
     let _ = link.send(datagram.to, &encode(datagram));
 }
 
-/// Datagrams are sent one after the other.
-pub(crate) fn send_all<L: DatagramLink>(link: &mut L, datagrams: &[Datagram])
+/// Datagrams are sent one after the other, each to its receiver. One that the link does not take is lost.
+pub fn send_all<L: DatagramLink>(link: &mut L, datagrams: &[Datagram])
     ensures { Sends datagrams.now (shown_by L.received L.handed L.failures link.old)
         (shown_by L.received L.handed L.failures link.new) }
 {

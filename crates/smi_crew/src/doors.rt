@@ -1,0 +1,113 @@
+//! Where connections come in.
+
+use mio::net::{TcpListener, TcpStream, UnixListener, UnixStream};
+use mio::{Interest, Registry, Token};
+use std::fs::{self, Files};
+use std::io::{self, ErrorKind, Read, Write};
+use std::net::{Net, SocketAddr};
+use std::os::unix::fs::FileTypeExt;
+
+/// Where a node listens for consoles.
+#[derive(Drop)]
+pub enum Place {
+    /// A Unix socket at this path. Who may connect is said by the rights of its file.
+    Path(String),
+    /// TCP at this address of the machine.
+    Address(SocketAddr),
+}
+
+/// A socket that listens.
+#[derive(Drop)]
+pub(crate) enum Door {
+    Unix(UnixListener),
+    Tcp(TcpListener),
+}
+
+/// A connection.
+#[derive(Drop)]
+pub(crate) enum Stream {
+    Unix(UnixStream),
+    Tcp(TcpStream),
+}
+
+/// Whether a socket's file is one that a process left behind, which nobody listens at any more.
+fn is_left_behind<R: Files + Net>(rt: &R, path: &str) -> bool {
+    let is_socket = match fs::symlink_metadata(rt, path) {
+        Ok(found) => found.file_type().is_socket(),
+        Err(_) => false,
+    };
+    is_socket
+        && match UnixStream::connect(rt, path) {
+            Ok(_) => false,
+            Err(e) => e.kind() == ErrorKind::ConnectionRefused,
+        }
+}
+
+/// A Unix socket at a path. One that was left behind there is taken away first; anything else stays, and is an error.
+fn unix_door<R: Files + Net>(rt: &R, path: &str) -> io::Result<UnixListener> {
+    if is_left_behind(rt, path) {
+        fs::remove_file(rt, path)?;
+    }
+    UnixListener::bind(rt, path)
+}
+
+impl Door {
+    /// A door at this place.
+    pub(crate) fn open<R: Files + Net>(rt: &R, place: &Place) -> io::Result<Door> {
+        match place {
+            Place::Path(path) => Ok(Door::Unix(unix_door(rt, path.as_str())?)),
+            Place::Address(address) => {
+                let listener = TcpListener::bind(rt, *address)?;
+                Ok(Door::Tcp(listener))
+            }
+        }
+    }
+
+    /// The next connection, or `WouldBlock` where none waits.
+    pub(crate) fn accept(&self) -> io::Result<Stream> {
+        match self {
+            Door::Unix(listener) => Ok(Stream::Unix(listener.accept()?.0)),
+            Door::Tcp(listener) => {
+                let (stream, _) = listener.accept()?;
+                let _ = stream.set_nodelay(true);
+                Ok(Stream::Tcp(stream))
+            }
+        }
+    }
+
+    /// Has it wake whoever waits, by this number.
+    pub(crate) fn register(&mut self, registry: &Registry, number: usize) -> io::Result<()> {
+        let (token, interest) = (Token(number), Interest::READABLE);
+        match self {
+            Door::Unix(listener) => registry.register(listener, token, interest),
+            Door::Tcp(listener) => registry.register(listener, token, interest),
+        }
+    }
+}
+
+impl Stream {
+    /// Has it wake whoever waits, by this number.
+    pub(crate) fn register(&mut self, registry: &Registry, number: usize) -> io::Result<()> {
+        let (token, interest) = (Token(number), Interest::READABLE | Interest::WRITABLE);
+        match self {
+            Stream::Unix(stream) => registry.register(stream, token, interest),
+            Stream::Tcp(stream) => registry.register(stream, token, interest),
+        }
+    }
+
+    /// Reads what has come, or answers `WouldBlock`.
+    pub(crate) fn read(&mut self, buffer: &mut [u8]) -> io::Result<usize> {
+        match self {
+            Stream::Unix(stream) => stream.read(buffer),
+            Stream::Tcp(stream) => stream.read(buffer),
+        }
+    }
+
+    /// Writes as much as there is room for, or answers `WouldBlock`.
+    pub(crate) fn write(&mut self, bytes: &[u8]) -> io::Result<usize> {
+        match self {
+            Stream::Unix(stream) => stream.write(bytes),
+            Stream::Tcp(stream) => stream.write(bytes),
+        }
+    }
+}

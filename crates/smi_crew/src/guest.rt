@@ -1,0 +1,222 @@
+//! A connection, and who types there.
+
+use crate::doors::Stream;
+use mio::event::Event;
+use smi_front::{Caller, Cutter, Front, MOST_UNSENT, Manners};
+use smi_tree::Tree;
+use smi_view::BoardId;
+use std::alloc::{AllocError, Global};
+use std::io::ErrorKind;
+use std::time::Instant;
+
+/// How many bytes are read at once.
+const AT_ONCE: usize = 512;
+
+/// How many reads, and how many lines, a guest has in one round.
+const READS: usize = 64;
+
+const LINES: usize = 32;
+
+/// How long a guest may take nothing of what it is told, in seconds.
+const PATIENCE: u64 = 2;
+
+/// A connection, and who types there.
+#[derive(Drop)]
+pub(crate) struct Guest {
+    stream: Stream,
+    caller: Caller,
+    cutter: Cutter,
+    /// Whether there may be something to read, and room to write.
+    can_read: bool,
+    can_write: bool,
+    /// Whether nothing more will come.
+    is_over: bool,
+    /// Whether nothing more is taken.
+    is_deaf: bool,
+    /// Since when it has taken nothing of what it is told, or nothing more is taken.
+    since: Option<Instant>,
+    leaves: bool,
+}
+
+/// What a read gave.
+enum Read {
+    Some,
+    Nothing,
+}
+
+impl Guest {
+    /// A guest of this number, who has typed nothing.
+    ///
+    /// Its error is that memory was refused.
+    pub(crate) fn new(alloc: Global, number: u64, stream: Stream) -> Result<Guest, AllocError> {
+        Ok(Guest {
+            stream,
+            caller: Caller::new(alloc, number, Manners::Wordy)?,
+            cutter: Cutter::new(alloc),
+            can_read: true,
+            can_write: true,
+            is_over: false,
+            is_deaf: false,
+            since: None,
+            leaves: false,
+        })
+    }
+
+    /// Who types.
+    pub(crate) fn caller(&mut self) -> &mut Caller {
+        &mut self.caller
+    }
+
+    /// Its number.
+    pub(crate) fn number(&self) -> u64 {
+        self.caller.number()
+    }
+
+    /// Whether it is to go.
+    pub(crate) fn leaves(&self) -> bool {
+        self.leaves
+    }
+
+    /// It is to go.
+    pub(crate) fn leave(&mut self) {
+        self.leaves = true;
+    }
+
+    /// What the system says of its connection.
+    pub(crate) fn hear_of(&mut self, event: &Event) {
+        self.can_read = self.can_read || event.is_readable() || event.is_read_closed();
+        self.can_write = self.can_write || event.is_writable();
+        self.is_deaf = self.is_deaf || event.is_write_closed() || event.is_error();
+    }
+
+    /// Reads once.
+    fn read(&mut self) -> Result<Read, AllocError> {
+        if !self.can_read || self.is_over {
+            return Ok(Read::Nothing);
+        }
+        let mut block = [0u8; AT_ONCE];
+        match self.stream.read(&mut block) {
+            Ok(0) => self.is_over = true,
+            Ok(count) => {
+                self.cutter.fill(block.get(..count).unwrap_or(&[]))?;
+                return Ok(Read::Some);
+            }
+            Err(e) if e.kind() == ErrorKind::WouldBlock => self.can_read = false,
+            Err(e) if e.kind() == ErrorKind::Interrupted => {}
+            Err(_) => {
+                self.is_over = true;
+                self.is_deaf = true;
+            }
+        }
+        Ok(Read::Nothing)
+    }
+
+    /// The next line that it typed.
+    fn next_line(&mut self) -> Result<Option<Vec<u8>>, AllocError> {
+        for _ in 0..READS {
+            if let Some(line) = self.cutter.next()? {
+                return Ok(Some(line));
+            }
+            match self.read()? {
+                Read::Some => {}
+                Read::Nothing if self.is_over => return self.cutter.rest(),
+                Read::Nothing => return Ok(None),
+            }
+        }
+        Ok(None)
+    }
+
+    /// Its lines are heard.
+    fn talk<J: BoardId>(
+        &mut self,
+        front: &mut Front<J>,
+        tree: &Tree,
+        now: Option<Instant>,
+    ) -> Result<(), AllocError> {
+        front.go_on(tree, now, &mut self.caller)?;
+        front.tell_fresh(tree, &mut self.caller)?;
+        for _ in 0..LINES {
+            if !self.caller.has_room() {
+                return Ok(());
+            }
+            match self.next_line()? {
+                Some(line) => front.hear(tree, now, &mut self.caller, line)?,
+                None => return Ok(()),
+            }
+        }
+        Ok(())
+    }
+
+    /// Writes what it is to be told, as far as there is room.
+    fn write(&mut self, now: Option<Instant>) {
+        if self.is_deaf {
+            self.caller.written(usize::MAX);
+        } else if self.caller.said().is_empty() {
+            self.since = None;
+            return;
+        }
+        if self.since.is_none() {
+            self.since = now;
+        }
+        if self.is_deaf || !self.can_write {
+            return;
+        }
+        match self.stream.write(self.caller.said()) {
+            Ok(count) => {
+                self.caller.written(count);
+                self.since = now;
+            }
+            Err(e) if e.kind() == ErrorKind::WouldBlock => self.can_write = false,
+            Err(e) if e.kind() == ErrorKind::Interrupted => {}
+            Err(_) => self.is_deaf = true,
+        }
+    }
+
+    /// Whether it takes too little of what it is told.
+    fn is_stuck(&self, now: Option<Instant>) -> bool {
+        let is_late = match (now, self.since) {
+            (Some(now), Some(since)) => now.duration_since(since).as_secs() >= PATIENCE,
+            _ => false,
+        };
+        is_late || self.caller.said().len() > MOST_UNSENT
+    }
+
+    /// Whether all that it typed is answered, or nobody is there to be answered.
+    fn is_done<J: BoardId>(&self, front: &Front<J>) -> bool {
+        self.is_over
+            && self.cutter.is_used_up()
+            && self.caller.is_idle()
+            && self.caller.said().is_empty()
+            && (self.is_deaf || !self.caller.is_following() && !front.owes(self.caller.number()))
+    }
+
+    /// Its lines are heard, and what it is to be told is written, as far as nothing waits.
+    pub(crate) fn turn<J: BoardId>(
+        &mut self,
+        front: &mut Front<J>,
+        tree: &Tree,
+        now: Option<Instant>,
+    ) {
+        if self.talk(front, tree, now).is_err() {
+            self.leaves = true;
+        }
+        self.write(now);
+        self.leaves = self.leaves || self.is_done(front) || self.is_stuck(now);
+    }
+
+    /// Whether it can go on without waiting.
+    pub(crate) fn can_go_on(&self) -> bool {
+        let can_hear = !self.cutter.is_used_up() || self.can_read && !self.is_over;
+        can_hear && self.caller.has_room() || self.can_write && self.has_unsent()
+    }
+
+    /// Whether it has something to be told.
+    fn has_unsent(&self) -> bool {
+        !self.caller.said().is_empty()
+    }
+
+    /// Whether it leaves once some time has passed.
+    pub(crate) fn is_timed(&self) -> bool {
+        self.since.is_some()
+    }
+}

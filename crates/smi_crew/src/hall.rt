@@ -1,0 +1,243 @@
+//! Everybody who talks to a node: the standard input, and connections.
+
+use crate::doors::{Door, Place, Stream};
+use crate::guest::Guest;
+use crate::reading::Ending;
+use mio::{Events, Poll, Token, Waker};
+use smi_front::{Answered, Caller, Front, Manners};
+use smi_tree::Tree;
+use smi_view::BoardId;
+use std::alloc::{AllocError, Global};
+use std::fs::Files;
+use std::io;
+use std::net::Net;
+use std::time::{Duration, Instant};
+
+/// The most connections at once.
+const MOST_GUESTS: usize = 64;
+
+/// What a connection is told for which there is no room.
+const FULL: &[u8] = b"full\n";
+
+/// How many connections are taken in one round, and how many events are looked at.
+const COMERS: usize = 16;
+
+const EVENTS: usize = 128;
+
+/// The number by which the waker wakes, those of doors, and the first of guests. The standard input's caller has the
+/// first.
+const WAKER: usize = 0;
+
+const FIRST_DOOR: usize = 1;
+
+const FIRST_GUEST: u64 = 1_000;
+
+/// A wait is no longer where somebody is to be looked after by the clock, in milliseconds.
+const WATCHFUL: u64 = 100;
+
+/// A door, and whether somebody may wait there.
+#[derive(Drop)]
+struct Entrance {
+    door: Door,
+    is_called: bool,
+}
+
+/// Everybody who talks to a node.
+#[derive(Drop)]
+pub(crate) struct Hall {
+    alloc: Global,
+    /// Who types at the standard input, and how that ended.
+    pub(crate) plain: Caller,
+    pub(crate) ending: Option<Ending>,
+    is_plain_lost: bool,
+    guests: Vec<Guest>,
+    entrances: Vec<Entrance>,
+    next: u64,
+    poll: Poll,
+    events: Events<Global>,
+}
+
+impl Hall {
+    /// A hall with a door at each of these places, and a waker for it.
+    pub(crate) fn open<R: Files + Net>(
+        rt: &R,
+        alloc: Global,
+        places: &[Place],
+    ) -> io::Result<(Box<Hall>, Waker)> {
+        let poll = Poll::new(rt)?;
+        let waker = Waker::new(poll.registry(), Token(WAKER))?;
+        let mut entrances = Vec::new(alloc);
+        for (place, number) in places.iter().zip(FIRST_DOOR..) {
+            let mut door = Door::open(rt, place)?;
+            door.register(poll.registry(), number)?;
+            entrances.push(Entrance {
+                door,
+                is_called: true,
+            })?;
+        }
+        let hall = Hall {
+            alloc,
+            plain: Caller::new(alloc, 0, Manners::Terse)?,
+            ending: None,
+            is_plain_lost: false,
+            guests: Vec::new(alloc),
+            entrances,
+            next: FIRST_GUEST,
+            poll,
+            events: Events::with_capacity(alloc, EVENTS)?,
+        };
+        match Box::new(alloc, hall) {
+            Ok(hall) => Ok((hall, waker)),
+            Err(_) => Err(io::Error::from(AllocError)),
+        }
+    }
+
+    /// Whether nobody else than the standard input can talk to the node.
+    pub(crate) fn has_no_door(&self) -> bool {
+        self.entrances.is_empty()
+    }
+
+    /// The caller of this number, where it has not left.
+    fn caller(&mut self, number: u64) -> Option<&mut Caller> {
+        if number == self.plain.number() {
+            return Some(&mut self.plain);
+        }
+        match self
+            .guests
+            .iter_mut()
+            .find(|guest| guest.number() == number)
+        {
+            Some(guest) => Some(guest.caller()),
+            None => None,
+        }
+    }
+
+    /// An answer is told to its caller, where that has not left.
+    pub(crate) fn tell<J: BoardId>(&mut self, front: &Front<J>, answered: Answered) {
+        let told = match self.caller(answered.caller) {
+            Some(caller) => front.tell(caller, answered),
+            None => Ok(()),
+        };
+        if told.is_err() {
+            self.lose(answered.caller);
+        }
+    }
+
+    /// The caller of this number can't be told all any more.
+    pub(crate) fn lose(&mut self, number: u64) {
+        if number == self.plain.number() {
+            self.is_plain_lost = true;
+        }
+        for guest in self.guests.iter_mut() {
+            if guest.number() == number {
+                guest.leave();
+            }
+        }
+    }
+
+    /// Whether the caller at the standard input can't be told all any more.
+    pub(crate) fn is_plain_lost(&self) -> bool {
+        self.is_plain_lost
+    }
+
+    /// A connection has come.
+    fn welcome(&mut self, stream: Stream) -> Result<(), AllocError> {
+        let mut stream = stream;
+        if self.guests.len() >= MOST_GUESTS {
+            let _ = stream.write(FULL);
+            return Ok(());
+        }
+        let number = self.next;
+        self.next = number.saturating_add(1);
+        if let Ok(token) = usize::try_from(number) {
+            if stream.register(self.poll.registry(), token).is_ok() {
+                let guest = Guest::new(self.alloc, number, stream)?;
+                self.guests.push(guest)?;
+            }
+        }
+        Ok(())
+    }
+
+    /// The next connection at a door, where one waits.
+    fn next_comer(&mut self, place: usize) -> Option<Stream> {
+        let entrance = self.entrances.get_mut(place)?;
+        if !entrance.is_called {
+            return None;
+        }
+        match entrance.door.accept() {
+            Ok(stream) => Some(stream),
+            Err(e) => {
+                entrance.is_called = e.kind() != io::ErrorKind::WouldBlock;
+                None
+            }
+        }
+    }
+
+    /// Connections that wait at the doors are taken.
+    pub(crate) fn welcome_all(&mut self) {
+        for place in 0..self.entrances.len() {
+            for _ in 0..COMERS {
+                match self.next_comer(place) {
+                    Some(stream) => {
+                        let _ = self.welcome(stream);
+                    }
+                    None => break,
+                }
+            }
+        }
+    }
+
+    /// Each connection is heard and told, as far as nothing waits; those that are done leave.
+    pub(crate) fn serve_guests<J: BoardId>(
+        &mut self,
+        front: &mut Front<J>,
+        tree: &Tree,
+        now: Option<Instant>,
+    ) {
+        for guest in self.guests.iter_mut() {
+            guest.turn(front, tree, now);
+        }
+        self.guests.retain(|guest| !guest.leaves());
+    }
+
+    /// How long to wait at most for something to come.
+    fn patience<J: BoardId>(&self, front: &Front<J>, has_more: bool) -> Option<Duration> {
+        if has_more || self.guests.iter().any(|guest| guest.can_go_on()) {
+            return Some(Duration::from_millis(0));
+        }
+        let is_watchful = !front.is_at_rest()
+            || self.entrances.iter().any(|entrance| entrance.is_called)
+            || self.guests.iter().any(|guest| guest.is_timed());
+        if is_watchful {
+            Some(Duration::from_millis(WATCHFUL))
+        } else {
+            None
+        }
+    }
+
+    /// Waits until something comes, or until it is time to look again. Whether it could wait.
+    pub(crate) fn wait<J: BoardId>(&mut self, front: &Front<J>, has_more: bool) -> bool {
+        let patience = self.patience(front, has_more);
+        let has_waited = self.poll.poll(&mut self.events, patience).is_ok();
+        let Hall {
+            guests,
+            entrances,
+            events,
+            ..
+        } = self;
+        for event in events.iter() {
+            let Token(number) = event.token();
+            if let Some(place) = number.checked_sub(FIRST_DOOR) {
+                if let Some(entrance) = entrances.get_mut(place) {
+                    entrance.is_called = true;
+                }
+            }
+            for guest in guests.iter_mut() {
+                if usize::try_from(guest.number()) == Ok(number) {
+                    guest.hear_of(event);
+                }
+            }
+        }
+        has_waited
+    }
+}

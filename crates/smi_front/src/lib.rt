@@ -1,0 +1,33 @@
+//! The front desk of a node: what callers type becomes orders at seats, and each answer goes to the caller it is of.
+//!
+//! A [`Caller`] is whoever types: a console over a connection, or the standard input. Its lines are cut out of bytes
+//! by a [`Cutter`], and heard by the [`Front`], which has all seats of the station. No call of a front waits: an
+//! order that is given stands at its seat with the number of its caller and the tag of its line, until the station
+//! answers it. The answers of a seat come in the order of its orders ([`Wicket`]), so each goes to the caller who
+//! gave the order; where that caller has left, it goes to nobody.
+//!
+//! A line without a tag waits for the answer of its caller's line before it. One with a tag waits for nothing.
+//! Neither waits for another caller, but where the seat of their operator has no room.
+//!
+//! What a line may ask, and what is said, stands in docs/FORMATS.md, "A node's lines". Sockets, threads and clocks
+//! are the caller's own: see `smi_crew`.
+#![tactic(auto)]
+
+mod caller;
+mod cutter;
+mod front;
+mod picture;
+mod said;
+mod tag;
+mod telling;
+mod whole;
+mod wicket;
+
+pub use caller::{Caller, MOST_UNSENT, Manners};
+pub use cutter::Cutter;
+pub use front::{Answered, Front, Lost};
+pub use picture::Picture;
+pub use said::{Request, request_in};
+pub use tag::{Tag, tagged};
+pub use whole::{Whole, whole_in};
+pub use wicket::{Given, MOST_GIVEN, Wicket};

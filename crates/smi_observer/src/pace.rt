@@ -1,0 +1,73 @@
+//! When an observer does what.
+
+/// How many milliseconds lie between two questions. Where time was lost, questions are made up for, as many as this
+/// time is worth.
+const BETWEEN_QUESTIONS: u64 = 20;
+
+const MOST_LATE: u64 = 160;
+
+/// How many milliseconds lie between two ticks. A tick sends up to 64 datagrams, and the other stations send again only
+/// when nothing has come for ten milliseconds, so an observer has to leave them air.
+const BETWEEN_TICKS: u64 = 250;
+
+/// How far an observer has come with its objects and its domains.
+#[derive(Clone, Copy, Debug, PartialEq, Eq)]
+pub struct Pace {
+    objects: u16,
+    domains: u16,
+    /// How many objects are watched.
+    watched: u16,
+    /// The domain that was asked about last.
+    asked: u16,
+    asked_at: u64,
+    ticked_at: u64,
+}
+
+impl Pace {
+    /// An observer of so many objects and domains that has done nothing yet.
+    pub fn new(objects: u16, domains: u16) -> Pace {
+        Pace {
+            objects,
+            domains,
+            watched: 0,
+            asked: 0,
+            asked_at: 0,
+            ticked_at: 0,
+        }
+    }
+
+    /// The next object that is to be watched, each once. That it is watched anew where its station has begun again is
+    /// the station's own care.
+    pub(crate) fn next_watch(&mut self) -> Option<u16> {
+        if self.watched < self.objects {
+            self.watched += 1;
+            Some(self.watched)
+        } else {
+            None
+        }
+    }
+
+    /// The next domain that is to be asked about, one after the other, where it is time.
+    pub(crate) fn next_question(&mut self, now: u64) -> Option<u16> {
+        if now.saturating_sub(self.asked_at) < BETWEEN_QUESTIONS {
+            return None;
+        }
+        let next = self.asked_at.saturating_add(BETWEEN_QUESTIONS);
+        self.asked_at = next.max(now.saturating_sub(MOST_LATE));
+        self.asked = if self.asked < self.domains {
+            self.asked + 1
+        } else {
+            1
+        };
+        Some(self.asked)
+    }
+
+    /// Whether it is time for a tick.
+    pub(crate) fn is_tick(&mut self, now: u64) -> bool {
+        if now.saturating_sub(self.ticked_at) < BETWEEN_TICKS {
+            return false;
+        }
+        self.ticked_at = now;
+        true
+    }
+}

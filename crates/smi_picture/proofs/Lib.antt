@@ -1,0 +1,5 @@
+pub mod Furthest
+pub mod Keeping
+pub mod Newest
+pub mod Notes
+pub mod Within

@@ -1,0 +1,4 @@
+pub mod Keeping
+pub mod Newest
+pub mod Noted
+pub mod Pictured

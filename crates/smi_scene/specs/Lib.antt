@@ -1,0 +1,4 @@
+pub mod Figures
+pub mod Scene
+pub mod Shape
+pub mod Words

@@ -1,0 +1,15 @@
+-- What all texts are put together from.
+use Rattle.std.specs.Prelude.{ℕ, zero, suc, ◌++◌, ◌==◌, if◌then◌else◌, List, [], codes}
+
+-- in quotes
+abbrev pub quoted : List ℕ → List ℕ
+quoted name = codes "\"" ++ name ++ codes "\""
+
+-- what stands before a text that so many others precede
+abbrev pub separator : List ℕ → ℕ → List ℕ
+separator between place = if place == 0 then [] else between
+
+-- the texts of the numbers from 1 on, so many, with the same between two of them
+abbrev pub listed : List ℕ → (ℕ → List ℕ) → ℕ → List ℕ
+listed between text zero = []
+listed between text (suc n) = listed between text n ++ separator between n ++ text (suc n)

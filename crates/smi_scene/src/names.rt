@@ -1,0 +1,67 @@
+//! The names of what a tree has, by number; nothing where it has no such thing.
+
+ghost use Rattle.std.specs.Prelude.{◌≡◌, option_map};
+ghost use Rattle.smi_tree.specs.Hierarchy.{entry};
+ghost use Rattle.smi_tree.specs.Lookups.{object_name};
+
+use smi_tree::Tree;
+
+pub(crate) fn station(tree: &Tree, number: u16) -> Option<&[u8]>
+    ensures { option_map (λ n. n.now) result ≡ entry tree.now.station_names number }
+{
+    if 1 <= number && number <= tree.station_count() {
+        Some(tree.station_name(number))
+    } else {
+        None
+    }
+}
+
+pub(crate) fn operator(tree: &Tree, number: u16) -> Option<&[u8]>
+    ensures { option_map (λ n. n.now) result ≡ entry tree.now.operator_names number }
+{
+    if 1 <= number && number <= tree.operator_count() {
+        Some(tree.operator_name(number))
+    } else {
+        None
+    }
+}
+
+pub(crate) fn domain(tree: &Tree, number: u16) -> Option<&[u8]>
+    ensures { option_map (λ n. n.now) result ≡ entry tree.now.domain_names number }
+{
+    if 1 <= number && number <= tree.domain_count() {
+        Some(tree.domain_name(number))
+    } else {
+        None
+    }
+}
+
+pub(crate) fn device(tree: &Tree, number: u16) -> Option<&[u8]>
+    ensures { option_map (λ n. n.now) result ≡ entry tree.now.device_names number }
+{
+    if 1 <= number && number <= tree.device_count() {
+        Some(tree.device_name(number))
+    } else {
+        None
+    }
+}
+
+pub(crate) fn object(tree: &Tree, number: u16) -> Option<&[u8]>
+    ensures { option_map (λ n. n.now) result ≡ object_name tree.now number }
+{
+    if number <= tree.domain_count() {
+        domain(tree, number)
+    } else {
+        device(tree, number - tree.domain_count())
+    }
+}
+
+pub(crate) fn state(tree: &Tree, number: u16) -> Option<&[u8]>
+    ensures { option_map (λ n. n.now) result ≡ entry tree.now.state_names number }
+{
+    if 1 <= number && number <= tree.state_count() {
+        Some(tree.state_name(number))
+    } else {
+        None
+    }
+}

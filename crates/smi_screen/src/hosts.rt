@@ -1,0 +1,27 @@
+//! The hosts that a screen answers to.
+
+use std::alloc::{AllocError, Global};
+use std::net::SocketAddr;
+
+fn bytes_of(alloc: Global, text: String) -> Result<Vec<u8>, AllocError> {
+    Vec::from_slice(alloc, text.as_bytes())
+}
+
+/// The values of `Host` that a screen at this address answers to: the address itself; this machine's own name, where
+/// the address is its own; and a name, where one is given. Each has the port.
+pub fn hosts_of(
+    alloc: Global,
+    http: SocketAddr,
+    name: Option<&str>,
+) -> Result<Vec<Vec<u8>>, AllocError> {
+    let mut hosts = Vec::new(alloc);
+    hosts.push(bytes_of(alloc, format!(in alloc; "{http}")?)?)?;
+    let port = http.port();
+    if http.ip().is_loopback() {
+        hosts.push(bytes_of(alloc, format!(in alloc; "localhost:{port}")?)?)?;
+    }
+    if let Some(name) = name {
+        hosts.push(bytes_of(alloc, format!(in alloc; "{name}:{port}")?)?)?;
+    }
+    Ok(hosts)
+}

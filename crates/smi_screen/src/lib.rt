@@ -1,0 +1,15 @@
+//! A screen: an observer of a detector, and a window on what it has seen.
+//!
+//! [`run`] is the whole of it, on one thread. Its station is opened on its store as any other; then it looks, turn
+//! after turn (`smi_observer`), a new frame is made of the picture five times a second (`smi_window`), and the guests
+//! at the gate have their turn, none of whom is waited for (`smi_gate`). So a guest can hold up nothing but itself,
+//! and there is neither a lock nor a second thread. What a page elsewhere could ask is nothing: [`hosts_of`] says
+//! which names of hosts are answered.
+#![tactic(auto)]
+
+mod hosts;
+mod post;
+mod running;
+
+pub use hosts::hosts_of;
+pub use running::{Ended, Plan, run};

@@ -1,0 +1,169 @@
+//! What a screen works with, and its turns.
+
+ghost use Rattle.std.specs.Prelude.{◌≡◌};
+ghost use Rattle.smi_node.specs.Carried.{StepsTo};
+ghost use Rattle.smi_node.specs.Linked.{shown_by};
+ghost use Rattle.smi_observer.specs.Looking.{Looks, view};
+ghost use Rattle.smi_screen.specs.Ending.{has_stopped};
+
+use crate::running::Ended;
+use smi_gate::Gate;
+use smi_link::DatagramLink;
+use smi_observer::{Came, Pace, look};
+use smi_out::Out;
+use smi_picture::Picture;
+use smi_rows::Stable;
+use smi_station::Station;
+use smi_tree::Tree;
+use smi_window::Window;
+use std::alloc::Global;
+use std::time::{Clock, Instant};
+
+/// How many milliseconds lie between two frames.
+const BETWEEN_FRAMES: u64 = 200;
+
+/// So many turns in a row whose receives end in a fault end the service.
+const MOST_FAULTS: u32 = 100;
+
+/// What a screen works with, beside its station and its link.
+#[derive(Drop)]
+pub(crate) struct Post {
+    alloc: Global,
+    /// The operator in whose name it looks.
+    operator: u16,
+    start: Instant,
+    /// How many milliseconds have passed since then.
+    now: u64,
+    /// When the last frame was made, and how many were.
+    framed: u64,
+    frames: u64,
+    faults: u32,
+    pace: Pace,
+    out: Out,
+    picture: Picture,
+    window: Window,
+    gate: Gate,
+}
+
+impl Post {
+    pub(crate) fn new(
+        alloc: Global,
+        operator: u16,
+        start: Instant,
+        pace: Pace,
+        picture: Picture,
+        window: Window,
+        gate: Gate,
+    ) -> Post {
+        Post {
+            alloc,
+            operator,
+            start,
+            now: 0,
+            framed: 0,
+            frames: 0,
+            faults: 0,
+            pace,
+            out: Out::new(),
+            picture,
+            window,
+            gate,
+        }
+    }
+
+    /// Looks at the clock. Where it can't be read, no time has passed.
+    fn tell_time<C: Clock>(&mut self, clock: &C)
+        ensures { self.new.picture ≡ self.old.picture }
+    {
+        if let Ok(passed) = self.start.elapsed(clock) {
+            let passed = u64::try_from(passed.as_millis()).unwrap_or(self.now);
+            self.now = self.now.max(passed);
+        }
+    }
+
+    /// Makes a new frame, if it is time. One for which there is no memory is left out.
+    fn make_frame(&mut self, tree: &Tree)
+        ensures { self.new.picture ≡ self.old.picture }
+    {
+        if self.now.saturating_sub(self.framed) < BETWEEN_FRAMES {
+            return;
+        }
+        self.framed = self.now;
+        self.frames = self.frames.saturating_add(1);
+        let _ = self
+            .window
+            .frame
+            .renew(self.alloc, tree, &self.picture, self.frames, self.now);
+    }
+
+    /// Counts the turns in a row that ended in a fault of the link; an error where they are too many.
+    fn count(&mut self, came: Came) -> Result<(), Ended>
+        ensures { self.new.picture ≡ self.old.picture }
+    {
+        self.faults = match came {
+            Came::Fault => self.faults.saturating_add(1),
+            Came::Something | Came::Nothing => 0,
+        };
+        if self.faults >= MOST_FAULTS {
+            return Err(Ended::Link);
+        }
+        Ok(())
+    }
+
+    /// The station looks, in the name of its operator.
+    fn look<S: Stable, L: DatagramLink>(
+        &mut self,
+        station: &mut Station<'_, S>,
+        link: &mut L,
+    ) -> Result<Came, Ended>
+        ensures { Looks (StepsTo S.is_honest S.is_open S.rows S.saves S.failures) self.old.operator
+            (view station.old (shown_by L.received L.handed L.failures link.old) self.old.picture)
+            (view station.new (shown_by L.received L.handed L.failures link.new) self.new.picture)
+            (has_stopped result) }
+    {
+        let operator = self.operator;
+        match look(
+            station,
+            operator,
+            &mut self.pace,
+            &mut self.out,
+            link,
+            &mut self.picture,
+            self.now,
+        ) {
+            Ok(came) => Ok(came),
+            Err(_) => Err(Ended::Stopped),
+        }
+    }
+
+    /// One turn: the station looks, a frame is made, and the guests have their turn.
+    fn turn<S: Stable, L: DatagramLink, C: Clock>(
+        &mut self,
+        clock: &C,
+        tree: &Tree,
+        station: &mut Station<'_, S>,
+        link: &mut L,
+    ) -> Result<(), Ended> {
+        self.tell_time(clock);
+        let came = self.look(station, link)?;
+        self.count(came)?;
+        self.make_frame(tree);
+        self.gate.turn(&mut self.window, self.now);
+        Ok(())
+    }
+
+    /// So many turns, or fewer where a fault ends them.
+    pub(crate) fn turns<S: Stable, L: DatagramLink, C: Clock>(
+        &mut self,
+        clock: &C,
+        tree: &Tree,
+        station: &mut Station<'_, S>,
+        link: &mut L,
+        turns: u32,
+    ) -> Result<(), Ended> {
+        for _ in 0..turns {
+            self.turn(clock, tree, station, link)?;
+        }
+        Ok(())
+    }
+}

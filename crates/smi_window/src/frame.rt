@@ -1,0 +1,92 @@
+//! What a picture looks like at one moment.
+
+ghost use Rattle.std.specs.Prelude.{◌≡◌, IfOk};
+ghost use Rattle.smi_window.specs.Frame.{mark_of};
+
+use bytes::Bytes;
+use smi_picture::Picture;
+use smi_scene::{spell_figures, spell_picture, spell_tree};
+use smi_tree::Tree;
+use std::alloc::{AllocError, Global};
+use std::io::Write;
+
+/// The texts that are served.
+#[derive(Drop)]
+pub struct Frame {
+    /// The query of one who has this picture already.
+    pub mark: Bytes,
+    pub page: Bytes,
+    pub tree: Bytes,
+    pub picture: Bytes,
+    pub figures: Bytes,
+}
+
+/// A text whose copies share its bytes.
+fn shared(text: Vec<u8>) -> Result<Bytes, AllocError>
+    ensures { IfOk result (λ bytes. bytes ≡ text.items) }
+{
+    match Bytes::from_vec(text) {
+        Ok(bytes) => Ok(bytes),
+        Err(_) => Err(AllocError),
+    }
+}
+
+/// The query of one who has the picture of this number.
+fn mark_of(alloc: Global, number: u64) -> Result<Bytes, AllocError>
+    ensures { IfOk result (λ bytes. bytes ≡ mark_of number) }
+{
+    let mut text = Vec::from_slice(alloc, b"after=")?;
+    write!(text, "{number}").map_err(|_| AllocError)?;
+    shared(text)
+}
+
+impl Frame {
+    ghost use Rattle.std.specs.Prelude.{◌≡◌, IfOk, OnErr, OnOk};
+    ghost use Rattle.smi_window.specs.Frame.{frame_of, renewed};
+
+    /// The first frame, of a page, a tree and a picture, which has number 0 and is looked at at time 0.
+    ///
+    /// It fails only where memory ran out.
+    pub fn first(
+        alloc: Global,
+        page: Bytes,
+        tree: &Tree,
+        picture: &Picture,
+    ) -> Result<Frame, AllocError>
+        ensures { IfOk result (λ frame. frame ≡ frame_of page tree.now picture.now 0 0) }
+    {
+        let shape = shared(spell_tree(alloc, tree)?)?;
+        let scene = shared(spell_picture(alloc, tree, picture, 0, 0)?)?;
+        let figures = shared(spell_figures(alloc, tree, picture, 0, 0)?)?;
+        Ok(Frame {
+            mark: mark_of(alloc, 0)?,
+            page,
+            tree: shape,
+            picture: scene,
+            figures,
+        })
+    }
+
+    /// The frame of a picture, which has this number and is looked at at this time, in place of the one before. The
+    /// page and the tree stay.
+    ///
+    /// It fails only where memory ran out, and changes nothing then.
+    pub fn renew(
+        &mut self,
+        alloc: Global,
+        tree: &Tree,
+        picture: &Picture,
+        number: u64,
+        now: u64,
+    ) -> Result<(), AllocError>
+        ensures ok { OnOk result (self.new ≡ renewed self.old tree.now picture.now number now) }
+        ensures err { OnErr result (self.new ≡ self.old) }
+    {
+        let scene = shared(spell_picture(alloc, tree, picture, number, now)?)?;
+        let figures = shared(spell_figures(alloc, tree, picture, number, now)?)?;
+        self.mark = mark_of(alloc, number)?;
+        self.picture = scene;
+        self.figures = figures;
+        Ok(())
+    }
+}

@@ -1,0 +1,55 @@
+# Completion of smi for bash. The stations of a node's tree file are read from that file.
+
+_smi_words()
+{
+    # the words after the command that are no option, nor the value of one
+    local place word
+    words=()
+    for ((place = 2; place < COMP_CWORD; place++)); do
+        word=${COMP_WORDS[place]}
+        case $word in
+            --console | --host | --http | --seed | --steps | --turns) ((place++)) ;;
+            -*) ;;
+            *) words+=("$word") ;;
+        esac
+    done
+}
+
+_smi()
+{
+    local word=${COMP_WORDS[COMP_CWORD]} before=${COMP_WORDS[COMP_CWORD - 1]} options='' words
+    COMPREPLY=()
+    if ((COMP_CWORD == 1)); then
+        mapfile -t COMPREPLY < <(compgen -W 'answer check node rows screen sim' -- "$word")
+        return
+    fi
+    case $before in
+        --host | --http | --seed | --steps | --turns) return ;;
+        --console)
+            compopt -o filenames 2> /dev/null
+            mapfile -t COMPREPLY < <(compgen -f -- "$word")
+            return
+            ;;
+    esac
+    case ${COMP_WORDS[1]} in
+        sim) options='--seed --settle --steps' ;;
+        node) options='--console --endless --turns' ;;
+        screen) options='--endless --host --http --open --turns' ;;
+    esac
+    if [[ $word == -* ]]; then
+        mapfile -t COMPREPLY < <(compgen -W "$options" -- "$word")
+        return
+    fi
+    _smi_words
+    case ${COMP_WORDS[1]}:${#words[@]} in
+        node:1 | screen:1)
+            mapfile -t COMPREPLY < <(compgen -W "$(awk '$1 == "station" {print $2}' "${words[0]}" 2> /dev/null)" -- "$word")
+            ;;
+        check:0 | rows:0 | sim:0 | sim:1 | node:[02] | screen:[02])
+            compopt -o filenames 2> /dev/null
+            mapfile -t COMPREPLY < <(compgen -f -- "$word")
+            ;;
+    esac
+}
+
+complete -F _smi smi

@@ -1,0 +1,278 @@
+"""The page of the screen in a real browser: what it shows of a played shift, and how soon.
+
+usage: browser.py SMI [TEXT]
+
+The stations of the example detector run as processes, with the screen, and headless Chromium looks at it (Debian's
+package `chromium`). The crew's shift is played (tools/demo.py); what the page shows at a place is read from its
+elements and compared with the trace of examples/shift.schedule up to there. With a TEXT only the cases are run whose
+name has it. Where there is no browser this says so, and counts as skipped. The last line is 'N passed, M failed'.
+"""
+
+import os
+import random
+import shutil
+import socket
+import subprocess
+import sys
+import tempfile
+import time
+
+HERE = os.path.dirname(os.path.abspath(__file__))
+sys.path.insert(0, os.path.join(HERE, "..", "tools"))
+
+import browsers  # noqa: E402
+import demo  # noqa: E402 (this stands in tools/)
+import screens  # noqa: E402
+import verdict  # noqa: E402
+
+SCHEDULE = os.path.join(demo.EXAMPLES, "shift.schedule")
+PLACE = "configured"
+# Within how many seconds a trip has to be on top, a silent station to be shown so, and a lost server to be told; and
+# how many more are given on a machine that others use.
+TRIP, SILENT, LOST, SLACK = 1, 3, 2, 2
+# How many milliseconds a picture may take on the page, of the largest tree.
+FRAME = 100
+# The most domains and devices that a tree has.
+DOMAINS, DEVICES = 128, 512
+
+# What the page shows, by name: states, who commands, and which domains it shows as silent.
+SHOWN = """[...document.querySelectorAll("#main section")].map((box) => ({
+  name: box.querySelector(".name").textContent, state: box.querySelector(".top .state").textContent,
+  label: box.querySelector(".top").getAttribute("aria-label"), silent: box.classList.contains("silent") }))"""
+DOTS = """[...document.querySelectorAll(".devices i")].map((dot) => dot.title)"""
+CONTRASTS = """(() => {
+  const light = (c) => { const [r, g, b] = c.match(/[\\d.]+/g).slice(0, 3).map((x) => x / 255)
+    .map((x) => x <= 0.03928 ? x / 12.92 : ((x + 0.055) / 1.055) ** 2.4);
+    return 0.2126 * r + 0.7152 * g + 0.0722 * b; };
+  const back = (e) => { for (let at = e; at; at = at.parentElement) { const c = getComputedStyle(at).backgroundColor;
+    if (!/, 0\\)$/.test(c)) return c; } return "rgb(255, 255, 255)"; };
+  const out = [];
+  document.querySelectorAll("header *, #alarms *, #main span, .devices i, footer *").forEach((e) => {
+    if (!e.textContent.trim() || e.children.length || !e.getClientRects().length) return;
+    const [a, b] = [light(getComputedStyle(e).color), light(back(e))].sort((x, y) => y - x);
+    const ratio = (a + 0.05) / (b + 0.05);
+    if (ratio < 4.5) out.push(e.className + " " + e.textContent + " " + ratio.toFixed(2));
+  });
+  return out; })()"""
+
+
+def traced(program, place):
+    """The states and the holders after the schedule up to a place, by the trace that it leaves."""
+    with open(SCHEDULE, encoding="ascii") as file:
+        text = file.read().partition("# place %s\n" % place)[0]
+    with tempfile.NamedTemporaryFile("w", suffix=".schedule") as part:
+        part.write(text)
+        part.flush()
+        trace = subprocess.run([program, "sim", demo.TREE, part.name], stdout=subprocess.PIPE, text=True, check=True).stdout
+    states, holders = {}, {}
+    for word, *more in map(str.split, trace.splitlines()):
+        if word == "passed":
+            states[more[0]] = more[2]
+        elif word == "granted":
+            holders[more[0]] = more[2]
+        elif word == "freed":
+            holders[more[0]] = "free"
+    return states, holders
+
+
+def commander(holders, domain, names):
+    """Who commands a domain, through all levels."""
+    while holders.get(domain, "free") in names.domains:
+        domain = holders[domain]
+    return holders.get(domain, "free")
+
+
+def labels(names, states, holders):
+    """What the page says of each domain to whoever does not see it."""
+    found = {}
+    for domain in names.domains:
+        boss = commander(holders, domain, names)
+        found[domain] = "%s, %s, %s" % (domain, states[domain], "free" if boss == "free" else "commanded by " + boss)
+    return found
+
+
+def shift_cases(program, detector, browser):
+    """A shift: what is shown is what the schedule's trace says."""
+    names = detector.names
+    yield "shift: the page joins", browser.waits_for("document.getElementById('live').textContent === 'live'") is not None
+    everywhere = "[...document.querySelectorAll('#main section')].every((box) => !box.classList.contains('silent'))"
+    yield "shift: all stations are heard", browser.waits_for(everywhere) is not None
+    demo.play(detector, until=PLACE, tell=lambda text: None)
+    states, holders = traced(program, PLACE)
+    wanted = labels(names, states, holders)
+    browser.waits_for("[...document.querySelectorAll('#main .root .state')][0].textContent === '%s'"
+                      % states["EXPERIMENT"], 10)
+    time.sleep(1.5)
+    shown = browser.run(SHOWN)
+    yield "shift: states", {it["name"]: it["state"] for it in shown} == {name: states[name] for name in names.domains}
+    differ = {it["name"]: it["label"] for it in shown if it["label"] != wanted[it["name"]]}
+    yield "shift: who commands %s" % (differ or ""), not differ
+    dots = sorted(browser.run(DOTS))
+    yield "shift: devices", dots == sorted("%s %s" % (name, states[name]) for name in names.devices)
+    legend = browser.run("[...document.querySelectorAll('#states b')].map((b) => b.textContent)")
+    yield "shift: the legend is the tree's", legend[:-1] == names.states
+
+
+def key_cases(detector, browser):
+    """The keyboard alone reaches all."""
+    browser.run("document.activeElement.blur()")
+    reached = set()
+    for _ in range(len(detector.names.domains) + 10):
+        browser.key("Tab")
+        reached.add(browser.run("document.activeElement.dataset.domain || ''"))
+    yield "keys: Tab reaches every domain", set(detector.names.domains) <= reached
+    browser.run("document.querySelector('[data-domain=TRK]').focus()")
+    browser.key("ArrowDown")
+    yield "keys: an arrow leads on", browser.run("document.activeElement.dataset.domain") == "PIXEL"
+    browser.key("Enter")
+    yield "keys: Enter opens a domain", browser.waits_for("document.getElementById('more').open", 5) is not None
+    told = browser.run("document.getElementById('more').textContent")
+    yield "keys: what it says", all(text in told for text in ["PIXEL", "READY", "SHIFT_LEADER", "mode unknown", "TRACKER"])
+    browser.key("Escape")
+    back = "!document.getElementById('more').open && document.activeElement.dataset.domain === 'PIXEL'"
+    yield "keys: Escape leads back", browser.waits_for(back, 5) is not None
+    before = browser.run("getComputedStyle(document.body).color")
+    browser.key("t")
+    yield "keys: t turns light and dark", browser.run("getComputedStyle(document.body).color") != before
+    browser.key("t")
+    nameless = "[...document.querySelectorAll('button')].filter((b) => !(b.getAttribute('aria-label') || b.textContent)).length"
+    yield "keys: each button has a name", browser.run(nameless) == 0
+
+
+def look_cases(browser):
+    """Dark and light, the contrast of all words, and a telephone."""
+    browser.run("delete document.documentElement.dataset.theme")
+    backs = []
+    for scheme in ("dark", "light"):
+        browser.scheme(scheme)
+        time.sleep(0.7)
+        backs.append(browser.run("getComputedStyle(document.documentElement).backgroundColor"))
+        faint = browser.run(CONTRASTS)
+        yield "looks: contrast in %s %s" % (scheme, faint or ""), faint == []
+    yield "looks: the machine's own choice of dark and light", backs[0] != backs[1]
+    browser.size(390, 844, True)
+    time.sleep(0.7)
+    wide = browser.run("document.documentElement.scrollWidth")
+    yield "looks: a telephone (%d wide)" % wide, wide <= 390
+    browser.size(1920, 1080)
+
+
+def trip_cases(detector, browser):
+    """A trip is on top, a silent station is told, and it comes back."""
+    begun = time.monotonic()
+    detector.report("PIXEL_HV7", "ERROR")
+    seen = browser.waits_for("/PIXEL_HV ERROR: PIXEL_HV7/.test(document.getElementById('alarms').textContent)", 20)
+    took = time.monotonic() - begun
+    yield "trips: one is on top in %.1f s" % took, seen is not None and took < TRIP + SLACK
+    detector.report("PIXEL_HV7", "READY")
+    detector.stop("MUON")
+    begun = time.monotonic()
+    silent = "document.querySelector('[data-domain=MUO]').closest('section').classList.contains('silent')"
+    seen = browser.waits_for(silent, 20)
+    took = time.monotonic() - begun
+    yield "trips: a killed station is silent in %.1f s" % took, seen is not None and took < SILENT + SLACK
+    others = [it["name"] for it in browser.run(SHOWN) if it["silent"]]
+    of = [name for name in detector.names.domains if detector.names.station_of(name) == "MUON"]
+    yield "trips: and no other", sorted(others) == sorted(of)
+    told = browser.waits_for("/MUON silent [0-9]+ s/.test(document.getElementById('alarms').textContent)", 5)
+    yield "trips: it is told on top", told is not None
+    detector.start("MUON")
+    yield "trips: it comes back", browser.waits_for("!" + silent, 20) is not None
+    browser.run("document.getElementById('hour').open = true")
+    logged = browser.waits_for("/MUO silent/.test(document.getElementById('log').textContent)"
+                               " && /PIXEL_HV7 ERROR/.test(document.getElementById('log').textContent)", 5)
+    yield "trips: the log has both", logged is not None
+
+
+def lost_cases(detector, browser):
+    """A page that has lost its server says so, and a server that comes back is shown again."""
+    yield "lost: no error until then %s" % (browser.errors or ""), not browser.errors
+    detector.screen.kill()
+    detector.screen.wait()
+    begun = time.monotonic()
+    seen = browser.waits_for("document.body.classList.contains('lost')", 20)
+    took = time.monotonic() - begun
+    yield "lost: it is told in %.1f s" % took, seen is not None and took < LOST + SLACK
+    large = browser.run("parseFloat(getComputedStyle(document.getElementById('lost')).fontSize)")
+    yield "lost: in large letters", large > 80
+    detector.screen = detector.looking()
+    yield "lost: it comes back", browser.waits_for("!document.body.classList.contains('lost')", 30) is not None
+
+
+LARGE = """(() => {
+  const domains = [], devices = [], states = ["OFF", "READY", "RUNNING", "ERROR"];
+  for (let d = 0; d < %d; d += 1) domains.push({ name: "D" + d, station: "S" + d,
+    parent: d ? "D" + Math.floor((d - 1) / 4) : null });
+  for (let d = 0; d < %d; d += 1) devices.push({ name: "V" + d, domain: "D" + d %% %d });
+  tree = { tree: 1, states, stations: [], operators: [{ name: "ANN", station: "S0" }], domains, devices };
+  build();
+  let seed = %d, frame = 0;
+  const any = () => { seed = (seed * 1103515245 + 12345) %% 2147483648; return seed; };
+  const shown = () => ({ state: states[any() %% 4], boot: 1, sequence: any(), at: 1 });
+  const times = [];
+  for (let n = 0; n < 20; n += 1) {
+    frame += 1;
+    const begun = performance.now();
+    take({ frame, now: 1000 * frame, domains: domains.map((d) => ({ name: d.name, shown: shown(), told: {
+      holder: any() %% 2 ? { operator: "ANN" } : null, epoch: frame, last: frame, busy: any() %% 2 === 0, outcome: 0,
+      since: 1000 * frame, heard: 1000 * frame } })),
+      devices: devices.map((d) => ({ name: d.name, shown: shown() })) });
+    document.body.getBoundingClientRect();
+    times.push(performance.now() - begun);
+  }
+  return times.sort((a, b) => a - b); })()"""
+
+
+def large_cases(browser):
+    """The largest tree, all of which changes at each picture."""
+    times = browser.run(LARGE % (DOMAINS, DEVICES, DOMAINS, random.randrange(1 << 30)))
+    middle = times[len(times) // 2]
+    yield "large: %d domains and %d devices in %.0f ms" % (DOMAINS, DEVICES, middle), middle < FRAME * (1 + SLACK)
+
+
+def cases(program, path, folder):
+    detector = demo.Detector(program, folder, "127.0.0.1:%d" % screens.tcp_port())
+    browser = browsers.Browser(path)
+    try:
+        end = time.monotonic() + 30
+        while time.monotonic() < end:
+            try:
+                socket.create_connection(tuple_of(detector.http), timeout=1).close()
+                break
+            except OSError:
+                time.sleep(0.1)
+        browser.open("http://%s/" % detector.http)
+        yield from shift_cases(program, detector, browser)
+        yield from key_cases(detector, browser)
+        yield from look_cases(browser)
+        yield from trip_cases(detector, browser)
+        yield from lost_cases(detector, browser)
+        yield from large_cases(browser)
+    finally:
+        browser.end()
+        detector.end()
+
+
+def tuple_of(address):
+    host, _, port = address.partition(":")
+    return host, int(port)
+
+
+def main():
+    program, only = os.path.abspath(sys.argv[1]), sys.argv[2] if len(sys.argv) > 2 else ""
+    path = browsers.program()
+    if not path:
+        print("skipped: there is no browser here (Debian's chromium)\n0 passed, 0 failed")
+        return
+    folder, done, broken = tempfile.mkdtemp(), [], []
+    try:
+        done = list(cases(program, path, folder))
+    except (OSError, subprocess.SubprocessError, KeyError, TypeError, ValueError) as error:
+        broken = [("the browser: %r" % error, False)]
+    finally:
+        shutil.rmtree(folder, ignore_errors=True)
+    verdict.end([case for case in done if only in case[0]] + broken)
+
+
+if __name__ == "__main__":
+    main()

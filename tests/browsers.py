@@ -1,0 +1,161 @@
+"""A browser that tests drive: headless Chromium over its debugging socket."""
+
+import base64
+import json
+import os
+import shutil
+import socket
+import struct
+import subprocess
+import tempfile
+import time
+import urllib.request
+
+NAMES = ("chromium", "chromium-browser", "google-chrome")
+PATIENCE = 30
+
+
+def program():
+    """The browser, if one is here."""
+    return next((path for path in map(shutil.which, NAMES) if path), None)
+
+
+class Wire:
+    """A WebSocket on which texts go both ways."""
+
+    def __init__(self, url):
+        host, _, path = url.partition("://")[2].partition("/")
+        name, _, port = host.partition(":")
+        self.socket = socket.create_connection((name, int(port)), timeout=PATIENCE)
+        key = base64.b64encode(os.urandom(16)).decode()
+        self.socket.sendall(("GET /%s HTTP/1.1\r\nHost: %s\r\nUpgrade: websocket\r\nConnection: Upgrade\r\n"
+                             "Sec-WebSocket-Key: %s\r\nSec-WebSocket-Version: 13\r\n\r\n" % (path, host, key)).encode())
+        self.rest = b""
+        while b"\r\n\r\n" not in self.rest:
+            self.rest += self.socket.recv(65536)
+        self.rest = self.rest.partition(b"\r\n\r\n")[2]
+
+    def send(self, text):
+        sent, mask = text.encode(), os.urandom(4)
+        size = len(sent)
+        head = b"\x81" + (bytes([128 | size]) if size < 126 else struct.pack(">BH", 254, size) if size < 65536
+                          else struct.pack(">BQ", 255, size))
+        self.socket.sendall(head + mask + bytes(byte ^ mask[at % 4] for at, byte in enumerate(sent)))
+
+    def take(self, count):
+        while len(self.rest) < count:
+            got = self.socket.recv(1 << 20)
+            if not got:
+                raise OSError("the browser has closed")
+            self.rest += got
+        taken, self.rest = self.rest[:count], self.rest[count:]
+        return taken
+
+    def receive(self):
+        """The next text, in one part or in several."""
+        text = b""
+        while True:
+            first, second = self.take(2)
+            size = second & 127
+            if size > 125:
+                size = int.from_bytes(self.take(2 if size == 126 else 8), "big")
+            text += self.take(size)
+            if first & 128:
+                return text.decode()
+
+
+class Browser:
+    """A browser with one page."""
+
+    def __init__(self, path, width=1920, height=1080):
+        self.folder = tempfile.mkdtemp()
+        words = [path, "--headless=new", "--no-sandbox", "--disable-gpu", "--disable-dev-shm-usage", "--no-first-run",
+                 "--remote-debugging-port=0", "--user-data-dir=" + self.folder,
+                 "--window-size=%d,%d" % (width, height), "about:blank"]
+        self.child = subprocess.Popen(words, stdin=subprocess.DEVNULL, stdout=subprocess.DEVNULL,
+                                      stderr=subprocess.DEVNULL)
+        self.wire, self.number, self.errors = Wire(self.page()), 0, []
+        for domain in ("Page", "Runtime", "Log"):
+            self.call(domain + ".enable")
+        self.size(width, height)
+
+    def page(self):
+        """The debugging socket of its page."""
+        end, place = time.monotonic() + PATIENCE, os.path.join(self.folder, "DevToolsActivePort")
+        while time.monotonic() < end:
+            try:
+                with open(place, encoding="ascii") as file:
+                    port = int(file.readline())
+                with urllib.request.urlopen("http://127.0.0.1:%d/json/list" % port, timeout=PATIENCE) as answer:
+                    pages = [it for it in json.load(answer) if it["type"] == "page"]
+                if pages:
+                    return pages[0]["webSocketDebuggerUrl"]
+            except (OSError, ValueError):
+                pass
+            time.sleep(0.1)
+        raise OSError("the browser did not start")
+
+    def call(self, method, **given):
+        """What the browser answers to a call. Errors that the page tells meanwhile are kept."""
+        self.number += 1
+        self.wire.send(json.dumps({"id": self.number, "method": method, "params": given}))
+        while True:
+            told = json.loads(self.wire.receive())
+            if told.get("id") == self.number:
+                return told.get("result", {})
+            self.hear(told)
+
+    def hear(self, told):
+        what, given = told.get("method"), told.get("params", {})
+        if what == "Runtime.exceptionThrown":
+            self.errors.append(given["exceptionDetails"].get("exception", {}).get("description", "an exception"))
+        elif what == "Runtime.consoleAPICalled" and given["type"] in ("error", "warning", "assert"):
+            self.errors.append(str([it.get("value") for it in given["args"]]))
+        elif what == "Log.entryAdded" and given["entry"]["level"] == "error":
+            self.errors.append(given["entry"]["text"])
+
+    def open(self, url):
+        """Goes to a page, and waits until all of it is there."""
+        self.call("Page.navigate", url=url)
+        self.waits_for("location.href !== 'about:blank' && document.readyState === 'complete'")
+
+    def run(self, script):
+        """What an expression is worth on the page."""
+        told = self.call("Runtime.evaluate", expression=script, returnByValue=True, awaitPromise=True)
+        if "exceptionDetails" in told:
+            raise ValueError(told["exceptionDetails"].get("exception", {}).get("description", script))
+        return told["result"].get("value")
+
+    def waits_for(self, script, patience=PATIENCE):
+        """How many seconds pass until an expression is true; nothing where they are too many."""
+        begun = time.monotonic()
+        while time.monotonic() - begun < patience:
+            if self.run(script):
+                return time.monotonic() - begun
+            time.sleep(0.03)
+        return None
+
+    def key(self, name, code=None):
+        """A key is pressed and let go."""
+        codes = {"Tab": 9, "Enter": 13, "Escape": 27, "ArrowDown": 40, "ArrowUp": 38}
+        given = {"key": name, "code": code or name, "windowsVirtualKeyCode": codes.get(name, ord(name[0].upper()))}
+        text = {"text": "\r"} if name == "Enter" else {"text": name} if len(name) == 1 else {}
+        self.call("Input.dispatchKeyEvent", type="keyDown", **given, **text)
+        self.call("Input.dispatchKeyEvent", type="keyUp", **given)
+
+    def size(self, width, height, is_telephone=False):
+        self.call("Emulation.setDeviceMetricsOverride", width=width, height=height, deviceScaleFactor=1,
+                  mobile=is_telephone)
+
+    def scheme(self, name):
+        self.call("Emulation.setEmulatedMedia", features=[{"name": "prefers-color-scheme", "value": name}])
+
+    def picture(self, path):
+        """What it shows, as a PNG file."""
+        with open(path, "wb") as file:
+            file.write(base64.b64decode(self.call("Page.captureScreenshot", format="png")["data"]))
+
+    def end(self):
+        self.child.kill()
+        self.child.wait()
+        shutil.rmtree(self.folder, ignore_errors=True)

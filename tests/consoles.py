@@ -1,0 +1,559 @@
+"""Consoles over sockets: many at one node, each answered on its own, whatever the others do.
+
+usage: consoles.py SMI [TEXT]
+
+With a TEXT only the cases are run whose name has it. The last line is 'N passed, M failed'. Times are said with slack:
+other programs may run beside.
+"""
+
+import os
+import random
+import re
+import socket
+import statistics
+import subprocess
+import sys
+import tempfile
+import threading
+import time
+
+sys.path.insert(0, os.path.join(os.path.dirname(os.path.abspath(__file__)), os.pardir, "tools"))
+
+import lunskaf
+import nodes
+import wires
+
+HERE = os.path.dirname(os.path.abspath(__file__))
+EXAMPLES = os.path.join(HERE, os.pardir, "examples")
+PATIENCE = 30
+# How soon an answer comes that waits for nobody, by the median and at most, in seconds.
+SOON, LATEST = 0.05, 2
+# The most connections at once, how many orders each gives, and how many connections come one after the other.
+GUESTS, ORDERS, COMERS = 64, 100, 10_000
+# How long a client may take nothing, in seconds, by docs/FORMATS.md; and how much more a test waits for its end.
+STUCK, SLACK = 2, 20
+
+# How a connection says fault 5.
+UNKNOWN = "a name that this station does not have as what the line wants"
+
+# Three operators at one station, whose domain FAR is at another.
+TREE = """tree 5
+state OFF
+state READY
+action GO
+action FALL
+station HERE 127.0.0.1:%d
+station AWAY 127.0.0.1:%d
+operator ANN HERE
+operator BOB HERE
+operator EVE HERE
+devclass DEV OFF
+move DEV OFF GO READY
+move DEV READY FALL OFF
+unitclass UNIT OFF
+accept UNIT GO
+accept UNIT FALL
+all UNIT READY READY
+domain TOP HERE UNIT -
+domain LEFT HERE UNIT TOP
+domain RIGHT HERE UNIT TOP
+domain FAR AWAY UNIT TOP
+device L LEFT DEV
+device R RIGHT DEV
+device F FAR DEV
+"""
+
+
+class Console:
+    """A connection as a program without tools/lunskaf.py has it: lines there, lines back."""
+
+    def __init__(self, where):
+        self.socket = lunskaf.connected(where, PATIENCE)
+        self.socket.settimeout(PATIENCE)
+        self.lines = self.socket.makefile("r", encoding="ascii", newline="\n")
+
+    def say(self, text):
+        self.socket.sendall(text.encode("ascii"))
+
+    def line(self):
+        """The next line, nothing at the end."""
+        try:
+            return self.lines.readline().rstrip("\n")
+        except OSError:
+            return None
+
+    def ask(self, line):
+        """What a line is answered with; where the node has ended the connection, what it said before."""
+        try:
+            self.say(line + "\n")
+        except OSError:
+            pass
+        return self.line()
+
+    def rest(self):
+        """All lines up to the end of the connection."""
+        found = []
+        while True:
+            line = self.line()
+            if not line:
+                return found if line == "" else None
+            found.append(line)
+
+    def is_ended(self, patience):
+        """Whether the node ends the connection in time."""
+        self.socket.settimeout(patience)
+        try:
+            while self.socket.recv(65536):
+                pass
+            return True
+        except socket.timeout:
+            return False
+        except OSError:
+            return True
+
+    def close(self):
+        self.lines.close()
+        self.socket.close()
+
+
+class Place:
+    """A node HERE of the tree with its console, and the words by which AWAY is started."""
+
+    def __init__(self, program, folder, consoles=None, turns="--endless"):
+        self.program, self.folder = program, folder
+        self.ports = nodes.free_ports(2)
+        self.tree = nodes.write_tree(folder, self.ports, (TREE % tuple(self.ports)).splitlines())
+        self.where = os.path.join(folder, "console")
+        self.words = [self.tree, "HERE", os.path.join(folder, "here"), turns]
+        for console in [self.where] if consoles is None else consoles:
+            self.words += ["--console", console]
+        self.node = nodes.Node(program, self.words)
+        self.wait()
+
+    def wait(self):
+        """Waits until the node listens, or has ended."""
+        until = time.monotonic() + PATIENCE
+        while time.monotonic() < until and self.node.child.poll() is None:
+            try:
+                lunskaf.connected(self.where, PATIENCE).close()
+                return
+            except lunskaf.Lost:
+                time.sleep(0.01)
+
+    def start_away(self):
+        words = [self.tree, "AWAY", os.path.join(self.folder, "away"), "--endless"]
+        return nodes.Node(self.program, words)
+
+    def memory(self):
+        """How much memory the node has, in KiB."""
+        with open("/proc/%d/status" % self.node.child.pid, encoding="ascii") as file:
+            return int(re.search(r"VmRSS:\s+(\d+)", file.read()).group(1))
+
+    def is_running(self):
+        return self.node.child.poll() is None
+
+
+def timed(ask, lines):
+    """The answers to these lines, one after the other, and how long each took."""
+    told, took = [], []
+    for line in lines:
+        begun = time.monotonic()
+        told.append(ask(line))
+        took.append(time.monotonic() - begun)
+    return told, took
+
+
+def waiting_case(program, folder):
+    """One connection waits for a station that is away; another gives orders and reports; a third asks."""
+    place = Place(program, folder)
+    ann, bob, eve = (Console(place.where) for _ in range(3))
+    yield "a take is told", ann.ask("order ANN take TOP") == "told ANN take TOP 0"
+    ann.say("order ANN include TOP FAR\nshow L\n")
+    lines = ["order BOB take LEFT", "report L READY", "order BOB do LEFT FALL", "report R OFF", "order BOB drop LEFT"]
+    wanted = ["told BOB take LEFT 0", "told report L READY 0", "told BOB do LEFT FALL 0", "told report R OFF 0",
+              "told BOB drop LEFT 0"]
+    told, took = timed(bob.ask, lines * 10)
+    yield "beside an order that waits all others are answered", told == wanted * 10
+    yield "and soon", statistics.median(took) < SOON and max(took) < LATEST
+    eve.say("under way\n")
+    way = [eve.line(), eve.line()]
+    yield "what is under way is told to others", (way[0].rsplit(" ", 1)[0], way[1]) == (
+        "way ANN include TOP FAR", "under way 1")
+    away = place.start_away()
+    yield "once the station is there, the order that waited is told first, and then the line behind it", [
+        ann.line(), ann.line()] == ["told ANN include TOP FAR 0", "board L none"]
+    for console in (ann, bob, eve):
+        console.close()
+    away.kill()
+    place.node.kill()
+
+
+def partitions_case(program, folder):
+    """Two operators of one node are in command of two sub-detectors, while an order of a third waits."""
+    place = Place(program, folder)
+    with lunskaf.Node(place.where) as ann, lunskaf.Node(place.where) as bob, lunskaf.Node(place.where) as eve:
+        third = threading.Thread(target=lambda: eve.take("EVE", "FAR"), daemon=True)
+        third.start()
+        time.sleep(0.2)
+        for node, operator, domain in [(ann, "ANN", "LEFT"), (bob, "BOB", "RIGHT")]:
+            node.take(operator, domain)
+        for _ in range(20):
+            ann.do("ANN", "LEFT", "GO")
+            bob.do("BOB", "RIGHT", "GO")
+            ann.do("ANN", "LEFT", "FALL")
+            bob.do("BOB", "RIGHT", "FALL")
+        held = [(ann.ask("ANN", domain).holder, ann.ask("ANN", domain).last) for domain in ("LEFT", "RIGHT")]
+        yield "two operators command two sub-detectors from one node", held == [("ANN", 40), ("BOB", 40)]
+        yield "while the order of a third waits", third.is_alive() and [
+            (it.operator, it.order) for it in bob.under_way()] == [("EVE", "take FAR")]
+        try:
+            bob.take("BOB", "LEFT")
+            code = 0
+        except lunskaf.Refused as refused:
+            code = refused.code
+        yield "and neither can take the other's", code == 5
+        away = place.start_away()
+        third.join(PATIENCE)
+        yield "until its station is there", not third.is_alive()
+        away.kill()
+    place.node.kill()
+
+
+def judged(place, number, failures):
+    """One connection's hundred orders: half of them behind tags, and each answered once."""
+    console = Console(place.where)
+    plain = ["show L", "order ANN ask LEFT", "report R OFF", "order BOB watch R"]
+    answers = ["board L none", "told ANN ask LEFT free 0 0 settled 0", "told report R OFF 0", "told BOB watch R 0"]
+    lines, wanted, tagged = [], [], {}
+    for order in range(ORDERS):
+        which = (order + number) % len(plain)
+        if order % 2:
+            tag = "@%d.%d" % (number, order)
+            lines.append("%s %s" % (tag, plain[which]))
+            tagged[tag] = answers[which]
+        else:
+            lines.append(plain[which])
+            wanted.append(answers[which])
+    threading.Thread(target=console.say, args=["".join(line + "\n" for line in lines)], daemon=True).start()
+    told = [console.line() for _ in lines]
+    found = [line for line in told if line is not None and not line.startswith("@")]
+    by_tag = dict(line.split(" ", 1) for line in told if line is not None and line.startswith("@"))
+    if found != wanted or by_tag != tagged:
+        failures.append((number, told))
+    console.close()
+
+
+def many_case(program, folder):
+    """As many connections as there may be, with a hundred orders each, and one more."""
+    place = Place(program, folder)
+    failures = []
+    threads = [threading.Thread(target=judged, args=[place, number, failures]) for number in range(GUESTS)]
+    for thread in threads:
+        thread.start()
+    for thread in threads:
+        thread.join(PATIENCE * 4)
+    if failures:
+        print("connection %d was told %s" % failures[0], file=sys.stderr)
+    yield "%d connections with %d orders each: all are answered once, and to the right one" % (GUESTS, ORDERS), \
+        not failures and not any(thread.is_alive() for thread in threads)
+    full = [Console(place.where) for _ in range(GUESTS)]
+    yield "so many are there at once", [it.ask("show L") for it in full] == ["board L none"] * GUESTS
+    more = Console(place.where)
+    yield "and one more is told that it is full", more.rest() == ["full"]
+    full.pop().close()
+    until, told = time.monotonic() + PATIENCE, None
+    while time.monotonic() < until and told != "board L none":
+        again = Console(place.where)
+        told = again.ask("show L")
+        again.close()
+    yield "where one has left there is room again", told == "board L none"
+    place.node.kill()
+
+
+def rude_case(program, folder):
+    """Clients that leave in the middle, that never read, and that send no line."""
+    place = Place(program, folder)
+    steady = Console(place.where)
+    for text in ["order ANN ta", "order ANN ask LEFT\nord", "states\n" * 300, "@x follow\n", "x" * 100_000,
+                 "\0\n" * 50]:
+        rude = Console(place.where)
+        rude.say(text)
+        rude.close()
+    told, took = timed(steady.ask, ["order ANN ask LEFT"] * 50)
+    yield "clients that leave in the middle of a line or of an answer hold up nobody", told == [
+        "told ANN ask LEFT free 0 0 settled 0"] * 50 and statistics.median(took) < SOON
+    deaf = Console(place.where)
+    deaf.socket.setsockopt(socket.SOL_SOCKET, socket.SO_RCVBUF, 4096)
+    flood = threading.Thread(target=lambda: said_until_lost(deaf, "states\n" * 1000), daemon=True)
+    flood.start()
+    told, took = timed(steady.ask, ["order ANN ask LEFT"] * 50)
+    yield "nor does one that never reads", told == ["told ANN ask LEFT free 0 0 settled 0"] * 50 \
+        and statistics.median(took) < SOON and max(took) < LATEST
+    flood.join(STUCK + SLACK)
+    yield "which is let go", not flood.is_alive()
+    slow = Console(place.where)
+    for letter in "order ANN ask LEFT\n":
+        slow.say(letter)
+        time.sleep(0.01)
+    yield "a line that comes byte by byte is a line", slow.line() == "told ANN ask LEFT free 0 0 settled 0"
+    slow.say("y" * 1_000_000 + "\nshow L\n")
+    yield "one of a million bytes is too long, and the next is heard", [slow.line(), slow.line()] == [
+        "line 2 fault 10: more than 200 bytes", "board L none"]
+    gone = [Console(place.where) for _ in range(GUESTS - 3)]
+    for rude in gone:
+        rude.say("order EVE take FAR\nshow L\n")
+        rude.close()
+    time.sleep(STUCK)
+    until, told = time.monotonic() + SLACK, None
+    while time.monotonic() < until and told != "board L none":
+        many = [Console(place.where) for _ in range(GUESTS // 2)]
+        told = many[-1].ask("show L")
+        for console in many:
+            console.close()
+    yield "clients that leave while their orders wait make room", told == "board L none"
+    yield "the node is there after all that", place.is_running() and steady.ask("show L") == "board L none"
+    place.node.kill()
+
+
+def said_until_lost(console, text):
+    try:
+        while True:
+            console.say(text)
+    except OSError:
+        pass
+
+
+def comers_case(program, folder):
+    """Ten thousand connections one after the other take no more memory than the first."""
+    place = Place(program, folder)
+    before = None
+    well = True
+    for number in range(COMERS):
+        console = Console(place.where)
+        well = well and console.ask("show L") == "board L none"
+        console.close()
+        if number == COMERS // 10:
+            before = place.memory()
+    yield "%d connections one after the other are answered" % COMERS, well
+    yield "and leave no memory behind", place.memory() - before < 512
+    place.node.kill()
+
+
+def lines_case(program, folder):
+    """What only connections have: faults in words, questions of the whole node without a tag."""
+    place = Place(program, folder)
+    console = Console(place.where)
+    for line, wanted in [("order ANN grab LEFT", "line 1 fault 1: a word that no line has there"),
+                         ("@7 order ANN take NOBODY", "@7 fault 5: " + UNKNOWN),
+                         ("@7", "@7 fault 2: too few words, or too many"),
+                         ("states now", "line 4 fault 2: too few words, or too many"),
+                         ("follow NOBODY", "line 5 fault 5: " + UNKNOWN),
+                         ("@c order ANN ask LEFT\r", "@c told ANN ask LEFT free 0 0 settled 0")]:
+        yield "on a connection: " + line, console.ask(line) == wanted
+    console.say("\n# nothing\nhelp\n")
+    helped = [console.line() for _ in range(12)]
+    yield "help", helped[-1] == "help 11" and all(line.startswith("help ") for line in helped)
+    console.say("counts\n")
+    yield "counts", console.line().startswith("counts received ")
+    console.say("@s states\n")
+    first = ["@s board %s 1.0 OFF" % name for name in ("TOP", "LEFT", "RIGHT", "L", "R")] + ["@s states 5"]
+    yield "states of what the station keeps", [console.line() for _ in first] == first
+    console.say("@f follow L LEFT\n")
+    yield "follow begins with the newest", [console.line(), console.line()] == first_two("@f", "LEFT", "L")
+    told = [console.ask("@r report L READY"), console.line(), console.line()]
+    yield "a report is followed", sorted(told) == ["@f board L 1.1 READY", "@f board LEFT 1.1 READY",
+                                                   "@r told report L READY 0"]
+    yield "and other objects are not", console.ask("@r report R READY") == "@r told report R READY 0"
+    console.socket.shutdown(socket.SHUT_WR)
+    other = Console(place.where)
+    other.ask("report L OFF")
+    yield "one that types no more still follows", console.line() == "@f board L 1.2 OFF"
+    other.say("show L\norder ANN ask LEFT")
+    other.socket.shutdown(socket.SHUT_WR)
+    yield "a last line without its end is a line, and then the node ends the connection", other.rest() == [
+        "board L none", "told ANN ask LEFT free 0 0 settled 0"]
+    yield "standard input keeps its grammar", place.node.ask("states") == "line 1 fault 1"
+    yield "and has the questions behind a tag", place.node.ask("@x under way") == "@x under way 0"
+    place.node.child.stdin.close()
+    yield "connections go on where standard input has ended", other_asked(place) == "board L none"
+    place.node.kill()
+
+
+def first_two(tag, *names):
+    return ["%s board %s 1.0 OFF" % (tag, name) for name in names]
+
+
+def other_asked(place):
+    console = Console(place.where)
+    told = console.ask("show L")
+    console.close()
+    return told
+
+
+def doors_case(program, folder):
+    """Where a node listens: both kinds at once, a file that was left behind, and what is in the way."""
+    port = free_tcp_port()
+    where = os.path.join(folder, "console")
+    place = Place(program, folder, [where, "127.0.0.1:%d" % port])
+    tcp = Console("127.0.0.1:%d" % port)
+    yield "TCP", tcp.ask("order ANN take LEFT") == "told ANN take LEFT 0"
+    yield "and a path at once", other_asked(place) == "board L none"
+    mode = os.stat(where).st_mode & 0o777
+    yield "the file's rights are those that the process gives", mode == 0o777 & ~current_mask()
+    place.node.kill()
+    yield "a killed node leaves its socket behind", os.path.exists(where)
+    again = Place(program, folder, [where])
+    yield "which the next one replaces", other_asked(again) == "board L none"
+    words = [again.tree, "AWAY", os.path.join(folder, "away"), "--turns", 20]
+    taken = nodes.ran(program, words + ["--console", where])
+    faulty = ([], ["console fault"], 3)
+    yield "a socket that somebody listens at stays", (taken, other_asked(again)) == (faulty, "board L none")
+    again.node.kill()
+    other = os.path.join(folder, "file")
+    with open(other, "w", encoding="ascii") as file:
+        file.write("kept")
+    taken = nodes.ran(program, words + ["--console", other])
+    with open(other, encoding="ascii") as file:
+        yield "and so does any other file", (taken, file.read()) == (faulty, "kept")
+    for bad in ["/nonexistent/console", "300.0.0.1:80/", folder]:
+        yield "no console at " + bad, nodes.ran(program, words + ["--console", bad]) == faulty
+    three = [word for name in "abc" for word in ("--console", os.path.join(folder, name))]
+    yield "three consoles are no form", nodes.ran(program, words + three) == ([], ["wrong line"], 2)
+
+
+def free_tcp_port():
+    with socket.socket() as made:
+        made.bind(("127.0.0.1", 0))
+        return made.getsockname()[1]
+
+
+def current_mask():
+    mask = os.umask(0)
+    os.umask(mask)
+    return mask
+
+
+def client_case(program, folder):
+    """tools/lunskaf.py: what its calls answer and raise, also where the node goes and comes again."""
+    place = Place(program, folder)
+    node = lunskaf.Node(place.where, patience=2)
+    node.take("ANN", "TOP")
+    node.include("ANN", "TOP", "LEFT")
+    node.report("L", "OFF")
+    node.do("ANN", "TOP", "GO")
+    yield "ask", node.ask("ANN", "LEFT") == lunskaf.Record("LEFT", "TOP", 1, 1, "settled", 0)
+    newest = {shown.object: shown.state for shown in node.states()}
+    yield "states", newest == {"TOP": "READY", "LEFT": "READY", "RIGHT": "OFF", "L": "READY", "R": "OFF"}
+    yield "counts", node.counts()["saved"] > 0 and node.counts()["refused21"] == 0
+    yield "show", node.show("L") is None
+    yield "refused", raised(lambda: node.do("BOB", "LEFT", "GO")) == (lunskaf.Refused, 21)
+    yield "fault", raised(lambda: node.take("ANN", "NOBODY")) == (lunskaf.Fault, 5)
+    yield "time-out", raised(lambda: node.include("ANN", "TOP", "FAR", patience=0.3)) == (lunskaf.TimeOut, None)
+    yield "under way", [(it.operator, it.order) for it in node.under_way()] == [("ANN", "include TOP FAR")]
+    followed = node.follow("L")
+    yield "follow", (next(followed).state, node.report("L", "OFF"), next(followed).state) == ("READY", None, "OFF")
+    place.node.kill()
+    yield "lost", raised(lambda: node.show("L"))[0] is lunskaf.Lost
+    place.node = nodes.Node(program, place.words)
+    place.wait()
+    yield "connected anew", node.ask("ANN", "TOP").holder == "ANN"
+    yield "follow goes on after a restart", next(followed) == lunskaf.Shown("L", 2, 0, "OFF")
+    node.close()
+    place.node.kill()
+
+
+def raised(call):
+    """What a call raises, and its code where it has one."""
+    try:
+        call()
+    except (lunskaf.Refused, lunskaf.Fault, lunskaf.Lost, lunskaf.TimeOut) as error:
+        return type(error), getattr(error, "code", None)
+    return None, None
+
+
+def supply_case(program, folder):
+    """A supply of examples/supply.py ramps, trips and recovers, and tells a node that was started again."""
+    ports = nodes.free_ports(6)
+    with open(os.path.join(EXAMPLES, "detector.tree"), encoding="ascii") as file:
+        text = file.read()
+    for number, port in zip(range(11, 17), ports):
+        text = text.replace("10.20.0.%d:9000" % number, "127.0.0.1:%d" % port)
+    tree, where = nodes.write_tree(folder, ports, text.splitlines()), os.path.join(folder, "console")
+    words = [tree, "TRACKER", os.path.join(folder, "store"), "--endless", "--console", where]
+    running = nodes.Node(program, words)
+    script = [sys.executable, os.path.join(EXAMPLES, "supply.py"), where, "PIXEL_HV1", "0.5"]
+    supply = subprocess.Popen(script, stdin=subprocess.PIPE, stdout=subprocess.PIPE, text=True)
+
+    def seen(state):
+        """Whether the supply sees its device come into a state, after others."""
+        for _ in range(10):
+            if supply.stdout.readline().split()[1:] == [state]:
+                return True
+        return False
+
+    yield "a supply reports what it is in", seen("OFF")
+    with lunskaf.Node(where) as node:
+        node.take("TRK_EXPERT", "PIXEL_HV")
+        node.do("TRK_EXPERT", "PIXEL_HV", "GO_STANDBY")
+        yield "it is moved by an action", seen("STANDBY")
+        node.do("TRK_EXPERT", "PIXEL_HV", "CONFIGURE")
+        yield "it ramps", seen("RAMPING") and seen("READY")
+        supply.stdin.write("trip\n")
+        supply.stdin.flush()
+        yield "it trips", seen("ERROR")
+        node.do("TRK_EXPERT", "PIXEL_HV", "RECOVER")
+        yield "and recovers", seen("OFF")
+        node.do("TRK_EXPERT", "PIXEL_HV", "GO_STANDBY")
+        yield "a second time", seen("STANDBY")
+    running.kill()
+    running = nodes.Node(program, words)
+    yield "a node that was started again is told", seen("UNKNOWN") and seen("STANDBY")
+    supply.kill()
+    running.kill()
+
+
+def people_case(program, folder):
+    """tools/console.py: what is typed is answered, and the end of the input is its end; one line as words."""
+    place = Place(program, folder)
+
+    def ran(words, text=None):
+        script = [sys.executable, os.path.join(HERE, os.pardir, "tools", "console.py"), *words]
+        done = subprocess.run(script, input=text, stdout=subprocess.PIPE, text=True, timeout=PATIENCE, check=False)
+        return done.stdout.splitlines(), done.returncode
+
+    lines, status = ran(["--tree", place.tree, place.where], "order ANN take LEFT\n@x show L\nhelp\n")
+    yield "a console for people", (sorted(lines[:2]), lines[-1], status) == (
+        ["@x board L none", "told ANN take LEFT 0"], "help 11", 0)
+    for line, told, status in [("order ANN ask LEFT", "told ANN ask LEFT ANN 1 0 settled 0", 0),
+                               ("order BOB take LEFT", "told BOB take LEFT 5", 1),
+                               ("order BOB grab LEFT", "line 1 fault 1: a word that no line has there", 1),
+                               ("@x order BOB grab LEFT", "@x fault 1: a word that no line has there", 1),
+                               ("show L", "board L none", 0), ("@x report L OFF", "@x told report L OFF 0", 0)]:
+        yield "one line: " + line, ran([place.where, *line.split()]) == ([told], status)
+    yield "where there is no node", ran([os.path.join(folder, "nowhere"), "help"]) == ([], 1)
+    place.node.kill()
+
+
+CASES = [waiting_case, partitions_case, many_case, rude_case, comers_case, lines_case, doors_case, client_case,
+         supply_case, people_case]
+
+
+def main():
+    if len(sys.argv) not in (2, 3):
+        sys.exit(__doc__.split("\n\n")[1])
+    program, only = os.path.abspath(sys.argv[1]), sys.argv[2] if len(sys.argv) == 3 else ""
+    passed = failed = 0
+    for case in CASES:
+        if only not in case.__name__:
+            continue
+        with tempfile.TemporaryDirectory() as folder:
+            for name, holds in case(program, folder):
+                if not holds:
+                    print("FAILED " + name)
+                passed, failed = passed + bool(holds), failed + (not holds)
+    print("%d passed, %d failed" % (passed, failed))
+    sys.exit(1 if failed else 0)
+
+
+if __name__ == "__main__":
+    main()

@@ -1,0 +1,292 @@
+"""The screen as a process: what it answers over HTTP, whatever comes, and that its picture is that of the nodes.
+
+usage: screen.py SMI [TEXT]
+
+Requests are sent as bytes. What each is answered is compared with docs/FORMATS.md, "The screen"; the picture of a played
+hour with what the nodes were told and with the trace of the same schedule; and while hundreds of connections are slow,
+never read or send too much, another one has to be answered. With a TEXT only the cases are run whose name has it. The
+last line is 'N passed, M failed'.
+"""
+
+import json
+import os
+import shutil
+import socket
+import subprocess
+import sys
+import tempfile
+import time
+
+import nodes
+import screens
+import verdict
+
+# How soon somebody else is answered beside hostile connections, in seconds, on a machine that others may use.
+SOON = 3.0
+# How many answers a pipeline gets, how many connections are slow, and how many never read.
+PIPED, SLOW, DEAF = 200, 300, 200
+# The most memory that a screen may take more after all of that, in KiB: a read's room and a head for each guest.
+MORE = 40 * 1024
+
+
+def world(program, folder, watched=("A", "B")):
+    """The worked tree with a screen: its file, its nodes, and its screen."""
+    ports = nodes.free_ports(3)
+    lines = screens.with_screen(nodes.tree_lines(ports[:2]), ports[2])
+    tree = nodes.write_tree(folder, ports, lines)
+    crews = {name: nodes.Node(program, [tree, name, screens.store_of(folder, name), "--endless"]) for name in watched}
+    return tree, crews, screens.Screen(program, tree, screens.store_of(folder, "screen"))
+
+
+def close(crews, screen):
+    for node in crews.values():
+        node.kill()
+    screen.end()
+
+
+def line_cases(program, folder):
+    """Command lines of a screen: what is wrong with each, and its status."""
+    ports = nodes.free_ports(3)
+    lines = screens.with_screen(nodes.tree_lines(ports[:2]), ports[2])
+    tree, http = nodes.write_tree(folder, ports, lines), "127.0.0.1:%d" % screens.tcp_port()
+    bare = os.path.join(folder, "bare")
+    screens.write_lines(bare, [line for line in lines if "WATCHER" not in line])
+
+    def ran(*words):
+        done = subprocess.run([program, "screen", *map(str, words)], stdin=subprocess.DEVNULL, stdout=subprocess.PIPE,
+                              stderr=subprocess.PIPE, text=True, timeout=nodes.PATIENCE, check=False)
+        return done.stdout, done.stderr, done.returncode
+
+    store = screens.store_of(folder, "lines")
+    wrong = ("", "wrong line\n", 2)
+    yield "lines: so many turns", ran(tree, "SCREEN", store, "--http", http, "--turns", 3) == ("", "", 0)
+    for name, words in [
+            ("no address", [tree, "SCREEN", store]),
+            ("no address of this machine", [tree, "SCREEN", store, "--http", "0.0.0.0:80", "--turns", 1]),
+            ("open without a name", [tree, "SCREEN", store, "--http", "0.0.0.0:80", "--open", "--turns", 1]),
+            ("a name and not open", [tree, "SCREEN", store, "--http", http, "--host", "daq", "--turns", 1]),
+            ("a name for an address", [tree, "SCREEN", store, "--http", "localhost:80", "--turns", 1]),
+            ("turns and endless", [tree, "SCREEN", store, "--http", http, "--endless", "--turns", 1]),
+            ("no turns", [tree, "SCREEN", store, "--http", http, "--turns", 0]),
+            ("an unknown station", [tree, "SCREAM", store, "--http", http, "--turns", 1]),
+            ("no operator", [bare, "SCREEN", screens.store_of(folder, "bare"), "--http", http, "--turns", 1])]:
+        yield "lines: " + name, ran(*words) == wrong
+    yield "lines: no tree", ran(tree + "x", "SCREEN", store, "--http", http) == ("", "read fault\n", 3)
+    yield "lines: no store", ran(tree, "SCREEN", folder, "--http", http) == ("", "store fault\n", 3)
+    with socket.create_server(("127.0.0.1", 0)) as taken:
+        at = "127.0.0.1:%d" % taken.getsockname()[1]
+        yield "lines: an address that is taken", ran(tree, "SCREEN", store, "--http", at) == ("", "screen fault\n", 3)
+    with socket.socket(socket.AF_INET, socket.SOCK_DGRAM) as taken:
+        taken.bind(("127.0.0.1", ports[2]))
+        yield "lines: a socket that is taken", ran(tree, "SCREEN", store, "--http", http) == ("", "link fault\n", 3)
+
+
+def request(head, host=None, body=b""):
+    lines = [head] + (["Host: " + host] if host else [])
+    return ("\r\n".join(lines) + "\r\n\r\n").encode() + body
+
+
+def answer_cases(program, folder):
+    """Each method, host and place: status and body."""
+    _, crews, screen = world(program, folder)
+    try:
+        yield "answers: it is up", screen.is_up()
+        own, local = screen.host, "localhost:%d" % screen.port
+        with open(os.path.join(os.path.dirname(nodes.__file__), "..", "crates", "smi_page", "page.html"), "rb") as file:
+            page = file.read()
+        yield "answers: the page", screen.get("/") == (200, page)
+        yield "answers: by the name of this machine", screen.get("/", host=local) == (200, page)
+        yield "answers: a head alone", screen.get("/", "HEAD")[0] == 200
+        yield "answers: nothing else is there", screen.get("/index.html") == (404, b"there is no such page")
+        yield "answers: a query changes no place", screen.get("/?x=1") == (200, page)
+        for host in ("evil.example", own + "0", "127.0.0.1", "localhost", "127.0.0.1:80"):
+            yield "answers: to %s, no" % host, screen.get("/api/picture", host=host) == (421, b"this is another host")
+        for method in ("POST", "PUT", "DELETE", "OPTIONS", "PATCH", "TRACE"):
+            yield "answers: %s, no" % method, screen.get("/", method) == (405, b"this screen only shows")
+        yield "answers: POST to a foreign host", screen.get("/", "POST", "evil.example")[0] == 421
+        whole = request("GET http://%s/ HTTP/1.1" % own, own)
+        yield "answers: a target with a host, no", screens.answers(screen.exchange(whole))[0][0] == 421
+        yield "answers: no host", screens.answers(screen.exchange(request("GET / HTTP/1.1")))[0][0] == 400
+        yield "answers: the tree", json.loads(screen.get("/api/tree")[1]) == shape_wanted()
+        picture = screen.picture()
+        status, body = screen.get("/api/picture?after=%d" % (picture["frame"] - 1000))
+        yield "answers: another picture is sent", status == 200 and json.loads(body)["frame"] >= picture["frame"]
+        yield "answers: the same is not sent again", any(
+            screen.get("/api/picture?after=%d" % screen.picture()["frame"]) == (204, b"") for _ in range(20))
+        head = screen.exchange(request("GET / HTTP/1.0", own)).split(b"\r\n\r\n")[0].lower()
+        yield "answers: what a page may do", all(text in head for text in [
+            b"cache-control: no-store", b"x-content-type-options: nosniff", b"x-frame-options: deny",
+            b"referrer-policy: no-referrer", b"default-src 'none'", b"connect-src 'self'"])
+    finally:
+        close(crews, screen)
+
+
+def shape_wanted():
+    """The worked tree with a screen, as the screen tells it."""
+    return {
+        "tree": 17, "states": ["OFF", "READY", "RUNNING", "ERROR"], "stations": ["A", "B", "SCREEN"],
+        "operators": [{"name": "ANN", "station": "A"}, {"name": "BOB", "station": "B"},
+                      {"name": "WATCHER", "station": "SCREEN"}],
+        "domains": [{"name": "DCS", "station": "A", "parent": None}, {"name": "TPC", "station": "B", "parent": "DCS"}],
+        "devices": [{"name": "HV", "domain": "TPC"}]}
+
+
+def picture_cases(program, folder):
+    """The picture follows the nodes, a node that is gone is not heard any more, and a screen that begins again sees
+    all."""
+    tree, crews, screen = world(program, folder)
+    try:
+        yield "picture: it is up", screen.is_up()
+        told = [crews["B"].ask("report HV OFF"), crews["A"].ask("order ANN take DCS"),
+                crews["A"].ask("order ANN include DCS TPC"), crews["A"].ask("order ANN do DCS CONFIGURE")]
+        yield "picture: the crew is told", [line and line.rsplit(" ", 1)[1] for line in told] == ["0"] * 4
+        wanted = {"DCS": "READY", "TPC": "READY", "HV": "READY"}
+        yield "picture: states", screen.waits_for(lambda picture: screens.states_of(picture) == wanted)
+        held = {"DCS": "ANN", "TPC": "DCS"}
+        yield "picture: holders", screen.waits_for(lambda picture: screens.holders_of(picture) == held)
+        record = screens.by_name(screen.picture()["domains"])["DCS"]["told"]
+        yield "picture: the record", [record[key] for key in ("holder", "epoch", "last", "busy", "outcome")] == [
+            {"operator": "ANN"}, 1, 2, False, 0]
+        yield from freshness(screen, ("DCS", "TPC"))
+        yield from figures(screen)
+        screen.end()
+        screen = screens.Screen(program, tree, screens.store_of(folder, "screen"))
+        yield "picture: a screen that begins again", screen.is_up() and screen.waits_for(
+            lambda picture: screens.states_of(picture) == wanted and screens.holders_of(picture) == held)
+        crews["B"].kill()
+        before = screens.by_name(screen.picture()["domains"])["TPC"]["told"]["heard"]
+        time.sleep(2.5)
+        picture = screen.picture()
+        rows = screens.by_name(picture["domains"])
+        yield "picture: one that is gone is not heard", rows["TPC"]["told"]["heard"] <= before + 300
+        yield "picture: others are", picture["now"] - rows["DCS"]["told"]["heard"] < 2000
+        crews["B"] = nodes.Node(program, [tree, "B", screens.store_of(folder, "B"), "--endless"])
+        yield "picture: one that comes back is heard", screen.waits_for(
+            lambda picture: picture["now"] - screens.by_name(picture["domains"])["TPC"]["told"]["heard"] < 1000)
+        # Its device was not reported since its start: it begins again, and so does what is shown of it.
+        yield "picture: and is seen", screen.waits_for(
+            lambda picture: screens.by_name(picture["devices"])["HV"]["shown"]["boot"] == 2)
+    finally:
+        close(crews, screen)
+
+
+def freshness(screen, names):
+    """Nothing that is shown of a station that is heard is old."""
+    oldest = 0
+    for _ in range(20):
+        picture = screen.picture()
+        rows = screens.by_name(picture["domains"])
+        oldest = max([oldest] + [picture["now"] - rows[name]["told"]["heard"] for name in names])
+        time.sleep(0.05)
+    yield "picture: nothing is older than two seconds (%d ms)" % oldest, oldest < 2000
+
+
+def figures(screen):
+    """The figures are those of the picture, in the format of Prometheus."""
+    status, body = screen.get("/metrics")
+    lines = body.decode().splitlines()
+    samples = dict(line.rsplit(" ", 1) for line in lines if not line.startswith("#"))
+    wanted = {'smi_object_state{object="DCS",state="READY"}': "1", 'smi_object_state{object="HV",state="READY"}': "1",
+              'smi_domain_held{domain="DCS"}': "1", 'smi_domain_busy{domain="TPC"}': "0",
+              'smi_domain_epoch{domain="DCS"}': "1", 'smi_domain_outcome{domain="TPC"}': "0", "smi_screen_domains": "2"}
+    yield "figures: what they say", status == 200 and wanted.items() <= samples.items()
+    ages = [float(value) for name, value in samples.items() if name.startswith("smi_domain_heard_age_seconds")]
+    yield "figures: ages in seconds", len(ages) == 2 and all(0 <= value < 5 for value in ages)
+    names = {name.split("{")[0] for name in samples}
+    told = {line.split()[2] for line in lines if line.startswith("# HELP")}
+    yield "figures: each is told what it is", names == told
+    tool = shutil.which("promtool")
+    if tool:
+        done = subprocess.run([tool, "check", "metrics"], input=body, stdout=subprocess.PIPE,
+                              stderr=subprocess.STDOUT, check=False)
+        yield "figures: promtool finds nothing", (done.returncode, done.stdout) == (0, b"")
+    else:
+        print("skipped: promtool is not here (Debian's prometheus)")
+
+
+def others_are_answered(screen):
+    """How long somebody else waits for the picture, at worst of five times, in seconds."""
+    worst = 0
+    for _ in range(5):
+        begun = time.monotonic()
+        status, _ = screen.get("/api/picture")
+        worst = max(worst, time.monotonic() - begun) if status == 200 else float("inf")
+    return worst
+
+
+def connections(screen, count, sent):
+    """So many connections that have sent this, as far as each was let in."""
+    found = []
+    for _ in range(count):
+        one = socket.create_connection(("127.0.0.1", screen.port), timeout=10)
+        one.setblocking(False)
+        try:
+            one.send(sent)
+        except OSError:
+            pass
+        found.append(one)
+    return found
+
+
+def hostile_cases(program, folder):
+    """What nobody should send, and that somebody else is answered meanwhile."""
+    _, crews, screen = world(program, folder)
+    try:
+        yield "hostile: it is up", screen.is_up()
+        own, before = screen.host, screen.memory()
+        long = "x" * 100_000
+        for name, sent, wanted in [
+                ("a head of 100 KB", request("GET / HTTP/1.1\r\nX: " + long, own), {431, 400}),
+                ("a hundred fields", request("GET / HTTP/1.1" + "\r\nX: y" * 100, own), {431}),
+                ("a target of 20 KB", request("GET /" + long[:20_000] + " HTTP/1.1", own), {414, 431}),
+                ("a long body", request("GET / HTTP/1.1\r\nContent-Length: 70", own, b"x" * 70), {413}),
+                ("a long chunk", request("GET / HTTP/1.1\r\nTransfer-Encoding: chunked", own, b"fff\r\n" + b"x" * 99),
+                 {413, 400}),
+                ("two hosts", request("GET / HTTP/1.1\r\nHost: " + own, own), {400}),
+                ("bytes of TLS", bytes.fromhex("16030100a5010000a10303") + b"\0" * 200, {400}),
+                ("two lengths", request("POST / HTTP/1.1\r\nContent-Length: 1\r\nContent-Length: 2", own), {400}),
+                ("CONNECT", request("CONNECT evil.example:443 HTTP/1.1", own), {400, 405, 421})]:
+            status = screens.answers(screen.exchange(sent))[0][0]
+            yield "hostile: %s (%d)" % (name, status), status in wanted
+            yield "hostile: after %s others are answered" % name, screen.get("/api/tree")[0] == 200
+        piped = request("GET /api/tree HTTP/1.1", own) * PIPED + request("GET / HTTP/1.1\r\nConnection: close", own)
+        found = screens.answers(screen.exchange(piped, 60))
+        yield "hostile: a pipeline is answered in order (%d)" % len(found), [
+            status for status, _ in found] == [200] * (PIPED + 1)
+        for name, count, sent in [("slow", SLOW, b"GET / HTTP/1.1\r\nHost: "), ("that say nothing", SLOW, b""),
+                                  ("that never read", DEAF, request("GET / HTTP/1.1", own) * 50)]:
+            held = connections(screen, count, sent)
+            worst = others_are_answered(screen)
+            yield "hostile: %d connections %s: another waits %.2f s" % (count, name, worst), worst < SOON
+            for one in held:
+                one.close()
+        time.sleep(1)
+        more = screen.memory() - before
+        yield "hostile: memory: %d KiB more" % more, more < MORE
+        yield "hostile: it still runs", screen.child.poll() is None and screen.get("/")[0] == 200
+        yield "hostile: and a node's order is obeyed", crews["A"].ask("order ANN take DCS") == "told ANN take DCS 0"
+    finally:
+        close(crews, screen)
+
+
+CASES = [line_cases, answer_cases, picture_cases, hostile_cases]
+
+
+def main():
+    program, only = os.path.abspath(sys.argv[1]), sys.argv[2] if len(sys.argv) > 2 else ""
+    folder, done, broken = tempfile.mkdtemp(), [], []
+    try:
+        for place, make in enumerate(CASES):
+            room = os.path.join(folder, str(place))
+            os.mkdir(room)
+            try:
+                done += list(make(program, room))
+            except (OSError, subprocess.SubprocessError, KeyError, TypeError, ValueError) as error:
+                broken.append(("%s: %r" % (make.__name__, error), False))
+    finally:
+        shutil.rmtree(folder, ignore_errors=True)
+    verdict.end([case for case in done if only in case[0]] + broken)
+
+
+if __name__ == "__main__":
+    main()

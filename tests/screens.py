@@ -1,0 +1,154 @@
+"""What the tests of the screen share: a tree with a screen's station, a screen that runs, and requests as bytes."""
+
+import json
+import os
+import re
+import socket
+import subprocess
+import time
+
+import nodes
+
+# The station of a screen and its operator, who asks and watches.
+STATION, OPERATOR = "SCREEN", "WATCHER"
+
+
+def tcp_port():
+    """A port at which nobody listens."""
+    with socket.socket() as one:
+        one.bind(("127.0.0.1", 0))
+        return one.getsockname()[1]
+
+
+def with_screen(lines, port):
+    """The lines of a tree file, with a screen's station as the last of its stations and its operator as the last."""
+    lines = list(lines)
+    for word, line in [("operator", "operator %s %s" % (OPERATOR, STATION)),
+                       ("station", "station %s 127.0.0.1:%d" % (STATION, port))]:
+        last = max(place for place, it in enumerate(lines) if it.split()[:1] == [word])
+        lines.insert(last + 1, line)
+    return lines
+
+
+def at_home(lines):
+    """The lines of a tree file, with the address of each station on this machine, at ports that nobody uses."""
+    count = sum(line.startswith("station ") for line in lines)
+    ports = iter(nodes.free_ports(count))
+    return [re.sub(r"^(station \S+) .*", lambda found: "%s 127.0.0.1:%d" % (found[1], next(ports)), line)
+            for line in lines]
+
+
+class Screen:
+    """A screen that runs."""
+
+    def __init__(self, program, tree, store, more=("--endless",), port=None, **how):
+        self.port = port or tcp_port()
+        self.host = "127.0.0.1:%d" % self.port
+        words = [program, "screen", tree, STATION, store, "--http", self.host, *more]
+        self.child = subprocess.Popen(list(map(str, words)), stdin=subprocess.DEVNULL, stdout=subprocess.PIPE,
+                                      stderr=subprocess.PIPE, text=True, **how)
+
+    def is_up(self, patience=nodes.PATIENCE):
+        """Whether it answers, within so many seconds."""
+        end = time.monotonic() + patience
+        while time.monotonic() < end and self.child.poll() is None:
+            try:
+                return self.get("/metrics")[0] == 200
+            except OSError:
+                time.sleep(0.05)
+        return False
+
+    def get(self, target, method="GET", host=None, patience=10):
+        """The status and the body of an answer."""
+        head = "%s %s HTTP/1.1\r\nHost: %s\r\nConnection: close\r\n\r\n" % (method, target, host or self.host)
+        return answers(self.exchange(head.encode(), patience))[0]
+
+    def exchange(self, sent, patience=10):
+        """All that comes back for these bytes, until the screen closes or nothing comes."""
+        with socket.create_connection(("127.0.0.1", self.port), timeout=patience) as one:
+            try:
+                one.sendall(sent)
+            except OSError:
+                pass
+            return drained(one)
+
+    def picture(self):
+        status, body = self.get("/api/picture")
+        return json.loads(body) if status == 200 else None
+
+    def waits_for(self, holds, patience=nodes.PATIENCE):
+        """Whether something comes to hold of the picture, within so many seconds."""
+        end = time.monotonic() + patience
+        while time.monotonic() < end:
+            picture = self.picture()
+            if picture and holds(picture):
+                return True
+            time.sleep(0.05)
+        return False
+
+    def memory(self):
+        """How much memory it holds, in KiB."""
+        with open("/proc/%d/status" % self.child.pid, encoding="ascii") as file:
+            return int(re.search(r"VmRSS:\s+(\d+)", file.read())[1])
+
+    def end(self):
+        self.child.kill()
+        self.child.communicate()
+
+
+def drained(one):
+    """What a connection gives until it ends, or nothing comes any more."""
+    found = b""
+    try:
+        while True:
+            got = one.recv(65536)
+            if not got:
+                return found
+            found += got
+    except OSError:
+        return found
+
+
+def answers(text):
+    """The answers in a text, one after the other: the status and the body of each."""
+    found = []
+    while text:
+        head, _, rest = text.partition(b"\r\n\r\n")
+        line = re.match(rb"HTTP/1\.[01] (\d{3})", head)
+        if not line:
+            break
+        length = re.search(rb"(?i)\r\ncontent-length: *(\d+)", head)
+        size = int(length[1]) if length else 0
+        found.append((int(line[1]), rest[:size]))
+        text = rest[size:]
+    return found or [(0, b"")]
+
+
+def by_name(rows):
+    return {row["name"]: row for row in rows}
+
+
+def states_of(picture):
+    """The state of each object that was shown, by name."""
+    rows = picture["domains"] + picture["devices"]
+    return {row["name"]: row["shown"]["state"] for row in rows if row["shown"]}
+
+
+def holders_of(picture):
+    """Who holds each domain that was told: a name, or `free`."""
+    found = {}
+    for row in picture["domains"]:
+        if row["told"]:
+            holder = row["told"]["holder"] or {"nobody": "free"}
+            found[row["name"]] = next(iter(holder.values()))
+    return found
+
+
+def write_lines(path, lines):
+    with open(path, "w", encoding="ascii") as file:
+        file.write("\n".join(lines) + "\n")
+    return path
+
+
+def store_of(folder, name):
+    return os.path.join(folder, name + ".store")
