@@ -442,8 +442,9 @@ def client_case(program, folder):
     node.report("L", "OFF")
     node.do("ANN", "TOP", "GO")
     yield "ask", node.ask("ANN", "LEFT") == lunskaf.Record("LEFT", "TOP", 1, 1, "settled", 0)
-    newest = {shown.object: shown.state for shown in node.states()}
-    yield "states", newest == {"TOP": "READY", "LEFT": "READY", "RIGHT": "OFF", "L": "READY", "R": "OFF"}
+    wanted = {"TOP": "READY", "LEFT": "READY", "RIGHT": "OFF", "L": "READY", "R": "OFF"}
+    # a command has run when its answer is there, and the states may be on their way
+    yield "states", until_same(lambda: {shown.object: shown.state for shown in node.states()}, wanted)
     yield "counts", node.counts()["saved"] > 0 and node.counts()["refused21"] == 0
     yield "show", node.show("L") is None
     yield "refused", raised(lambda: node.do("BOB", "LEFT", "GO")) == (lunskaf.Refused, 21)
@@ -460,6 +461,14 @@ def client_case(program, folder):
     yield "follow goes on after a restart", next(followed) == lunskaf.Shown("L", 2, 0, "OFF")
     node.close()
     place.node.kill()
+
+
+def until_same(look, wanted):
+    """Whether what is looked at comes to be what is wanted."""
+    until = time.monotonic() + PATIENCE
+    while look() != wanted and time.monotonic() < until:
+        time.sleep(0.05)
+    return look() == wanted
 
 
 def raised(call):
