@@ -19,6 +19,8 @@ import time
 
 sys.path.insert(0, os.path.join(os.path.dirname(os.path.abspath(__file__)), os.pardir, "tools"))
 
+import hierarchy
+import lines
 import lunskaf
 import nodes
 import wires
@@ -521,6 +523,125 @@ def supply_case(program, folder):
     running.kill()
 
 
+class Drivers:
+    """The device programs of a station: they follow its devices, let what ramps arrive, and tell a new start."""
+
+    def __init__(self, where, devices, first):
+        self.node, self.states = lunskaf.Node(where), {device: first for device in devices}
+        self.stopped = threading.Event()
+        threading.Thread(target=self.run, daemon=True).start()
+
+    def report(self, device, state):
+        self.states[device] = state
+        try:
+            self.node.report(device, state)
+        except (lunskaf.Lost, lunskaf.TimeOut):
+            # the node is away: its devices are UNKNOWN when it is back, and told then
+            pass
+
+    def arrive(self, device):
+        if self.states[device] == "RAMPING" and not self.stopped.is_set():
+            self.report(device, "READY")
+
+    def run(self):
+        for shown in self.node.follow(*self.states):
+            if self.stopped.is_set():
+                return
+            if shown.state == "UNKNOWN":
+                self.report(shown.object, self.states[shown.object])
+                continue
+            self.states[shown.object] = shown.state
+            if shown.state == "RAMPING":
+                threading.Timer(0.2, self.arrive, [shown.object]).start()
+
+
+class Detector:
+    """The example detector on this machine: its nodes with their consoles, and the device programs of all stations."""
+
+    def __init__(self, program, folder):
+        self.program, self.folder = program, folder
+        with open(os.path.join(EXAMPLES, "detector-local.tree"), encoding="ascii") as file:
+            text = file.read()
+        ports = iter(nodes.free_ports(6))
+        text = re.sub(r"^(station \S+) .*$", lambda it: "%s 127.0.0.1:%d" % (it[1], next(ports)), text, flags=re.M)
+        self.path = nodes.write_tree(folder, [], text.splitlines())
+        self.tree = hierarchy.read(self.path)
+        self.nodes, self.consoles, self.drivers = {}, {}, {}
+        for station in self.tree.stations:
+            self.start(station)
+            self.consoles[station] = lunskaf.Node(self.where(station))
+            devices = [line.split()[1] for line in lines.lines(self.tree, "report", station, "OFF")]
+            first = "READY" if station == "SERVICES" else "OFF"
+            self.drivers[station] = Drivers(self.where(station), devices, first)
+
+    def where(self, station):
+        return os.path.join(self.folder, station + ".console")
+
+    def start(self, station):
+        words = [self.path, station, os.path.join(self.folder, station), "--endless", "--console", self.where(station)]
+        self.nodes[station] = nodes.Node(self.program, words)
+        until = time.monotonic() + PATIENCE
+        while not os.path.exists(self.where(station)) and time.monotonic() < until:
+            time.sleep(0.01)
+
+    def order(self, operator, *words):
+        """Gives an order at its operator's station; how it ended."""
+        home = self.tree.operators[operator]
+        try:
+            self.consoles[home].order(operator, *words)
+            return 0
+        except lunskaf.Refused as refused:
+            return refused.code
+
+    def orders(self, operator, *texts):
+        return [self.order(operator, *text.split()) for text in texts] == [0] * len(texts)
+
+    def is_in(self, name, state):
+        """Whether an object comes into a state, by the station that keeps it."""
+        console = self.consoles[self.tree.station_of(name)]
+        return until_same(lambda: {it.object: it.state for it in console.states()}.get(name), state)
+
+    def end(self):
+        for drivers in self.drivers.values():
+            drivers.stopped.set()
+        for node in self.nodes.values():
+            node.kill()
+
+
+def shift_case(program, folder):
+    """A shift over the example detector, all of whose devices are programs at the consoles of its nodes."""
+    detector = Detector(program, folder)
+    orders, is_in = detector.orders, detector.is_in
+    yield "all devices are reported", is_in("PIXEL_HV", "OFF") and is_in("MONITOR", "OFF") and is_in("RACKS", "READY")
+    for operator, domain in [("TRK_EXPERT", "TRK"), ("CAL_EXPERT", "CAL"), ("MUO_EXPERT", "MUO"),
+                             ("TRG_EXPERT", "TRG"), ("RUN_CONTROL", "DAQ")]:
+        made = [line.split(" ", 2)[2] for line in lines.lines(detector.tree, "include", operator, domain)]
+        yield "%s includes what is below %s" % (operator, domain), orders(operator, *made)
+    parts = ["include EXPERIMENT " + it for it in ("TRK", "CAL", "MUO", "TRG", "DAQ")]
+    yield "one person commands the detector", orders("SHIFT_LEADER", "take EXPERIMENT", *parts)
+    yield "standby", orders("SHIFT_LEADER", "do EXPERIMENT GO_STANDBY") and is_in("EXPERIMENT", "STANDBY")
+    yield "all high voltages ramp", orders("SHIFT_LEADER", "do EXPERIMENT CONFIGURE") and is_in("EXPERIMENT", "READY")
+    yield "a run", orders("SHIFT_LEADER", "do EXPERIMENT START") and is_in("EXPERIMENT", "RUNNING")
+    detector.drivers["TRACKER"].report("PIXEL_HV7", "ERROR")
+    yield "a trip", is_in("EXPERIMENT", "ERROR")
+    yield "the tracker is taken out", orders("SHIFT_LEADER", "exclude EXPERIMENT TRK") \
+        and is_in("EXPERIMENT", "RUNNING")
+    yield "and recovers", orders("TRK_EXPERT", "take TRK", "do TRK STOP", "do TRK RECOVER", "do TRK GO_STANDBY",
+                                 "do TRK CONFIGURE") and is_in("TRK", "READY")
+    yield "nobody else commands it", detector.order("SHIFT_LEADER", "include", "EXPERIMENT", "TRK") == 5
+    yield "it is given back", orders("TRK_EXPERT", "drop TRK") and orders(
+        "SHIFT_LEADER", "include EXPERIMENT TRK", "do EXPERIMENT START") and is_in("EXPERIMENT", "RUNNING")
+    detector.nodes["MUON"].kill()
+    yield "a station dies", orders("SHIFT_LEADER", "manual EXPERIMENT MUO", "do EXPERIMENT STOP") \
+        and is_in("TRK", "READY")
+    detector.start("MUON")
+    yield "its devices tell what they are in", is_in("MUO", "RUNNING")
+    yield "it stops with the others", orders("SHIFT_LEADER", "include EXPERIMENT MUO", "do EXPERIMENT STOP") \
+        and is_in("EXPERIMENT", "READY")
+    yield "all is switched off", orders("SHIFT_LEADER", "do EXPERIMENT GO_STANDBY") and is_in("EXPERIMENT", "STANDBY")
+    detector.end()
+
+
 def people_case(program, folder):
     """tools/console.py: what is typed is answered, and the end of the input is its end; one line as words."""
     place = Place(program, folder)
@@ -544,7 +665,7 @@ def people_case(program, folder):
 
 
 CASES = [waiting_case, partitions_case, many_case, rude_case, comers_case, lines_case, doors_case, client_case,
-         supply_case, people_case]
+         supply_case, shift_case, people_case]
 
 
 def main():

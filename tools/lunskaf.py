@@ -30,6 +30,8 @@ import time
 
 # How long a call waits for its answer, and how long `follow` waits before it connects anew, in seconds.
 PATIENCE, PAUSE = 30.0, 0.5
+# The most bytes of a line.
+LONGEST = 200
 
 ADDRESS = re.compile(r"(\d+\.\d+\.\d+\.\d+):(\d+)")
 
@@ -306,7 +308,9 @@ class Node:
 
 def new_states(connection, names, seen):
     """The states that a connection tells and that were not seen, until it is lost."""
-    line = " ".join(("follow",) + names)
+    line = " ".join(("@f", "follow") + names)
+    # more names than a line may have: all are followed, and those that were not asked for are left out
+    line = line[3:] if len(line) <= LONGEST else "follow"
     try:
         asked = connection.begin("@f", line)
     except Lost:
@@ -319,6 +323,6 @@ def new_states(connection, names, seen):
         if words[0] == "fault":
             raise Fault(int(words[1].rstrip(":")), line, text.split(" ", 1)[1])
         shown = shown_in(words)
-        if shown is not None and seen.get(shown.object) != shown:
+        if shown is not None and shown.object in (names or (shown.object,)) and seen.get(shown.object) != shown:
             seen[shown.object] = shown
             yield shown
