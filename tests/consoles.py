@@ -118,6 +118,17 @@ class Console:
         self.socket.close()
 
 
+def wait_for(where, node):
+    """Waits until a node listens, or has ended."""
+    until = time.monotonic() + PATIENCE
+    while time.monotonic() < until and node.child.poll() is None:
+        try:
+            lunskaf.connected(where, PATIENCE).close()
+            return
+        except lunskaf.Lost:
+            time.sleep(0.01)
+
+
 class Place:
     """A node HERE of the tree with its console, and the words by which AWAY is started."""
 
@@ -133,14 +144,7 @@ class Place:
         self.wait()
 
     def wait(self):
-        """Waits until the node listens, or has ended."""
-        until = time.monotonic() + PATIENCE
-        while time.monotonic() < until and self.node.child.poll() is None:
-            try:
-                lunskaf.connected(self.where, PATIENCE).close()
-                return
-            except lunskaf.Lost:
-                time.sleep(0.01)
+        wait_for(self.where, self.node)
 
     def start_away(self):
         words = [self.tree, "AWAY", os.path.join(self.folder, "away"), "--endless"]
@@ -580,9 +584,7 @@ class Detector:
     def start(self, station):
         words = [self.path, station, os.path.join(self.folder, station), "--endless", "--console", self.where(station)]
         self.nodes[station] = nodes.Node(self.program, words)
-        until = time.monotonic() + PATIENCE
-        while not os.path.exists(self.where(station)) and time.monotonic() < until:
-            time.sleep(0.01)
+        wait_for(self.where(station), self.nodes[station])
 
     def order(self, operator, *words):
         """Gives an order at its operator's station; how it ended."""
