@@ -33,6 +33,5 @@ impl Witness for Nobody {
         _event: &Event<'_>,
         _made: &Result<Heard, StepFault>,
         _out: &Out,
-    ) {
-    }
+    ) {}
 }
