@@ -35,8 +35,8 @@ install: bin/smi
 	install -D -m 644 package/smi.sysusers $(DESTDIR)$(PREFIX)/lib/sysusers.d/smi.conf
 	install -d $(DESTDIR)$(PREFIX)/share/man/man1 $(DESTDIR)$(PREFIX)/lib/systemd/system
 	sed 's#@SHARE@#$(SHARE)#g; s#@DOC@#$(DOC)#g' package/smi.1 > $(DESTDIR)$(PREFIX)/share/man/man1/smi.1
-	sed 's#/usr/local/bin/smi#$(BIN)/smi#' examples/smi-node@.service \
-		> $(DESTDIR)$(PREFIX)/lib/systemd/system/smi-node@.service
+	for UNIT in smi-node@ smi-screen; do sed 's#/usr/local/bin/smi#$(BIN)/smi#' examples/$$UNIT.service \
+		> $(DESTDIR)$(PREFIX)/lib/systemd/system/$$UNIT.service; done
 	install -d $(DESTDIR)$(SHARE)/tools $(DESTDIR)$(SHARE)/examples $(DESTDIR)$(DOC)/docs/pictures
 	install -m 644 $(TOOLS:%=tools/%.py) $(DESTDIR)$(SHARE)/tools
 	install -m 644 $(filter-out %.service,$(wildcard examples/*)) $(DESTDIR)$(SHARE)/examples

@@ -28,6 +28,7 @@ import lines  # noqa: E402
 # What is installed, from the folder of the installation, without the documents.
 INSTALLED = """bin/smi
 lib/systemd/system/smi-node@.service
+lib/systemd/system/smi-screen.service
 lib/sysusers.d/smi.conf
 share/bash-completion/completions/smi
 share/man/man1/smi.1
