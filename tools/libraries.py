@@ -102,7 +102,8 @@ def main():
     words.add_argument("crates", nargs="*", metavar="CRATE")
     said = words.parse_args()
     if said.one:
-        kit.rt.share_work(is_alone=True)
+        # (older toolchains have no such word, and do not keep others out)
+        getattr(kit.rt, "share_work", lambda **_: None)(is_alone=True)
         sys.exit(kit.crates([said.one])[0].build_rlib([], anew=False))
     below = {it.name for crate in kit.crates(said.crates) for it in crate.below()}
     missing = [it for it in kit.crates() if it.name in below and not it.is_built()]
