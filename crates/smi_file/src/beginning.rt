@@ -1,8 +1,10 @@
 //! The first page of a new file.
 
-ghost use Rattle.std.specs.Prelude.{◌≡◌, length, true, false, [], IfOk, OnOk, IsTrue};
+ghost use Rattle.std.specs.Prelude.{◌≡◌, ◌≤◌, ◌⊎◌, ℕ, List, length, true, false, [], IfOk, IfErr, OnOk, IsTrue};
+ghost use Rattle.sqlite_disk.specs.Disk.{Follows, MoreFaults, Only};
 ghost use Rattle.sqlite_wal.specs.Reads.{AreClean};
-ghost use Rattle.smi_file.specs.Beginning.{first_bytes, is_part_of, is_unbegun};
+ghost use Rattle.smi_file.specs.Beginning.{first_bytes, is_part_of, is_unbegun, BegunFrom, LeftAlone, MayHoldRows};
+ghost use Rattle.smi_file.specs.Beginning.{PartlyBegun};
 
 use sqlite_disk::{Disk, Files};
 use std::io;
@@ -49,6 +51,10 @@ fn is_unbegun<D: Disk>(db: &mut D, room: &mut [u8]) -> io::Result<bool>
     ensures seen { D.Disk.seen db.new ≡ D.Disk.seen db.old }
     ensures clean { IsTrue (D.Disk.is_clean db.new) → IsTrue (D.Disk.is_clean db.old) }
     ensures usable { IsTrue (D.Disk.is_usable db.new) }
+    ensures fault { IfErr result (λ _. (IsTrue (D.Disk.is_clean db.old)
+        → length room.old ≤ length (D.Disk.seen db.old)) → MoreFaults (D.Disk.faults db.old) (D.Disk.faults db.new)) }
+    ensures counted { OnOk result (D.Disk.faults db.new ≡ D.Disk.faults db.old) }
+    ensures crash { (c : List ℕ) → D.Disk.may_leave db.new c → D.Disk.may_leave db.old c }
 {
     db.read_at(0, room)?;
     Ok(is_part_of(room, &first_page()))
@@ -58,32 +64,46 @@ fn is_unbegun<D: Disk>(db: &mut D, room: &mut [u8]) -> io::Result<bool>
 fn write_first_page<D: Disk>(db: &mut D) -> io::Result<()>
     requires { IsTrue (D.Disk.is_usable db.old) }
     ensures written { OnOk result (D.Disk.seen db.new ≡ first_bytes) }
+    ensures kept { OnOk result (Only first_bytes (D.Disk.may_leave db.new)) }
     ensures clean { IsTrue (D.Disk.is_clean db.new) → IsTrue (D.Disk.is_clean db.old) }
+    ensures fault { IfErr result (λ _. MoreFaults (D.Disk.faults db.old) (D.Disk.faults db.new)) }
+    ensures crash { Follows BegunFrom (D.Disk.may_leave db.old) (D.Disk.may_leave db.new) }
+    ensures mixed { IsTrue (D.Disk.is_mixing db.old)
+        → Follows PartlyBegun (D.Disk.may_leave db.old) (D.Disk.may_leave db.new) }
 {
-    db.set_len(0)?;
     db.write_at(0, &first_page())?;
+    db.set_len(PAGE_BYTES)?;
     db.sync()
 }
 
 /// Begins a new file, which holds nothing and has an empty log beside it: writes its first page and hands it to the
 /// device. Tells whether it did.
 ///
-/// Any other file is left alone. What a stop or a full disk leaves of the page counts as nothing, so that the file is
-/// begun at the next try.
+/// Any other file is left alone, whatever is told, and at each moment in between. What a stop or a full disk leaves of
+/// the page counts as nothing, so that the file is begun at the next try.
 ///
 /// # Errors
 ///
-/// What the disk answers. The file may then hold a part of the page.
+/// What the disk answers, where one of its calls failed. A file that was to be begun may then hold a part of the page.
 pub fn begin<D: Disk>(files: &mut Files<D>) -> io::Result<bool>
     requires log { IsTrue (D.Disk.is_usable files.old.log) }
     requires db { IsTrue (D.Disk.is_usable files.old.db) }
-    ensures log { D.Disk.seen files.new.log ≡ D.Disk.seen files.old.log }
-    ensures kept { IfOk result (λ is_begun. is_begun ≡ false → D.Disk.seen files.new.db ≡ D.Disk.seen files.old.db) }
+    ensures log { LeftAlone D.Disk.seen D.Disk.may_leave files.old.log files.new.log }
+    ensures left { AreClean D.Disk files.new.log files.new.db
+        → MayHoldRows (D.Disk.seen files.old.log) (D.Disk.seen files.old.db)
+        → LeftAlone D.Disk.seen D.Disk.may_leave files.old.db files.new.db }
+    ensures kept { IfOk result (λ is_begun. is_begun ≡ false
+        → LeftAlone D.Disk.seen D.Disk.may_leave files.old.db files.new.db) }
     ensures new { IfOk result (λ is_begun. is_begun ≡ true → AreClean D.Disk files.new.log files.new.db
         → (D.Disk.seen files.old.log ≡ []) × (is_unbegun (D.Disk.seen files.old.db) ≡ true)) }
     ensures other { IfOk result (λ is_begun. is_begun ≡ false → AreClean D.Disk files.new.log files.new.db
         → D.Disk.seen files.old.log ≡ [] → is_unbegun (D.Disk.seen files.old.db) ≡ false) }
-    ensures begun { IfOk result (λ is_begun. is_begun ≡ true → D.Disk.seen files.new.db ≡ first_bytes) }
+    ensures begun { IfOk result (λ is_begun. is_begun ≡ true → (D.Disk.seen files.new.db ≡ first_bytes)
+        × Only first_bytes (D.Disk.may_leave files.new.db)) }
+    ensures fault { IfErr result (λ _. AreClean D.Disk files.new.log files.new.db
+        → MoreFaults (D.Disk.faults files.old.log) (D.Disk.faults files.new.log)
+        ⊎ MoreFaults (D.Disk.faults files.old.db) (D.Disk.faults files.new.db)) }
+    ensures crash { Follows BegunFrom (D.Disk.may_leave files.old.db) (D.Disk.may_leave files.new.db) }
 {
     if files.log.len()? > 0 {
         return Ok(false);

@@ -6,6 +6,7 @@ ghost use Rattle.sqlite.specs.State.{HasCleanDisk};
 ghost use Rattle.sqlite.specs.Held.{IsNew};
 ghost use Rattle.sqlite.specs.Opening.{is_open_error};
 ghost use Rattle.sqlite.specs.Files.{file_state, IsOpened};
+ghost use Rattle.sqlite_std_file.specs.declared.OpenError.TheVariants as OpenError;
 
 use crate::beginning::begin;
 use sqlite::{Connection, Error, ErrorCode, File, FileStore, Unknown};
@@ -50,7 +51,12 @@ fn begin_at(rt: &HostRuntime, path: &str) -> Result<bool, OpenError> {
     Ok(begin(&mut files)?)
 }
 
-fn is_out_of_memory(fault: &OpenError) -> bool {
+/// Whether memory was refused. Someone else has the file where it is busy or its journal is hot, which is not that.
+fn is_out_of_memory(fault: &OpenError) -> bool
+    ensures refused { fault.now ≡ OpenError.OutOfMemory → result ≡ true }
+    ensures busy { fault.now ≡ OpenError.Busy → result ≡ false }
+    ensures hot { fault.now ≡ OpenError.HotJournal → result ≡ false }
+{
     match fault {
         OpenError::OutOfMemory => true,
         OpenError::Io(error) => error.kind() == ErrorKind::OutOfMemory,
