@@ -12,7 +12,7 @@ use Rattle.std.proofs.lemmas.Bool.Decides.{nat_tests}
 use Rattle.smi_grant.specs.Record.{Standing, fresh}
 use Rattle.smi_cli.specs.declared.answer.Answered.{Answered}
 use Rattle.smi_cli.specs.declared.answer.Answered.TheVariants.{Ended, Refused}
-use Rattle.smi_cli.specs.Answer.{IsDone, pieces, answers, ending}
+use Rattle.smi_cli.specs.Answer.{AnswersWhole, IsDone, pieces, answers, ending}
 use Rattle.smi_cli.specs.Keeper.{answer_to}
 use Rattle.smi_message.specs.Bad.{refusal_code}
 use Rattle.smi_message.specs.declared.Bad.TheVariants as bad
@@ -26,6 +26,9 @@ pub record Going (input left piece : List ℕ) (r : Standing) (k : ℕ) (w0 w : 
   pub written : Appends w0 w told
   pub answers_are : answers fresh (pieces input) ≡ told ++ answers r (pieces (piece ++ left))
   pub ending_is : ending 0 fresh (pieces input) ≡ ending k r (pieces (piece ++ left))
+  pub whole : List ℕ
+  pub input_is : input ≡ whole ++ (piece ++ left)
+  pub whole_told : (later : List ℕ) → answers fresh (pieces (whole ++ later)) ≡ told ++ answers r (pieces later)
 
 abbrev pub Goes : Option (List ℕ) → Option (List ℕ) → List ℕ → Standing → ℕ → Option (List ℕ) → Option (List ℕ) → Type 0
 Goes None b piece r k w0 w = Unit {0}
@@ -34,7 +37,16 @@ Goes (Some input) (Some left) piece r k w0 w = Going input left piece r k w0 w
 
 pub start : (a w : Option (List ℕ)) → Goes a a [] fresh 0 w w
 start None w = tt
-start (Some input) w = record { told = []; written = Appends-nil w; answers_are = refl; ending_is = refl }
+start (Some input) w =
+    record {
+      told = [];
+      written = Appends-nil w;
+      answers_are = refl;
+      ending_is = refl;
+      whole = [];
+      input_is = refl;
+      whole_told = λ later. refl;
+    }
 
 pub reads : (a b c : Option (List ℕ)) (piece bs : List ℕ) (r : Standing) (k : ℕ) (w0 w : Option (List ℕ))
     → Goes a b piece r k w0 w → Consumes b c bs → Goes a c (piece ++ bs) r k w0 w
@@ -48,6 +60,9 @@ reads (Some i) (Some x) (Some y) piece bs r k w0 w g p =
       written = g.written;
       answers_are = g.answers_are ∙ ap (λ (t : List ℕ). g.told ++ answers r (pieces t)) e;
       ending_is = g.ending_is ∙ ap (λ (t : List ℕ). ending k r (pieces t)) e;
+      whole = g.whole;
+      input_is = g.input_is ∙ ap (λ (t : List ℕ). g.whole ++ t) e;
+      whole_told = g.whole_told;
     }
 
 pub keeps : (a b c : Option (List ℕ)) (piece : List ℕ) (r : Standing) (k : ℕ) (w0 w : Option (List ℕ))
@@ -111,20 +126,41 @@ leads_on r s u bytes left told t n h e l = (
       ∙ ap (λ (m : ℕ). ending m u (pieces (drop 44 left ++ later))) (omega arith),
 )
 
+-- whole datagrams are answered so from one record on, and lead to the other
+abbrev pub Tells : Standing → List ℕ → Standing → List ℕ → Type 0
+Tells r front s told = (later : List ℕ) → answers r (pieces (front ++ later)) ≡ told ++ answers s (pieces later)
+
+-- one more answer
+pub tells_on : (r s u : Standing) (front told p t : List ℕ) → length p ≡ 44 → answer_to s p ≡ Ok (u, t)
+    → Tells r front s told → Tells r (front ++ p) u (told ++ t)
+tells_on r s u front told p t h e l =
+    λ later. ap (λ (z : List ℕ). answers r (pieces z)) (append_assoc front p later) ∙ l (p ++ later)
+    ∙ ap (λ (x : List ℕ). told ++ x)
+    (ap (answers s) (pieces_first p later h) ∙ answers_ok s u p t (pieces later) e)
+    ∙ sym (append_assoc told t (answers u (pieces later)))
+
 -- ---- what the code does
 
 -- the answers are written
-pub written : (a b : Option (List ℕ)) (piece left t : List ℕ) (r s : Standing) (k n : ℕ) (w0 w v : Option (List ℕ))
+pub written : (a b : Option (List ℕ)) (piece front left t : List ℕ) (r s : Standing) (k n : ℕ)
+    (w0 w v : Option (List ℕ)) → piece ≡ front ++ left → Tells r front s t
     → Goes a b piece r k w0 w → Leads r piece s n left t → Appends w v t → Goes a b left s (k + n) w0 v
-written None b piece left t r s k n w0 w v g l q = tt
-written (Some i) None piece left t r s k n w0 w v g l q = absurd g
-written (Some i) (Some x) piece left t r s k n w0 w v g l q =
+written None b piece front left t r s k n w0 w v c f g l q = tt
+written (Some i) None piece front left t r s k n w0 w v c f g l q = absurd g
+written (Some i) (Some x) piece front left t r s k n w0 w v c f g l q =
     record {
       told = g.told ++ t;
       written = Appends-trans w0 w v g.told t g.written q;
       answers_are = g.answers_are ∙ ap (λ (z : List ℕ). g.told ++ z) (l.0 x)
           ∙ sym (append_assoc g.told t (answers s (pieces (left ++ x))));
       ending_is = g.ending_is ∙ l.1 x k;
+      whole = g.whole ++ front;
+      input_is = g.input_is ∙ ap (λ (z : List ℕ). g.whole ++ (z ++ x)) c
+          ∙ ap (λ (z : List ℕ). g.whole ++ z) (append_assoc front left x)
+          ∙ sym (append_assoc g.whole front (left ++ x));
+      whole_told = λ later. ap (λ (z : List ℕ). answers fresh (pieces z)) (append_assoc g.whole front later)
+          ∙ g.whole_told (front ++ later) ∙ ap (λ (z : List ℕ). g.told ++ z) (f later)
+          ∙ sym (append_assoc g.told t (answers s (pieces later)));
     }
 
 abbrev pub Finishes : Option (List ℕ) → Answered → Option (List ℕ) → Option (List ℕ) → Type 0
@@ -187,6 +223,24 @@ pub has_front : (a b : Option (List ℕ)) (piece : List ℕ) (r : Standing) (k :
 has_front None b piece r k w0 w g = tt
 has_front (Some i) None piece r k w0 w g = absurd g
 has_front (Some i) (Some x) piece r k w0 w g = (g.told, answers r (pieces (piece ++ x)), g.answers_are, g.written)
+
+-- where reading ends here, what was read is answered up to the last whole datagram
+pub ends_here : (P : Type 0) (a b : Option (List ℕ)) (piece : List ℕ) (r : Standing) (k : ℕ)
+    (w0 w : Option (List ℕ)) → length piece < 44 → Goes a b piece r k w0 w
+    → IfSome a (λ input. P → IfSome b (λ left. AnswersWhole input left w0 w))
+ends_here P None b piece r k w0 w h g = tt
+ends_here P (Some i) None piece r k w0 w h g = absurd g
+ends_here P (Some i) (Some x) piece r k w0 w h g =
+    let all : answers fresh (pieces g.whole) ≡ g.told =
+    ap (λ (z : List ℕ). answers fresh (pieces z)) (sym (append-nil g.whole)) ∙ g.whole_told []
+    ∙ ap (λ (z : List ℕ). g.told ++ z) (ap (answers r) pieces_nil ∙ answers_nil r) ∙ append-nil g.told in
+    λ _. record {
+      whole = g.whole;
+      rest = piece;
+      read = g.input_is;
+      short = h;
+      written = subst (Appends w0 w) (sym all) g.written;
+    }
 
 -- some bytes of the next answers have been written
 pub front_more : (a b : Option (List ℕ)) (piece left t : List ℕ) (m : ℕ) (r s : Standing) (k n : ℕ)

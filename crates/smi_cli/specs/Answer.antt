@@ -1,6 +1,7 @@
 -- What is answered to a whole input.
-use Rattle.std.specs.Prelude.{ℕ, zero, suc, ◌+◌, List, [], ◌∷◌, ◌++◌, length, take, drop, Ok, Err}
-use Rattle.smi_grant.specs.Record.{Standing}
+use Rattle.std.specs.Prelude.{ℕ, zero, suc, ◌≡◌, ◌+◌, ◌<◌, List, [], ◌∷◌, ◌++◌, length, take, drop, Ok, Err, Option}
+use Rattle.std.specs.Io.KnownBytes.{Appends}
+use Rattle.smi_grant.specs.Record.{Standing, fresh}
 use Rattle.smi_message.specs.Bad.{refusal_code}
 use Rattle.smi_cli.specs.declared.answer.Answered.{Answered}
 use Rattle.smi_cli.specs.declared.answer.Answered.TheVariants.{Ended, Refused, ReadFault, WriteFault, Memory}
@@ -41,3 +42,12 @@ first_fault (Refused k c) = WriteFault
 first_fault ReadFault = ReadFault
 first_fault WriteFault = WriteFault
 first_fault Memory = Memory
+
+-- of an input of which so much is left, all whole datagrams that were read are answered; fewer than 44 bytes came after
+-- them
+pub record AnswersWhole (input left : List ℕ) (before after : Option (List ℕ)) : Type 0 where
+  pub whole : List ℕ
+  pub rest : List ℕ
+  pub read : input ≡ whole ++ (rest ++ left)
+  pub short : length rest < 44
+  pub written : Appends before after (answers fresh (pieces whole))

@@ -6,7 +6,7 @@ ghost use Rattle.std.specs.Io.KnownBytes.{Appends};
 ghost use Rattle.smi_grant.specs.Record.{fresh};
 ghost use Rattle.smi_message.specs.declared.refusal.Refusal.{Refusal};
 ghost use Rattle.smi_cli.specs.Keeper.{answer_to};
-ghost use Rattle.smi_cli.specs.Answer.{IsDone, answers, ending, first_fault, pieces};
+ghost use Rattle.smi_cli.specs.Answer.{AnswersWhole, IsDone, answers, ending, first_fault, pieces};
 
 use crate::keeper::Keeper;
 use smi_message::{Bad, Refusal};
@@ -52,6 +52,8 @@ fn answer_each(keeper: &mut Keeper, bytes: &[u8], told: &mut [u8; BLOCK]) -> Pro
     ensures answered { (later : List ℕ) → answers keeper.old (pieces (bytes.now ++ later))
         ≡ take (result.count * 44) told.new ++ answers keeper.new
         (pieces (drop (result.count * 44) bytes.now ++ later)) }
+    ensures front { (later : List ℕ) → answers keeper.old (pieces (take (result.count * 44) bytes.now ++ later))
+        ≡ take (result.count * 44) told.new ++ answers keeper.new (pieces later) }
     ensures ending { (later : List ℕ) (k : ℕ) → ending k keeper.old (pieces (bytes.now ++ later))
         ≡ ending (k + result.count) keeper.new (pieces (drop (result.count * 44) bytes.now ++ later)) }
     ensures whole { result.refusal ≡ None → length bytes.now < result.count * 44 + 44 }
@@ -86,6 +88,9 @@ fn answer_all<R: Read, W: Write>(reader: &mut R, writer: &mut W) -> Answered
     ensures front { IfSome (R.remaining reader.old) (λ input. (front rest : List ℕ) ×
         (answers fresh (pieces input) ≡ front ++ rest)
         × Appends (W.contents writer.old) (W.contents writer.new) front) }
+    ensures read { IfSome (R.remaining reader.old) (λ input. result ≡ Answered.ReadFault
+        → IfSome (R.remaining reader.new) (λ left. AnswersWhole input left (W.contents writer.old)
+        (W.contents writer.new))) }
 {
     let mut keeper = Keeper::new();
     let mut block = [0; BLOCK];
@@ -140,6 +145,10 @@ pub fn answer<R: Read, W: Write>(reader: &mut R, writer: &mut W) -> Answered
     ensures front { IfSome (R.remaining reader.old) (λ input. (front rest : List ℕ) ×
         (answers fresh (pieces input) ≡ front ++ rest)
         × Appends (W.contents writer.old) (W.contents writer.new) front) }
+    // Where a read failed, what was read before it is answered, up to the last whole datagram.
+    ensures read { IfSome (R.remaining reader.old) (λ input. result ≡ Answered.ReadFault
+        → IfSome (R.remaining reader.new) (λ left. AnswersWhole input left (W.contents writer.old)
+        (W.contents writer.new))) }
 {
     let answered = answer_all(reader, writer);
     match writer.flush() {
@@ -151,6 +160,7 @@ pub fn answer<R: Read, W: Write>(reader: &mut R, writer: &mut W) -> Answered
 /// What is told where the flush failed: the first fault.
 fn unflushed(answered: Answered) -> Answered
     ensures first { result ≡ first_fault answered }
+    ensures read { result ≡ Answered.ReadFault → answered ≡ Answered.ReadFault }
     ensures not_done { IsDone result → ⊥ }
 {
     match answered {

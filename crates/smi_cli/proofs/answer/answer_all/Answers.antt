@@ -1,8 +1,11 @@
-use Rattle.std.proofs.Common.{rules, ◌≡◌, ◌≤◌, ℕ, List, take, drop, ◌+◌, ◌-◌, ◌*◌, length, arith, sym, subst, ◌∙◌}
+use Rattle.std.proofs.Common.{rules, ◌≡◌, ◌≤◌, ℕ, List, take, drop, [], ◌+◌, ◌-◌, ◌*◌, length, arith, sym, subst, ◌∙◌}
+use Rattle.std.proofs.Common.{take-append-drop}
 use Rattle.std.proofs.lemmas.List.{length-take, length-drop}
 use Rattle.smi_cli.specs.declared.answer.Answered.TheVariants.{Ended, Refused}
 use Rattle.smi_cli.proofs.Going.{Goes, Finishes, Leads, read_some, read_none, short, ended_here, refused, written}
-use Rattle.smi_cli.proofs.Going.{front_more, has_front, done_of, read_failed, after, block_long, moved}
+use Rattle.smi_cli.proofs.Going.{front_more, has_front, done_of, ends_here, keeps, read_failed, after, block_long}
+use Rattle.smi_cli.proofs.Going.{moved, start}
+use Rattle.smi_grant.specs.Record.{Standing}
 use Rattle.smi_cli.proofs.answer.answer_all.Goals as goal
 use Rattle.smi_cli.proofs.answer.answer_all.Goals.{in-Ok, in-Err+else-ne}
 
@@ -87,8 +90,12 @@ returns-in-Some-clause-done g c =
     ] in
     let leads : Leads c.reads.keeper _ c.answer_each-progress.new.keeper n _
     told = (c.answer_each-progress.ensures.answered, c.answer_each-progress.ensures.ending) in
-    let later = written a b _ _ told c.reads.keeper c.answer_each-progress.new.keeper c.reads.count n w0 w
-    (contents c.write_whole.new.writer) going leads c.in-Ok-write_whole.ensures.all in
+    let front = take (n * 44) (take c.match-read.end (after c.reads.rest c.reads.block c.read.new.buf)) in
+    let cut = sym (take-append-drop (n * 44) (take c.match-read.end (after c.reads.rest c.reads.block
+    c.read.new.buf))) in
+    let later = written a b _ front _ told c.reads.keeper c.answer_each-progress.new.keeper c.reads.count n w0 w
+    (contents c.write_whole.new.writer) cut c.answer_each-progress.ensures.front going leads
+    c.in-Ok-write_whole.ensures.all in
     let stop = c.answer_each-progress.ensures.refused c.in-Some.refusal c.in-Some.is in
     let finished = refused a b _ c.answer_each-progress.new.keeper (c.reads.count + n) c.in-Some.refusal w0
     (contents c.write_whole.new.writer) (omega (
@@ -122,9 +129,45 @@ returns-in-Some-clause-front g c =
     ] in
     let leads : Leads c.reads.keeper _ c.answer_each-progress.new.keeper n _
     told = (c.answer_each-progress.ensures.answered, c.answer_each-progress.ensures.ending) in
-    let later = written a b _ _ told c.reads.keeper c.answer_each-progress.new.keeper c.reads.count n w0 w
-    (contents c.write_whole.new.writer) going leads c.in-Ok-write_whole.ensures.all in
+    let front = take (n * 44) (take c.match-read.end (after c.reads.rest c.reads.block c.read.new.buf)) in
+    let cut = sym (take-append-drop (n * 44) (take c.match-read.end (after c.reads.rest c.reads.block
+    c.read.new.buf))) in
+    let later = written a b _ front _ told c.reads.keeper c.answer_each-progress.new.keeper c.reads.count n w0 w
+    (contents c.write_whole.new.writer) cut c.answer_each-progress.ensures.front going leads
+    c.in-Ok-write_whole.ensures.all in
     has_front a b _ c.answer_each-progress.new.keeper (c.reads.count + n) w0 (contents c.write_whole.new.writer) later
+
+pub returns-then-ne-clause-read : goal.returns-then-ne-clause-read
+returns-then-ne-clause-read g c =
+    let remaining = g.R.Read.remaining in
+    let contents = g.W.Write.contents in
+    let piece = take c.reads.rest c.reads.block in
+    let going = keeps (remaining c.args.reader.now) (remaining c.reads.reader) (remaining c.read.new.self) piece
+    c.reads.keeper c.reads.count (contents c.args.writer.now) (contents c.reads.writer) c.reads.invariant.going
+    c.in-Err.ensures.bytes in
+    ends_here _ (remaining c.args.reader.now) (remaining c.read.new.self) piece c.reads.keeper c.reads.count
+    (contents c.args.writer.now) (contents c.reads.writer)
+    (omega (arith, c.reads.invariant.within, length-take c.reads.rest c.reads.block)) going
+
+pub returns-clause-read : goal.returns-clause-read
+returns-clause-read g c =
+    let remaining = g.R.Read.remaining in
+    let contents = g.W.Write.contents in
+    ends_here _ (remaining c.args.reader.now) (remaining c.reads.reader) (take c.reads.rest c.reads.block)
+    c.reads.keeper c.reads.count (contents c.args.writer.now) (contents c.reads.writer)
+    (omega (arith, c.reads.invariant.within, length-take c.reads.rest c.reads.block)) c.reads.invariant.going
+
+pub reads-init : goal.reads-init
+reads-init g c =
+    let a = g.R.Read.remaining c.args.reader.now in
+    let w = g.W.Write.contents c.args.writer.now in
+    record {
+      long = search rules;
+      long_told = search rules;
+      within = search rules;
+      counted = search rules;
+      going = subst (λ (r : Standing). Goes a a [] r 0 w w) (sym c.new-keeper.ensures) (start a w);
+    }
 
 pub reads-preserved : goal.reads-preserved
 reads-preserved g c =
@@ -148,8 +191,12 @@ reads-preserved g c =
     ] in
     let leads : Leads c.reads.keeper _ c.answer_each-progress.new.keeper n _
     told = (c.answer_each-progress.ensures.answered, c.answer_each-progress.ensures.ending) in
-    let later = written a b _ _ told c.reads.keeper c.answer_each-progress.new.keeper c.reads.count n w0 w
-    (contents c.write_whole.new.writer) going leads c.in-Ok-write_whole.ensures.all in
+    let front = take (n * 44) (take c.match-read.end (after c.reads.rest c.reads.block c.read.new.buf)) in
+    let cut = sym (take-append-drop (n * 44) (take c.match-read.end (after c.reads.rest c.reads.block
+    c.read.new.buf))) in
+    let later = written a b _ front _ told c.reads.keeper c.answer_each-progress.new.keeper c.reads.count n w0 w
+    (contents c.write_whole.new.writer) cut c.answer_each-progress.ensures.front going leads
+    c.in-Ok-write_whole.ensures.all in
     let whole = c.answer_each-progress.ensures.whole c.in_default-refusal.is in
     let block = after c.reads.rest c.reads.block c.read.new.buf in
     let block_is : length block ≡ 65536 = block_long c.reads.rest c.reads.block c.read.new.buf long (omega arith)
