@@ -1,0 +1,70 @@
+//! The mark of a tree, as it stands beside a store.
+
+ghost use Rattle.std.specs.Prelude.{◌≡◌};
+ghost use Rattle.smi_origin.specs.Mark.{kin};
+
+/// How many bytes a mark has.
+pub const MARK_BYTES: usize = 34;
+
+/// The number of a tree, and the digest of what its file says.
+#[derive(Clone, Copy, Debug, PartialEq, Eq)]
+pub struct Mark {
+    pub number: u16,
+    pub digest: [u8; 32],
+}
+
+/// How a tree compares with the one that a store was made for.
+#[derive(Clone, Copy, Debug, PartialEq, Eq)]
+pub enum Kinship {
+    /// It is the same, word for word.
+    Same,
+    /// It has the same number, and its file says something else.
+    Changed,
+    /// It has another number.
+    Other,
+}
+
+impl Mark {
+    ghost use Rattle.std.specs.Prelude.{◌≡◌, ◌≢◌, length, IfSome, None};
+    ghost use Rattle.smi_origin.specs.Mark.{mark_bytes};
+
+    /// The bytes of the mark (docs/FORMATS.md, "The mark of a store").
+    pub fn bytes(&self) -> [u8; MARK_BYTES]
+        ensures { result ≡ mark_bytes self.now }
+    {
+        let mut bytes = [0; MARK_BYTES];
+        bytes[..2].copy_from_slice(&self.number.to_be_bytes());
+        bytes[2..].copy_from_slice(&self.digest);
+        bytes
+    }
+
+    /// The mark of these bytes; none where they are not as many as a mark has.
+    pub fn of(bytes: &[u8]) -> Option<Mark>
+        ensures found { IfSome result (λ mark. bytes.now ≡ mark_bytes mark) }
+        ensures none { result ≡ None → length bytes.now ≢ MARK_BYTES }
+    {
+        if bytes.len() != MARK_BYTES {
+            return None;
+        }
+        let (number, rest) = bytes.split_at(2);
+        let mut digest = [0; 32];
+        digest.copy_from_slice(rest);
+        Some(Mark {
+            number: u16::from_be_bytes([number[0], number[1]]),
+            digest,
+        })
+    }
+}
+
+/// How the tree of one mark compares with that of another.
+pub fn compare(own: &Mark, other: &Mark) -> Kinship
+    ensures { result ≡ kin own.now other.now }
+{
+    if own.number != other.number {
+        Kinship::Other
+    } else if own.digest != other.digest {
+        Kinship::Changed
+    } else {
+        Kinship::Same
+    }
+}
