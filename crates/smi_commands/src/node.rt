@@ -1,14 +1,15 @@
 //! A node: its tree file is read, its station found, its store opened, and then it is run.
 
-use crate::tree::read_tree;
+use crate::tree::read_marked;
 use smi_cli::status::{Status, no_memory, store_fault, wrong_line};
 use smi_crew::{Console, Place, Plan, Turns, run};
 use smi_disks::Stores;
 use smi_line::{NodeLine, Words, bytes_of};
+use smi_origin::{Kinship, Mark};
 use smi_rows::StoreFault;
 use smi_tree::Tree;
 use std::alloc::{AllocError, Global};
-use std::io::{Read, Write};
+use std::io::{ErrorKind, Read, Write};
 use std::net::{Net, SocketAddr, SocketAddrV4};
 use std::rt::Files;
 use std::sync::{Arc, Wait};
@@ -55,39 +56,75 @@ fn places_of(alloc: Global, line: &NodeLine<'_>) -> Result<Vec<Place>, AllocErro
     Ok(places)
 }
 
-/// What a node of this line is run with, as far as its words say it.
+/// What a node of this line is run with, as far as its words say it, and the mark of its tree.
 fn plan_of<H: Files + AllocGlobal, F: Write>(
     host: &H,
     words: &Words,
     line: NodeLine<'_>,
     faults: &mut F,
-) -> Result<Plan, Status> {
-    let tree = read_tree(host, bytes_of(words, line.tree), faults)?;
+) -> Result<(Plan, Mark), Status> {
+    let (tree, mark) = read_marked(host, bytes_of(words, line.tree), faults)?;
     let tree = shared(host.alloc(), tree, faults)?;
     let Some(station) = tree.station_named(line.station.as_bytes()) else {
         return Err(wrong_line(faults));
     };
     match places_of(host.alloc(), &line) {
-        Ok(consoles) => Ok(Plan {
-            tree,
-            station,
-            turns: turns_of(line.turns),
-            consoles,
-        }),
+        Ok(consoles) => {
+            let plan = Plan {
+                tree,
+                station,
+                turns: turns_of(line.turns),
+                consoles,
+            };
+            Ok((plan, mark))
+        }
         Err(_) => Err(no_memory(faults)),
     }
 }
 
-/// The store of a path, or what is told of it.
+/// Whether the tree of this mark may go on with the store of a path; what is amiss is told.
+///
+/// A tree of another number may not, since its operators are others. One whose file says something else may, and then
+/// it is for the rows to tell whether they fit.
+fn may_go_on<H: Stores, F: Write>(
+    host: &H,
+    path: &[u8],
+    mark: &Mark,
+    faults: &mut F,
+) -> Result<(), Status> {
+    match host.kinship(path, mark) {
+        Ok(Kinship::Same) => Ok(()),
+        Ok(Kinship::Changed) => {
+            let _ = writeln!(faults, "store of a changed tree");
+            Ok(())
+        }
+        Ok(Kinship::Other) => {
+            let _ = writeln!(faults, "store of another tree");
+            Err(Status::Refused)
+        }
+        Err(e) if e.kind() == ErrorKind::OutOfMemory => Err(no_memory(faults)),
+        Err(_) => Err(store_fault(faults)),
+    }
+}
+
+/// The store of a path that is a store of the tree of this mark, or what is told of it. Nothing is saved.
 pub(crate) fn opened<H: Stores, F: Write>(
     host: &H,
     path: &[u8],
+    mark: &Mark,
     faults: &mut F,
 ) -> Result<H::Open, Status> {
-    match host.open(path) {
-        Ok(stable) => Ok(stable),
-        Err(StoreFault::Memory) => Err(no_memory(faults)),
-        Err(_) => Err(store_fault(faults)),
+    let stable = match host.open(path) {
+        Ok(stable) => stable,
+        Err(StoreFault::Memory) => return Err(no_memory(faults)),
+        Err(_) => return Err(store_fault(faults)),
+    };
+    match may_go_on(host, path, mark, faults) {
+        Ok(()) => Ok(stable),
+        Err(status) => {
+            host.close(stable);
+            Err(status)
+        }
     }
 }
 
@@ -105,11 +142,11 @@ pub fn run_node<
     console: Console<I, O, E>,
     faults: &mut F,
 ) -> Status {
-    let plan = match plan_of(host, words, line, faults) {
-        Ok(plan) => plan,
+    let (plan, mark) = match plan_of(host, words, line, faults) {
+        Ok(found) => found,
         Err(status) => return status,
     };
-    match opened(host, bytes_of(words, line.store), faults) {
+    match opened(host, bytes_of(words, line.store), &mark, faults) {
         Ok(stable) => {
             let (status, stable) = run(host, &plan, stable, console, faults);
             host.close(stable);

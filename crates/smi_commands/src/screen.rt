@@ -1,12 +1,13 @@
 //! A screen: its tree file is read, its station found, its store opened, and then it looks.
 
 use crate::node::opened;
-use crate::tree::read_tree;
+use crate::tree::read_marked;
 use bytes::Bytes;
 use smi_cli::status::{Status, no_memory, read_fault, wrong_line};
 use smi_crew::{addresses, link_fault, opening_fault, stopped, told};
 use smi_disks::Stores;
 use smi_line::{ScreenLine, Words, bytes_of};
+use smi_origin::Mark;
 use smi_page::page_bytes;
 use smi_screen::{Ended, Plan, hosts_of, run};
 use smi_tree::Tree;
@@ -62,6 +63,7 @@ fn looked<
     host: &H,
     words: &Words,
     tree: &Tree,
+    mark: &Mark,
     station: u16,
     line: ScreenLine<'_>,
     faults: &mut F,
@@ -72,7 +74,7 @@ fn looked<
     let Ok(plan) = plan_of(host.alloc(), tree, station, line) else {
         return no_memory(faults);
     };
-    match opened(host, bytes_of(words, line.store), faults) {
+    match opened(host, bytes_of(words, line.store), mark, faults) {
         Ok(stable) => {
             let (how, stable) = run(host, tree, keys, plan, stable);
             host.close(stable);
@@ -93,12 +95,12 @@ pub fn run_screen<
         + AllocGlobal,
     F: Write,
 >(host: &H, words: &Words, line: ScreenLine<'_>, faults: &mut F) -> Status {
-    let tree = match read_tree(host, bytes_of(words, line.tree), faults) {
-        Ok(tree) => tree,
+    let (tree, mark) = match read_marked(host, bytes_of(words, line.tree), faults) {
+        Ok(found) => found,
         Err(status) => return status,
     };
     match tree.station_named(line.station.as_bytes()) {
-        Some(station) => looked(host, words, &tree, station, line, faults),
+        Some(station) => looked(host, words, &tree, &mark, station, line, faults),
         None => wrong_line(faults),
     }
 }

@@ -3,6 +3,7 @@
 use smi_cli::status::{Status, no_memory, read_fault};
 use smi_disks::open;
 use smi_limits::MOST_BYTES_OF_A_FILE;
+use smi_origin::{Mark, digest};
 use smi_tree::{Tree, TreeFault};
 use std::alloc::Global;
 use std::io::{self, ErrorKind, Read, Write};
@@ -20,19 +21,47 @@ pub fn tree_bytes<H: Files + AllocGlobal>(host: &H, path: &[u8]) -> io::Result<V
     Ok(bytes)
 }
 
+/// The bytes of a tree file, or what is told where they can't be had.
+fn read_bytes<H: Files + AllocGlobal, F: Write>(
+    host: &H,
+    path: &[u8],
+    faults: &mut F,
+) -> Result<Vec<u8>, Status> {
+    match tree_bytes(host, path) {
+        Ok(bytes) => Ok(bytes),
+        Err(e) if e.kind() == ErrorKind::OutOfMemory => Err(no_memory(faults)),
+        Err(_) => Err(read_fault(faults)),
+    }
+}
+
 /// The tree of a file, or what is told of it.
 pub fn read_tree<H: Files + AllocGlobal, F: Write>(
     host: &H,
     path: &[u8],
     faults: &mut F,
 ) -> Result<Tree, Status> {
-    let bytes = match tree_bytes(host, path) {
-        Ok(bytes) => bytes,
-        Err(e) if e.kind() == ErrorKind::OutOfMemory => return Err(no_memory(faults)),
-        Err(_) => return Err(read_fault(faults)),
-    };
+    let bytes = read_bytes(host, path, faults)?;
     match Tree::read(host.alloc(), bytes.as_slice()) {
         Ok(tree) => Ok(tree),
+        Err(fault) => Err(tree_fault(fault, faults)),
+    }
+}
+
+/// The tree of a file with its mark, or what is told of it.
+pub fn read_marked<H: Files + AllocGlobal, F: Write>(
+    host: &H,
+    path: &[u8],
+    faults: &mut F,
+) -> Result<(Tree, Mark), Status> {
+    let bytes = read_bytes(host, path, faults)?;
+    let Ok(digest) = digest(host.alloc(), bytes.as_slice()) else {
+        return Err(no_memory(faults));
+    };
+    match Tree::read(host.alloc(), bytes.as_slice()) {
+        Ok(tree) => {
+            let number = tree.number();
+            Ok((tree, Mark { number, digest }))
+        }
         Err(fault) => Err(tree_fault(fault, faults)),
     }
 }

@@ -1,10 +1,13 @@
 //! Stores by their paths.
 
 use crate::listing::list;
+use crate::mark::kinship;
+use crate::watched::{Place, Watched};
 use smi_cli::rows::Listed;
+use smi_origin::{Kinship, Mark};
 use smi_stable::{SqliteStable, Stable, StoreFault};
 use sqlite::{Alter, Connection, Error, ErrorCode, File, FileStore};
-use std::io::Write;
+use std::io::{self, ErrorKind, Write};
 
 /// What opens and lists stores by their paths.
 pub trait Stores {
@@ -14,33 +17,71 @@ pub trait Stores {
     /// Writes the rows of a store, a line each.
     fn list<W: Write>(&self, path: &[u8], writer: &mut W) -> Listed;
 
-    /// Opens a store, or makes it, for one who writes it alone: while it is open, nobody else can open it so.
+    /// Opens a store, or makes it, for one who writes it alone: while it is open, nobody else can open it so. Where its
+    /// file is taken away meanwhile, the next save is unsure.
     fn open(&self, path: &[u8]) -> Result<Self::Open, StoreFault>;
+
+    /// How a tree compares with the one that the store of a path was made for. A store that has no mark gets that of
+    /// this tree, so this is asked while the store is open.
+    fn kinship(&self, path: &[u8], own: &Mark) -> io::Result<Kinship>;
 
     /// Closes a store: its log is copied into its file, as far as that can be done.
     fn close(&self, stable: Self::Open);
 }
 
 impl Stores for HostRuntime {
-    type Open = SqliteStable<FileStore<File>>;
+    type Open = Watched<SqliteStable<FileStore<File>>, Place<HostRuntime>>;
 
     fn list<W: Write>(&self, path: &[u8], writer: &mut W) -> Listed {
         list(self, path, writer)
     }
 
-    fn open(&self, path: &[u8]) -> Result<SqliteStable<FileStore<File>>, StoreFault> {
+    fn open(
+        &self,
+        path: &[u8],
+    ) -> Result<Watched<SqliteStable<FileStore<File>>, Place<HostRuntime>>, StoreFault> {
         let Ok(path) = str::from_utf8(path) else {
             return Err(StoreFault::Device);
         };
         match smi_file::open(self, path) {
-            Ok(connection) => adopted(connection),
+            Ok(connection) => watched(adopted(connection)?, placed(self, path)),
             Err(Error::SqliteFailure(ErrorCode::OutOfMemory)) => Err(StoreFault::Memory),
             Err(_) => Err(StoreFault::Device),
         }
     }
 
-    fn close(&self, stable: SqliteStable<FileStore<File>>) {
-        closed(stable);
+    fn kinship(&self, path: &[u8], own: &Mark) -> io::Result<Kinship> {
+        kinship(self, path, own)
+    }
+
+    fn close(&self, stable: Watched<SqliteStable<FileStore<File>>, Place<HostRuntime>>) {
+        closed(stable.into_inner());
+    }
+}
+
+/// The file that stands at the path of a store that is open.
+fn placed(host: &HostRuntime, path: &str) -> io::Result<Place<HostRuntime>> {
+    Place::of(host.clone()?, String::from_str(host.alloc(), path)?)
+}
+
+/// A store with the file that it is in, or what it means that this could not be looked at.
+fn watched<S: Alter, P>(
+    stable: SqliteStable<S>,
+    place: io::Result<P>,
+) -> Result<Watched<SqliteStable<S>, P>, StoreFault>
+where
+    Connection<S>: Ending,
+{
+    match place {
+        Ok(place) => Ok(Watched::new(stable, place)),
+        Err(e) => {
+            closed(stable);
+            if e.kind() == ErrorKind::OutOfMemory {
+                Err(StoreFault::Memory)
+            } else {
+                Err(StoreFault::Device)
+            }
+        }
     }
 }
 
