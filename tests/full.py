@@ -1,0 +1,216 @@
+"""Nodes over a tree that is full: nine stations, each at an address of its own, eight operators at one of them, and one
+that keeps all 128 domains with 512 devices and is killed and started again.
+
+usage: full.py SMI [TEXT]
+
+The stations stand at 127.1.2.3, 127.2.3.4 and so on, so that no two octets of an address can change places unseen, and
+the busy ones are the fifth, the seventh and the ninth. Expected lines are those of docs/FORMATS.md, "A node's lines".
+With a TEXT only the cases are run whose name has it. The last line is 'N passed, M failed'.
+"""
+
+import os
+import shutil
+import socket
+import sys
+import tempfile
+import time
+
+import nodes
+import stores
+import verdict
+
+# Where the crew sits, what keeps everything, and where one more operator is.
+CREW, KEEPER, LAST = 5, 7, 9
+STATIONS, OPERATORS, ROOTS, BELOW, DEVICES = 9, 8, 8, 15, 4
+HEAD = """tree 640
+state OFF
+state READY
+state RUNNING
+action CONFIGURE
+action START"""
+CLASSES = """devclass DEV OFF
+move DEV OFF CONFIGURE READY
+move DEV READY START RUNNING
+unitclass UNIT OFF
+accept UNIT CONFIGURE
+accept UNIT START
+all UNIT RUNNING RUNNING
+all UNIT READY READY
+all UNIT OFF OFF"""
+DOMAINS = ROOTS * (BELOW + 1)
+# An order is to be answered within so many seconds, on a machine that others use.
+SOON = 20
+
+
+def address(station):
+    return "127.%d.%d.%d" % (station, station + 1, station + 2)
+
+
+def free_port(station):
+    """A port that is free at the address of a station, and at no other address of them is asked for."""
+    while True:
+        (port,) = nodes.free_ports(1)
+        with socket.socket(socket.AF_INET, socket.SOCK_DGRAM) as one:
+            try:
+                one.bind((address(station), port))
+                return port
+            except OSError:
+                continue
+
+
+def root(number):
+    return "R%d" % number
+
+
+def child(number, place):
+    return "R%d_%d" % (number, place)
+
+
+def domains():
+    """The domains by number: each root right before those below it."""
+    for number in range(1, ROOTS + 1):
+        yield root(number), "-"
+        for place in range(1, BELOW + 1):
+            yield child(number, place), root(number)
+
+
+def tree_lines(ports):
+    lines = HEAD.splitlines()
+    lines += ["station S%d %s:%d" % (it, address(it), ports[it]) for it in range(1, STATIONS + 1)]
+    lines += ["operator OP%d S%d" % (it, CREW) for it in range(1, OPERATORS + 1)]
+    lines += ["operator FIRST S1", "operator ALONE S%d" % LAST]
+    lines += CLASSES.splitlines()
+    lines += ["domain %s S%d UNIT %s" % (name, KEEPER, above) for name, above in domains()]
+    lines += ["device %s_D%d %s DEV" % (name, place, name) for name, _ in domains()
+              for place in range(1, DEVICES + 1)]
+    return lines
+
+
+class Detector:
+    """The nodes of the tree, at their addresses."""
+
+    def __init__(self, program, folder):
+        self.program, self.folder = program, folder
+        ports = {station: free_port(station) for station in range(1, STATIONS + 1)}
+        self.tree = nodes.write_tree(folder, None, tree_lines(ports))
+        self.nodes = {}
+
+    def store(self, station):
+        return os.path.join(self.folder, "S%d.store" % station)
+
+    def start(self, station):
+        words = [self.tree, "S%d" % station, self.store(station), "--endless"]
+        self.nodes[station] = nodes.Node(self.program, words)
+
+    def ask(self, station, line):
+        return self.nodes[station].ask(line, SOON)
+
+    def end(self):
+        for node in self.nodes.values():
+            node.kill()
+
+
+def waits_for(node, line, wanted):
+    """Whether a node comes to answer a line so."""
+    until = time.monotonic() + SOON
+    while time.monotonic() < until:
+        if node.ask(line) == wanted:
+            return True
+        time.sleep(0.05)
+    return False
+
+
+def crew_cases(detector):
+    """Each of eight operators of one station takes a root of another's, includes what is below, and configures it."""
+    told = {it: [] for it in range(1, OPERATORS + 1)}
+    wanted = {}
+    for it in told:
+        orders = ["take " + root(it)]
+        orders += ["include %s %s" % (root(it), child(it, place)) for place in range(1, BELOW + 1)]
+        orders += ["do %s CONFIGURE" % root(it)]
+        wanted[it] = ["told OP%d %s 0" % (it, order) for order in orders]
+        told[it] = [detector.ask(CREW, "order OP%d %s" % (it, order)) for order in orders]
+    for it, lines in told.items():
+        yield "operator %d of eight commands a root and what is below it" % it, lines == wanted[it]
+    others = [detector.ask(CREW, "order OP%d do %s START" % (it % OPERATORS + 1, root(it))) for it in told]
+    yield "nobody commands another one's root", others == ["told OP%d do %s START 21" % (it % OPERATORS + 1, root(it))
+                                                            for it in told]
+
+
+def far_cases(detector):
+    """Stations before and behind the crew's reach the keeper, and its answers reach them."""
+    for station, name in [(1, "FIRST"), (LAST, "ALONE")]:
+        record = detector.ask(station, "order %s ask %s" % (name, root(OPERATORS)))
+        yield "station %d is answered" % station, record == "told %s ask %s OP%d 1 %d settled 0" % (
+            name, root(OPERATORS), OPERATORS, BELOW + 1)
+        refused = detector.ask(station, "order %s take %s" % (name, root(1)))
+        yield "station %d is told who holds a root" % station, refused == "told %s take %s 5" % (name, root(1))
+
+
+def shown_cases(detector, boot, state, sequence):
+    """Every object is watched by the crew, and comes to be shown."""
+    names = [name for name, _ in domains()]
+    names += ["%s_D%d" % (name, place) for name in list(names) for place in range(1, DEVICES + 1)]
+    if boot == 1:
+        told = [detector.ask(CREW, "order OP%d watch %s" % (1 + at % OPERATORS, name)) for at, name in enumerate(names)]
+        yield "all %d objects can be watched" % len(names), told == [
+            "told OP%d watch %s 0" % (1 + at % OPERATORS, name) for at, name in enumerate(names)]
+    missing = [name for name in names if not waits_for(detector.nodes[CREW], "show " + name, "board %s %d.%d %s" % (
+        name, boot, sequence, state))]
+    yield "all %d objects are shown at boot %d%s" % (len(names), boot, ", but " + missing[0] if missing else ""), (
+        not missing)
+
+
+def restart_cases(detector):
+    """The keeper of all domains is killed and started again: it has its rows, and goes on where it was."""
+    detector.nodes[KEEPER].kill()
+    before = dict(stores.rows_in(detector.store(KEEPER)))
+    yield "a keeper of 128 domains has a row of each", len(before) == DOMAINS + 1
+    detector.start(KEEPER)
+    told = detector.ask(CREW, "order OP%d do %s START" % (OPERATORS, root(OPERATORS)))
+    yield "a keeper of 128 domains starts again", told == "told OP%d do %s START 0" % (OPERATORS, root(OPERATORS))
+    record = detector.ask(CREW, "order OP1 ask %s" % root(1))
+    yield "it knows who holds what", record == "told OP1 ask %s OP1 1 %d settled 0" % (root(1), BELOW + 1)
+    # what devices are in is not stable: each shows its first state until it is reported
+    yield from shown_cases(detector, 2, "OFF", 0)
+    detector.nodes[KEEPER].kill()
+    after = dict(stores.rows_in(detector.store(KEEPER)))
+    yield "it has all its rows", sorted(after) == sorted(before)
+    yield "it has started twice", after[(KEEPER, 0, 0)].endswith("0000000000000002")
+    left = {key: row for key, row in before.items() if key[1] and not begins_with(key, root(OPERATORS))}
+    yield "the rows of other roots are unchanged", all(after[key] == row for key, row in left.items())
+
+
+def begins_with(key, name):
+    """Whether the domain of a row is this root, or stands below it."""
+    own = list(domains())[key[1] - 1]
+    return name in own
+
+
+def cases(program, folder):
+    detector = Detector(program, folder)
+    try:
+        for station in (1, CREW, KEEPER, LAST):
+            detector.start(station)
+        yield from crew_cases(detector)
+        yield from far_cases(detector)
+        yield from shown_cases(detector, 1, "READY", 1)
+        ended = [station for station, node in detector.nodes.items() if node.child.poll() is not None]
+        yield "no node ended by itself", not ended
+        yield from restart_cases(detector)
+    finally:
+        detector.end()
+
+
+def main():
+    program = os.path.abspath(sys.argv[1])
+    folder = tempfile.mkdtemp(prefix="full-")
+    try:
+        found = [it for it in cases(program, folder) if not sys.argv[2:] or sys.argv[2] in it[0]]
+    finally:
+        shutil.rmtree(folder, ignore_errors=True)
+    verdict.end(found)
+
+
+if __name__ == "__main__":
+    main()
