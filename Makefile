@@ -5,7 +5,7 @@ SOURCES := crates.txt $(shell find crates -path '*/out' -prune -o -type f \( -na
 # So many crates are proved side by side: one for each processor, and 4 GB for each.
 LANES := $(shell awk -v most=$$(nproc) '/^MemAvailable/ { fit = int($$2 / 4000000); print fit < 1 ? 1 : fit < most ? fit : most }' /proc/meminfo)
 
-.PHONY: smi run try test gate record check cases nodes consoles soak crowd shift screen browser demo tools documents pictures edits edits-test costs bench
+.PHONY: smi run try test gate record check cases nodes marks full consoles soak crowd shift screen browser bridge demo tools documents pictures edits edits-test costs bench
 .PHONY: install deb package
 
 # The program, proved and built, at bin/smi.
@@ -25,7 +25,7 @@ SHARE := $(PREFIX)/share/smi
 DOC := $(PREFIX)/share/doc/lunskaf
 ZSH := $(PREFIX)/share/zsh/site-functions
 # What a crew and whoever runs the machines may want beside the program.
-TOOLS := console draw firewall hierarchy lines lunskaf play record rows show
+TOOLS := console draw firewall hierarchy lines lunskaf play record rows show status tango_bridge
 
 # The program, its page, completion, the unit and its user, the tools, examples and documents.
 install: bin/smi
@@ -89,6 +89,14 @@ cases: bin/smi bin/smi_trial
 nodes: bin/smi
 	@python3 tests/nodes.py bin/smi $(if $(ONLY),'$(ONLY)')
 
+# What tree a store is of, or the cases whose name has a text: make marks ONLY=removed.
+marks: bin/smi
+	@python3 tests/marks.py bin/smi $(if $(ONLY),'$(ONLY)')
+
+# Nodes over a full tree, at addresses of their own, or the cases whose name has a text: make full ONLY=shown.
+full: bin/smi
+	@python3 tests/full.py bin/smi $(if $(ONLY),'$(ONLY)')
+
 # Many consoles at one node, or the cases whose name has a word: make consoles ONLY=rude.
 consoles: bin/smi
 	@python3 tests/consoles.py bin/smi $(if $(ONLY),'$(ONLY)')
@@ -112,6 +120,11 @@ screen: bin/smi
 # The page of the screen in headless Chromium, while the crew's shift is played: skipped where there is none.
 browser: bin/smi
 	@python3 tests/browser.py bin/smi $(if $(ONLY),'$(ONLY)')
+
+# The bridge to TANGO between a node and real device servers, or the cases whose name has a text: skipped where there is
+# no PyTango.
+bridge: bin/smi
+	@python3 tests/bridge.py bin/smi $(if $(ONLY),'$(ONLY)')
 
 # The example detector on this machine, with a screen and the crew's shift: it prints the address to open, and Ctrl-C
 # ends all.

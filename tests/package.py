@@ -38,6 +38,8 @@ share/doc/lunskaf/SECURITY.md
 share/doc/lunskaf/CHANGELOG.md
 share/doc/lunskaf/LICENSE
 share/smi/tools/rows.py
+share/smi/tools/status.py
+share/smi/tools/tango_bridge.py
 share/smi/tools/console.py
 share/smi/tools/lunskaf.py
 share/smi/examples/supply.py

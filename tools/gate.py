@@ -2,15 +2,17 @@
 
 usage: gate.py [--all | --record CRATE..]
 
-It runs `rt ci`; on the programs that this has built the cases of tests/command_lines.py, tests/nodes.py and
-tests/consoles.py, the shift of the examples (tests/shift.py), the tools beside the program (tests/pictures.py), the
-screen and its page (tests/screen.py, tests/browser.py, tools/page.py), the documents (tests/documents.py), what is
-installed and packed (tests/package.py), a crowd of nodes (tests/crowd.py) and a short soak (tests/soak.py); and the
+It runs `rt ci`; on the programs that this has built the cases of tests/command_lines.py, tests/nodes.py,
+tests/marks.py, tests/full.py and tests/consoles.py, the shift of the examples (tests/shift.py), the tools beside the
+program (tests/pictures.py), the screen and its page (tests/screen.py, tests/browser.py, tools/page.py), the bridge to
+TANGO (tests/bridge.py), the documents (tests/documents.py), what is installed and packed (tests/package.py), a crowd of
+nodes (tests/crowd.py) and a short soak (tests/soak.py); and the
 edits in crates/CRATE/edits/ (tools/edits.py) of each crate whose sum is not in the record edits.ok: a line of it says
 that all edits of the crate were seen refused, with the same toolchain, tools, sources, specs, proofs and edits, and
 the same contracts, definitions and lemmas of the crates below it. What is not tried for that is counted apart and not
 as passed. --all reads no record, tries the edits of every crate, and writes the record. --record tries the edits of
-these crates alone, and writes the lines of those of which all are refused; the lines of other crates stay.
+these crates alone, and writes the lines of those of which all are refused; the lines of other crates stay. Each
+toolchain has lines of its own, and none touches those of another.
 
 The last line is 'N passed, M failed'.
 """
@@ -35,7 +37,8 @@ SOAKED = 40
 SLACK, PATIENT = 20, 30
 # How many lines of each crate that failed are told again at the end.
 TOLD_AGAIN = 12
-HEAD = "# The crates whose edits were all seen refused, each with the sum of what that rests on (tools/gate.py).\n"
+HEAD = ("# The crates whose edits were all seen refused, each with the toolchain that refused them and the sum of what that"
+        "\n# rests on (tools/gate.py).\n")
 
 
 class Part:
@@ -120,17 +123,32 @@ def take_programs(since):
             subprocess.run(["make", "--no-print-directory", "bin/" + name], cwd=kit.ROOT, check=True)
 
 
-def recorded():
-    """The sums of the record, by crate."""
+def toolchain():
+    """The name of this toolchain, under which its lines of the record stand."""
+    return kit.version().split()[0]
+
+
+def lines_of_record():
+    """The sums of the record, by crate and toolchain."""
     if not os.path.isfile(RECORD):
         return {}
     with open(RECORD, encoding="ascii") as file:
-        return dict(line.split() for line in file if line.strip() and not line.startswith("#"))
+        rows = [line.split() for line in file if line.strip() and not line.startswith("#")]
+    return {(name, by): its_sum for name, by, its_sum in rows}
+
+
+def recorded():
+    """The sums that this toolchain's lines of the record have, by crate."""
+    return {name: its_sum for (name, by), its_sum in lines_of_record().items() if by == toolchain()}
 
 
 def write_record(sums):
+    """Writes these sums as this toolchain's lines of the record; the lines of others stay, of crates that are there."""
+    names = {crate.name for crate in kit.crates()}
+    rows = {at: its_sum for at, its_sum in lines_of_record().items() if at[1] != toolchain() and at[0] in names}
+    rows.update({(name, toolchain()): its_sum for name, its_sum in sums.items()})
     with open(RECORD, "w", encoding="ascii") as file:
-        file.write(HEAD + "".join("%s %s\n" % it for it in sorted(sums.items())))
+        file.write(HEAD + "".join("%s %s %s\n" % (*at, its_sum) for at, its_sum in sorted(rows.items())))
 
 
 def folder_of(crate):
@@ -205,12 +223,15 @@ def main():
         for name, words in [("lines and words", ["tests/words.py"]),
                             ("command lines", ["tests/command_lines.py", "bin/smi", "bin/smi_trial"]),
                             ("nodes", ["tests/nodes.py", "bin/smi"]),
+                            ("marks of stores", ["tests/marks.py", "bin/smi"]),
+                            ("a full tree", ["tests/full.py", "bin/smi"]),
                             ("consoles", ["tests/consoles.py", "bin/smi"]),
                             ("a shift", ["tests/shift.py", "bin/smi"]),
                             ("the page", ["tools/page.py"]),
                             ("the screen", ["tests/screen.py", "bin/smi"]),
                             ("the screen in a browser", ["tests/browser.py", "bin/smi"]),
                             ("tools", ["tests/pictures.py", "bin/smi"]),
+                            ("the bridge to TANGO", ["tests/bridge.py", "bin/smi"]),
                             ("documents", ["tests/documents.py", "bin/smi"]),
                             ("a package", ["tests/package.py"]),
                             ("a crowd", ["tests/crowd.py", "bin/smi", "--slack", str(SLACK), "--patience", str(PATIENT)]),
