@@ -32,6 +32,7 @@ It needs PyTango (Debian: python3-tango).
 """
 
 import os
+import queue
 import re
 import sys
 import threading
@@ -96,11 +97,29 @@ def read_map(path):
 
 
 class Bridged:
-    """A device of the node that is a TANGO device."""
+    """A device of the node that is a TANGO device. All that is done with it is done by one thread, one thing after the
+    other."""
 
     def __init__(self, node, name, kind, where):
         self.node, self.name, self.kind, self.where = node, name, kind, where
-        self.proxy, self.reported, self.lock = None, None, threading.Lock()
+        self.proxy, self.reported, self.asked = None, None, queue.Queue()
+        threading.Thread(target=self.run, daemon=True).start()
+
+    def run(self):
+        while True:
+            try:
+                deed, *words = self.asked.get(timeout=self.kind.period)
+            except queue.Empty:
+                deed, words = self.look, ()
+            deed(*words)
+
+    def begin(self):
+        """The node has begun: it does not know the state, whatever was reported before."""
+        self.asked.put([self.look_anew])
+
+    def act(self, action):
+        """An action was done at the device."""
+        self.asked.put([self.command, action])
 
     def connected(self):
         if self.proxy is None:
@@ -119,24 +138,22 @@ class Bridged:
 
     def look(self):
         """Reports the state, where it is another one than was reported last."""
-        with self.lock:
-            state = self.state()
-            if state is None or state == self.reported:
-                return
-            try:
-                self.node.report(self.name, state)
-                self.reported = state
-            except (lunskaf.Lost, lunskaf.TimeOut, lunskaf.Refused, lunskaf.Fault) as error:
-                self.reported = None
-                print("%s: %s" % (self.name, error), file=sys.stderr, flush=True)
+        state = self.state()
+        if state is None or state == self.reported:
+            return
+        try:
+            self.node.report(self.name, state)
+            self.reported = state
+        except (lunskaf.Lost, lunskaf.TimeOut, lunskaf.Refused, lunskaf.Fault) as error:
+            self.reported = None
+            print("%s: %s" % (self.name, error), file=sys.stderr, flush=True)
 
-    def begin(self):
-        """The node has begun: it does not know the state, whatever was reported before."""
+    def look_anew(self):
         self.reported = None
         self.look()
 
-    def act(self, action):
-        """An action came: it is run as a command. The tree has moved the device, so its state is reported anew."""
+    def command(self, action):
+        """The action is run as a command. The tree has moved the device, so its state is reported anew."""
         command = self.kind.actions.get(action)
         if command is None:
             return
@@ -144,22 +161,24 @@ class Bridged:
             self.connected().command_inout(command)
         except tango.DevFailed as failed:
             print("%s: %s: %s" % (self.name, command, failed.args[0].desc), file=sys.stderr, flush=True)
-        self.reported = None
-        self.look()
-
-    def watch(self):
-        while True:
-            self.look()
-            time.sleep(self.kind.period)
+        self.look_anew()
 
 
 def bridge_devices(console, path):
-    """Runs until it is ended: a thread looks at each TANGO device, and one hears of the actions of all."""
+    """Runs until it is ended: hears of the actions at all devices, and hands each to the thread of its device."""
     with lunskaf.Node(console) as node:
         bridged = {name: Bridged(node, name, kind, where) for name, kind, where in read_map(path)}
-        for one in bridged.values():
-            threading.Thread(target=one.watch, daemon=True).start()
-        hear(node, bridged)
+
+        def begin():
+            for one in bridged.values():
+                one.begin()
+
+        while True:
+            try:
+                for acted in node.actions(*bridged, on_start=begin):
+                    bridged[acted.device].act(acted.action)
+            except lunskaf.Missed as missed:
+                print(missed, file=sys.stderr, flush=True)
 
 
 def scene_of(where):
