@@ -4,9 +4,9 @@ usage: gate.py [--all | --record CRATE..]
 
 It runs `rt ci`; on the programs that this has built the cases of tests/command_lines.py, tests/nodes.py,
 tests/marks.py, tests/full.py and tests/consoles.py, the shift of the examples (tests/shift.py), the tools beside the
-program (tests/pictures.py), the screen and its page (tests/screen.py, tests/browser.py, tools/page.py), the bridge to
-TANGO (tests/bridge.py), the documents (tests/documents.py), what is installed and packed (tests/package.py), a crowd of
-nodes (tests/crowd.py) and a short soak (tests/soak.py); and the
+program (tests/pictures.py, tests/standing.py), the screen and its page (tests/screen.py, tests/browser.py,
+tools/page.py), the bridge to TANGO (tests/bridge.py), the documents (tests/documents.py), what is installed and packed
+(tests/package.py), a crowd of nodes (tests/crowd.py) and a short soak (tests/soak.py); and the
 edits in crates/CRATE/edits/ (tools/edits.py) of each crate whose sum is not in the record edits.ok: a line of it says
 that all edits of the crate were seen refused, with the same toolchain, tools, sources, specs, proofs and edits, and
 the same contracts, definitions and lemmas of the crates below it. What is not tried for that is counted apart and not
@@ -229,6 +229,7 @@ def main():
                             ("a shift", ["tests/shift.py", "bin/smi"]),
                             ("the page", ["tools/page.py"]),
                             ("the screen", ["tests/screen.py", "bin/smi"]),
+                            ("how it stands", ["tests/standing.py", "bin/smi"]),
                             ("the screen in a browser", ["tests/browser.py", "bin/smi"]),
                             ("tools", ["tests/pictures.py", "bin/smi"]),
                             ("the bridge to TANGO", ["tests/bridge.py", "bin/smi"]),
