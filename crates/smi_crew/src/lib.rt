@@ -9,8 +9,9 @@
 //! (`reading`); one writes what the standard input is told (`outlet`). The third stands at the front (`attending`): it
 //! has the front desk of `smi_front`, hears the standard input and the connections (`hall`, `guest`) that come in at
 //! the doors (`doors`), and tells each what it asked for. It waits for all of them at once, for none of them alone, and
-//! is woken by the thread that serves (`chime`) once a turn has brought an answer, a state or an action (`herald`, `dispatch`). Orders that were given are followed by a datagram to the node's own socket, an empty
-//! one that every station refuses, so that a station at rest looks at its seats at once (`bell`).
+//! is woken by the thread that serves (`chime`) once a turn has brought an answer, a state or an action (`herald`,
+//! `dispatch`). Orders that were given are followed by a datagram to the node's own socket, an empty one that every
+//! station refuses, so that a station at rest looks at its seats at once (`bell`).
 //!
 //! The lines, the statuses and what is printed stand in docs/FORMATS.md, "A node's lines".
 #![tactic(auto)]

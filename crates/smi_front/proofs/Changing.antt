@@ -1,6 +1,6 @@
 -- One wicket changes, and all others stay.
-use Rattle.std.proofs.Common.{◌≡◌, ◌≢◌, ℕ, zero, suc, ◌<◌, Bool, List, [], ◌∷◌, length, get_or, slice_get, slice_set, refl, ap}
-use Rattle.std.proofs.Common.{◌∙◌, inl, inr, arith, true, Option, Some}
+use Rattle.std.proofs.Common.{◌≡◌, ◌≢◌, ℕ, zero, suc, ◌<◌, Bool, List, [], ◌∷◌, length, get_or, slice_get, slice_set}
+use Rattle.std.proofs.Common.{refl, ap, ◌∙◌, inl, inr, arith, true, Option, Some}
 use Rattle.std.proofs.Math.Seq.{map-set_same}
 use Rattle.std.proofs.lemmas.List.{get_or-set_same, length-set}
 use Rattle.std.proofs.lemmas.Option.{slice_get-get_or}

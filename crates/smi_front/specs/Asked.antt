@@ -1,6 +1,6 @@
 -- What a line asks at a front desk.
-use Rattle.std.specs.Prelude.{ℕ, ◌&&◌, nat_le, Bool, true, false, List, [], ◌∷◌, length, Option, Some, None, is_some, Result}
-use Rattle.std.specs.Prelude.{Ok, Err, if◌then◌else◌, filter_map}
+use Rattle.std.specs.Prelude.{ℕ, ◌&&◌, nat_le, Bool, true, false, List, [], ◌∷◌, length, Option, Some, None, is_some}
+use Rattle.std.specs.Prelude.{Result, Ok, Err, if◌then◌else◌, filter_map}
 use Rattle.std.specs.List.{list_all}
 use Rattle.smi_limits.specs.declared.trees.TheConstants.{MOST_BYTES_OF_A_LINE}
 use Rattle.smi_tree.specs.Fault.{◌>>=◌}

@@ -59,8 +59,8 @@ fn place_among(operators: &[u16], operator: u16) -> usize
 impl Office {
     ghost use Rattle.std.specs.Prelude.{◌≡◌, ◌<◌, None, IfOk, IfSome, IfNone, false, length};
     ghost use Rattle.smi_front.specs.Caller.{beginning};
-    ghost use Rattle.smi_front.specs.Office.{TakesAnswer, TakesNoAnswer, ChangesAt, Gives, GivesHeld, IsOpened, place_of};
-    ghost use Rattle.smi_front.specs.Office.{is_at_rest, owes};
+    ghost use Rattle.smi_front.specs.Office.{ChangesAt, Gives, GivesHeld, IsOpened, TakesAnswer, TakesNoAnswer};
+    ghost use Rattle.smi_front.specs.Office.{is_at_rest, owes, place_of};
 
     /// The wickets of these operators over these seats, of each over the one at its place, as far as there are both;
     /// and of nobody over the last one. Nothing was asked there.
