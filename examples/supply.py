@@ -3,9 +3,10 @@
 usage: supply.py WHERE DEVICE [SECONDS]
 
 WHERE is the console of the node whose station keeps the DEVICE, of a class like HIGH_VOLTAGE of detector.tree. The
-program reports what the supply is in, off at first, follows the device, and does what each state asks: RAMPING takes
-so many SECONDS, 2 where none are given, and ends with READY. A line `trip` on its standard input has the supply trip:
-ERROR. Actions of operators move the device, and this program sees that as any other change of its state.
+program reports what the supply is in, off at first, and whenever the node has been started again. With each action of
+an operator it does what the device's state then asks: RAMPING takes so many SECONDS, 2 where none are given, and ends
+with READY. A line `trip` on its standard input has the supply trip: ERROR. It prints each state that the supply comes
+into.
 """
 
 import os
@@ -20,31 +21,43 @@ import lunskaf
 class Supply:
     """A supply, the state that it is really in, and its ramp where it is on its way."""
 
-    def __init__(self, node, device, seconds):
-        self.node, self.device, self.seconds = node, device, seconds
+    def __init__(self, device, seconds):
+        self.device, self.seconds = device, seconds
         self.state, self.ramp = "OFF", None
+        device.on_start(self.start)
+        device.on("CONFIGURE", self.configure)
+        device.on(None, self.follow)
 
     def halt(self):
         if self.ramp is not None:
             self.ramp.cancel()
         self.ramp = None
 
+    def come_to(self, state):
+        self.state = state
+        print(self.device.name, state, flush=True)
+
     def report(self, state):
         """The supply has come into a state. Where the node is away, that is reported once it is there again."""
-        self.state = state
+        self.come_to(state)
         try:
-            self.node.report(self.device, state)
+            self.device.report(state)
         except (lunskaf.Lost, lunskaf.TimeOut) as away:
             print(away, file=sys.stderr)
 
-    def obey(self, state):
-        """Does what a state of the device asks. A node that was started again does not know it: it is told."""
-        if state == "UNKNOWN":
-            self.report(self.state)
-            return
+    def start(self):
+        """A node that has just begun does not know what the supply is in."""
+        self.report(self.state)
+
+    def follow(self, acted):
+        """The supply does at once what most actions ask."""
         self.halt()
-        self.state = state
-        if state == "RAMPING":
+        self.come_to(acted.state)
+
+    def configure(self, acted):
+        """It ramps, where that is what the action has it do."""
+        self.follow(acted)
+        if acted.state == "RAMPING":
             self.ramp = threading.Timer(self.seconds, self.report, ["READY"])
             self.ramp.daemon = True
             self.ramp.start()
@@ -63,14 +76,13 @@ def trips(supply):
 def main():
     if len(sys.argv) not in (3, 4):
         sys.exit(__doc__.split("\n\n")[1])
-    where, device = sys.argv[1:3]
+    where, name = sys.argv[1:3]
     seconds = float(sys.argv[3]) if len(sys.argv) == 4 else 2.0
     with lunskaf.Node(where) as node:
-        supply = Supply(node, device, seconds)
+        device = lunskaf.Device(node, name)
+        supply = Supply(device, seconds)
         threading.Thread(target=trips, args=[supply], daemon=True).start()
-        for shown in node.follow(device):
-            print(shown.object, shown.state, flush=True)
-            supply.obey(shown.state)
+        device.run()
 
 
 if __name__ == "__main__":

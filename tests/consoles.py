@@ -16,6 +16,7 @@ import sys
 import tempfile
 import threading
 import time
+import types
 
 sys.path.insert(0, os.path.join(os.path.dirname(os.path.abspath(__file__)), os.pardir, "tools"))
 
@@ -35,8 +36,8 @@ GUESTS, ORDERS, COMERS = 64, 100, 10_000
 # How long a client may take nothing, in seconds, by docs/FORMATS.md; and how much more a test waits for its end.
 STUCK, SLACK = 2, 20
 
-# How a connection says fault 5.
-UNKNOWN = "a name that this station does not have as what the line wants"
+# How many actions are told one after the other, and how many reports are given while nobody reads what is told.
+ACTIONS, UNREAD, TOO_MANY = 1_000, 4_000, 12_000
 
 # Three operators at one station, whose domain FAR is at another.
 TREE = """tree 5
@@ -44,6 +45,7 @@ state OFF
 state READY
 action GO
 action FALL
+action SLEEP
 station HERE 127.0.0.1:%d
 station AWAY 127.0.0.1:%d
 operator ANN HERE
@@ -350,15 +352,22 @@ def lines_case(program, folder):
     place = Place(program, folder)
     console = Console(place.where)
     for line, wanted in [("order ANN grab LEFT", "line 1 fault 1: a word that no line has there"),
-                         ("@7 order ANN take NOBODY", "@7 fault 5: " + UNKNOWN),
+                         ("@7 order ANN take NOBODY", "@7 fault 5: NOBODY is no domain of the tree"),
+                         ("@7 order NOBODY take LEFT", "@7 fault 5: NOBODY is no operator of this station"),
+                         ("@7 order ANN do LEFT JUMP", "@7 fault 5: JUMP is no action of the tree"),
+                         ("@7 order ANN include TOP L", "@7 fault 5: L is no domain of the tree"),
+                         ("@7 order ANN watch NOBODY", "@7 fault 5: NOBODY is no domain or device of the tree"),
+                         ("@7 report LX READY", "@7 fault 5: LX is no device of the tree"),
+                         ("@7 report L GONE", "@7 fault 5: GONE is no state of the tree"),
+                         ("@7 actions L LEFT", "@7 fault 5: LEFT is no device of the tree"),
                          ("@7", "@7 fault 2: too few words, or too many"),
-                         ("states now", "line 4 fault 2: too few words, or too many"),
-                         ("follow NOBODY", "line 5 fault 5: " + UNKNOWN),
+                         ("states now", "line 11 fault 2: too few words, or too many"),
+                         ("follow L NOBODY", "line 12 fault 5: NOBODY is no domain or device of the tree"),
                          ("@c order ANN ask LEFT\r", "@c told ANN ask LEFT free 0 0 settled 0")]:
         yield "on a connection: " + line, console.ask(line) == wanted
     console.say("\n# nothing\nhelp\n")
-    helped = [console.line() for _ in range(12)]
-    yield "help", helped[-1] == "help 11" and all(line.startswith("help ") for line in helped)
+    helped = [console.line() for _ in range(13)]
+    yield "help", helped[-1] == "help 12" and all(line.startswith("help ") for line in helped)
     console.say("counts\n")
     yield "counts", console.line().startswith("counts received ")
     console.say("@s states\n")
@@ -425,6 +434,72 @@ def doors_case(program, folder):
         yield "no console at " + bad, nodes.ran(program, words + ["--console", bad]) == faulty
     three = [word for name in "abc" for word in ("--console", os.path.join(folder, name))]
     yield "three consoles are no form", nodes.ran(program, words + three) == ([], ["wrong line"], 2)
+
+
+def actions_case(program, folder):
+    """Each action is told once at each device of its domain, moved or not, and nothing that was not done."""
+    place = Place(program, folder)
+    ann, told = Console(place.where), Console(place.where)
+    ann.ask("order ANN take LEFT")
+    yield "actions of one device", told.ask("actions L") == "actions 1"
+    for order, code, wanted in [("do LEFT GO", 0, "acted L GO 1.1 READY"), ("do LEFT GO", 0, "acted L GO 1.1 READY"),
+                                ("do LEFT SLEEP", 1, None), ("do LEFT FALL", 0, "acted L FALL 1.2 OFF")]:
+        yield order, ann.ask("order ANN " + order) == "told ANN %s %d" % (order, code)
+        if wanted is not None:
+            yield "is told: " + wanted, told.line() == wanted
+    yield "a report is no action", ann.ask("report L READY") == "told report L READY 0"
+    yield "of all devices", told.ask("@a actions") == "@a actions 3"
+    ann.ask("order ANN take RIGHT")
+    ann.ask("order ANN do RIGHT GO")
+    yield "another device is told too", told.line() == "@a acted R GO 1.1 READY"
+    ann.ask("order ANN do LEFT FALL")
+    yield "and what a report had moved", told.line() == "@a acted L FALL 1.4 OFF"
+    wanted = []
+    for number in range(ACTIONS):
+        action, state = (("GO", "READY"), ("FALL", "OFF"))[number % 2]
+        ann.ask("order ANN do LEFT " + action)
+        wanted.append("@a acted L %s 1.%d %s" % (action, number + 5, state))
+    yield "%d actions are told, each once and in their order" % ACTIONS, [told.line() for _ in wanted] == wanted
+    many = Console(place.where)
+    many.say("".join("@%d order ANN do LEFT GO\n" % number for number in range(ACTIONS)))
+    done = sum(many.line().endswith(" 0") for _ in range(ACTIONS))
+    found = [told.line() for _ in range(done)]
+    yield "as many are told as were done of orders given at once", done > 0 and set(found) == {
+        "@a acted L GO 1.%d READY" % (ACTIONS + 5)}
+    yield "and no more", told.ask("show L") == "board L none"
+    standard = place.node.ask("@s actions R")
+    yield "standard input is told behind a tag", standard == "@s actions 1"
+    place.node.kill()
+
+
+def unread_case(program, folder):
+    """A standard output that nobody reads holds up nobody: what is told waits, and at last the standard input ends."""
+    place = Place(program, folder, turns="--endless")
+    place.node.kill()
+    child = subprocess.Popen([program, "node"] + [str(word) for word in place.words], stdin=subprocess.PIPE,
+                             stdout=subprocess.PIPE, stderr=subprocess.PIPE)
+    wait_for(place.where, types.SimpleNamespace(child=child))
+    child.stdin.write(b"@f follow L\n")
+    child.stdin.flush()
+    first = child.stdout.readline().decode()
+    yield "standard input follows", first.startswith("@f board L ")
+    boot = first.split()[3].split(".")[0]
+    steady = Console(place.where)
+    lines = ["report L " + ("READY", "OFF")[number % 2] for number in range(UNREAD)]
+    told, took = timed(steady.ask, lines)
+    yield "others are answered while nobody reads", told == ["told %s 0" % line for line in lines]
+    yield "and soon", statistics.median(took) < SOON and max(took) < LATEST
+    found = [child.stdout.readline().decode().rstrip() for _ in lines]
+    yield "what was told is there once it is read", found == [
+        "@f board L %s.%d %s" % (boot, number + 1, ("READY", "OFF")[number % 2]) for number in range(UNREAD)]
+    lines = ["report L " + ("READY", "OFF")[number % 2] for number in range(TOO_MANY)]
+    told, took = timed(steady.ask, lines)
+    yield "where it is never read they are answered too", told == ["told %s 0" % line for line in lines] \
+        and statistics.median(took) < SOON and max(took) < LATEST
+    yield "and the standard input ends", child.stderr.readline() == b"write fault\n"
+    yield "alone", other_asked(place) == "board L none" and child.poll() is None
+    child.kill()
+    child.wait()
 
 
 def free_tcp_port():
@@ -522,7 +597,9 @@ def supply_case(program, folder):
         yield "a second time", seen("STANDBY")
     running.kill()
     running = nodes.Node(program, words)
-    yield "a node that was started again is told", seen("UNKNOWN") and seen("STANDBY")
+    yield "a node that was started again is told", seen("STANDBY")
+    with lunskaf.Node(where) as node:
+        yield "and has it", until_same(lambda: {it.object: it.state for it in node.states()}["PIXEL_HV1"], "STANDBY")
     supply.kill()
     running.kill()
 
@@ -655,7 +732,7 @@ def people_case(program, folder):
 
     lines, status = ran(["--tree", place.tree, place.where], "order ANN take LEFT\n@x show L\nhelp\n")
     yield "a console for people", (sorted(lines[:2]), lines[-1], status) == (
-        ["@x board L none", "told ANN take LEFT 0"], "help 11", 0)
+        ["@x board L none", "told ANN take LEFT 0"], "help 12", 0)
     for line, told, status in [("order ANN ask LEFT", "told ANN ask LEFT ANN 1 0 settled 0", 0),
                                ("order BOB take LEFT", "told BOB take LEFT 5", 1),
                                ("order BOB grab LEFT", "line 1 fault 1: a word that no line has there", 1),
@@ -666,8 +743,8 @@ def people_case(program, folder):
     place.node.kill()
 
 
-CASES = [waiting_case, partitions_case, many_case, rude_case, comers_case, lines_case, doors_case, client_case,
-         supply_case, shift_case, people_case]
+CASES = [waiting_case, partitions_case, many_case, rude_case, comers_case, lines_case, doors_case, actions_case,
+         unread_case, client_case, supply_case, shift_case, people_case]
 
 
 def main():

@@ -21,8 +21,8 @@ sys.path.insert(0, os.path.dirname(os.path.abspath(__file__)))
 
 import lunskaf
 
-WORDS = ["order", "report", "show", "states", "follow", "under", "way", "counts", "help", "take", "drop", "do", "include",
-         "exclude", "manual", "ignore", "ask", "watch", "unwatch"]
+WORDS = ["order", "report", "show", "states", "follow", "actions", "under", "way", "counts", "help", "take", "drop", "do",
+         "include", "exclude", "manual", "ignore", "ask", "watch", "unwatch"]
 DECLARED = ["operator", "domain", "device", "state", "action"]
 # How long a node that is not there is waited for, in seconds.
 PATIENCE = 5

@@ -9,13 +9,21 @@
         for shown in node.follow("PIXEL_HV"):
             print(shown.state)
 
+or, for the program of a device:
+
+    device = Device(node, "PIXEL_HV")
+    device.on_start(lambda: device.report("OFF"))
+    device.on("GO_STANDBY", lambda acted: device.report("STANDBY"))
+    device.run()
+
 Each call gives one line to the node behind a tag of its own, and waits for its answer: several threads may share a
 Node. An order that does not end with 0 raises Refused, with its code and a sentence. A line that the node does not
 take raises Fault. A connection that is lost while a call waits raises Lost: what became of its order is not known.
 The next call connects anew. A call that waits longer than its patience raises TimeOut, and its order may still end.
 
 `follow` has a connection of its own, and connects anew where that is lost, so that it goes on when a node is started
-again. What is read while it was away is the newest state alone.
+again. What is read while it was away is the newest state alone. `actions` has one too: what was done while it was away
+is not told.
 
 The lines are those of docs/FORMATS.md, "A node's lines".
 """
@@ -60,6 +68,8 @@ CODES = {
 
 # What a node shows of an object: its state, and the version of that by the boot of its station and a sequence in it.
 Shown = collections.namedtuple("Shown", "object boot sequence state")
+# An action that was done at a device, and the device's version and state then, whether it moved or not.
+Acted = collections.namedtuple("Acted", "device action boot sequence state")
 # How a domain stands: who holds it since which epoch, the last command, and whether it is busy or settled, with what.
 Record = collections.namedtuple("Record", "domain holder epoch last phase outcome")
 # An order that is not answered yet, and the seconds since it was given.
@@ -80,6 +90,14 @@ class Fault(Exception):
     def __init__(self, code, line, said):
         self.code, self.line = code, line
         super().__init__("%s: fault %s" % (line, said))
+
+
+class Missed(Exception):
+    """The node left out so many actions, since there was no room for them."""
+
+    def __init__(self, count):
+        self.count = count
+        super().__init__("%d actions were not told" % count)
 
 
 class Lost(Exception):
@@ -113,6 +131,12 @@ def shown_in(words):
         return None
     boot, sequence = words[2].split(".")
     return Shown(words[1], int(boot), int(sequence), words[3])
+
+
+def acted_in(words):
+    """What a line `acted DEVICE ACTION B.Q STATE` tells."""
+    boot, sequence = words[3].split(".")
+    return Acted(words[1], words[2], int(boot), int(sequence), words[4])
 
 
 class Connection:
@@ -290,9 +314,8 @@ class Node:
         lines = self.listed("under way", ["under", "way"])
         return [Waiting(words[1], " ".join(words[2:-1]), int(words[-1])) for words in lines]
 
-    def follow(self, *names):
-        """The newest state of these objects, or of all that the station keeps or watches, and then each later one."""
-        seen = {}
+    def connections(self):
+        """Connections of their own, each anew once the one before is lost."""
         while True:
             try:
                 connection = Connection(self.where, self.patience)
@@ -300,17 +323,72 @@ class Node:
                 time.sleep(PAUSE)
                 continue
             try:
-                yield from new_states(connection, names, seen)
+                yield connection
             finally:
                 connection.close()
             time.sleep(PAUSE)
 
+    def follow(self, *names):
+        """The newest state of these objects, or of all that the station keeps or watches, and then each later one."""
+        seen = {}
+        for connection in self.connections():
+            yield from new_states(connection, names, seen)
 
-def new_states(connection, names, seen):
-    """The states that a connection tells and that were not seen, until it is lost."""
-    line = " ".join(("@f", "follow") + names)
-    # more names than a line may have: all are followed, and those that were not asked for are left out
-    line = line[3:] if len(line) <= LONGEST else "follow"
+    def actions(self, *devices, on_start=lambda: None):
+        """Each action that is done at these devices of the station, or at all of them, from now on, as Acted.
+
+        `on_start` is called each time the node begins to tell, before the first action. Where the node has no room for
+        what it has to tell, Missed is raised with how many actions it left out.
+        """
+        for connection in self.connections():
+            for words in told_without_end(connection, "actions", devices):
+                if words[0] == "actions":
+                    on_start()
+                elif words[0] == "missed":
+                    raise Missed(int(words[1]))
+                elif words[1] in (devices or (words[1],)):
+                    yield acted_in(words)
+
+
+class Device:
+    """A device of a node's station, for the program that runs it: what each action of operators has it do."""
+
+    def __init__(self, node, name):
+        self.node, self.name = node, name
+        self.deeds, self.start, self.any = {}, lambda: None, None
+
+    def on(self, action, deed):
+        """From now on a deed is done with each such action: it is called with what was Acted. None is for any other."""
+        if action is None:
+            self.any = deed
+        else:
+            self.deeds[action] = deed
+
+    def on_start(self, deed):
+        """A deed is done each time the node begins to tell: it is to report what the device is in."""
+        self.start = deed
+
+    def report(self, state):
+        """The device has come into a state."""
+        self.node.report(self.name, state)
+
+    def run(self):
+        """Does what actions ask, one after the other, without end. Where the node left some out, it begins anew."""
+        while True:
+            try:
+                for acted in self.node.actions(self.name, on_start=self.start):
+                    deed = self.deeds.get(acted.action, self.any)
+                    if deed is not None:
+                        deed(acted)
+            except Missed:
+                pass
+
+
+def told_without_end(connection, question, names):
+    """The lines that a connection is told from then on, as words, until it is lost."""
+    line = " ".join((question,) + names)
+    # more names than a line may have: all are asked for, and the caller leaves out those that it did not name
+    line = line if len(line) + len("@f ") <= LONGEST else question
     try:
         asked = connection.begin("@f", line)
     except Lost:
@@ -322,6 +400,12 @@ def new_states(connection, names, seen):
         words = text.split()
         if words[0] == "fault":
             raise Fault(int(words[1].rstrip(":")), line, text.split(" ", 1)[1])
+        yield words
+
+
+def new_states(connection, names, seen):
+    """The states that a connection tells and that were not seen, until it is lost."""
+    for words in told_without_end(connection, "follow", names):
         shown = shown_in(words)
         if shown is not None and shown.object in (names or (shown.object,)) and seen.get(shown.object) != shown:
             seen[shown.object] = shown

@@ -2,11 +2,11 @@
 
 use crate::bell::Bell;
 use crate::hall::Hall;
+use crate::outlet::Outlet;
 use crate::reading::{Ending, Input};
 use crossbeam_channel::Receiver;
 use smi_cli::status::{no_memory, read_fault, write_fault};
-use smi_front::{Front, MOST_GIVEN};
-use smi_grant::Shown;
+use smi_front::{Front, MOST_GIVEN, News};
 use smi_trace::Unwritten;
 use smi_tree::Tree;
 use smi_view::BoardId;
@@ -16,10 +16,11 @@ use std::sync::Wait;
 use std::thread::sleep;
 use std::time::{Clock, Duration, Instant};
 
-/// How many lines of the standard input, and how many states, are taken in one round.
+/// How many lines of the standard input, and how much news, are taken in one round. The texts of all that news are
+/// fewer bytes than a caller may have unsent.
 const LINES: usize = 64;
 
-const STATES: usize = 4_096;
+const NEWS: usize = 512;
 
 /// What the thread has beside its outputs.
 #[derive(Drop)]
@@ -27,32 +28,38 @@ pub(crate) struct Post<J: BoardId> {
     pub(crate) front: Box<Front<J>>,
     pub(crate) hall: Box<Hall>,
     pub(crate) bell: Bell,
-    /// What is typed at the standard input, and the states that the station tells.
+    /// Where what the standard input is told goes.
+    pub(crate) outlet: Outlet,
+    /// What is typed at the standard input, and what the station tells.
     pub(crate) lines: Receiver<Input>,
-    pub(crate) states: Receiver<Shown>,
+    pub(crate) news: Receiver<News>,
     /// Whether the standard input is heard no more.
     pub(crate) is_plain_over: bool,
 }
 
 impl<J: BoardId> Post<J> {
-    /// The states that have come are noted.
-    fn note_states<R: Wait>(&mut self, rt: &R) {
-        for _ in 0..STATES {
-            match self.states.try_recv(rt) {
-                Ok(shown) => self.front.picture().note(shown),
-                Err(_) => return,
+    /// What the station has told is noted. Whether there may be more.
+    fn note_news<R: Wait>(&mut self, rt: &R) -> bool {
+        for _ in 0..NEWS {
+            match self.news.try_recv(rt) {
+                Ok(news) => {
+                    if self.front.note(news).is_err() {
+                        self.hall.lose_followers();
+                    }
+                }
+                Err(_) => return false,
             }
         }
+        true
     }
 
-    /// Each answer that is there goes to its caller. Where memory is refused to it, its caller is lost.
+    /// Each answer that is there goes to its caller.
     fn tell_answers(&mut self, tree: &Tree) {
         for place in 0..self.front.seat_count() {
             for _ in 0..MOST_GIVEN {
-                match self.front.answer(tree, place) {
-                    Ok(Some(answered)) => self.hall.tell(&self.front, answered),
-                    Ok(None) => break,
-                    Err(lost) => self.hall.lose(lost.caller),
+                match self.front.answer(place) {
+                    Some(answered) => self.hall.tell(&mut self.front, tree, &answered),
+                    None => break,
                 }
             }
         }
@@ -73,9 +80,11 @@ impl<J: BoardId> Post<J> {
         }
     }
 
-    /// How the standard input has ended, once all that it gave is answered.
+    /// How the standard input has ended, once all that it gave is answered, and the answers are written.
     fn ended(&self) -> Option<Ending> {
-        if self.hall.plain.is_idle() && !self.front.owes(self.hall.plain.number()) {
+        let plain = &self.hall.plain;
+        let is_told = plain.said().is_empty() && self.outlet.is_written();
+        if is_told && plain.is_idle() && !self.front.owes(plain.number()) {
             self.hall.ending
         } else {
             None
@@ -99,10 +108,10 @@ fn tell_ending<F: Write>(ending: Result<Ending, Unwritten>, faults: &mut F) {
     }
 }
 
-/// Prints what the caller at the standard input is to be told.
-fn print<J: BoardId, W: Write, F: Write>(
+/// Hands on what the caller at the standard input is to be told, and tells its faults.
+fn print<J: BoardId, R: Wait, F: Write>(
+    rt: &R,
     post: &mut Post<J>,
-    writer: &mut W,
     faults: &mut F,
 ) -> Result<(), Unwritten> {
     let plain = &mut post.hall.plain;
@@ -110,37 +119,28 @@ fn print<J: BoardId, W: Write, F: Write>(
         let _ = write_whole(faults, plain.faults());
         plain.faults_told();
     }
-    if plain.said().is_empty() {
-        return Ok(());
-    }
-    write_whole(writer, plain.said())?;
-    plain.written(usize::MAX);
-    match writer.flush() {
-        Ok(()) => Ok(()),
-        Err(_) => Err(Unwritten::Writer),
-    }
+    post.outlet.say(rt, plain)
 }
 
 /// The standard input is heard, line by line, and told. Whether it has more.
-fn serve_plain<J: BoardId, R: Wait, W: Write, F: Write>(
+fn serve_plain<J: BoardId, R: Wait, F: Write>(
     rt: &R,
     tree: &Tree,
     now: Option<Instant>,
     post: &mut Post<J>,
-    writer: &mut W,
     faults: &mut F,
 ) -> Result<bool, Unwritten> {
     if post.hall.is_plain_lost() {
         return Err(Unwritten::Memory);
     }
+    post.front.tell_news(tree, &mut post.hall.plain)?;
     post.front.go_on(tree, now, &mut post.hall.plain)?;
-    post.front.tell_fresh(tree, &mut post.hall.plain)?;
-    print(post, writer, faults)?;
+    print(rt, post, faults)?;
     for _ in 0..LINES {
         match post.next_line(rt) {
             Some(line) => {
                 post.front.hear(tree, now, &mut post.hall.plain, line)?;
-                print(post, writer, faults)?;
+                print(rt, post, faults)?;
             }
             None => return Ok(false),
         }
@@ -149,18 +149,17 @@ fn serve_plain<J: BoardId, R: Wait, W: Write, F: Write>(
 }
 
 /// The standard input is heard and told, and where it ends, that is told too. Whether it has more.
-fn attend_plain<J: BoardId, R: Wait, W: Write, F: Write>(
+fn attend_plain<J: BoardId, R: Wait, F: Write>(
     rt: &R,
     tree: &Tree,
     now: Option<Instant>,
     post: &mut Post<J>,
-    writer: &mut W,
     faults: &mut F,
 ) -> bool {
     if post.is_plain_over {
         return false;
     }
-    let ending = match serve_plain(rt, tree, now, post, writer, faults) {
+    let ending = match serve_plain(rt, tree, now, post, faults) {
         Ok(true) => return true,
         Ok(false) => post.ended().map(Ok),
         Err(unwritten) => Some(Err(unwritten)),
@@ -172,37 +171,35 @@ fn attend_plain<J: BoardId, R: Wait, W: Write, F: Write>(
     false
 }
 
-/// Everybody is heard and told once, as far as nothing waits. Whether the standard input has more.
-fn round<J: BoardId, R: Wait + Clock, W: Write, F: Write>(
+/// Everybody is heard and told once, as far as nothing waits. Whether the standard input, or the station, has more.
+fn round<J: BoardId, R: Wait + Clock, F: Write>(
     rt: &R,
     tree: &Tree,
     post: &mut Post<J>,
-    writer: &mut W,
     faults: &mut F,
 ) -> bool {
     let now = Instant::now(rt).ok();
-    post.note_states(rt);
+    let has_more_news = post.note_news(rt);
     post.tell_answers(tree);
-    let has_more = attend_plain(rt, tree, now, post, writer, faults);
+    let has_more_lines = attend_plain(rt, tree, now, post, faults);
     post.hall.welcome_all();
     post.hall.serve_guests(&mut post.front, tree, now);
-    post.front.picture().all_told();
+    post.front.forget_news();
     if post.front.has_given() {
         post.bell.ring();
     }
-    has_more
+    has_more_lines || has_more_news
 }
 
 /// Hears and tells, round after round, until the standard input has ended where nobody else can talk to the node.
-pub(crate) fn attend<J: BoardId, R: Wait + Clock, W: Write, F: Write>(
+pub(crate) fn attend<J: BoardId, R: Wait + Clock, F: Write>(
     rt: &R,
     tree: &Tree,
     post: &mut Post<J>,
-    writer: &mut W,
     faults: &mut F,
 ) {
     for _ in rt.forever() {
-        let has_more = round(rt, tree, post, writer, faults);
+        let has_more = round(rt, tree, post, faults);
         if post.is_plain_over && post.hall.has_no_door() {
             return;
         }

@@ -133,8 +133,8 @@ impl Guest {
         tree: &Tree,
         now: Option<Instant>,
     ) -> Result<(), AllocError> {
+        front.tell_news(tree, &mut self.caller)?;
         front.go_on(tree, now, &mut self.caller)?;
-        front.tell_fresh(tree, &mut self.caller)?;
         for _ in 0..LINES {
             if !self.caller.has_room() {
                 return Ok(());

@@ -97,39 +97,38 @@ impl Hall {
         self.entrances.is_empty()
     }
 
-    /// The caller of this number, where it has not left.
-    fn caller(&mut self, number: u64) -> Option<&mut Caller> {
-        if number == self.plain.number() {
-            return Some(&mut self.plain);
-        }
-        match self
-            .guests
-            .iter_mut()
-            .find(|guest| guest.number() == number)
-        {
-            Some(guest) => Some(guest.caller()),
-            None => None,
-        }
-    }
-
     /// An answer is told to its caller, where that has not left.
-    pub(crate) fn tell<J: BoardId>(&mut self, front: &Front<J>, answered: Answered) {
-        let told = match self.caller(answered.caller) {
-            Some(caller) => front.tell(caller, answered),
-            None => Ok(()),
-        };
-        if told.is_err() {
-            self.lose(answered.caller);
-        }
-    }
-
-    /// The caller of this number can't be told all any more.
-    pub(crate) fn lose(&mut self, number: u64) {
-        if number == self.plain.number() {
-            self.is_plain_lost = true;
+    pub(crate) fn tell<J: BoardId>(
+        &mut self,
+        front: &mut Front<J>,
+        tree: &Tree,
+        answered: &Answered,
+    ) {
+        match front.tell(tree, &mut self.plain, answered) {
+            Ok(true) => return,
+            Ok(false) => {}
+            Err(_) => {
+                self.is_plain_lost = true;
+                return;
+            }
         }
         for guest in self.guests.iter_mut() {
-            if guest.number() == number {
+            match front.tell(tree, guest.caller(), answered) {
+                Ok(true) => return,
+                Ok(false) => {}
+                Err(_) => {
+                    guest.leave();
+                    return;
+                }
+            }
+        }
+    }
+
+    /// Those who want to be told of states or of actions can't be told all any more.
+    pub(crate) fn lose_followers(&mut self) {
+        self.is_plain_lost = self.is_plain_lost || self.plain.is_following();
+        for guest in self.guests.iter_mut() {
+            if guest.caller().is_following() {
                 guest.leave();
             }
         }
@@ -206,6 +205,7 @@ impl Hall {
             return Some(Duration::from_millis(0));
         }
         let is_watchful = !front.is_at_rest()
+            || !self.plain.said().is_empty()
             || self.entrances.iter().any(|entrance| entrance.is_called)
             || self.guests.iter().any(|guest| guest.is_timed());
         if is_watchful {

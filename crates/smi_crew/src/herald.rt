@@ -1,8 +1,8 @@
-//! A witness of the steps of a node who tells the front desk of answers and of states.
+//! A witness of the steps of a node who tells the front desk of answers, of states and of actions.
 
-use crate::chime::Chime;
-use crossbeam_channel::Sender;
+use crate::dispatch::Dispatch;
 use smi_counts::Counter;
+use smi_front::{Act, News, done_by};
 use smi_grant::Shown;
 use smi_node::Witness;
 use smi_out::Out;
@@ -14,17 +14,20 @@ use smi_view::is_newer;
 use std::alloc::{AllocError, Global};
 use std::sync::{Arc, Wait};
 
-/// Tells of the states of what its station keeps, and of those that the station takes; it also counts.
+/// Tells of the states of what its station keeps, of those that the station takes, and of the actions that it does; it
+/// also counts.
 ///
-/// A state for which the way to the front has no room is told at a later step, as the state of that moment.
+/// A state for which there is no room is told at a later step, as the newest of its object by then.
 #[derive(Drop)]
 pub(crate) struct Herald<H: Drop> {
-    rt: H,
+    tree: Arc<Tree, Global>,
     counter: Counter,
-    chime: Arc<Chime, Global>,
-    states: Sender<Shown>,
+    dispatch: Dispatch<H>,
     /// What the station keeps, each with the state that was told last.
     kept: Vec<Kept>,
+    /// The states that the station took and that are not told yet, by object, and whether there are any.
+    taken: Vec<Option<Shown>>,
+    owes_taken: bool,
 }
 
 /// An object that a station keeps, and the state of it that was told last.
@@ -45,30 +48,31 @@ impl Kept {
 }
 
 impl<H: Wait + Drop> Herald<H> {
-    /// A herald of a station who has told nothing.
+    /// A herald of a station who has told nothing but the states of what the station keeps.
     ///
     /// Its error is that memory was refused.
     pub(crate) fn new<S: Stable>(
         alloc: Global,
-        rt: H,
-        tree: &Tree,
+        tree: Arc<Tree, Global>,
         station: &Station<'_, S>,
         counter: Counter,
-        chime: Arc<Chime, Global>,
-        states: Sender<Shown>,
+        dispatch: Dispatch<H>,
     ) -> Result<Herald<H>, AllocError> {
         let mut kept = Vec::new(alloc);
+        let mut taken = Vec::new(alloc);
         for object in 1..=tree.object_count() {
             if station.current(object).is_some() {
                 kept.push(Kept { object, told: None })?;
             }
+            taken.push(None)?;
         }
         let mut herald = Herald {
-            rt,
+            tree,
             counter,
-            chime,
-            states,
+            dispatch,
             kept,
+            taken,
+            owes_taken: false,
         };
         herald.tell_kept(station);
         Ok(herald)
@@ -78,10 +82,58 @@ impl<H: Wait + Drop> Herald<H> {
     fn tell_kept<S: Stable>(&mut self, station: &Station<'_, S>) {
         for kept in self.kept.iter_mut() {
             if let Some(shown) = station.current(kept.object) {
-                if kept.is_news(shown) && self.states.try_send(&self.rt, shown).is_ok() {
+                if kept.is_news(shown) && self.dispatch.tell(News::Showed(shown)) {
                     kept.told = Some(shown);
-                    self.chime.set();
                 }
+            }
+        }
+    }
+
+    /// A state that the station took is to be told.
+    fn take(&mut self, shown: Shown) {
+        let Some(place) = usize::from(shown.object).checked_sub(1) else {
+            return;
+        };
+        if let Some(taken) = self.taken.get_mut(place) {
+            *taken = Some(shown);
+            self.owes_taken = true;
+        }
+    }
+
+    /// Tells of the states that the station took, as far as there is room.
+    fn tell_taken(&mut self) {
+        if !self.owes_taken {
+            return;
+        }
+        self.owes_taken = false;
+        for taken in self.taken.iter_mut() {
+            if let Some(shown) = *taken {
+                if self.dispatch.tell(News::Showed(shown)) {
+                    *taken = None;
+                } else {
+                    self.owes_taken = true;
+                }
+            }
+        }
+    }
+
+    /// Tells of the action that a step did, at each of its devices.
+    fn tell_done<S: Stable>(
+        &mut self,
+        station: &Station<'_, S>,
+        event: &Event<'_>,
+        made: &Result<Heard, StepFault>,
+    ) {
+        let Some(done) = done_by(&self.tree, event, made) else {
+            return;
+        };
+        for device in done.devices {
+            let object = self.tree.domain_count().saturating_add(*device);
+            if let Some(shown) = station.current(object) {
+                self.dispatch.tell_act(Act {
+                    action: done.action,
+                    shown,
+                });
             }
         }
     }
@@ -105,14 +157,16 @@ impl<H: Wait + Drop> Witness for Herald<H> {
     ) {
         self.counter.saw(station, event, made, out);
         if matches!(event, Event::Order(_, _) | Event::Report(_, _)) || !out.answers().is_empty() {
-            self.chime.set();
+            self.dispatch.wake();
         }
+        self.dispatch.go_on();
         if let Some(shown) = out.shown() {
-            let _ = self.states.try_send(&self.rt, shown);
-            self.chime.set();
+            self.take(shown);
         }
+        self.tell_taken();
         if may_have_moved(event, made) {
             self.tell_kept(station);
         }
+        self.tell_done(station, event, made);
     }
 }

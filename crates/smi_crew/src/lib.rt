@@ -5,12 +5,13 @@
 //! fault is told (`opening`). Then it serves the station in its own thread, with `serve_before` of `smi_node`, which
 //! is told each step that it makes, and counts (`smi_counts`).
 //!
-//! Two threads, which nobody joins, have the consoles. One reads the lines of the standard input and hands them on
-//! (`reading`). The other stands at the front (`attending`): it has the front desk of `smi_front`, hears the standard
-//! input and the connections (`hall`, `guest`) that come in at the doors (`doors`), and tells each what it asked for.
-//! It waits for all of them at once, and is woken by the thread that serves (`chime`) once a turn has brought an
-//! answer or a state (`herald`). Orders that were given are followed by a datagram to the node's own socket, an empty
-//! one that every station refuses, so that a station at rest looks at its seats at once (`bell`).
+//! Three threads, which nobody joins, have the consoles. One reads the lines of the standard input and hands them on
+//! (`reading`); one writes what the standard input is told (`outlet`). The third stands at the front (`attending`): it
+//! has the front desk of `smi_front`, hears the standard input and the connections (`hall`, `guest`) that come in at
+//! the doors (`doors`), and tells each what it asked for. It waits for all of them at once, for none of them alone, and
+//! is woken by the thread that serves (`chime`) once a turn has brought an answer, a state or an action (`herald`,
+//! `dispatch`). Orders that were given are followed by a datagram to the node's own socket, an empty one that every
+//! station refuses, so that a station at rest looks at its seats at once (`bell`).
 //!
 //! The lines, the statuses and what is printed stand in docs/FORMATS.md, "A node's lines".
 #![tactic(auto)]
@@ -18,11 +19,13 @@
 mod attending;
 mod bell;
 mod chime;
+mod dispatch;
 mod doors;
 mod guest;
 mod hall;
 mod herald;
 mod opening;
+mod outlet;
 mod reading;
 mod running;
 

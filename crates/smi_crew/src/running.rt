@@ -5,20 +5,22 @@ ghost use Rattle.std.specs.Prelude.{◌≡◌};
 use crate::attending::{Post, attend};
 use crate::bell::Bell;
 use crate::chime::{Chime, ChimedLink};
+use crate::dispatch::Dispatch;
 use crate::doors::Place;
 use crate::hall::Hall;
 use crate::herald::Herald;
 use crate::opening::{console_fault, link_fault, opening_fault, stopped};
+use crate::outlet::{HANDED, Outlet, Progress, write_all};
 use crate::reading::{Input, read_all};
 use crossbeam_channel::{Receiver, Sender, bounded};
 use smi_cli::status::{Status, no_memory};
 use smi_counts::{CountedLink, Counter, Counts};
-use smi_front::{Front, Picture, Wicket};
-use smi_grant::Shown;
+use smi_front::{Front, News, Office};
 use smi_limits::MOST_OPERATORS_OF_A_STATION;
 use smi_link::{DatagramLink, UdpLink};
 use smi_node::{ServeFault, Witness, serve_before};
 use smi_operator::{Desk, Seat, open_seats};
+use smi_picture::Picture;
 use smi_rows::Stable;
 use smi_station::{Station, migrate};
 use smi_tree::{Address, Tree};
@@ -64,10 +66,10 @@ pub enum Turns {
 /// How many turns an endless node serves at once, before it begins again with all that it has.
 const TURNS_AT_ONCE: u32 = 1_000_000;
 
-/// How many lines that were read, and how many states, may wait for the thread at the front.
+/// How many lines that were read, and how much news, may wait for the thread at the front.
 const LINES: usize = 16;
 
-const STATES: usize = 1_024;
+const NEWS: usize = 4_096;
 
 /// Why a node that has opened its station does not serve.
 #[derive(Clone, Copy, Debug, PartialEq, Eq)]
@@ -122,16 +124,7 @@ fn linked<'a, H: Net + Clock + AllocGlobal>(
     Ok((link, bell))
 }
 
-/// A wicket for each seat: those of the operators, and behind them nobody's.
-fn wickets(alloc: Global, operators: &[u16], seats: Vec<Seat>) -> Result<Vec<Wicket>, AllocError> {
-    let mut wickets = Vec::with_capacity(alloc, seats.len())?;
-    for (place, seat) in seats.into_iter().enumerate() {
-        wickets.push(Wicket::new(alloc, operators.get(place).copied(), seat)?)?;
-    }
-    Ok(wickets)
-}
-
-/// The front desk of a node, over these seats.
+/// The front desk of a node, over the seats of its operators and behind them nobody's.
 fn front_of<J: BoardId>(
     alloc: Global,
     plan: &Plan,
@@ -139,11 +132,12 @@ fn front_of<J: BoardId>(
     seats: Vec<Seat>,
     glance: Glance<J>,
     counts: Arc<Counts, Global>,
-) -> Result<Box<Front<J>>, AllocError> {
-    let wickets = wickets(alloc, operators, seats)?;
-    let operators = Vec::from_slice(alloc, operators)?;
-    let picture = Picture::new(alloc, plan.tree.object_count())?;
-    Front::open(alloc, operators, wickets, glance, counts, picture)
+) -> Result<Box<Front<J>>, Halt> {
+    let mut seats = seats;
+    let reports = seats.pop().ok_or(Halt::Memory)?;
+    let office = Office::open(alloc, operators, seats, reports)?;
+    let picture = Picture::new(alloc, plan.tree.object_count(), 0)?;
+    Ok(Front::open(alloc, office, glance, counts, picture)?)
 }
 
 /// The seats of a station's operators and one for reports, at the front, their desk, and last the station's link.
@@ -195,17 +189,39 @@ fn begin_reading<
     }
 }
 
+/// Starts the thread that writes the standard output. Nobody joins it: it ends with the thread at the front, with a
+/// write that fails, or with the program.
+fn begin_writing<
+    H: Wait + Threads + AllocGlobal + Clone + Drop + Send + 'static,
+    O: Write + Drop + Send + 'static,
+>(rt: &H, output: O, chime: Arc<Chime, Global>) -> Result<Outlet, AllocError> {
+    let (sender, blocks) = bounded(rt.alloc(), HANDED)?;
+    let progress = match Arc::new(rt.alloc(), Progress::new()) {
+        Ok(progress) => progress,
+        Err(_refused) => return Err(AllocError),
+    };
+    let outlet = Outlet::new(rt.alloc(), sender, Arc::try_clone(&progress)?);
+    let there = rt.clone()?;
+    let begun = spawn(rt, move || {
+        let mut output = output;
+        write_all(&there, &blocks, &progress, &chime, &mut output)
+    });
+    match begun {
+        Ok(_thread) => Ok(outlet),
+        Err(_refused) => Err(AllocError),
+    }
+}
+
 /// Starts the thread at the front. Nobody joins it: it ends with the program, or before.
 fn begin_attending<
     J: BoardId + Send + Sync + 'static,
     H: Wait + Threads + Clock + AllocGlobal + Clone + Drop + Send + 'static,
-    O: Write + Drop + Send + 'static,
     E: Write + Drop + Send + 'static,
->(rt: &H, tree: Arc<Tree, Global>, post: Post<J>, output: O, faults: E) -> Result<(), AllocError> {
+>(rt: &H, tree: Arc<Tree, Global>, post: Post<J>, faults: E) -> Result<(), AllocError> {
     let there = rt.clone()?;
     let begun = spawn(rt, move || {
-        let (mut post, mut output, mut faults) = (post, output, faults);
-        attend(&there, &tree, &mut post, &mut output, &mut faults)
+        let (mut post, mut faults) = (post, faults);
+        attend(&there, &tree, &mut post, &mut faults)
     });
     match begun {
         Ok(_thread) => Ok(()),
@@ -222,7 +238,7 @@ struct Lobby<J: BoardId> {
     chime: Arc<Chime, Global>,
 }
 
-/// Starts both threads of a node's console, and answers the way by which they are told states.
+/// Starts the threads of a node's consoles, and answers the way by which they are told news.
 fn begin_console<
     J: BoardId + Send + Sync + 'static,
     H: Wait + Threads + Clock + AllocGlobal + Clone + Drop + Send + 'static,
@@ -234,7 +250,7 @@ fn begin_console<
     tree: Arc<Tree, Global>,
     lobby: Lobby<J>,
     console: Console<I, O, E>,
-) -> Result<Sender<Shown>, AllocError> {
+) -> Result<Sender<News>, AllocError> {
     let Console {
         input,
         output,
@@ -247,18 +263,20 @@ fn begin_console<
         chime,
     } = lobby;
     let (sender, lines) = bounded(rt.alloc(), LINES)?;
-    let (states_sender, states) = bounded(rt.alloc(), STATES)?;
+    let (news_sender, news) = bounded(rt.alloc(), NEWS)?;
+    let outlet = begin_writing(rt, output, Arc::try_clone(&chime)?)?;
     let post = Post {
         front,
         hall,
         bell,
+        outlet,
         lines,
-        states,
+        news,
         is_plain_over: false,
     };
-    begin_attending(rt, tree, post, output, faults)?;
+    begin_attending(rt, tree, post, faults)?;
     begin_reading(rt, input, sender, chime)?;
-    Ok(states_sender)
+    Ok(news_sender)
 }
 
 /// Tells how a service ended.
@@ -328,20 +346,13 @@ fn crewed<
         bell,
         chime: Arc::try_clone(&chime)?,
     };
-    let states = begin_console(rt, tree, lobby, console)?;
+    let news = begin_console(rt, tree, lobby, console)?;
     let link = CountedLink::over(link, Arc::try_clone(&counts)?);
     let mut link = ChimedLink::over(link, Arc::try_clone(&chime)?);
     let counter = Counter::new(counts);
-    let there = rt.clone()?;
-    let mut herald = Herald::new(
-        rt.alloc(),
-        there,
-        &plan.tree,
-        station,
-        counter,
-        chime,
-        states,
-    )?;
+    let dispatch = Dispatch::new(rt.alloc(), rt.clone()?, chime, news);
+    let tree = Arc::try_clone(&plan.tree)?;
+    let mut herald = Herald::new(rt.alloc(), tree, station, counter, dispatch)?;
     Ok(served(
         rt,
         plan.turns,

@@ -1,5 +1,5 @@
 -- How bytes are cut into lines.
-use Rattle.std.specs.Prelude.{ℕ, nat_lt, ◌-◌, ◌+◌, List, [], ◌++◌, length, take, drop, Option, Some, None}
+use Rattle.std.specs.Prelude.{ℕ, nat_lt, ◌-◌, ◌+◌, ◌==◌, Bool, List, [], ◌++◌, length, take, drop, Option, Some, None}
 use Rattle.std.specs.Prelude.{if◌then◌else◌}
 use Rattle.std.specs.List.{position_or_len}
 use Rattle.std.specs.Str.Lines.{strip_carriage_return}
@@ -39,3 +39,11 @@ left_by c =
     if nat_lt (line_end c.rest) (length c.rest)
     then record { line = []; rest = drop (line_end c.rest + 1) c.rest }
     else record { line = kept c.line c.rest (line_end c.rest); rest = [] }
+
+-- all bytes were looked at
+abbrev pub is_used_up : Cutting → Bool
+is_used_up c = length c.rest == 0
+
+-- the last line, where it has bytes and lacks its line feed
+abbrev pub rest_line : Cutting → Option (List ℕ)
+rest_line c = if length c.line == 0 then None else Some (last_line c.line)

@@ -1,3 +1,13 @@
+pub mod Asked
+pub mod Caller
 pub mod Cut
+pub mod Done
+pub mod FaultLine
+pub mod Front
+pub mod Hearing
+pub mod News
+pub mod Office
 pub mod Said
+pub mod Tag
+pub mod Whole
 pub mod Wicket

@@ -1,7 +1,7 @@
 //! How the bytes of a caller are cut into lines.
 
 ghost use Rattle.std.specs.Prelude.{◌≡◌, ◌++◌, [], IfOk, OnOk, option_map};
-ghost use Rattle.smi_front.specs.Cut.{cut_line, left_by, kept, last_line};
+ghost use Rattle.smi_front.specs.Cut.{cut_line, left_by, kept, is_used_up, last_line, rest_line};
 
 use smi_tree::{length_of_line, without_return};
 use std::alloc::{AllocError, Global};
@@ -52,7 +52,9 @@ impl Cutter {
     }
 
     /// Whether all bytes that have come were looked at.
-    pub fn is_used_up(&self) -> bool {
+    pub fn is_used_up(&self) -> bool
+        ensures { result ≡ is_used_up self.now }
+    {
         self.rest.is_empty()
     }
 
@@ -104,7 +106,10 @@ impl Cutter {
     /// The last line, which lacks its line feed, where there is one.
     ///
     /// Its error is that memory was refused.
-    pub fn rest(&mut self) -> Result<Option<Vec<u8>>, AllocError> {
+    pub fn rest(&mut self) -> Result<Option<Vec<u8>>, AllocError>
+        ensures line { IfOk result (λ line. option_map (λ v. v.items) line ≡ rest_line self.old) }
+        ensures left { OnOk result (self.new ≡ record self.old { line = [] }) }
+    {
         if self.line.is_empty() {
             Ok(None)
         } else {

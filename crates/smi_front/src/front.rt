@@ -1,19 +1,24 @@
 //! The front desk: lines become orders, and answers find their callers.
 
-use crate::caller::{Caller, Manners, Numbered};
-use crate::picture::Picture;
-use crate::said::{Request, request_in};
+ghost use Rattle.std.specs.Prelude.{◌≡◌, OnOk};
+ghost use Rattle.smi_front.specs.News.{heard_of};
+
+use crate::asked::{Asked, asked_in};
+use crate::caller::Caller;
+use crate::faults::tell_fault;
+use crate::news::{News, spell_news};
+use crate::office::{Answered, Office};
 use crate::tag::{Tag, tagged};
-use crate::telling::{shown, spell_fault, spell_line_fault, spell_told};
-use crate::whole::{Whole, whole_in};
-use crate::wicket::{Given, Wicket};
+use crate::telling::{shown, spell_told};
 use smi_counts::Counts;
+use smi_grant::Shown;
 use smi_limits::MOST_BYTES_OF_A_LINE;
-use smi_protocol::Order;
+use smi_picture::Picture;
 use smi_trace::spell_board;
 use smi_tree::{Fault, Tree};
-use smi_view::{BoardId, Glance};
+use smi_view::{BoardId, Glance, is_newer};
 use std::alloc::{AllocError, Global};
+use std::marker::Model;
 use std::sync::Arc;
 use std::time::Instant;
 
@@ -21,52 +26,80 @@ use std::time::Instant;
 const LINES_AT_ONCE: usize = 64;
 
 /// All seats of a station, what its board shows, and what else a line may ask.
+///
+/// Contracts see the wickets, what the board has shown, the newest states, and the news.
 #[derive(Drop)]
 pub struct Front<J: BoardId> {
-    /// The operators of the station, each with its wicket at the same place; the last wicket is for reports.
-    operators: Vec<u16>,
-    pub(crate) wickets: Vec<Wicket>,
-    pub(crate) glance: Glance<J>,
+    pub(crate) office: Office,
+    glance: Glance<J>,
     pub(crate) counts: Arc<Counts, Global>,
     pub(crate) picture: Picture,
+    /// What the station told since that was last forgotten.
+    news: Vec<News>,
     pub(crate) text: Vec<u8>,
-    has_given: bool,
-    alloc: Global,
+    pub(crate) alloc: Global,
 }
 
-/// An answer that has come, whose text the front has: of a line of this caller, with this tag or without one.
-#[derive(Clone, Copy)]
-pub struct Answered {
-    pub caller: u64,
-    tag: Option<Tag>,
+impl<J: BoardId> Model for Front<J> {
+    ghost use Rattle.smi_front.specs.Front.{Fronted};
+
+    ghost Value = { Fronted };
+
+    ghost view = { λ f. record { office = f.office; board = f.glance; picture = f.picture; news = f.news.items } };
 }
 
-/// Memory was refused to an answer of a line of this caller.
-#[derive(Clone, Copy, Debug, PartialEq, Eq)]
-pub struct Lost {
-    pub caller: u64,
+/// Tells a caller of news, as it wants to be told.
+fn tell_of(
+    text: &mut Vec<u8>,
+    tree: &Tree,
+    caller: &mut Caller,
+    news: News,
+) -> Result<(), AllocError>
+    ensures { OnOk result (caller.new ≡ heard_of tree.now news caller.old) }
+{
+    let tag = match news {
+        News::Showed(shown) => caller.follows(shown.object),
+        News::Acted(act) => caller.awaits(act.shown.object),
+        News::Missed(_) => caller.awaits_any(),
+    };
+    match tag {
+        Some(tag) => {
+            spell_news(text, tree, news)?;
+            caller.say(tag, text.as_slice())
+        }
+        None => Ok(()),
+    }
 }
 
 impl<J: BoardId> Front<J> {
-    /// A front desk at which nothing was asked. A wicket stands for each operator, and one more for reports.
+    ghost use Rattle.std.specs.Prelude.{◌≡◌, ◌≢◌, [], true, false, length, Ok, IfOk, IfSome, IfNone, OnOk, OnErr};
+    ghost use Rattle.smi_front.specs.Asked.{asked_in};
+    ghost use Rattle.smi_front.specs.Caller.{ending, may_go_on, saying};
+    ghost use Rattle.smi_front.specs.Front.{fronted, is_new, noted_news, told_text};
+    ghost use Rattle.smi_front.specs.Hearing.{Attends, BreaksOff, Does, GoesOn, Hears, HearsShort, Refuses};
+    ghost use Rattle.smi_front.specs.Hearing.{Takes, TakesAll, TakesSome};
+    ghost use Rattle.smi_front.specs.News.{heard_all};
+    ghost use Rattle.smi_front.specs.Office.{ChangesAt, TakesAnswer, TakesNoAnswer, is_at_rest, owes};
+
+    /// A front desk over these wickets, which has no news.
     ///
     /// Its error is that memory was refused.
     pub fn open(
         alloc: Global,
-        operators: Vec<u16>,
-        wickets: Vec<Wicket>,
+        office: Office,
         glance: Glance<J>,
         counts: Arc<Counts, Global>,
         picture: Picture,
-    ) -> Result<Box<Front<J>>, AllocError> {
+    ) -> Result<Box<Front<J>>, AllocError>
+        ensures { IfOk result (λ f. f.value ≡ fronted office glance picture) }
+    {
         let front = Front {
-            operators,
-            wickets,
+            office,
             glance,
             counts,
             picture,
+            news: Vec::new(alloc),
             text: Vec::new(alloc),
-            has_given: false,
             alloc,
         };
         match Box::new(alloc, front) {
@@ -76,251 +109,291 @@ impl<J: BoardId> Front<J> {
     }
 
     /// Whether an order was given since this was last asked: then the station is to look at its seats.
-    pub fn has_given(&mut self) -> bool {
-        let has_given = self.has_given;
-        self.has_given = false;
-        has_given
+    pub fn has_given(&mut self) -> bool
+        ensures asked { result ≡ self.old.office.has_given }
+        ensures told { self.new ≡ record self.old { office = record self.old.office { has_given = false } } }
+    {
+        self.office.has_given()
     }
 
     /// Whether no order is under way.
-    pub fn is_at_rest(&self) -> bool {
-        self.wickets.iter().all(|wicket| wicket.given().is_empty())
+    pub fn is_at_rest(&self) -> bool
+        ensures { result ≡ is_at_rest self.now.office }
+    {
+        self.office.is_at_rest()
     }
 
     /// Whether an order of this caller is under way.
-    pub fn owes(&self, caller: u64) -> bool {
-        self.wickets.iter().any(|wicket| wicket.given().iter().any(|given| given.caller == caller))
+    pub fn owes(&self, caller: u64) -> bool
+        ensures { result ≡ owes self.now.office caller }
+    {
+        self.office.owes(caller)
     }
 
     /// How many seats there are.
-    pub fn seat_count(&self) -> usize {
-        self.wickets.len()
+    pub fn seat_count(&self) -> usize
+        ensures { result ≡ length self.now.office.wickets }
+    {
+        self.office.wickets().len()
     }
 
-    /// The newest states.
-    pub fn picture(&mut self) -> &mut Picture {
-        &mut self.picture
+    /// What a line of a caller asks.
+    fn asked(
+        &self,
+        tree: &Tree,
+        caller: &Caller,
+        has_tag: bool,
+        text: &[u8],
+    ) -> Result<Asked, Fault>
+        ensures { result ≡ asked_in tree.now self.now.office.operators caller.now.manners has_tag text.now }
+    {
+        let operators = self.office.operators();
+        asked_in(tree, operators, caller.manners(), has_tag, text)
     }
 
-    /// The place of a wicket: that of its operator, or the last for reports.
-    fn place_of(&self, operator: Option<u16>) -> usize {
-        match operator {
-            Some(operator) => {
-                let place = self.operators.iter().position(|other| *other == operator);
-                place.unwrap_or(self.operators.len())
-            }
-            None => self.operators.len(),
-        }
-    }
-
-    /// Gives an order of a caller at a wicket. Where the seat has no room, the caller holds it.
-    fn give(&mut self, caller: &mut Caller, place: usize, given: Given) {
-        if let Some(wicket) = self.wickets.get_mut(place) {
-            match wicket.give(given) {
-                Ok(()) => self.has_given = true,
-                Err(given) => caller.held = Some((place, given)),
-            }
-        }
-    }
-
-    /// The order that a caller holds is given again.
-    fn give_held(&mut self, caller: &mut Caller) {
-        if let Some((place, given)) = caller.held {
-            caller.held = None;
-            self.give(caller, place, given);
-        }
-    }
-
-    /// A line of a caller gives an order.
-    fn order(
-        &mut self,
-        now: Option<Instant>,
-        caller: &mut Caller,
-        tag: Option<Tag>,
-        operator: Option<u16>,
-        order: Order,
-    ) {
-        caller.is_busy = caller.is_busy || tag.is_none();
-        let place = self.place_of(operator);
-        let given = Given {
-            caller: caller.number(),
-            tag,
-            order,
-            since: now,
-        };
-        self.give(caller, place, given);
-    }
-
-    /// Does what a line asks of an operator, a device or the board.
-    fn ask(
+    /// Does what a line asks: it is answered, gives an order, or is skipped.
+    ///
+    /// Its error is that memory was refused to what the caller is to be told. No order was given then.
+    fn obey(
         &mut self,
         tree: &Tree,
         now: Option<Instant>,
         caller: &mut Caller,
         tag: Option<Tag>,
-        request: Request,
-    ) -> Result<(), AllocError> {
-        match request {
-            Request::Order(operator, order) => {
-                self.order(now, caller, tag, Some(operator), order);
+        text: &[u8],
+        asked: Asked,
+    ) -> Result<(), AllocError>
+        ensures ok { OnOk result (Does tree.now now tag text.now asked self.old caller.old self.new caller.new) }
+        ensures err { OnErr result (self.new.office ≡ self.old.office) }
+    {
+        match asked {
+            Asked::Seat(operator, order) => {
+                self.office.order(now, caller, tag, operator, order);
                 Ok(())
             }
-            Request::Report(device, state) => {
-                self.order(now, caller, tag, None, Order::Report(device, state));
-                Ok(())
-            }
-            Request::Show(object) => {
+            Asked::Board(object) => {
                 let shown = shown(&mut self.glance, object);
                 spell_board(&mut self.text, tree, object, shown)?;
                 caller.say(tag, self.text.as_slice())
             }
+            Asked::Node(whole) => self.tell_whole(tree, now, caller, tag, text, whole),
+            Asked::Nothing => Ok(()),
         }
     }
 
-    /// What a line asks of the whole node, where its caller may ask so.
-    fn whole_of<'a>(
-        manners: Manners,
+    /// The fault of a line is told.
+    ///
+    /// Its error is that memory was refused to what the caller is to be told.
+    fn refuse(
+        &mut self,
+        tree: &Tree,
+        caller: &mut Caller,
         tag: Option<Tag>,
-        text: &'a [u8],
-    ) -> Result<Option<Whole<'a>>, Fault> {
-        if text.len() > MOST_BYTES_OF_A_LINE || tag.is_none() && manners == Manners::Terse {
-            Ok(None)
-        } else {
-            whole_in(text)
-        }
+        number: u64,
+        text: &[u8],
+        fault: Fault,
+    ) -> Result<(), AllocError>
+        ensures ok { OnOk result (Refuses tag number fault self.old caller.old self.new caller.new) }
+        ensures err { self.new.office ≡ self.old.office }
+    {
+        let operators = self.office.operators();
+        tell_fault(
+            &mut self.text,
+            tree,
+            operators,
+            caller,
+            tag,
+            number,
+            text,
+            fault,
+        )
     }
 
-    /// A line of a caller is attended to: it is answered, gives an order, or is skipped.
+    /// A line of a caller is attended to: it is obeyed, or its fault told.
+    ///
+    /// Its error is that memory was refused to what the caller is to be told. No order was given then.
     fn attend(
         &mut self,
         tree: &Tree,
         now: Option<Instant>,
         caller: &mut Caller,
         tag: Option<Tag>,
+        number: u64,
         text: &[u8],
-    ) -> Result<Result<(), Fault>, AllocError> {
-        match Front::<J>::whole_of(caller.manners(), tag, text) {
-            Ok(Some(whole)) => return self.tell_whole(self.alloc, tree, now, caller, tag, whole),
-            Ok(None) => {}
-            Err(fault) => return Ok(Err(fault)),
-        }
-        match request_in(tree, self.operators.as_slice(), text) {
-            Ok(Some(request)) => Ok(Ok(self.ask(tree, now, caller, tag, request)?)),
-            Ok(None) if tag.is_some() => Ok(Err(Fault::WordCount)),
-            Ok(None) => Ok(Ok(())),
-            Err(fault) => Ok(Err(fault)),
+    ) -> Result<(), AllocError>
+        ensures ok { OnOk result (Attends tree.now now tag number text.now self.old caller.old self.new caller.new) }
+        ensures err { OnErr result (self.new.office ≡ self.old.office) }
+    {
+        match self.asked(tree, caller, tag.is_some(), text) {
+            Ok(asked) => self.obey(tree, now, caller, tag, text, asked),
+            Err(fault) => self.refuse(tree, caller, tag, number, text, fault),
         }
     }
 
-    /// A line with a tag is attended to, and its fault told.
-    fn attend_tagged(
-        &mut self,
-        tree: &Tree,
-        now: Option<Instant>,
-        caller: &mut Caller,
-        tag: Tag,
-        text: &[u8],
-    ) -> Result<(), AllocError> {
-        match self.attend(tree, now, caller, Some(tag), text)? {
-            Ok(()) => Ok(()),
-            Err(fault) => {
-                spell_fault(&mut self.text, caller.manners(), fault)?;
-                caller.say(Some(tag), self.text.as_slice())
-            }
-        }
-    }
-
-    /// A line without a tag is attended to, and its fault told.
-    fn attend_plain(
-        &mut self,
-        tree: &Tree,
-        now: Option<Instant>,
-        caller: &mut Caller,
-        numbered: &Numbered,
-    ) -> Result<(), AllocError> {
-        match self.attend(tree, now, caller, None, numbered.line.as_slice())? {
-            Ok(()) => Ok(()),
-            Err(fault) => {
-                spell_line_fault(&mut self.text, caller.manners(), numbered.number, fault)?;
-                match caller.manners() {
-                    Manners::Terse => caller.complain(self.text.as_slice()),
-                    Manners::Wordy => caller.say(None, self.text.as_slice()),
-                }
-            }
-        }
-    }
-
-    /// A caller's lines that wait are attended to, up to one that gives an order; first, an order that was held is
-    /// given.
+    /// The first line of a caller that waits is attended to, where it may be. Whether there was one.
     ///
-    /// Its error is that memory was refused to what the caller is to be told: then it can't be told all.
-    pub fn go_on(
+    /// Its error is that memory was refused to what the caller is to be told. No order was given then.
+    fn attend_first(
         &mut self,
         tree: &Tree,
         now: Option<Instant>,
         caller: &mut Caller,
-    ) -> Result<(), AllocError> {
-        self.give_held(caller);
-        for _ in 0..LINES_AT_ONCE {
-            if caller.is_busy || caller.held.is_some() {
-                return Ok(());
+    ) -> Result<bool, AllocError>
+        ensures one { result ≡ Ok true → Takes tree.now now self.old caller.old self.new caller.new }
+        ensures none { result ≡ Ok false → (may_go_on caller.old ≡ false) × (self.new ≡ self.old)
+            × (caller.new ≡ caller.old) }
+        ensures err { OnErr result (self.new.office ≡ self.old.office) }
+    {
+        match caller.next_waiting() {
+            Some(numbered) => {
+                let text = numbered.line.as_slice();
+                self.attend(tree, now, caller, None, numbered.number, text)?;
+                Ok(true)
             }
-            match caller.waiting.pop_front() {
-                Some(numbered) => self.attend_plain(tree, now, caller, &numbered)?,
-                None => return Ok(()),
+            None => Ok(false),
+        }
+    }
+
+    /// A caller's lines that wait are attended to, up to one that gives an order.
+    ///
+    /// Its error is that memory was refused to what the caller is to be told.
+    fn attend_waiting(
+        &mut self,
+        tree: &Tree,
+        now: Option<Instant>,
+        caller: &mut Caller,
+    ) -> Result<(), AllocError>
+        ensures ok { OnOk result (TakesAll tree.now now self.old caller.old self.new caller.new) }
+        ensures err { OnErr result (TakesSome tree.now now self.old caller.old self.new) }
+    {
+        for _ in 0..LINES_AT_ONCE {
+            if !self.attend_first(tree, now, caller)? {
+                return Ok(());
             }
         }
         Ok(())
     }
 
+    /// A caller's lines that wait are attended to, up to one that gives an order; first, an order that was held is
+    /// given.
+    ///
+    /// Its error is that memory was refused to what the caller is to be told: then it can't be told all. Orders were
+    /// given of the lines before alone.
+    pub fn go_on(
+        &mut self,
+        tree: &Tree,
+        now: Option<Instant>,
+        caller: &mut Caller,
+    ) -> Result<(), AllocError>
+        ensures ok { OnOk result (GoesOn tree.now now self.old caller.old self.new caller.new) }
+        ensures err { OnErr result (BreaksOff tree.now now self.old caller.old self.new) }
+    {
+        self.office.give_held(caller);
+        self.attend_waiting(tree, now, caller)
+    }
+
     /// A line of a caller has come: one with a tag is attended to at once, and any other in its turn.
     ///
-    /// Its error is that memory was refused to what the caller is to be told, or to its lines that wait.
+    /// Its error is that memory was refused to what the caller is to be told, or to its lines that wait. Orders were
+    /// given of the lines before alone.
     pub fn hear(
         &mut self,
         tree: &Tree,
         now: Option<Instant>,
         caller: &mut Caller,
         line: Vec<u8>,
-    ) -> Result<(), AllocError> {
+    ) -> Result<(), AllocError>
+        ensures ok { OnOk result (Hears tree.now now line.items self.old caller.old self.new caller.new) }
+        ensures err { OnErr result (HearsShort tree.now now line.items self.old caller.old self.new) }
+    {
         let number = caller.count_line();
         if line.len() <= MOST_BYTES_OF_A_LINE {
             if let Some((tag, text)) = tagged(line.as_slice()) {
-                return self.attend_tagged(tree, now, caller, tag, text);
+                return self.attend(tree, now, caller, Some(tag), number, text);
             }
         }
         caller.wait(number, line)?;
         self.go_on(tree, now, caller)
     }
 
-    /// The next answer at a seat, by its place, whose text is put together.
+    /// The next answer at a seat, by its place.
+    pub fn answer(&mut self, place: usize) -> Option<Answered>
+        ensures some { IfSome result (λ r. ChangesAt place (TakesAnswer r) self.old.office self.new.office) }
+        ensures none { IfNone result (ChangesAt place TakesNoAnswer self.old.office self.new.office) }
+        ensures rest { self.new ≡ record self.old { office = self.new.office } }
+    {
+        self.office.answer(place)
+    }
+
+    /// An answer is told to the caller who gave its order. Whether this is that caller; another one is told nothing.
     ///
-    /// Its error is that memory was refused to the text: then the answer is lost to its caller.
-    pub fn answer(&mut self, tree: &Tree, place: usize) -> Result<Option<Answered>, Lost> {
-        let Some(wicket) = self.wickets.get_mut(place) else {
-            return Ok(None);
-        };
-        let operator = wicket.operator();
-        let Some((given, told)) = wicket.told() else {
-            return Ok(None);
-        };
-        let caller = given.caller;
-        match spell_told(&mut self.text, tree, operator, told) {
-            Ok(()) => Ok(Some(Answered {
-                caller,
-                tag: given.tag,
-            })),
-            Err(_) => Err(Lost { caller }),
+    /// Its error is that memory was refused to what the caller is to be told.
+    pub fn tell(
+        &mut self,
+        tree: &Tree,
+        caller: &mut Caller,
+        answered: &Answered,
+    ) -> Result<bool, AllocError>
+        ensures told { result ≡ Ok true → (caller.old.number ≡ answered.now.given.caller)
+            × (caller.new ≡ saying answered.now.given.tag (told_text tree.now answered.now)
+            (ending answered.now.given.tag caller.old)) }
+        ensures another { result ≡ Ok false → (caller.old.number ≢ answered.now.given.caller)
+            × (caller.new ≡ caller.old) }
+        ensures same { self.new ≡ self.old }
+    {
+        if caller.number() != answered.given.caller {
+            return Ok(false);
+        }
+        caller.end(answered.given.tag);
+        spell_told(&mut self.text, tree, answered.operator, answered.told)?;
+        caller.say(answered.given.tag, self.text.as_slice())?;
+        Ok(true)
+    }
+
+    /// Whether a state is newer than what is known of its object.
+    fn is_new(&self, shown: Shown) -> bool
+        ensures { result ≡ is_new self.now.picture shown }
+    {
+        match self.picture.object(usize::from(shown.object)) {
+            Some(sight) => is_newer(shown.version, sight.shown.version),
+            None => true,
         }
     }
 
-    /// An answer is told to its caller.
+    /// What the station tells is noted: a state that is no newer than what was known of its object is none.
+    ///
+    /// Its error is that memory was refused: then those who follow miss it.
+    pub fn note(&mut self, news: News) -> Result<(), AllocError>
+        ensures noted { OnOk result (self.new.news ≡ noted_news self.old news) }
+        ensures office { self.new.office ≡ self.old.office }
+    {
+        if let News::Showed(shown) = news {
+            if !self.is_new(shown) {
+                return Ok(());
+            }
+            self.picture.show(shown, 0);
+        }
+        self.news.push(news)?;
+        Ok(())
+    }
+
+    /// All news are told: there are none any more.
+    pub fn forget_news(&mut self)
+        ensures { self.new ≡ record self.old { news = [] } }
+    {
+        self.news.clear();
+    }
+
+    /// Tells a caller of all news, as it wants to be told.
     ///
     /// Its error is that memory was refused to what the caller is to be told.
-    pub fn tell(&self, caller: &mut Caller, answered: Answered) -> Result<(), AllocError> {
-        if answered.tag.is_none() {
-            caller.is_busy = false;
+    pub fn tell_news(&mut self, tree: &Tree, caller: &mut Caller) -> Result<(), AllocError>
+        ensures told { OnOk result (caller.new ≡ heard_all tree.now self.old.news caller.old) }
+        ensures same { self.new ≡ self.old }
+    {
+        for news in self.news.iter() {
+            tell_of(&mut self.text, tree, caller, *news)?;
         }
-        caller.say(answered.tag, self.text.as_slice())
+        Ok(())
     }
 }

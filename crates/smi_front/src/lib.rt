@@ -13,20 +13,28 @@
 //! are the caller's own: see `smi_crew`.
 #![tactic(auto)]
 
+mod asked;
 mod caller;
 mod cutter;
+mod done;
+mod faults;
 mod front;
-mod picture;
+mod news;
+mod office;
 mod said;
 mod tag;
 mod telling;
+mod unknown;
 mod whole;
 mod wicket;
 
-pub use caller::{Caller, MOST_UNSENT, Manners};
+pub use asked::{Asked, asked_in};
+pub use caller::{Caller, Held, MOST_UNSENT, Manners, Numbered, Wish};
 pub use cutter::Cutter;
-pub use front::{Answered, Front, Lost};
-pub use picture::Picture;
+pub use done::{Done, done_by};
+pub use front::Front;
+pub use news::{Act, News};
+pub use office::{Answered, Office};
 pub use said::{Request, request_in};
 pub use tag::{Tag, tagged};
 pub use whole::{Whole, whole_in};

@@ -44,7 +44,8 @@ impl Model for Wicket {
 }
 
 impl Wicket {
-    ghost use Rattle.std.specs.Prelude.{◌++◌, ◌∷◌, [], IfOk, IfErr, IfNone, IfSome, OnOk};
+    ghost use Rattle.std.specs.List.{list_any};
+    ghost use Rattle.std.specs.Prelude.{◌==◌, ◌++◌, ◌∷◌, [], length, IfOk, IfErr, IfNone, IfSome, OnOk};
     ghost use Rattle.smi_operator.specs.Sides.{submitted, told_to};
     ghost use Rattle.smi_front.specs.Wicket.{GaveAt, SameAt};
 
@@ -77,6 +78,20 @@ impl Wicket {
         &self.given
     }
 
+    /// Whether no order waits for its answer.
+    pub(crate) fn is_at_rest(&self) -> bool
+        ensures { result ≡ (length self.now.given == 0) }
+    {
+        self.given.is_empty()
+    }
+
+    /// Whether an order of this caller waits for its answer.
+    pub(crate) fn owes(&self, caller: u64) -> bool
+        ensures { result ≡ list_any (λ g. g.caller == caller) self.now.given }
+    {
+        self.given.iter().any(|given| given.caller == caller)
+    }
+
     /// Gives an order, or hands it back where the seat has no room, or no memory was there; then all is as before.
     pub fn give(&mut self, given: Given) -> Result<(), Given>
         ensures given { OnOk result (GaveAt given self.old self.new) }
@@ -99,6 +114,7 @@ impl Wicket {
     pub fn told(&mut self) -> Option<(Given, Told)>
         ensures given { IfSome result (λ r. self.old.given ≡ r.0 ∷ self.new.given) }
         ensures told { IfSome result (λ r. told_to self.new.seat ≡ told_to self.old.seat ++ r.1 ∷ []) }
+        ensures none { IfNone result (self.new.given ≡ self.old.given) }
         ensures submitted { submitted self.new.seat ≡ submitted self.old.seat }
         ensures operator { self.new.operator ≡ self.old.operator }
     {

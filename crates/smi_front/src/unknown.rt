@@ -1,0 +1,123 @@
+//! Which name of a line is not known.
+
+use smi_tree::{Tree, first_word};
+
+/// What a name stands for.
+#[derive(Clone, Copy, Debug, PartialEq, Eq)]
+enum Sort {
+    Operator,
+    Domain,
+    Device,
+    /// A domain or a device.
+    Object,
+    Action,
+    State,
+}
+
+impl Sort {
+    /// What is said of a name that is none.
+    fn denial(self) -> &'static str {
+        match self {
+            Sort::Operator => "is no operator of this station",
+            Sort::Domain => "is no domain of the tree",
+            Sort::Device => "is no device of the tree",
+            Sort::Object => "is no domain or device of the tree",
+            Sort::Action => "is no action of the tree",
+            Sort::State => "is no state of the tree",
+        }
+    }
+
+    /// Whether a name is known as one.
+    fn has(self, tree: &Tree, operators: &[u16], name: &[u8]) -> bool {
+        match self {
+            Sort::Operator => match tree.operator_named(name) {
+                Some(operator) => operators.contains(&operator),
+                None => false,
+            },
+            Sort::Domain => tree.domain_named(name).is_some(),
+            Sort::Device => tree.device_named(name).is_some(),
+            Sort::Object => tree.object_named(name).is_some(),
+            Sort::Action => tree.action_named(name).is_some(),
+            Sort::State => tree.state_named(name).is_some(),
+        }
+    }
+}
+
+/// What the names behind the verb of an order stand for.
+fn sorts_of_order(verb: &[u8]) -> &'static [Sort] {
+    match verb {
+        b"take" | b"drop" | b"ask" => &[Sort::Domain],
+        b"do" => &[Sort::Domain, Sort::Action],
+        b"include" | b"exclude" | b"manual" | b"ignore" => &[Sort::Domain, Sort::Domain],
+        b"watch" | b"unwatch" => &[Sort::Object],
+        _ => &[],
+    }
+}
+
+/// A name that is not known, and what is said of it.
+#[derive(Clone, Copy)]
+pub(crate) struct Unknown<'a> {
+    pub(crate) name: &'a [u8],
+    pub(crate) denial: &'static str,
+}
+
+/// The first of the names of a text that is not known as what it stands for.
+fn unknown_of<'a>(
+    tree: &Tree,
+    operators: &[u16],
+    sorts: &[Sort],
+    text: &'a [u8],
+) -> Option<Unknown<'a>> {
+    let mut text = text;
+    for sort in sorts {
+        let (word, rest) = first_word(text)?;
+        if !sort.has(tree, operators, word.text()) {
+            return Some(Unknown {
+                name: word.text(),
+                denial: sort.denial(),
+            });
+        }
+        text = rest;
+    }
+    None
+}
+
+/// The same of an order: an operator, a verb, and names.
+fn unknown_of_order<'a>(tree: &Tree, operators: &[u16], text: &'a [u8]) -> Option<Unknown<'a>> {
+    let (_, rest) = first_word(text)?;
+    let (verb, names) = first_word(rest)?;
+    match unknown_of(tree, operators, &[Sort::Operator], text) {
+        Some(unknown) => Some(unknown),
+        None => unknown_of(tree, operators, sorts_of_order(verb.text()), names),
+    }
+}
+
+/// The first of some objects that is not known.
+fn unknown_object<'a>(tree: &Tree, text: &'a [u8]) -> Option<Unknown<'a>> {
+    let mut left = text;
+    while let Some((word, rest)) = first_word(left) {
+        if tree.object_named(word.text()).is_none() {
+            return Some(Unknown {
+                name: word.text(),
+                denial: Sort::Object.denial(),
+            });
+        }
+        left = rest;
+    }
+    None
+}
+
+/// The first name of a line that is not known, where there is one.
+pub(crate) fn unknown_in<'a>(
+    tree: &Tree,
+    operators: &[u16],
+    text: &'a [u8],
+) -> Option<Unknown<'a>> {
+    let (first, rest) = first_word(text)?;
+    match first.text() {
+        b"order" => unknown_of_order(tree, operators, rest),
+        b"report" => unknown_of(tree, operators, &[Sort::Device, Sort::State], rest),
+        b"show" | b"follow" | b"actions" => unknown_object(tree, rest),
+        _ => None,
+    }
+}
