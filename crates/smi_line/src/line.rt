@@ -63,7 +63,7 @@ pub struct NodeLine<'a> {
 }
 
 /// A screen: the path of its tree, the name of its station, the path of its store, where its guests come, by what name
-/// they know it beside its address, and how long it looks.
+/// they know it beside its address, where the orders go that are given from its page, and how long it looks.
 #[derive(Clone, Copy)]
 pub struct ScreenLine<'a> {
     pub tree: &'a str,
@@ -71,6 +71,8 @@ pub struct ScreenLine<'a> {
     pub store: &'a str,
     pub http: SocketAddr,
     pub name: Option<&'a str>,
+    /// The console of the node whose operators may order from its page, an address or the path of a socket.
+    pub orders: Option<&'a str>,
     /// How many turns it looks, none where it looks without end.
     pub turns: Option<u32>,
 }
@@ -202,6 +204,7 @@ fn screen_command<'a>(alloc: Global) -> Result<Command<'a>, Error> {
     let form = station_command(alloc, "screen")?;
     let form = form.arg(Arg::new(alloc, "ADDRESS").long("http").required(true))?;
     let form = form.arg(Arg::new(alloc, "NAME").long("host"))?;
+    let form = form.arg(Arg::new(alloc, "PLACE").long("orders"))?;
     Ok(form.arg(flag(alloc, "open"))?)
 }
 
@@ -228,6 +231,7 @@ fn screen_line<'a>(given: &ArgMatches<'a>) -> Option<ScreenLine<'a>> {
         store: given.get_str("STORE")?,
         http,
         name,
+        orders: given.get_str("PLACE"),
         turns: turns_of(given.get_str("T"), given.get_flag("endless"))?,
     })
 }

@@ -129,7 +129,7 @@ td, th { padding: .25rem .4rem; border-bottom: 1px solid var(--line); text-align
   <div class=\"legend\" id=\"people\" role=\"region\" aria-label=\"colours of those who command\"></div>
   <div><kbd>Tab</kbd> or arrows: go round, <kbd>Enter</kbd>: more, <kbd>Esc</kbd>: back, <kbd>t</kbd>: light or dark.
     <i>mode unknown</i>: nobody tells an observer whether a child is included, manual or ignored. A dashed edge: held by
-    somebody else than what stands above. This page shows and never orders.</div>
+    somebody else than what stands above. <span id=\"never\">This page shows and never orders.</span></div>
   <details id=\"hour\"><summary>What changed in the last hour</summary><ol id=\"log\"></ol></details>
 </footer>
 <div id=\"lost\" role=\"alertdialog\" aria-labelledby=\"lost-words\"><span id=\"lost-words\"></span></div>
@@ -176,7 +176,10 @@ function inkOn(colour) {
 // The tree, and what stands on the page for each of its domains and devices.
 let tree = null, shape = \"\", domains = new Map(), devices = new Map();
 // The newest picture, and when it came by the page's own clock.
-let picture = null, cameAt = 0, said = \"\", alarms = \"\", opened = null, log = [], isLogOld = true;
+let picture = null, cameAt = 0, said = \"\", alarms = \"\", opened = null, facts = null, log = [], isLogOld = true;
+// What a further part of this page adds to the details of a domain, and does once a tree or a picture is shown, and
+// once the screen has begun again.
+const extras = [], afterBuild = [], afterShow = [], afterRestart = [];
 
 const stateColour = (state) => KNOWN[state] || SPARE[Math.max(0, tree.states.indexOf(state)) % SPARE.length];
 const personColour = (who) => PEOPLE[Math.max(0, tree.operators.findIndex((o) => o.name === who)) % PEOPLE.length];
@@ -238,6 +241,7 @@ function build() {
   document.title = \"tree \" + tree.tree;
   set(by(\"title\"), document.title);
   picture = null; log = []; alarms = \"\";
+  afterBuild.forEach((next) => next());
 }
 
 // What the picture says.
@@ -321,6 +325,7 @@ function show() {
   domains.forEach((d) => showDomain(d, heard, time));
   tellAlarms(heard, time);
   if (opened) fill();
+  afterShow.forEach((next) => next());
 }
 
 // Trips and silent stations: each a button that leads to its domain.
@@ -406,9 +411,16 @@ function showLog() {
 // One domain and its devices.
 
 function open(domain) {
+  const more = by(\"more\"), head = make(\"h2\", \"\", domain), shut = make(\"button\", \"tool\", \"close (Esc)\");
   opened = domain;
+  head.id = \"more-name\";
+  facts = make(\"div\");
+  shut.type = \"button\";
+  shut.autofocus = true;
+  shut.addEventListener(\"click\", () => more.close());
+  more.replaceChildren(head, facts, ...extras.map((extra) => extra(domains.get(domain))), shut);
   fill();
-  if (!by(\"more\").open) by(\"more\").showModal();
+  if (!more.open) more.showModal();
 }
 
 function rows(d) {
@@ -448,16 +460,10 @@ function tableOf(list) {
 }
 
 function fill() {
-  const d = domains.get(opened), more = by(\"more\"), list = make(\"dl\"), head = make(\"h2\", \"\", opened);
+  const d = domains.get(opened), list = make(\"dl\");
   if (!d || !picture) return;
-  head.id = \"more-name\";
   rows(d).forEach(([key, value]) => list.append(make(\"dt\", \"\", key), make(\"dd\", \"\", value)));
-  const shut = make(\"button\", \"tool\", \"close (Esc)\");
-  shut.type = \"button\";
-  shut.addEventListener(\"click\", () => more.close());
-  const focused = more.contains(document.activeElement);
-  more.replaceChildren(head, list, ...(d.devices.length ? [tableOf(d.devices)] : []), shut);
-  if (focused) shut.focus();
+  facts.replaceChildren(list, ...(d.devices.length ? [tableOf(d.devices)] : []));
 }
 
 // Asking the screen.
@@ -507,7 +513,10 @@ async function askPicture() {
   if (!text) return;
   const next = JSON.parse(text);
   // A screen that has begun again counts from 0, and may have another tree.
-  if (picture && next.frame < picture.frame) await askTree();
+  if (picture && next.frame < picture.frame) {
+    await askTree();
+    afterRestart.forEach((again) => again());
+  }
   take(next);
 }
 
@@ -564,6 +573,4 @@ setInterval(showLive, 100);
 tick();
 follow();
 </script>
-</body>
-</html>
 ";

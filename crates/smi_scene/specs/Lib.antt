@@ -1,4 +1,5 @@
 pub mod Figures
+pub mod Orders
 pub mod Scene
 pub mod Shape
 pub mod Words

@@ -3,12 +3,12 @@ use Rattle.std.specs.Prelude.{ℕ, ◌++◌, List, Option, Some, None, option_ma
 use Rattle.std.specs.Option.{option_map_or}
 use Rattle.std.specs.Fmt.{decimal}
 use Rattle.smi_tree.specs.Hierarchy.{Hierarchy, entry}
-use Rattle.smi_tree.specs.Lookups.{device_count, domain_count, operator_count, parent_of, state_count, station_count}
-use Rattle.smi_tree.specs.Lookups.{station_of}
-use Rattle.smi_trace.specs.Words.{device_word, domain_word, operator_word, state_word, station_word}
+use Rattle.smi_tree.specs.Lookups.{accepts, action_count, device_count, domain_count, operator_count, parent_of}
+use Rattle.smi_tree.specs.Lookups.{state_count, station_count, station_of}
+use Rattle.smi_trace.specs.Words.{action_word, device_word, domain_word, operator_word, state_word, station_word}
 use Rattle.smi_scene.specs.declared.shape.Kind.{Kind}
 use Rattle.smi_scene.specs.declared.shape.Kind.TheVariants as kind
-use Rattle.smi_scene.specs.Words.{listed, quoted}
+use Rattle.smi_scene.specs.Words.{flag, listed, quoted}
 
 -- null where there is none
 abbrev pub or_null : Option (List ℕ) → List ℕ
@@ -27,12 +27,27 @@ operator_shape h o =
     codes "{\"name\":" ++ quoted (operator_word h o)
     ++ codes ",\"station\":" ++ or_null (option_map (λ s. quoted (station_word h s)) (entry h.homes o)) ++ codes "}"
 
+abbrev pub action_name_text : Hierarchy → ℕ → List ℕ
+action_name_text h a = quoted (action_word h a)
+
+-- whether a domain accepts an action
+abbrev pub accept_text : Hierarchy → ℕ → ℕ → List ℕ
+accept_text h d a = flag (accepts h d a)
+
+-- whether a domain accepts each action, by number
+abbrev pub accepted_text : Hierarchy → ℕ → List ℕ
+accepted_text h d = codes ",\"accepts\":[" ++ listed (codes ",") (accept_text h d) (action_count h)
+
 -- a domain, the station that keeps it, and the domain above it
-abbrev pub domain_shape : Hierarchy → ℕ → List ℕ
-domain_shape h d =
+unfoldable pub place_text : Hierarchy → ℕ → List ℕ
+place_text h d =
     codes "{\"name\":" ++ quoted (domain_word h d)
     ++ codes ",\"station\":" ++ or_null (option_map (λ s. quoted (station_word h s)) (station_of h d))
-    ++ codes ",\"parent\":" ++ or_null (option_map (λ p. quoted (domain_word h p)) (parent_of h d)) ++ codes "}"
+    ++ codes ",\"parent\":" ++ or_null (option_map (λ p. quoted (domain_word h p)) (parent_of h d))
+
+-- a domain, where it stands, and the actions that it accepts
+abbrev pub domain_shape : Hierarchy → ℕ → List ℕ
+domain_shape h d = place_text h d ++ accepted_text h d ++ codes "]}"
 
 -- a device and its domain
 abbrev pub device_shape : Hierarchy → ℕ → List ℕ
@@ -44,6 +59,7 @@ device_shape h d =
 -- what a tree has of each kind, by number
 abbrev pub kind_text : Hierarchy → Kind → ℕ → List ℕ
 kind_text h kind.State n = state_name_text h n
+kind_text h kind.Action n = action_name_text h n
 kind_text h kind.Station n = station_name_text h n
 kind_text h kind.Operator n = operator_shape h n
 kind_text h kind.Domain n = domain_shape h n
@@ -52,6 +68,7 @@ kind_text h kind.Device n = device_shape h n
 -- what stands before the list of a kind, and how many there are
 abbrev pub before_text : Kind → List ℕ
 before_text kind.State = codes ",\"states\":["
+before_text kind.Action = codes "],\"actions\":["
 before_text kind.Station = codes "],\"stations\":["
 before_text kind.Operator = codes "],\"operators\":["
 before_text kind.Domain = codes "],\"domains\":["
@@ -59,6 +76,7 @@ before_text kind.Device = codes "],\"devices\":["
 
 abbrev pub kind_count : Hierarchy → Kind → ℕ
 kind_count h kind.State = state_count h
+kind_count h kind.Action = action_count h
 kind_count h kind.Station = station_count h
 kind_count h kind.Operator = operator_count h
 kind_count h kind.Domain = domain_count h
@@ -71,6 +89,7 @@ kinds_text h kind = before_text kind ++ listed (codes ",") (kind_text h kind) (k
 abbrev pub all_kinds_text : Hierarchy → List ℕ
 all_kinds_text h =
     kinds_text h kind.State
+    ++ kinds_text h kind.Action
     ++ kinds_text h kind.Station
     ++ kinds_text h kind.Operator
     ++ kinds_text h kind.Domain

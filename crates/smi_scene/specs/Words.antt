@@ -1,9 +1,14 @@
 -- What all texts are put together from.
-use Rattle.std.specs.Prelude.{ℕ, zero, suc, ◌++◌, ◌==◌, if◌then◌else◌, List, [], codes}
+use Rattle.std.specs.Prelude.{ℕ, zero, suc, ◌++◌, ◌==◌, if◌then◌else◌, Bool, true, false, List, [], codes}
 
 -- in quotes
 abbrev pub quoted : List ℕ → List ℕ
 quoted name = codes "\"" ++ name ++ codes "\""
+
+-- whether something is so
+unfoldable pub flag : Bool → List ℕ
+flag true = codes "true"
+flag false = codes "false"
 
 -- what stands before a text that so many others precede
 abbrev pub separator : List ℕ → ℕ → List ℕ

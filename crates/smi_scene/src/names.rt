@@ -65,3 +65,13 @@ pub(crate) fn state(tree: &Tree, number: u16) -> Option<&[u8]>
         None
     }
 }
+
+pub(crate) fn action(tree: &Tree, number: u16) -> Option<&[u8]>
+    ensures { option_map (λ n. n.now) result ≡ entry tree.now.action_names number }
+{
+    if 1 <= number && number <= tree.action_count() {
+        Some(tree.action_name(number))
+    } else {
+        None
+    }
+}

@@ -5,6 +5,7 @@ ghost use Rattle.smi_tree.specs.Hierarchy.{entry};
 ghost use Rattle.smi_tree.specs.Lookups.{station_of};
 ghost use Rattle.smi_trace.specs.Words.{domain_word, station_word};
 ghost use Rattle.smi_scene.specs.Shape.{
+  accepted_text,
   all_kinds_text,
   before_text,
   device_shape,
@@ -13,13 +14,14 @@ ghost use Rattle.smi_scene.specs.Shape.{
   kinds_text,
   operator_shape,
   or_null,
+  place_text,
   tree_text,
 };
 ghost use Rattle.smi_scene.specs.Words.{quoted};
 
 use crate::listed::{Listing, put_list};
 use crate::names;
-use crate::words::{put, put_number, put_quoted};
+use crate::words::{put, put_flag, put_number, put_quoted};
 use smi_tree::Tree;
 use std::alloc::{AllocError, Global};
 
@@ -86,16 +88,54 @@ fn put_operator(text: &mut Vec<u8>, tree: &Tree, number: u16) -> Result<(), Allo
     put(text, b"}")
 }
 
+/// Which actions a domain accepts, by number.
+#[derive(Clone, Copy)]
+struct Accepting<'a> {
+    tree: &'a Tree,
+    domain: u16,
+}
+
+impl<'a> Listing for Accepting<'a> {
+    ghost use Rattle.smi_scene.specs.Shape.{accept_text};
+
+    ghost text = { λ s n. accept_text s.tree.now s.domain n };
+
+    fn put(&self, into: &mut Vec<u8>, number: u16) -> Result<(), AllocError> {
+        put_flag(into, b"", self.tree.accepts(self.domain, number))
+    }
+}
+
+fn put_accepted(text: &mut Vec<u8>, tree: &Tree, domain: u16) -> Result<(), AllocError>
+    ensures { OnOk result (text.new.items ≡ text.old.items ++ accepted_text tree.now domain) }
+{
+    put_list(
+        text,
+        b",\"accepts\":[",
+        &Accepting { tree, domain },
+        tree.action_count(),
+    )?;
+    Ok(())
+}
+
+/// Where a domain stands.
+#[tactic(auto, unfolding(crate::specs::Shape::place_text))]
 fn put_place(text: &mut Vec<u8>, tree: &Tree, number: u16) -> Result<(), AllocError>
-    ensures { OnOk result (text.new.items ≡ text.old.items ++ domain_shape tree.now number) }
+    ensures { OnOk result (text.new.items ≡ text.old.items ++ place_text tree.now number) }
 {
     let name = names::domain(tree, number);
     put_quoted(text, b"{\"name\":", name, number)?;
     put(text, b",\"station\":")?;
     put_station(text, tree, station_of(tree, number))?;
     put(text, b",\"parent\":")?;
-    put_domain(text, tree, tree.parent(number))?;
-    put(text, b"}")
+    put_domain(text, tree, tree.parent(number))
+}
+
+fn put_whole_domain(text: &mut Vec<u8>, tree: &Tree, number: u16) -> Result<(), AllocError>
+    ensures { OnOk result (text.new.items ≡ text.old.items ++ domain_shape tree.now number) }
+{
+    put_place(text, tree, number)?;
+    put_accepted(text, tree, number)?;
+    put(text, b"]}")
 }
 
 fn put_device(text: &mut Vec<u8>, tree: &Tree, number: u16) -> Result<(), AllocError>
@@ -112,6 +152,7 @@ fn put_device(text: &mut Vec<u8>, tree: &Tree, number: u16) -> Result<(), AllocE
 #[derive(Clone, Copy, Debug, PartialEq, Eq)]
 enum Kind {
     State,
+    Action,
     Station,
     Operator,
     Domain,
@@ -134,9 +175,10 @@ impl<'a> Listing for All<'a> {
         let tree = self.tree;
         match self.kind {
             Kind::State => put_quoted(into, b"", names::state(tree, number), number),
+            Kind::Action => put_quoted(into, b"", names::action(tree, number), number),
             Kind::Station => put_quoted(into, b"", names::station(tree, number), number),
             Kind::Operator => put_operator(into, tree, number),
-            Kind::Domain => put_place(into, tree, number),
+            Kind::Domain => put_whole_domain(into, tree, number),
             Kind::Device => put_device(into, tree, number),
         }
     }
@@ -149,6 +191,7 @@ impl Kind {
     {
         match self {
             Kind::State => b",\"states\":[",
+            Kind::Action => b"],\"actions\":[",
             Kind::Station => b"],\"stations\":[",
             Kind::Operator => b"],\"operators\":[",
             Kind::Domain => b"],\"domains\":[",
@@ -162,6 +205,7 @@ impl Kind {
     {
         match self {
             Kind::State => tree.state_count(),
+            Kind::Action => tree.action_count(),
             Kind::Station => tree.station_count(),
             Kind::Operator => tree.operator_count(),
             Kind::Domain => tree.domain_count(),
@@ -183,6 +227,7 @@ fn put_all_kinds(text: &mut Vec<u8>, tree: &Tree) -> Result<(), AllocError>
     ensures { OnOk result (text.new.items ≡ text.old.items ++ all_kinds_text tree.now) }
 {
     put_kinds(text, tree, Kind::State)?;
+    put_kinds(text, tree, Kind::Action)?;
     put_kinds(text, tree, Kind::Station)?;
     put_kinds(text, tree, Kind::Operator)?;
     put_kinds(text, tree, Kind::Domain)?;

@@ -3,7 +3,7 @@
 ghost use Rattle.std.specs.Prelude.{◌≡◌, ◌++◌, OnOk, codes, option_map};
 ghost use Rattle.std.specs.Fmt.{decimal};
 ghost use Rattle.smi_trace.specs.Words.{called};
-ghost use Rattle.smi_scene.specs.Words.{quoted};
+ghost use Rattle.smi_scene.specs.Words.{flag, quoted};
 
 use std::alloc::AllocError;
 use std::io::Write;
@@ -46,5 +46,24 @@ pub(crate) fn put_quoted(
     put(text, before)?;
     put(text, b"\"")?;
     put_called(text, name, number)?;
+    put(text, b"\"")
+}
+
+/// Whether something holds, behind a piece.
+#[tactic(auto, unfolding(crate::specs::Words::flag))]
+pub(crate) fn put_flag(text: &mut Vec<u8>, before: &[u8], is: bool) -> Result<(), AllocError>
+    ensures { OnOk result (text.new.items ≡ text.old.items ++ before.now ++ flag is) }
+{
+    put(text, before)?;
+    put(text, if is { b"true" } else { b"false" })
+}
+
+/// A text in quotes, behind a piece. It has nothing that had to be escaped.
+pub(crate) fn put_text(text: &mut Vec<u8>, before: &[u8], piece: &[u8]) -> Result<(), AllocError>
+    ensures { OnOk result (text.new.items ≡ text.old.items ++ before.now ++ quoted piece.now) }
+{
+    put(text, before)?;
+    put(text, b"\"")?;
+    put(text, piece)?;
     put(text, b"\"")
 }

@@ -1,9 +1,11 @@
 -- The texts of a frame.
-use Rattle.std.specs.Prelude.{ℕ, ◌++◌, List, codes}
+use Rattle.std.specs.Prelude.{ℕ, ◌++◌, List, [], codes}
 use Rattle.std.specs.Fmt.{decimal}
 use Rattle.smi_tree.specs.Hierarchy.{Hierarchy}
 use Rattle.smi_picture.specs.Pictured.{Pictured}
 use Rattle.smi_scene.specs.Figures.{figures_text}
+use Rattle.smi_relay.specs.Relay.{Relaying}
+use Rattle.smi_scene.specs.Orders.{orders_text}
 use Rattle.smi_scene.specs.Scene.{picture_text}
 use Rattle.smi_scene.specs.Shape.{tree_text}
 use Rattle.smi_window.specs.declared.frame.Frame.{Frame}
@@ -20,6 +22,7 @@ frame_of page h p number now = record {
   tree = tree_text h;
   picture = picture_text h p number now;
   figures = figures_text h p number now;
+  orders = [];
 }
 
 -- a further picture, on the same page
@@ -29,3 +32,7 @@ renewed frame h p number now = record frame {
   picture = picture_text h p number now;
   figures = figures_text h p number now;
 }
+
+-- what became of the orders that were given from the page, looked at at this time
+abbrev pub with_orders : Frame → Relaying → ℕ → Frame
+with_orders frame r now = record frame { orders = orders_text r now }

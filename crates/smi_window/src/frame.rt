@@ -5,7 +5,8 @@ ghost use Rattle.smi_window.specs.Frame.{mark_of};
 
 use bytes::Bytes;
 use smi_picture::Picture;
-use smi_scene::{spell_figures, spell_picture, spell_tree};
+use smi_relay::Relay;
+use smi_scene::{spell_figures, spell_orders, spell_picture, spell_tree};
 use smi_tree::Tree;
 use std::alloc::{AllocError, Global};
 use std::io::Write;
@@ -19,6 +20,8 @@ pub struct Frame {
     pub tree: Bytes,
     pub picture: Bytes,
     pub figures: Bytes,
+    /// The orders that were given from the page; nothing, where none can be.
+    pub orders: Bytes,
 }
 
 /// A text whose copies share its bytes.
@@ -42,7 +45,7 @@ fn mark_of(alloc: Global, number: u64) -> Result<Bytes, AllocError>
 
 impl Frame {
     ghost use Rattle.std.specs.Prelude.{◌≡◌, IfOk, OnErr, OnOk};
-    ghost use Rattle.smi_window.specs.Frame.{frame_of, renewed};
+    ghost use Rattle.smi_window.specs.Frame.{frame_of, renewed, with_orders};
 
     /// The first frame, of a page, a tree and a picture, which has number 0 and is looked at at time 0.
     ///
@@ -64,6 +67,7 @@ impl Frame {
             tree: shape,
             picture: scene,
             figures,
+            orders: Bytes::from_static(b""),
         })
     }
 
@@ -87,6 +91,18 @@ impl Frame {
         self.mark = mark_of(alloc, number)?;
         self.picture = scene;
         self.figures = figures;
+        Ok(())
+    }
+
+    /// What became of the orders of this relay, looked at at this time, in place of what was told before. All else
+    /// stays.
+    ///
+    /// It fails only where memory ran out, and changes nothing then.
+    pub fn renew_orders(&mut self, alloc: Global, relay: &Relay, now: u64) -> Result<(), AllocError>
+        ensures ok { OnOk result (self.new ≡ with_orders self.old relay.now now) }
+        ensures err { OnErr result (self.new ≡ self.old) }
+    {
+        self.orders = shared(spell_orders(alloc, relay, now)?)?;
         Ok(())
     }
 }

@@ -1,16 +1,18 @@
 //! The service over a frame.
 
-ghost use Rattle.std.specs.Prelude.{◌≡◌, ◌++◌, OnOk};
+ghost use Rattle.std.specs.Prelude.{◌≡◌, ◌++◌, codes, option_map, OnErr, OnOk};
 ghost use Rattle.http_server.specs.Response.{IsBlank};
-ghost use Rattle.smi_window.specs.Answers.{Answers};
-ghost use Rattle.smi_window.specs.Asking.{asking_of};
+ghost use Rattle.smi_window.specs.Answers.{Answers, left_by, orders_told};
+ghost use Rattle.smi_window.specs.declared.question.Asked.TheVariants as asked;
+ghost use Rattle.smi_window.specs.Asking.{asking_of, field_of};
 
 use crate::frame::Frame;
+use crate::orders::Orders;
 use crate::question::{Asked, Question, what_is_asked};
 use bytes::Bytes;
 use http::{HeaderName, HeaderValue, Request, StatusCode, header};
 use http_server::{Response, Service};
-use std::alloc::AllocError;
+use std::alloc::{AllocError, Global};
 
 /// Answers requests from a frame.
 #[derive(Drop)]
@@ -18,6 +20,8 @@ pub struct Window {
     /// The hosts that it answers to.
     pub hosts: Vec<Vec<u8>>,
     pub frame: Frame,
+    /// The orders that its page may give, if it may.
+    pub orders: Option<Orders>,
 }
 
 /// What a page may do: run what stands in it, and ask where it came from.
@@ -32,24 +36,33 @@ const FIGURES: &str = "text/plain; version=0.0.4; charset=utf-8";
 
 const PLAIN: &str = "text/plain; charset=utf-8";
 
+/// The first value of a field, if there is one.
+fn field_of(request: &Request<Bytes>, name: HeaderName) -> Option<&[u8]>
+    ensures { option_map (λ v. v.now) result ≡ field_of request.now name }
+{
+    match request.headers().get(name) {
+        Some(value) => Some(value.as_bytes()),
+        None => None,
+    }
+}
+
 fn question_of(request: &Request<Bytes>) -> Question<'_>
     ensures { result ≡ asking_of request.now }
 {
     let uri = request.uri();
-    let host = match request.headers().get(header::HOST) {
-        Some(value) => Some(value.as_bytes()),
-        None => None,
-    };
     let query = match uri.query() {
         Some(query) => Some(query.as_bytes()),
         None => None,
     };
     Question {
         method: request.method().as_str().as_bytes(),
-        host,
+        host: field_of(request, header::HOST),
         is_absolute: uri.authority().is_some(),
         path: uri.path().as_bytes(),
         query,
+        origin: field_of(request, header::ORIGIN),
+        key: field_of(request, header::AUTHORIZATION),
+        body: request.body().as_slice(),
     }
 }
 
@@ -107,8 +120,8 @@ fn fill(
     response.body.push(text.clone()?)
 }
 
-/// A text that tells nothing of the detector.
-fn refuse(response: &mut Response, status: StatusCode, text: &'static str) -> Result<(), AllocError>
+/// Words that tell nothing of the detector.
+fn say(response: &mut Response, status: StatusCode, text: &'static str) -> Result<(), AllocError>
     ensures status { OnOk result (response.new.status ≡ status) }
     ensures body { OnOk result (response.new.body.items ≡ response.old.body.items ++ text.now) }
 {
@@ -116,7 +129,53 @@ fn refuse(response: &mut Response, status: StatusCode, text: &'static str) -> Re
     fill(response, status, HeaderValue::from_static(PLAIN), &text)
 }
 
+/// A text of the frame, of this kind.
+fn show(response: &mut Response, kind: HeaderValue, text: &Bytes) -> Result<(), AllocError>
+    ensures status { OnOk result (response.new.status ≡ 200) }
+    ensures body { OnOk result (response.new.body.items ≡ response.old.body.items ++ text.now) }
+{
+    fill(response, StatusCode::OK, kind, text)
+}
+
+/// Only what is there is shown.
+fn refuse_change(response: &mut Response) -> Result<(), AllocError>
+    ensures status { OnOk result (response.new.status ≡ 405) }
+    ensures body { OnOk result (response.new.body.items ≡ response.old.body.items ++ codes "this screen only shows") }
+{
+    add(
+        response,
+        header::ALLOW,
+        HeaderValue::from_static("GET, HEAD"),
+    )?;
+    let status = StatusCode::METHOD_NOT_ALLOWED;
+    say(response, status, "this screen only shows")
+}
+
 impl Window {
+    /// What became of the orders that were given, as they stand now, in place of what was told before.
+    ///
+    /// It fails only where memory ran out, and changes nothing then.
+    pub fn tell_orders(&mut self, alloc: Global) -> Result<(), AllocError>
+        ensures ok { OnOk result (self.new ≡ orders_told self.old) }
+        ensures err { OnErr result (self.new ≡ self.old) }
+    {
+        match &self.orders {
+            Some(orders) => self.frame.renew_orders(alloc, &orders.relay, orders.time),
+            None => Ok(()),
+        }
+    }
+
+    /// Gives an order, where orders may be given.
+    fn give(&mut self, line: &[u8]) -> Result<(), AllocError>
+        ensures ok { OnOk result (self.new ≡ left_by asked.Given self.old line.now) }
+        ensures err { OnErr result (self.new ≡ self.old) }
+    {
+        match &mut self.orders {
+            Some(orders) => orders.give(line),
+            None => Ok(()),
+        }
+    }
+
     fn answer(&self, what: Asked, response: &mut Response) -> Result<(), AllocError>
         requires { IsBlank response.old }
         ensures { OnOk result (Answers self.now.frame what response.new) }
@@ -124,70 +183,67 @@ impl Window {
         add_guards(response)?;
         let frame = &self.frame;
         match what {
-            Asked::Page => fill(
-                response,
-                StatusCode::OK,
-                HeaderValue::from_static(HTML),
-                &frame.page,
-            ),
-            Asked::Tree => fill(
-                response,
-                StatusCode::OK,
-                HeaderValue::from_static(JSON),
-                &frame.tree,
-            ),
-            Asked::Picture => fill(
-                response,
-                StatusCode::OK,
-                HeaderValue::from_static(JSON),
-                &frame.picture,
-            ),
-            Asked::Figures => fill(
-                response,
-                StatusCode::OK,
-                HeaderValue::from_static(FIGURES),
-                &frame.figures,
-            ),
+            Asked::Page => show(response, HeaderValue::from_static(HTML), &frame.page),
+            Asked::Tree => show(response, HeaderValue::from_static(JSON), &frame.tree),
+            Asked::Picture => show(response, HeaderValue::from_static(JSON), &frame.picture),
+            Asked::Figures => show(response, HeaderValue::from_static(FIGURES), &frame.figures),
+            Asked::Orders => show(response, HeaderValue::from_static(JSON), &frame.orders),
             Asked::Unchanged => {
                 response.status = StatusCode::NO_CONTENT;
                 Ok(())
             }
-            Asked::Nowhere => refuse(response, StatusCode::NOT_FOUND, "there is no such page"),
-            Asked::Change => {
-                add(
-                    response,
-                    header::ALLOW,
-                    HeaderValue::from_static("GET, HEAD"),
-                )?;
-                let status = StatusCode::METHOD_NOT_ALLOWED;
-                refuse(response, status, "this screen only shows")
-            }
+            Asked::Nowhere => say(response, StatusCode::NOT_FOUND, "there is no such page"),
+            Asked::Change => refuse_change(response),
             Asked::Elsewhere => {
                 let status = StatusCode::MISDIRECTED_REQUEST;
-                refuse(response, status, "this is another host")
+                say(response, status, "this is another host")
+            }
+            Asked::Given => say(response, StatusCode::ACCEPTED, "the order is on its way"),
+            Asked::Stranger => {
+                let status = StatusCode::FORBIDDEN;
+                say(response, status, "orders are given from the page alone")
+            }
+            Asked::NoOrder => {
+                let status = StatusCode::BAD_REQUEST;
+                say(
+                    response,
+                    status,
+                    "this is no order of an operator of the tree",
+                )
+            }
+            Asked::Away => {
+                let status = StatusCode::SERVICE_UNAVAILABLE;
+                say(response, status, "there is no connection with the console")
+            }
+            Asked::Full => {
+                let status = StatusCode::TOO_MANY_REQUESTS;
+                say(response, status, "too many orders wait")
             }
         }
     }
 }
 
 impl Service for Window {
-    ghost use Rattle.std.specs.Prelude.{◌≡◌, map};
-    ghost use Rattle.smi_window.specs.Answers.{Answers, what_is_asked};
-    ghost use Rattle.smi_window.specs.Asking.{asking_of};
+    ghost use Rattle.std.specs.Prelude.{◌≡◌};
+    ghost use Rattle.http.specs.Request.{body_of};
+    ghost use Rattle.smi_window.specs.Answers.{Answers, asked_of, left_by};
 
-    ghost answers = { λ old request response new. (new ≡ old) × Answers old.frame
-        (what_is_asked (map (λ h. h.items) old.hosts.items) old.frame.mark (asking_of request)) response };
+    ghost answers = { λ old request response new.
+        (new ≡ left_by (asked_of old request) old (body_of request))
+        × Answers old.frame (asked_of old request) response };
 
     fn call(
         &mut self,
         request: &Request<Bytes>,
         response: &mut Response,
     ) -> Result<(), AllocError> {
-        let what = what_is_asked(
-            &self.hosts,
-            self.frame.mark.as_slice(),
-            &question_of(request),
-        );
-        self.answer(what, response)
+        let question = question_of(request);
+        let mark = self.frame.mark.as_slice();
+        let what = what_is_asked(&self.hosts, mark, &self.orders, &question);
+        self.answer(what, response)?;
+        if what == Asked::Given {
+            return self.give(request.body().as_slice());
+        }
+        Ok(())
     }
 }

@@ -1,0 +1,4 @@
+pub mod Ending
+pub mod Errand
+pub mod Line
+pub mod Relay
