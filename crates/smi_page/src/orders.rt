@@ -124,8 +124,10 @@ function question(words, choices, first) {
 function warned(deed, silent) {
   const names = silent.map((d) => d.name), stations = [...new Set(silent.map((d) => d.station))];
   const others = held(deed.at).filter((c) => !silent.some((d) => d === c)).map((c) => c.name);
-  const words = stations.join(\", \") + \" \" + silenceText(silent[0]) + \". \" + deed.name + \" will hold \" + deed.at.name +
-    \", and nobody will command \" + (others.join(\", \") || deed.at.name) + \" until it is back.\";
+  const many = stations.length > 1, waiting = others.join(\", \") || deed.at.name;
+  const words = stations.join(\", \") + \" \" + (many ? \"are silent\" : silenceText(silent[0])) + \". \" + deed.name +
+    \" will hold \" + deed.at.name + \", and nobody will command \" + waiting + \" until \" +
+    (many ? \"they are back.\" : \"it is back.\");
   const choices = [[deed.name + \" anyway\", () => give(deed.line())], [\"cancel\", () => {}]];
   if (!deed.isOfMode) {
     choices.unshift([\"make \" + names.join(\", \") + \" manual, then \" + deed.name, () => giveAfterManual(deed, names)]);

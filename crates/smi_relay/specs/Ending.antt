@@ -1,5 +1,6 @@
 -- How an order ended, as the console says it.
-use Rattle.std.specs.Prelude.{ℕ, ◌==◌, List, [], drop, length, codes, Option, Some, None, option_and_then, if◌then◌else◌}
+use Rattle.std.specs.Prelude.{ℕ, ◌==◌, List, drop, length, codes, Option, Some, None, option_and_then}
+use Rattle.std.specs.Prelude.{if◌then◌else◌}
 use Rattle.std.specs.List.{starts_with}
 use Rattle.smi_tree.specs.Number.{number_within}
 

@@ -47,7 +47,8 @@ has_room r =
 -- first of all it has to be an order, then there has to be a connection, and then room
 abbrev pub verdict_of : Hierarchy → Relaying → List ℕ → Verdict
 verdict_of h r line =
-    if is_order_line h line then (if r.is_open then (if has_room r then verdict.Fit else verdict.Full) else verdict.Away)
+    if is_order_line h line
+    then (if r.is_open then (if has_room r then verdict.Fit else verdict.Full) else verdict.Away)
     else verdict.NoOrder
 
 -- of as many as can be kept, the oldest that does not wait goes

@@ -164,8 +164,8 @@ impl Relay {
         }
     }
 
-    /// Gives an order now, where there is room: it is one errand more, and its line, behind its tag, the last that is to
-    /// be sent. Where there is no room nothing changes.
+    /// Gives an order now, where there is room: it is one errand more, and its line, behind its tag, the last that is
+    /// to be sent. Where there is no room nothing changes.
     ///
     /// It fails only where memory ran out, and changes nothing then.
     pub fn give(&mut self, line: &[u8], now: u64) -> Result<(), AllocError>
