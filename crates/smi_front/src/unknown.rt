@@ -92,14 +92,19 @@ fn unknown_of_order<'a>(tree: &Tree, operators: &[u16], text: &'a [u8]) -> Optio
     }
 }
 
-/// The first of some objects that is not known.
-fn unknown_object<'a>(tree: &Tree, text: &'a [u8]) -> Option<Unknown<'a>> {
+/// The first of some names, which all stand for the same, that is not known.
+fn unknown_among<'a>(
+    tree: &Tree,
+    operators: &[u16],
+    sort: Sort,
+    text: &'a [u8],
+) -> Option<Unknown<'a>> {
     let mut left = text;
     while let Some((word, rest)) = first_word(left) {
-        if tree.object_named(word.text()).is_none() {
+        if !sort.has(tree, operators, word.text()) {
             return Some(Unknown {
                 name: word.text(),
-                denial: Sort::Object.denial(),
+                denial: sort.denial(),
             });
         }
         left = rest;
@@ -117,7 +122,8 @@ pub(crate) fn unknown_in<'a>(
     match first.text() {
         b"order" => unknown_of_order(tree, operators, rest),
         b"report" => unknown_of(tree, operators, &[Sort::Device, Sort::State], rest),
-        b"show" | b"follow" | b"actions" => unknown_object(tree, rest),
+        b"show" | b"follow" => unknown_among(tree, operators, Sort::Object, rest),
+        b"actions" => unknown_among(tree, operators, Sort::Device, rest),
         _ => None,
     }
 }
