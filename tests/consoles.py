@@ -454,18 +454,22 @@ def actions_case(program, folder):
     yield "another device is told too", told.line() == "@a acted R GO 1.1 READY"
     ann.ask("order ANN do LEFT FALL")
     yield "and what a report had moved", told.line() == "@a acted L FALL 1.4 OFF"
-    wanted = []
+    wanted, found = [], []
     for number in range(ACTIONS):
         action, state = (("GO", "READY"), ("FALL", "OFF"))[number % 2]
         ann.ask("order ANN do LEFT " + action)
         wanted.append("@a acted L %s 1.%d %s" % (action, number + 5, state))
-    yield "%d actions are told, each once and in their order" % ACTIONS, [told.line() for _ in wanted] == wanted
-    many = Console(place.where)
+        found.append(told.line())
+    yield "%d actions are told, each once and in their order" % ACTIONS, found == wanted
+    many, found = Console(place.where), []
+    reader = threading.Thread(target=lambda: found.extend(iter(told.line, "@a acted R GO 1.1 READY")))
+    reader.start()
     many.say("".join("@%d order ANN do LEFT GO\n" % number for number in range(ACTIONS)))
     done = sum(many.line().endswith(" 0") for _ in range(ACTIONS))
-    found = [told.line() for _ in range(done)]
-    yield "as many are told as were done of orders given at once", done > 0 and set(found) == {
-        "@a acted L GO 1.%d READY" % (ACTIONS + 5)}
+    ann.ask("order ANN do RIGHT GO")
+    reader.join(PATIENCE)
+    yield "as many are told as were done of orders given at once", done > 0 and found == [
+        "@a acted L GO 1.%d READY" % (ACTIONS + 5)] * done
     yield "and no more", told.ask("show L") == "board L none"
     standard = place.node.ask("@s actions R")
     yield "standard input is told behind a tag", standard == "@s actions 1"
