@@ -8,7 +8,7 @@ _smi_words()
     for ((place = 2; place < COMP_CWORD; place++)); do
         word=${COMP_WORDS[place]}
         case $word in
-            --console | --host | --http | --seed | --steps | --turns) ((place++)) ;;
+            --console | --host | --http | --orders | --seed | --steps | --turns) ((place++)) ;;
             -*) ;;
             *) words+=("$word") ;;
         esac
@@ -25,7 +25,7 @@ _smi()
     fi
     case $before in
         --host | --http | --seed | --steps | --turns) return ;;
-        --console)
+        --console | --orders)
             compopt -o filenames 2> /dev/null
             mapfile -t COMPREPLY < <(compgen -f -- "$word")
             return
@@ -34,7 +34,7 @@ _smi()
     case ${COMP_WORDS[1]} in
         sim) options='--seed --settle --steps' ;;
         node) options='--console --endless --turns' ;;
-        screen) options='--endless --host --http --open --turns' ;;
+        screen) options='--endless --host --http --open --orders --turns' ;;
     esac
     if [[ $word == -* ]]; then
         mapfile -t COMPREPLY < <(compgen -W "$options" -- "$word")

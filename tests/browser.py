@@ -10,6 +10,7 @@ name has it. Where there is no browser this says so, and counts as skipped. The 
 
 import os
 import random
+import re
 import shutil
 import socket
 import subprocess
@@ -157,6 +158,163 @@ def look_cases(browser):
     browser.size(1920, 1080)
 
 
+LEADER, TOP = "SHIFT_LEADER", "EXPERIMENT"
+QUESTION = "document.getElementById('question')"
+GIVEN = "[...document.querySelectorAll('#given li')].map((li) => li.textContent)"
+
+
+class Hand:
+    """Who orders from the page: chooses, clicks, and reads what is asked."""
+
+    def __init__(self, browser):
+        self.browser = browser
+
+    def choose(self, operator):
+        self.browser.run("(() => { const s = document.getElementById('operator'); s.value = '%s';"
+                         " s.dispatchEvent(new Event('change')); })()" % operator)
+
+    def open(self, domain):
+        self.shut()
+        self.browser.run("document.querySelector('#main [data-domain=%s]').click()" % domain)
+        return self.browser.waits_for("document.getElementById('more').open", 5) is not None
+
+    def shut(self):
+        self.browser.run("%s.close(); document.getElementById('more').close()" % QUESTION)
+
+    def button(self, deed):
+        """Whether a button is greyed, and its title."""
+        return self.browser.run("(() => { const b = document.querySelector('[data-deed=%s]');"
+                                " return [b.getAttribute('aria-disabled'), b.title]; })()" % deed)
+
+    def click(self, deed):
+        """What is asked once it is clicked, and what can be answered; nothing where nothing is asked."""
+        self.browser.run("document.querySelector('[data-deed=%s]').click()" % deed)
+        if not self.browser.run(QUESTION + ".open"):
+            return None
+        return self.browser.run("[document.getElementById('question-words').textContent,"
+                                " [...document.querySelectorAll('#choices button')].map((b) => b.textContent)]")
+
+    def answer(self, place):
+        self.browser.run("document.querySelectorAll('#choices button')[%d].click()" % place)
+
+    def sees(self, order, fate, patience=20):
+        """Whether the page comes to say this of an order."""
+        return self.browser.waits_for("%s.includes('%s%s')" % (GIVEN, order, fate), patience) is not None
+
+
+def shows(browser, domain, state, patience=20):
+    return browser.waits_for("document.querySelector('#main [data-domain=%s] .state').textContent === '%s'"
+                             % (domain, state), patience) is not None
+
+
+def order_cases(detector, browser):
+    """Orders from the page: greyed with a reason, one click and one confirmation, and then the node has it."""
+    hand = Hand(browser)
+    yield "orders: the console is there", browser.waits_for(
+        "document.getElementById('console').textContent === 'orders: connected'", 20) is not None
+    yield "orders: a domain opens", hand.open(TOP)
+    yield "orders: nobody is chosen", hand.button("START") == ["true", "choose who orders, at the top of the page"]
+    yield "orders: nothing is asked for nobody", hand.click("START") is None
+    hand.choose(LEADER)
+    yield "orders: greyed: held already", hand.button("take") == ["true", "%s holds %s already" % (LEADER, TOP)]
+    yield "orders: no mode of a root", browser.run("document.querySelectorAll('[data-deed=exclude]').length") == 0
+    yield "orders: a greyed one asks nothing", hand.click("take") is None
+    hand.open("TRK")
+    yield "orders: greyed: held by what stands above", hand.button("STOP") == [
+        "true", "%s does not hold TRK: order at %s" % (LEADER, TOP)]
+    yield "orders: not greyed", hand.button("exclude") == ["false", "exclude TRK from %s?" % TOP]
+    hand.open("INFRA")
+    yield "orders: not greyed: what is free", hand.button("take")[0] == "false"
+    hand.open(TOP)
+    asked = hand.click("START")
+    yield "orders: it is asked", asked == ["START at %s?" % TOP, ["yes, START", "cancel"]]
+    hand.answer(1)
+    time.sleep(1)
+    yield "orders: cancelled, nothing is given", browser.run(GIVEN) == []
+    hand.click("START")
+    hand.answer(0)
+    yield "orders: one is given and ends", hand.sees("%s do %s START" % (LEADER, TOP), "0: done")
+    detector_runs = [detector.report(device, "RUNNING") for device in detector.names.devices]
+    yield "orders: the node has obeyed", all(detector_runs) and shows(browser, TOP, "RUNNING")
+    yield from order_key_cases(browser, hand)
+    yield from silent_cases(detector, browser, hand)
+    hand.shut()
+
+
+def order_key_cases(browser, hand):
+    """The keyboard gives orders too, and leads back."""
+    hand.open(TOP)
+    browser.run("document.querySelector('[data-deed=STOP]').focus()")
+    browser.key("Enter")
+    yield "orders: Enter asks", browser.waits_for(QUESTION + ".open", 5) is not None
+    browser.key("Escape")
+    yield "orders: Escape says no", browser.waits_for("!%s.open && document.getElementById('more').open" % QUESTION,
+                                                      5) is not None
+    yield "orders: and leads back", browser.run("document.activeElement.dataset.deed") == "STOP"
+    nameless = "[...document.querySelectorAll('#more button, select')].filter((b) => !(b.labels && b.labels.length)" \
+        " && !b.textContent).length"
+    yield "orders: each button has a name", browser.run(nameless) == 0
+
+
+def silent_cases(detector, browser, hand):
+    """Before a command a silent station is asked about, and can be left out."""
+    detector.stop("MUON")
+    silent = "document.querySelector('#main [data-domain=MUO]').closest('section').classList.contains('silent')"
+    yield "silent: it is", browser.waits_for(silent, 20) is not None
+    hand.open(TOP)
+    words, choices = hand.click("STOP")
+    yield "silent: the question (%s)" % words, re.fullmatch(
+        r"MUON has been silent for [0-9]+ s\. STOP will hold EXPERIMENT, and nobody will command TRK, CAL, TRG, DAQ"
+        r" until it is back\.", words) is not None
+    yield "silent: what can be answered", choices == ["make MUO manual, then STOP", "STOP anyway", "cancel"]
+    hand.answer(2)
+    time.sleep(1)
+    yield "silent: cancelled, nothing is given", "STOP" not in "".join(browser.run(GIVEN))
+    hand.click("STOP")
+    hand.answer(0)
+    yield "silent: made manual", hand.sees("%s manual %s MUO" % (LEADER, TOP), "0: done")
+    yield "silent: and then stopped", hand.sees("%s do %s STOP" % (LEADER, TOP), "0: done")
+    yield "silent: nothing waits", browser.run(GIVEN + ".filter((text) => text.includes('waits')).length") == 0
+    yield "silent: asked no more", hand.click("START") == ["START at %s?" % TOP, ["yes, START", "cancel"]]
+    hand.shut()
+    hand.open("MUO")
+    words, choices = hand.click("include")
+    yield "silent: including it would hold too", words.endswith("until it is back.") and choices == [
+        "include anyway", "cancel"]
+    hand.answer(1)
+    detector.start("MUON")
+    yield "silent: it comes back", browser.waits_for("!" + silent, 20) is not None
+    hand.open("MUO")
+    asked = hand.click("include")
+    yield "silent: included again", asked == ["include MUO in %s?" % TOP, ["yes, include", "cancel"]]
+    hand.answer(0)
+    yield "silent: it is", hand.sees("%s include %s MUO" % (LEADER, TOP), "0: done")
+
+
+def waiting_cases(detector, browser):
+    """An order that waits is shown with its seconds and the station that it waits for."""
+    hand = Hand(browser)
+    hand.choose(LEADER)
+    detector.stop("SERVICES")
+    silent = "document.querySelector('#main [data-domain=INFRA]').closest('section').classList.contains('silent')"
+    browser.waits_for(silent, 20)
+    hand.open("INFRA")
+    asked = hand.click("take")
+    yield "waiting: it is asked", asked == ["take INFRA?", ["yes, take", "cancel"]]
+    hand.answer(0)
+    waits = "%s.some((text) => /^%s take INFRAwaits [2-9] s for station SERVICES$/.test(text))" % (GIVEN, LEADER)
+    yield "waiting: with its seconds and its station", browser.waits_for(waits, 10) is not None
+    detector.start("SERVICES")
+    yield "waiting: and ends", hand.sees("%s take INFRA" % LEADER, "0: done")
+    hand.open("INFRA")
+    browser.waits_for("document.querySelector('[data-deed=drop]').getAttribute('aria-disabled') === 'false'", 20)
+    asked = hand.click("drop")
+    yield "waiting: it may be given back (%s)" % hand.button("drop")[1], asked == ["drop INFRA?", ["yes, drop", "cancel"]]
+    hand.answer(0)
+    yield "waiting: and is %s" % browser.run(GIVEN), hand.sees("%s drop INFRA" % LEADER, "0: done")
+    hand.shut()
+
+
 def trip_cases(detector, browser):
     """A trip is on top, a silent station is told, and it comes back."""
     begun = time.monotonic()
@@ -196,7 +354,11 @@ def lost_cases(detector, browser):
     large = browser.run("parseFloat(getComputedStyle(document.getElementById('lost')).fontSize)")
     yield "lost: in large letters", large > 80
     detector.screen = detector.looking()
-    yield "lost: it comes back", browser.waits_for("!document.body.classList.contains('lost')", 30) is not None
+    # The page is loaded anew, with the key of the screen that has begun again.
+    back = "!!document.body && !document.body.classList.contains('lost') && !!tree && !!picture"
+    yield "lost: it comes back", browser.waits_for(back, 30) is not None
+    yield "lost: and orders go on", browser.waits_for(
+        "document.getElementById('console').textContent === 'orders: connected'", 20) is not None
 
 
 LARGE = """(() => {
@@ -245,6 +407,8 @@ def cases(program, path, folder):
         yield from shift_cases(program, detector, browser)
         yield from key_cases(detector, browser)
         yield from look_cases(browser)
+        yield from order_cases(detector, browser)
+        yield from waiting_cases(detector, browser)
         yield from trip_cases(detector, browser)
         yield from lost_cases(detector, browser)
         yield from large_cases(browser)

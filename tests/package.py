@@ -161,7 +161,7 @@ COMPLETED = [
     (["smi", "node", "--turns", "5", "three.tree", "B"], ["B"]),
     (["smi", "node", "nowhere", ""], []),
     (["smi", "node", "-"], ["--console", "--endless", "--turns"]),
-    (["smi", "screen", "-"], ["--endless", "--host", "--http", "--open", "--turns"]),
+    (["smi", "screen", "-"], ["--endless", "--host", "--http", "--open", "--orders", "--turns"]),
     (["smi", "screen", "--http", "127.0.0.1:80", "three.tree", "B"], ["B"]),
     (["smi", "sim", "--s"], ["--seed", "--settle", "--steps"]),
     (["smi", "sim", "--seed", ""], []), (["smi", "rows", "-"], []),

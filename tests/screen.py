@@ -2,10 +2,11 @@
 
 usage: screen.py SMI [TEXT]
 
-Requests are sent as bytes. What each is answered is compared with docs/FORMATS.md, "The screen"; the picture of a played
-hour with what the nodes were told and with the trace of the same schedule; and while hundreds of connections are slow,
-never read or send too much, another one has to be answered. With a TEXT only the cases are run whose name has it. The
-last line is 'N passed, M failed'.
+Requests are sent as bytes. What each is answered is compared with docs/FORMATS.md, "The screen"; the picture of a
+played hour with what the nodes were told and with the trace of the same schedule; while hundreds of connections are
+slow, never read or send too much, another one has to be answered; and of all that asks to order, what comes from the
+page goes to the console, once, and nothing else. With a TEXT only the cases are run whose name has it. The last line is
+'N passed, M failed'.
 """
 
 import json
@@ -60,8 +61,13 @@ def line_cases(program, folder):
     store = screens.store_of(folder, "lines")
     wrong = ("", "wrong line\n", 2)
     yield "lines: so many turns", ran(tree, "SCREEN", store, "--http", http, "--turns", 3) == ("", "", 0)
+    for name, where in [("a console that is not there", os.path.join(folder, "none")), ("an address", "127.0.0.1:1")]:
+        told = ran(tree, "SCREEN", store, "--http", http, "--orders", where, "--turns", 3)
+        yield "lines: " + name, told == ("", "", 0)
     for name, words in [
             ("no address", [tree, "SCREEN", store]),
+            ("two consoles", [tree, "SCREEN", store, "--http", http, "--orders", "a", "--orders", "b", "--turns", 1]),
+            ("orders to nobody", [tree, "SCREEN", store, "--http", http, "--turns", 1, "--orders"]),
             ("no address of this machine", [tree, "SCREEN", store, "--http", "0.0.0.0:80", "--turns", 1]),
             ("open without a name", [tree, "SCREEN", store, "--http", "0.0.0.0:80", "--open", "--turns", 1]),
             ("a name and not open", [tree, "SCREEN", store, "--http", http, "--host", "daq", "--turns", 1]),
@@ -121,13 +127,19 @@ def answer_cases(program, folder):
         close(crews, screen)
 
 
+# Which of its actions the class of the worked tree accepts.
+ACCEPTED = [True, True, False]
+
+
 def shape_wanted():
     """The worked tree with a screen, as the screen tells it."""
     return {
-        "tree": 17, "states": ["OFF", "READY", "RUNNING", "ERROR"], "stations": ["A", "B", "SCREEN"],
+        "tree": 17, "states": ["OFF", "READY", "RUNNING", "ERROR"], "actions": ["CONFIGURE", "START", "STOP"],
+        "stations": ["A", "B", "SCREEN"],
         "operators": [{"name": "ANN", "station": "A"}, {"name": "BOB", "station": "B"},
                       {"name": "WATCHER", "station": "SCREEN"}],
-        "domains": [{"name": "DCS", "station": "A", "parent": None}, {"name": "TPC", "station": "B", "parent": "DCS"}],
+        "domains": [{"name": "DCS", "station": "A", "parent": None, "accepts": ACCEPTED},
+                    {"name": "TPC", "station": "B", "parent": "DCS", "accepts": ACCEPTED}],
         "devices": [{"name": "HV", "domain": "TPC"}]}
 
 
@@ -269,7 +281,216 @@ def hostile_cases(program, folder):
         close(crews, screen)
 
 
-CASES = [line_cases, answer_cases, picture_cases, hostile_cases]
+class FakeConsole:
+    """Where a screen finds a console: it says what the test says, and its lines are read one by one."""
+
+    def __init__(self):
+        self.door = socket.create_server(("127.0.0.1", 0))
+        self.door.settimeout(nodes.PATIENCE)
+        self.place, self.line, self.rest = "127.0.0.1:%d" % self.door.getsockname()[1], None, b""
+
+    def meet(self):
+        self.line, self.rest = self.door.accept()[0], b""
+        self.line.settimeout(nodes.PATIENCE)
+
+    def hear(self):
+        """The next line; what has come of it, where the connection ends."""
+        while b"\n" not in self.rest:
+            got = self.line.recv(4096)
+            if not got:
+                return self.rest.decode()
+            self.rest += got
+        line, _, self.rest = self.rest.partition(b"\n")
+        return line.decode()
+
+    def hears_nothing(self, seconds=1.0):
+        """Whether nothing comes for so long."""
+        self.line.settimeout(seconds)
+        try:
+            self.rest += self.line.recv(4096)
+        except socket.timeout:
+            pass
+        self.line.settimeout(nodes.PATIENCE)
+        return not self.rest
+
+    def say(self, text):
+        self.line.sendall((text + "\n").encode())
+
+    def leave(self):
+        self.line.close()
+
+    def end(self):
+        if self.line:
+            self.line.close()
+        self.door.close()
+
+
+def fake_world(program, folder):
+    """A screen over a console that the test plays, and the tree of both; no node runs."""
+    ports = nodes.free_ports(3)
+    tree = nodes.write_tree(folder, ports, screens.with_screen(nodes.tree_lines(ports[:2]), ports[2]))
+    console = FakeConsole()
+    store = screens.store_of(folder, "screen")
+    return console, screens.Screen(program, tree, store, more=("--endless", "--orders", console.place))
+
+
+GIVEN = (202, b"the order is on its way")
+STRANGER = (403, b"orders are given from the page alone")
+NO_ORDER = (400, b"this is no order of an operator of the tree")
+AWAY = (503, b"there is no connection with the console")
+SHOWN = (405, b"this screen only shows")
+# Lines that are no order of an operator of the worked tree, and are one line too little or too much.
+NO_ORDERS = [
+    b"", b"take DCS", b"order", b"order ANN", b"order EVE take DCS", b"order ANN take ABC", b"order ANN do DCS HOP",
+    b"report HV READY", b"show HV", b"under way", b"counts", b"@1 order ANN take DCS", b"# order ANN take DCS",
+    b"order ANN take DCS\n", b"order ANN take DCS\norder BOB take TPC", b"order ANN take DCS\r",
+    b"order ANN take DCS\0", b"order ANN take DCS x", b"\xff\xfe", b'order ANN take "DCS"', b"{\"order\":1}"]
+
+
+def order_cases(program, folder):
+    """Who may give an order, which is one, and what goes to the console: that one line, once."""
+    console, screen = fake_world(program, folder)
+    try:
+        yield "orders: it is up", screen.is_up()
+        own, local = screen.host, "localhost:%d" % screen.port
+        console.meet()
+        yield "orders: the console is there", screen.has_console()
+        key = screen.key()
+        page = screen.get("/")[1]
+        yield "orders: the page has the key once", page.count(key.encode()) == 1 and len(key) == len("Bearer ") + 32
+        give, good = screen.give, "order ANN take DCS"
+        for name, how in [("no Origin", {"origin": None}), ("a foreign Origin", {"origin": "http://evil.example"}),
+                          ("an Origin that begins so", {"origin": "http://%s.evil.example" % own}),
+                          ("an Origin at another port", {"origin": "http://127.0.0.1:80"}),
+                          ("an Origin of https", {"origin": "https://" + own}), ("Origin null", {"origin": "null"}),
+                          ("another name of its own", {"origin": "http://" + local}),
+                          ("no key", {"key": None}), ("a wrong key", {"key": "Bearer " + "0" * 32}),
+                          ("part of the key", {"key": key[:-1]}), ("an empty key", {"key": ""}),
+                          ("more than the key", {"key": key + "0"})]:
+            yield "orders: %s, no" % name, give(good, **how) == STRANGER
+        yield "orders: the key in a cookie, no", give(good, key=None, more="Cookie: " + key) == STRANGER
+        yield "orders: a foreign Host, no", give(good, host="evil.example", origin="http://evil.example") == (
+            421, b"this is another host")
+        for line in NO_ORDERS:
+            yield "orders: %r, no" % line, give(line) == NO_ORDER
+        yield "orders: a body too long, no", give("order ANN take DCS" + " " * 50)[0] == 413
+        yield "orders: GET gives none", give(good, method="GET")[0] == 200
+        for method in ("PUT", "DELETE", "PATCH", "OPTIONS"):
+            yield "orders: %s, no" % method, give(good, method=method) == SHOWN
+        yield "orders: nor at another place", give(good, target="/api/picture") == SHOWN
+        yield "orders: nothing of all that was sent", console.hears_nothing() and screen.orders() == []
+        yield "orders: one that may be given", give(good) == GIVEN
+        yield "orders: is sent behind a tag", console.hear() == "@1 " + good
+        yield "orders: and once", console.hears_nothing()
+        yield "orders: by the other name of the screen", give("order BOB take TPC", host=local, origin="http://" + local
+                                                              ) == GIVEN and console.hear() == "@2 order BOB take TPC"
+        yield from answered_cases(console, screen)
+    finally:
+        console.end()
+        screen.end()
+
+
+def fates(screen):
+    """Of each order that was given: its line, whether it waits, its answer, its code and what that means."""
+    return [(it["line"], it["waits"], it["answer"], it["code"], it["words"]) for it in screen.orders()]
+
+
+def answered_cases(console, screen):
+    """Answers out of order go to their orders, and what answers none changes nothing."""
+    first, second = "order ANN take DCS", "order BOB take TPC"
+    waiting = [(first, True, None, None, None), (second, True, None, None, None)]
+    yield "answers of orders: both wait", screen.waits_for_orders(lambda: fates(screen) == waiting)
+    for text in ["@3 told ANN take DCS 0", "@12 told ANN take DCS 0", "@ told", "told ANN take DCS 0", "", "@1",
+                 "x" * 500, "@1told", "\xff"]:
+        console.say(text)
+    time.sleep(1)
+    yield "answers of orders: strange ones change nothing", fates(screen) == waiting
+    console.say("@2 told BOB take TPC 5")
+    ended = (second, False, "told BOB take TPC 5", 5, "another one holds the domain")
+    yield "answers of orders: the second first", screen.waits_for_orders(lambda: fates(screen) == [waiting[0], ended])
+    console.say("@2 told BOB take TPC 0")
+    console.say("@1 fault 5: \"a\\b\"")
+    odd = (first, False, "?", None, None)
+    yield "answers of orders: one with quotes", screen.waits_for_orders(lambda: fates(screen) == [odd, ended])
+    yield from broken_cases(console, screen, [odd, ended])
+
+
+def broken_cases(console, screen, before):
+    """A console that goes: what waits is lost, nothing is given meanwhile, and nothing is sent later."""
+    third, give = "order ANN do DCS CONFIGURE", screen.give
+    yield "broken: one more is given", give(third) == GIVEN and console.hear() == "@3 " + third
+    seconds = [it["seconds"] for it in screen.orders() if it["waits"]]
+    time.sleep(1.2)
+    yield "broken: its seconds go on", [it["seconds"] for it in screen.orders() if it["waits"]] > seconds
+    console.leave()
+    lost = (third, False, None, None, None)
+    yield "broken: it is told", screen.waits_for_orders(lambda: not screen.told_orders()["console"])
+    yield "broken: what waited is lost", fates(screen) == before + [lost]
+    yield "broken: none is taken", give("order ANN drop DCS") == AWAY
+    console.meet()
+    yield "broken: it comes back", screen.has_console()
+    yield "broken: nothing is sent again", console.hears_nothing()
+    console.say("@3 told ANN do DCS CONFIGURE 0")
+    time.sleep(0.6)
+    yield "broken: an answer of before is nobody's", fates(screen) == before + [lost]
+    lines = ["order ANN ask DCS", "order BOB ask TPC"] * 32
+    given = [give(line) for line in lines]
+    yield "broken: as many as can wait", given == [GIVEN] * len(lines) and [
+        console.hear() for _ in lines] == ["@%d %s" % (number, line) for number, line in enumerate(lines, 4)]
+    yield "broken: one more, no", give("order ANN ask DCS") == (429, b"too many orders wait")
+    console.say("@20 told ANN ask DCS free 0 0 settled 0")
+    yield "broken: where one has ended, one more", screen.waits_for_orders(
+        lambda: give("order ANN drop DCS") == GIVEN) and console.hear() == "@68 order ANN drop DCS"
+    yield "broken: it still shows", screen.get("/api/tree")[0] == 200
+
+
+def shut_cases(program, folder):
+    """Without a console none of this is there."""
+    _, crews, screen = world(program, folder)
+    try:
+        yield "shut: it is up", screen.is_up()
+        own = "http://" + screen.host
+        yield "shut: the page has no key", b"Bearer" not in screen.get("/")[1]
+        yield "shut: no orders are told", screen.get("/api/orders") == (404, b"there is no such page")
+        for key in (None, "", "Bearer "):
+            told = screen.give("order ANN take DCS", key=key, origin=own)
+            yield "shut: none is given with the key %r" % key, told == SHOWN
+        yield "shut: nor done", crews["A"].ask("order ANN ask DCS").startswith("told ANN ask DCS free")
+    finally:
+        close(crews, screen)
+
+
+def node_cases(program, folder):
+    """Orders by a real node's console, at a path: answered, refused, and as the picture shows."""
+    ports = nodes.free_ports(3)
+    tree = nodes.write_tree(folder, ports, screens.with_screen(nodes.tree_lines(ports[:2]), ports[2]))
+    where = os.path.join(folder, "console")
+
+    def node(name, *more):
+        return nodes.Node(program, [tree, name, screens.store_of(folder, name), "--endless", *more])
+
+    crews = {"A": node("A", "--console", where), "B": node("B")}
+    screen = screens.Screen(program, tree, screens.store_of(folder, "screen"), more=("--endless", "--orders", where))
+    try:
+        yield "node: the console is there", screen.is_up() and screen.has_console()
+        for order, code in [("ANN take DCS", 0), ("ANN take DCS", 23), ("ANN include DCS TPC", 0),
+                            ("ANN drop TPC", 21)]:
+            yield "node: %s ends with %d" % (order, code), screen.order(order) == code
+        yield "node: the picture has it", screen.waits_for(
+            lambda picture: screens.holders_of(picture) == {"DCS": "ANN", "TPC": "DCS"})
+        screen.give("order BOB take TPC")
+        fault = "fault 5: a name that this station does not have as what the line wants"
+        yield "node: an operator of another", screen.waits_for_orders(
+            lambda: fates(screen)[-1] == ("order BOB take TPC", False, fault, None, None))
+        crews["A"].kill()
+        yield "node: it goes", screen.waits_for_orders(lambda: not screen.told_orders()["console"])
+        crews["A"] = node("A", "--console", where)
+        yield "node: it comes back", screen.has_console() and screen.order("ANN do DCS CONFIGURE") == 0
+    finally:
+        close(crews, screen)
+
+
+CASES = [line_cases, answer_cases, picture_cases, hostile_cases, order_cases, shut_cases, node_cases]
 
 
 def main():

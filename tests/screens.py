@@ -86,6 +86,51 @@ class Screen:
             time.sleep(0.05)
         return False
 
+    def key(self):
+        """The key that stands in its page, for orders."""
+        return re.search(rb'const KEY = "([^"]*)"', self.get("/")[1])[1].decode()
+
+    def give(self, line, method="POST", target="/api/orders", host=None, origin="own", key="own", more=None):
+        """The status and the body of what is answered to an order, which the page gives if nothing else is said."""
+        host = host or self.host
+        fields = [("Host", host), ("Origin", "http://" + host if origin == "own" else origin),
+                  ("Authorization", self.key() if key == "own" else key)]
+        body = line if isinstance(line, bytes) else line.encode()
+        lines = ["%s %s HTTP/1.1" % (method, target), "Connection: close", "Content-Length: %d" % len(body)]
+        lines += ["%s: %s" % field for field in fields if field[1] is not None] + ([more] if more else [])
+        return answers(self.exchange(("\r\n".join(lines) + "\r\n\r\n").encode() + body))[0]
+
+    def told_orders(self):
+        """What it tells of the orders that were given."""
+        return json.loads(self.get("/api/orders")[1])
+
+    def orders(self):
+        return self.told_orders()["orders"]
+
+    def waits_for_orders(self, holds, patience=nodes.PATIENCE):
+        """Whether something comes to hold, within so many seconds."""
+        end = time.monotonic() + patience
+        while time.monotonic() < end:
+            if holds():
+                return True
+            time.sleep(0.1)
+        return False
+
+    def has_console(self):
+        """Whether it comes to have a connection with its console."""
+        return self.waits_for_orders(lambda: self.told_orders()["console"])
+
+    def order(self, text):
+        """The code with which an order ends that is given now; nothing where it does not end."""
+        line, before = "order " + text, max([it["number"] for it in self.orders()], default=0)
+        if self.give(line)[0] != 202:
+            return None
+
+        def ended():
+            return [it for it in self.orders() if it["number"] > before and it["line"] == line and not it["waits"]]
+
+        return ended()[0]["code"] if self.waits_for_orders(ended) else None
+
     def memory(self):
         """How much memory it holds, in KiB."""
         with open("/proc/%d/status" % self.child.pid, encoding="ascii") as file:

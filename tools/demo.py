@@ -3,9 +3,9 @@
 usage: demo.py SMI [--http A.B.C.D:PORT] [--pause SECONDS]
 
 The stations of examples/detector.tree are started with addresses of this machine, each with a console of its own, and
-the screen at its address, which is printed. Then examples/shift.plan is played: what its operators order and what its
-device drivers report, with a pause after each order. Where the plan stops a station, that is killed, and started again
-some seconds later. Ctrl-C ends all.
+the screen at its address, which is printed; operators of the station CONTROL may order from its page. Then
+examples/shift.plan is played: what its operators order and what its device drivers report, with a pause after each
+order. Where the plan stops a station, that is killed, and started again some seconds later. Ctrl-C ends all.
 """
 
 import argparse
@@ -24,6 +24,8 @@ import hierarchy
 EXAMPLES = os.path.join(os.path.dirname(os.path.dirname(os.path.abspath(__file__))), "examples")
 TREE, PLAN = (os.path.join(EXAMPLES, name) for name in ("detector.tree", "shift.plan"))
 STATION, OPERATOR = "SCREEN", "WATCHER"
+# The station whose operators may order from the page of the screen.
+DESK = "CONTROL"
 # How long a station that the plan stops is away, in seconds, and how long an answer is waited for.
 AWAY, PATIENCE = 6, 30
 
@@ -81,6 +83,7 @@ class Detector:
         with open(self.tree, "w", encoding="ascii") as file:
             file.write("\n".join(lines) + "\n")
         self.names = hierarchy.of_lines(lines)
+        self.desk = os.path.join(folder, DESK + ".console")
         self.nodes = {name: self.console(name) for name in self.names.stations if name != STATION}
         self.screen = self.looking()
 
@@ -88,10 +91,11 @@ class Detector:
         return [self.program, command, self.tree, name, os.path.join(self.folder, name + ".store"), "--endless"]
 
     def console(self, name):
-        return Console(self.words("node", name))
+        return Console(self.words("node", name) + (["--console", self.desk] if name == DESK else []))
 
     def looking(self):
-        return subprocess.Popen(self.words("screen", STATION) + ["--http", self.http], stdin=subprocess.DEVNULL)
+        return subprocess.Popen(self.words("screen", STATION) + ["--http", self.http, "--orders", self.desk],
+                                stdin=subprocess.DEVNULL)
 
     def order(self, text):
         """What an operator is told."""

@@ -36,11 +36,19 @@ fn turns_of(turns: Option<u32>) -> Turns {
     }
 }
 
-/// Where a console is listened for: at an address, where the word is one, or else at a path.
-fn place_of(alloc: Global, word: &str) -> Result<Place, AllocError> {
+/// The address that a word is by which a console is named; where it is none, it is the path of a socket.
+pub(crate) fn address_in(word: &str) -> Option<SocketAddr> {
     match word.parse::<SocketAddrV4>() {
-        Ok(address) => Ok(Place::Address(SocketAddr::V4(address))),
-        Err(_) => Ok(Place::Path(String::from_str(alloc, word)?)),
+        Ok(address) => Some(SocketAddr::V4(address)),
+        Err(_) => None,
+    }
+}
+
+/// Where a console is listened for.
+fn place_of(alloc: Global, word: &str) -> Result<Place, AllocError> {
+    match address_in(word) {
+        Some(address) => Ok(Place::Address(address)),
+        None => Ok(Place::Path(String::from_str(alloc, word)?)),
     }
 }
 

@@ -1,6 +1,6 @@
 //! A screen: its tree file is read, its station found, its store opened, and then it looks.
 
-use crate::node::opened;
+use crate::node::{address_in, opened};
 use crate::tree::read_marked;
 use bytes::Bytes;
 use smi_cli::status::{Status, no_memory, read_fault, wrong_line};
@@ -8,8 +8,8 @@ use smi_crew::{addresses, link_fault, opening_fault, stopped, told};
 use smi_disks::Stores;
 use smi_line::{ScreenLine, Words, bytes_of};
 use smi_origin::Mark;
-use smi_page::page_bytes;
-use smi_screen::{Ended, Plan, hosts_of, run};
+use smi_page::{page_bytes, page_with_orders};
+use smi_screen::{Ended, Giving, Place, Plan, hosts_of, run};
 use smi_tree::Tree;
 use std::alloc::{AllocError, Global};
 use std::hash::RandomState;
@@ -33,26 +33,96 @@ fn told_end<F: Write>(ended: Ended, faults: &mut F) -> Status {
     }
 }
 
-/// What the screen of a station is run with.
+/// How many random bytes a key is made of.
+const KEY: usize = 16;
+
+/// Random bytes, as the value of an `Authorization`.
+fn key_in(alloc: Global, bytes: [u8; KEY]) -> Result<Vec<u8>, AllocError> {
+    let mut key = Vec::from_slice(alloc, b"Bearer ")?;
+    for byte in bytes {
+        write!(key, "{byte:02x}").map_err(|_| AllocError)?;
+    }
+    Ok(key)
+}
+
+/// A text whose copies share its bytes.
+fn kept(text: Vec<u8>) -> Result<Bytes, AllocError> {
+    match Bytes::from_vec(text) {
+        Ok(bytes) => Ok(bytes),
+        Err(_) => Err(AllocError),
+    }
+}
+
+/// Where a console is.
+fn place_of(alloc: Global, word: &str) -> Result<Place, AllocError> {
+    match address_in(word) {
+        Some(address) => Ok(Place::Address(address)),
+        None => Ok(Place::Path(String::from_str(alloc, word)?)),
+    }
+}
+
+/// A page that may give orders by a key of these bytes, to the console of this word, and what it is done with.
+fn page_with(
+    alloc: Global,
+    bytes: [u8; KEY],
+    word: &str,
+    tree: Tree,
+) -> Result<(Bytes, Option<Giving>), AllocError> {
+    let key = key_in(alloc, bytes)?;
+    let page = kept(page_with_orders(alloc, key.as_slice())?)?;
+    let giving = Giving {
+        console: place_of(alloc, word)?,
+        key: kept(key)?,
+        tree,
+    };
+    Ok((page, Some(giving)))
+}
+
+/// The page, and with what it may give orders, if it may: by a key that nobody can guess.
+fn page_of<H: Files + RandomSource + AllocGlobal, F: Write>(
+    host: &H,
+    words: &Words,
+    line: ScreenLine<'_>,
+    faults: &mut F,
+) -> Result<(Bytes, Option<Giving>), Status> {
+    let Some(word) = line.orders else {
+        return Ok((Bytes::from_static(page_bytes()), None));
+    };
+    let tree = read_tree(host, bytes_of(words, line.tree), faults)?;
+    let mut bytes = [0u8; KEY];
+    if host.fill_bytes(&mut bytes).is_err() {
+        return Err(read_fault(faults));
+    }
+    match page_with(host.alloc(), bytes, word, tree) {
+        Ok(page) => Ok(page),
+        Err(_) => Err(no_memory(faults)),
+    }
+}
+
+/// What the screen of a station is run with, beside its page.
 fn plan_of(
     alloc: Global,
     tree: &Tree,
     station: u16,
     line: ScreenLine<'_>,
+    page: Bytes,
+    giving: Option<Giving>,
 ) -> Result<Plan, AllocError> {
     Ok(Plan {
         station,
         peers: addresses(alloc, tree)?,
         http: line.http,
         hosts: hosts_of(alloc, line.http, line.name)?,
-        page: Bytes::from_static(page_bytes()),
+        page,
+        giving,
         turns: line.turns,
     })
 }
 
 /// The screen of a station looks, as its line says.
 fn looked<
-    H: Stores
+    H: Files
+        + Stores
         + Net<Listener = TcpListener, Stream = TcpStream>
         + RandomSource
         + Wait
@@ -71,7 +141,11 @@ fn looked<
     let Ok(keys) = RandomState::new(host) else {
         return read_fault(faults);
     };
-    let Ok(plan) = plan_of(host.alloc(), tree, station, line) else {
+    let (page, giving) = match page_of(host, words, line, faults) {
+        Ok(page) => page,
+        Err(status) => return status,
+    };
+    let Ok(plan) = plan_of(host.alloc(), tree, station, line, page, giving) else {
         return no_memory(faults);
     };
     match opened(host, bytes_of(words, line.store), mark, faults) {

@@ -5,11 +5,17 @@
 //! at the gate have their turn, none of whom is waited for (`smi_gate`). So a guest can hold up nothing but itself,
 //! and there is neither a lock nor a second thread. What a page elsewhere could ask is nothing: [`hosts_of`] says
 //! which names of hosts are answered.
+//!
+//! Where a [`Console`] is named, orders may be given from the page: they wait in the relay of the window (`smi_relay`),
+//! and each turn sends what is to be sent of them over one connection, and hears what is said there, without waiting.
+//! The station of the screen orders nothing: the orders are those of operators of the node whose console it is.
 #![tactic(auto)]
 
+mod console;
 mod hosts;
 mod post;
 mod running;
 
+pub use console::{Console, Place};
 pub use hosts::hosts_of;
-pub use running::{Ended, Plan, run};
+pub use running::{Ended, Giving, Plan, run};

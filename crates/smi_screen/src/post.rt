@@ -1,11 +1,12 @@
 //! What a screen works with, and its turns.
 
-ghost use Rattle.std.specs.Prelude.{◌≡◌};
+ghost use Rattle.std.specs.Prelude.{◌≡◌, false};
 ghost use Rattle.smi_node.specs.Carried.{StepsTo};
 ghost use Rattle.smi_node.specs.Linked.{shown_by};
 ghost use Rattle.smi_observer.specs.Looking.{Looks, view};
 ghost use Rattle.smi_screen.specs.Ending.{has_stopped};
 
+use crate::console::Console;
 use crate::running::Ended;
 use smi_gate::Gate;
 use smi_link::DatagramLink;
@@ -17,6 +18,7 @@ use smi_station::Station;
 use smi_tree::Tree;
 use smi_window::Window;
 use std::alloc::Global;
+use std::net::Net;
 use std::time::{Clock, Instant};
 
 /// How many milliseconds lie between two frames.
@@ -43,6 +45,8 @@ pub(crate) struct Post {
     picture: Picture,
     window: Window,
     gate: Gate,
+    /// Where orders go that are given from the page, where they may be.
+    console: Option<Console>,
 }
 
 impl Post {
@@ -54,6 +58,7 @@ impl Post {
         picture: Picture,
         window: Window,
         gate: Gate,
+        console: Option<Console>,
     ) -> Post {
         Post {
             alloc,
@@ -68,12 +73,14 @@ impl Post {
             picture,
             window,
             gate,
+            console,
         }
     }
 
     /// Looks at the clock. Where it can't be read, no time has passed.
     fn tell_time<C: Clock>(&mut self, clock: &C)
-        ensures { self.new.picture ≡ self.old.picture }
+        ensures picture { self.new.picture ≡ self.old.picture }
+        ensures operator { self.new.operator ≡ self.old.operator }
     {
         if let Ok(passed) = self.start.elapsed(clock) {
             let passed = u64::try_from(passed.as_millis()).unwrap_or(self.now);
@@ -94,11 +101,23 @@ impl Post {
             .window
             .frame
             .renew(self.alloc, tree, &self.picture, self.frames, self.now);
+        let _ = self.window.tell_orders(self.alloc);
+    }
+
+    /// Orders that were given go to their console, and what it says is heard.
+    fn relay_orders<R: Net>(&mut self, rt: &R)
+        ensures { self.new.picture ≡ self.old.picture }
+    {
+        if let (Some(console), Some(orders)) = (&mut self.console, &mut self.window.orders) {
+            orders.time = self.now;
+            console.turn(rt, &mut orders.relay, self.now);
+        }
     }
 
     /// Counts the turns in a row that ended in a fault of the link; an error where they are too many.
     fn count(&mut self, came: Came) -> Result<(), Ended>
-        ensures { self.new.picture ≡ self.old.picture }
+        ensures picture { self.new.picture ≡ self.old.picture }
+        ensures goes_on { has_stopped result ≡ false }
     {
         self.faults = match came {
             Came::Fault => self.faults.saturating_add(1),
@@ -136,33 +155,50 @@ impl Post {
         }
     }
 
-    /// One turn: the station looks, a frame is made, and the guests have their turn.
-    fn turn<S: Stable, L: DatagramLink, C: Clock>(
+    /// What follows a look: orders go on, a frame is made, the guests have their turn, and faults are counted. The
+    /// picture stays, and the station was not stopped by it.
+    fn go_on<R: Net + Clock>(&mut self, rt: &R, tree: &Tree, came: Came) -> Result<(), Ended>
+        ensures picture { self.new.picture ≡ self.old.picture }
+        ensures goes_on { has_stopped result ≡ false }
+    {
+        self.relay_orders(rt);
+        self.make_frame(tree);
+        self.gate.turn(&mut self.window, self.now);
+        self.count(came)
+    }
+
+    /// One turn: the station looks, orders go on, a frame is made, and the guests have their turn. To its station, its
+    /// link and its picture it does what the look does.
+    fn turn<S: Stable, L: DatagramLink, R: Net + Clock>(
         &mut self,
-        clock: &C,
+        rt: &R,
         tree: &Tree,
         station: &mut Station<'_, S>,
         link: &mut L,
-    ) -> Result<(), Ended> {
-        self.tell_time(clock);
-        let came = self.look(station, link)?;
-        self.count(came)?;
-        self.make_frame(tree);
-        self.gate.turn(&mut self.window, self.now);
-        Ok(())
+    ) -> Result<(), Ended>
+        ensures { Looks (StepsTo S.is_honest S.is_open S.rows S.saves S.failures) self.old.operator
+            (view station.old (shown_by L.received L.handed L.failures link.old) self.old.picture)
+            (view station.new (shown_by L.received L.handed L.failures link.new) self.new.picture)
+            (has_stopped result) }
+    {
+        self.tell_time(rt);
+        match self.look(station, link) {
+            Ok(came) => self.go_on(rt, tree, came),
+            Err(ended) => Err(ended),
+        }
     }
 
     /// So many turns, or fewer where a fault ends them.
-    pub(crate) fn turns<S: Stable, L: DatagramLink, C: Clock>(
+    pub(crate) fn turns<S: Stable, L: DatagramLink, R: Net + Clock>(
         &mut self,
-        clock: &C,
+        rt: &R,
         tree: &Tree,
         station: &mut Station<'_, S>,
         link: &mut L,
         turns: u32,
     ) -> Result<(), Ended> {
         for _ in 0..turns {
-            self.turn(clock, tree, station, link)?;
+            self.turn(rt, tree, station, link)?;
         }
         Ok(())
     }

@@ -1,5 +1,6 @@
 //! A screen begins, looks, and ends.
 
+use crate::console::{Console, Place};
 use crate::post::Post;
 use bytes::Bytes;
 use smi_gate::Gate;
@@ -7,10 +8,11 @@ use smi_link::{DatagramLink, UdpLink};
 use smi_observer::Pace;
 use smi_picture::Picture;
 use smi_protocol::OpenFault;
+use smi_relay::Relay;
 use smi_rows::Stable;
 use smi_station::{Station, migrate};
 use smi_tree::Tree;
-use smi_window::{Frame, Window};
+use smi_window::{Frame, Orders, Window};
 use std::alloc::{AllocError, Global};
 use std::hash::RandomState;
 use std::io::{self, ErrorKind};
@@ -43,6 +45,17 @@ impl From<AllocError> for Ended {
     }
 }
 
+/// What orders are given with from a page.
+#[derive(Drop)]
+pub struct Giving {
+    /// The console of the node of the operators who order.
+    pub console: Place,
+    /// What the page has to show with each order.
+    pub key: Bytes,
+    /// The tree, once more: the window has it for its own.
+    pub tree: Tree,
+}
+
 /// What a screen is run with, beside its store.
 #[derive(Drop)]
 pub struct Plan {
@@ -55,6 +68,8 @@ pub struct Plan {
     /// The values of `Host` that are answered.
     pub hosts: Vec<Vec<u8>>,
     pub page: Bytes,
+    /// The orders that its page may give, if it may.
+    pub giving: Option<Giving>,
     /// How many turns it looks, none where it looks without end.
     pub turns: Option<u32>,
 }
@@ -80,7 +95,24 @@ fn window_on(
     picture: &Picture,
 ) -> Result<Window, AllocError> {
     let frame = Frame::first(alloc, page, tree, picture)?;
-    Ok(Window { hosts, frame })
+    Ok(Window {
+        hosts,
+        frame,
+        orders: None,
+    })
+}
+
+/// A window may be given orders at from now on, which go to this console.
+fn with_orders(alloc: Global, window: &mut Window, giving: Giving) -> Result<Console, AllocError> {
+    let Giving { console, key, tree } = giving;
+    window.orders = Some(Orders {
+        tree,
+        key,
+        relay: Relay::new(alloc),
+        time: 0,
+    });
+    window.tell_orders(alloc)?;
+    Ok(Console::new(alloc, console))
 }
 
 /// A gate at an address.
@@ -97,7 +129,7 @@ fn gate_at<R: Net<Listener = TcpListener, Stream = TcpStream>>(
 }
 
 /// Turns, so many or without end.
-fn served<S: Stable, L: DatagramLink, R: Wait + Clock>(
+fn served<S: Stable, L: DatagramLink, R: Net + Wait + Clock>(
     rt: &R,
     tree: &Tree,
     station: &mut Station<'_, S>,
@@ -125,17 +157,22 @@ fn posted<R: Net<Listener = TcpListener, Stream = TcpStream> + Wait + Clock + Al
     http: SocketAddr,
     hosts: Vec<Vec<u8>>,
     page: Bytes,
+    giving: Option<Giving>,
 ) -> Result<Post, Ended> {
     let alloc = rt.alloc();
     let (objects, domains) = (tree.object_count(), tree.domain_count());
     let picture = Picture::new(alloc, objects, domains)?;
-    let window = window_on(alloc, page, hosts, tree, &picture)?;
+    let mut window = window_on(alloc, page, hosts, tree, &picture)?;
+    let console = match giving {
+        Some(giving) => Some(with_orders(alloc, &mut window, giving)?),
+        None => None,
+    };
     let gate = gate_at(rt, alloc, keys, http)?;
     let Ok(start) = Instant::now(rt) else {
         return Err(Ended::Gate);
     };
     let pace = Pace::new(objects, domains);
-    Ok(Post::new(alloc, operator, start, pace, picture, window, gate))
+    Ok(Post::new(alloc, operator, start, pace, picture, window, gate, console))
 }
 
 /// Looks with a station that is open.
@@ -158,13 +195,14 @@ fn looked<
         http,
         hosts,
         page,
+        giving,
         turns,
     } = plan;
     let mut link = match UdpLink::open(rt, rt, number, peers) {
         Ok(link) => link,
         Err(error) => return Err(refused(error, Ended::Link)),
     };
-    let mut post = posted(rt, tree, operator, keys, http, hosts, page)?;
+    let mut post = posted(rt, tree, operator, keys, http, hosts, page, giving)?;
     served(rt, tree, station, &mut link, &mut post, turns)
 }
 

@@ -1,0 +1,213 @@
+//! The console of a node, to which the orders go that are given from the page.
+
+use mio::net::{TcpStream, UnixStream};
+use smi_front::Cutter;
+use smi_relay::Relay;
+use std::alloc::{AllocError, Global};
+use std::io::{self, ErrorKind, Read, Write};
+use std::net::{Net, SocketAddr};
+
+/// So many milliseconds pass before a connection is tried for again, and so many before one that is not made is given
+/// up.
+const BETWEEN_TRIES: u64 = 1_000;
+
+const PATIENCE: u64 = 3_000;
+
+/// How many bytes are read at once, how many lines they have at most with the one that they end, and how many reads are
+/// made in one turn.
+const AT_ONCE: usize = 512;
+
+const LINES: usize = AT_ONCE + 1;
+
+const READS: usize = 8;
+
+/// Where a node listens for consoles.
+#[derive(Drop)]
+pub enum Place {
+    /// A Unix socket at this path.
+    Path(String),
+    /// TCP at this address.
+    Address(SocketAddr),
+}
+
+/// A connection, which may only be on its way.
+#[derive(Drop)]
+enum Stream {
+    Unix(UnixStream),
+    Tcp(TcpStream),
+}
+
+impl Stream {
+    /// Begins to connect, and does not wait for it.
+    fn connect<R: Net>(rt: &R, place: &Place) -> io::Result<Stream> {
+        match place {
+            Place::Path(path) => Ok(Stream::Unix(UnixStream::connect(rt, path.as_str())?)),
+            Place::Address(address) => Ok(Stream::Tcp(TcpStream::connect(rt, *address)?)),
+        }
+    }
+
+    /// Whether it is made.
+    fn is_made(&self) -> bool {
+        match self {
+            Stream::Unix(stream) => stream.peer_addr().is_ok(),
+            Stream::Tcp(stream) => stream.peer_addr().is_ok(),
+        }
+    }
+
+    fn read(&mut self, buffer: &mut [u8]) -> io::Result<usize> {
+        match self {
+            Stream::Unix(stream) => stream.read(buffer),
+            Stream::Tcp(stream) => stream.read(buffer),
+        }
+    }
+
+    fn write(&mut self, bytes: &[u8]) -> io::Result<usize> {
+        match self {
+            Stream::Unix(stream) => stream.write(bytes),
+            Stream::Tcp(stream) => stream.write(bytes),
+        }
+    }
+}
+
+/// How a connection is after a turn.
+#[derive(Clone, Copy, Debug, PartialEq, Eq)]
+enum Standing {
+    Sound,
+    Broken,
+}
+
+/// A connection with a console, and the line that it is saying.
+#[derive(Drop)]
+struct Line {
+    stream: Stream,
+    cutter: Cutter,
+    /// Since when it is there or on its way.
+    since: u64,
+}
+
+/// The console of a node, and the connection with it, if there is one.
+#[derive(Drop)]
+pub struct Console {
+    alloc: Global,
+    place: Place,
+    line: Option<Line>,
+    /// When a connection is tried for again.
+    next_try: u64,
+}
+
+/// Whether a stream that never waits has nothing to read, or no room to write, as yet.
+fn is_to_be_tried_again(kind: ErrorKind) -> bool {
+    matches!(kind, ErrorKind::WouldBlock | ErrorKind::Interrupted)
+}
+
+/// What a fault of a stream makes of its connection.
+fn after_fault(error: io::Error) -> Standing {
+    if is_to_be_tried_again(error.kind()) {
+        Standing::Sound
+    } else {
+        Standing::Broken
+    }
+}
+
+impl Line {
+    /// The lines that have come are heard.
+    fn hear(&mut self, relay: &mut Relay, now: u64) -> Result<(), AllocError> {
+        for _ in 0..LINES {
+            match self.cutter.next()? {
+                Some(line) => relay.hear(line.as_slice(), now)?,
+                None => return Ok(()),
+            }
+        }
+        Ok(())
+    }
+
+    /// Reads what has come, as far as nothing waits, and hears it.
+    fn read(&mut self, relay: &mut Relay, now: u64) -> Standing {
+        let mut block = [0u8; AT_ONCE];
+        for _ in 0..READS {
+            let count = match self.stream.read(&mut block) {
+                Ok(0) => return Standing::Broken,
+                Ok(count) => count,
+                Err(error) => return after_fault(error),
+            };
+            let came = block.get(..count).unwrap_or(&[]);
+            if self.cutter.fill(came).is_err() || self.hear(relay, now).is_err() {
+                return Standing::Broken;
+            }
+        }
+        Standing::Sound
+    }
+
+    /// Writes what is to be sent, as far as there is room.
+    fn write(&mut self, relay: &mut Relay) -> Standing {
+        if relay.unsent().is_empty() {
+            return Standing::Sound;
+        }
+        match self.stream.write(relay.unsent()) {
+            Ok(count) => {
+                relay.sent(count);
+                Standing::Sound
+            }
+            Err(error) => after_fault(error),
+        }
+    }
+
+    /// What a connection does in a turn that may only be on its way.
+    fn turn(&mut self, relay: &mut Relay, now: u64) -> Standing {
+        if !relay.is_open() {
+            if !self.stream.is_made() {
+                return if now.saturating_sub(self.since) < PATIENCE {
+                    Standing::Sound
+                } else {
+                    Standing::Broken
+                };
+            }
+            relay.open();
+        }
+        match self.read(relay, now) {
+            Standing::Sound => self.write(relay),
+            Standing::Broken => Standing::Broken,
+        }
+    }
+}
+
+impl Console {
+    /// A console with which there is no connection yet.
+    pub fn new(alloc: Global, place: Place) -> Console {
+        Console {
+            alloc,
+            place,
+            line: None,
+            next_try: 0,
+        }
+    }
+
+    /// Begins to connect, where it is time.
+    fn connect<R: Net>(&mut self, rt: &R, now: u64) {
+        if now < self.next_try {
+            return;
+        }
+        self.next_try = now.saturating_add(BETWEEN_TRIES);
+        if let Ok(stream) = Stream::connect(rt, &self.place) {
+            self.line = Some(Line {
+                stream,
+                cutter: Cutter::new(self.alloc),
+                since: now,
+            });
+        }
+    }
+
+    /// One turn: a connection is made where there is none, what was said over it is heard, and what is to be sent is
+    /// sent, as far as nothing waits. With a connection that breaks, what was given on it is lost.
+    pub fn turn<R: Net>(&mut self, rt: &R, relay: &mut Relay, now: u64) {
+        let standing = match &mut self.line {
+            Some(line) => line.turn(relay, now),
+            None => return self.connect(rt, now),
+        };
+        if standing == Standing::Broken {
+            self.line = None;
+            self.next_try = now.saturating_add(BETWEEN_TRIES);
+            relay.close();
+        }
+    }
+}
