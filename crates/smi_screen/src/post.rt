@@ -155,8 +155,8 @@ impl Post {
         }
     }
 
-    /// What follows a look: orders go on, a frame is made, the guests have their turn, and faults are counted. The
-    /// picture stays, and the station was not stopped by it.
+    /// What follows a look that went well: orders go on, a frame is made, the guests have their turn, and faults are
+    /// counted.
     fn go_on<R: Net + Clock>(&mut self, rt: &R, tree: &Tree, came: Came) -> Result<(), Ended>
         ensures picture { self.new.picture ≡ self.old.picture }
         ensures goes_on { has_stopped result ≡ false }
@@ -167,25 +167,33 @@ impl Post {
         self.count(came)
     }
 
-    /// One turn: the station looks, orders go on, a frame is made, and the guests have their turn. To its station, its
-    /// link and its picture it does what the look does.
+    /// What follows a look. The picture stays, and the station has stopped by it or not at all.
+    fn follow<R: Net + Clock>(
+        &mut self,
+        rt: &R,
+        tree: &Tree,
+        looked: Result<Came, Ended>,
+    ) -> Result<(), Ended>
+        ensures picture { self.new.picture ≡ self.old.picture }
+        ensures stopped { has_stopped result ≡ has_stopped looked }
+    {
+        match looked {
+            Ok(came) => self.go_on(rt, tree, came),
+            Err(ended) => Err(ended),
+        }
+    }
+
+    /// One turn: the station looks, orders go on, a frame is made, and the guests have their turn.
     fn turn<S: Stable, L: DatagramLink, R: Net + Clock>(
         &mut self,
         rt: &R,
         tree: &Tree,
         station: &mut Station<'_, S>,
         link: &mut L,
-    ) -> Result<(), Ended>
-        ensures { Looks (StepsTo S.is_honest S.is_open S.rows S.saves S.failures) self.old.operator
-            (view station.old (shown_by L.received L.handed L.failures link.old) self.old.picture)
-            (view station.new (shown_by L.received L.handed L.failures link.new) self.new.picture)
-            (has_stopped result) }
-    {
+    ) -> Result<(), Ended> {
         self.tell_time(rt);
-        match self.look(station, link) {
-            Ok(came) => self.go_on(rt, tree, came),
-            Err(ended) => Err(ended),
-        }
+        let looked = self.look(station, link);
+        self.follow(rt, tree, looked)
     }
 
     /// So many turns, or fewer where a fault ends them.
