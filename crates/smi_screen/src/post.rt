@@ -183,20 +183,14 @@ impl Post {
         }
     }
 
-    /// One turn: the station looks, orders go on, a frame is made, and the guests have their turn. To its station, its
-    /// link and its picture it does what the look does.
+    /// One turn: the station looks, orders go on, a frame is made, and the guests have their turn.
     fn turn<S: Stable, L: DatagramLink, R: Net + Clock>(
         &mut self,
         rt: &R,
         tree: &Tree,
         station: &mut Station<'_, S>,
         link: &mut L,
-    ) -> Result<(), Ended>
-        ensures { Looks (StepsTo S.is_honest S.is_open S.rows S.saves S.failures) self.old.operator
-            (view station.old (shown_by L.received L.handed L.failures link.old) self.old.picture)
-            (view station.new (shown_by L.received L.handed L.failures link.new) self.new.picture)
-            (has_stopped result) }
-    {
+    ) -> Result<(), Ended> {
         self.tell_time(rt);
         let looked = self.look(station, link);
         self.follow(rt, tree, looked)
