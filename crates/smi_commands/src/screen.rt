@@ -1,7 +1,7 @@
 //! A screen: its tree file is read, its station found, its store opened, and then it looks.
 
 use crate::node::{address_in, opened};
-use crate::tree::read_marked;
+use crate::tree::{read_marked, read_tree};
 use bytes::Bytes;
 use smi_cli::status::{Status, no_memory, read_fault, wrong_line};
 use smi_crew::{addresses, link_fault, opening_fault, stopped, told};
