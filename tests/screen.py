@@ -479,7 +479,7 @@ def node_cases(program, folder):
         yield "node: the picture has it", screen.waits_for(
             lambda picture: screens.holders_of(picture) == {"DCS": "ANN", "TPC": "DCS"})
         screen.give("order BOB take TPC")
-        fault = "fault 5: a name that this station does not have as what the line wants"
+        fault = "fault 5: BOB is no operator of this station"
         yield "node: an operator of another", screen.waits_for_orders(
             lambda: fates(screen)[-1] == ("order BOB take TPC", False, fault, None, None))
         crews["A"].kill()
