@@ -1,7 +1,7 @@
 -- What a watch finds of the lists.
 use Rattle.std.proofs.Common.{ℕ, ◌≡◌, ◌<◌, ◌≤◌, ◌-◌, Bool, true, false, List, [], ◌∷◌, length, Option, Some, None}
 use Rattle.std.proofs.Common.{refl, ap, ◌∙◌, arith}
-use Rattle.std.specs.Prelude.{◌==◌, not, if◌then◌else◌, option_map, slice_get, unwrap_or}
+use Rattle.std.specs.Prelude.{◌==◌, not, if◌then◌else◌, find, option_map, slice_get, unwrap_or}
 use Rattle.std.proofs.lemmas.Bool.{eq-eqb}
 use Rattle.std.proofs.lemmas.Bool.Decides.{nat_tests}
 use Rattle.std.proofs.lemmas.Option.{slice_get-map}
@@ -15,7 +15,8 @@ use Rattle.smi_protocol.proofs.Ranges.{number_within}
 use Rattle.smi_protocol.proofs.Tables.{number_is}
 use Rattle.smi_display.specs.Listening.{forgotten}
 use Rattle.smi_watchers.specs.declared.Watcher.{Watcher}
-use Rattle.smi_watchers.specs.Watching.{is_of, left_by, listed, most_watchers, others_of}
+use Rattle.smi_watchers.specs.declared.answer.WatchAnswer.TheVariants.{Added}
+use Rattle.smi_watchers.specs.Watching.{answer_at, answer_in, is_of, left_by, listed, most_watchers, others_of}
 use Rattle.smi_protocol.specs.Watching.{is_full}
 
 -- who has left once has left
@@ -42,6 +43,23 @@ pub full_left : (from : ℕ) (lists : List (List Watcher)) (x : ℕ)
     → is_full (left_by from lists) x from ≡ is_full lists x from
 full_left from lists x = ap (λ ws. length ws == most_watchers)
     (ap (others_of from) (listed_left from lists x) ∙ others_twice from (listed lists x))
+
+-- who has left is not found
+nobody_left : (from : ℕ) (ws : List Watcher) → find (is_of from) (others_of from ws) ≡ None
+nobody_left from [] = refl
+nobody_left from (w ∷ ws) = by (is_of from w) refl (nobody_left from ws)
+  where
+    by : (b : Bool) → is_of from w ≡ b → find (is_of from) (others_of from ws) ≡ None
+        → find (is_of from) (if not b then w ∷ others_of from ws else others_of from ws) ≡ None
+    by true is rest = rest
+    by false is rest = rw is rest
+
+-- and is added anew
+pub left_adds : (from : ℕ) (lists : List (List Watcher)) (x echo : ℕ)
+    → answer_in (listed (left_by from lists) x) from echo ≡ Added
+left_adds from lists x echo =
+    ap (λ ws. answer_in ws from echo) (listed_left from lists x)
+    ∙ ap (λ o. answer_at o echo) (nobody_left from (listed lists x))
 
 pub is_full_at : (lists : List (List Watcher)) (x from : ℕ)
     → length (others_of from (listed lists x)) ≡ most_watchers → is_full lists x from ≡ true

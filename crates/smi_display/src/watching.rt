@@ -3,6 +3,8 @@
 ghost use Rattle.std.specs.Prelude.{◌≡◌, ◌≤◌, length, not, IfOk, OnOk, OnErr};
 ghost use Rattle.smi_limits.specs.declared.trees.TheConstants.{MOST_STATIONS};
 ghost use Rattle.smi_protocol.specs.Watching as watching;
+ghost use Rattle.smi_watchers.specs.Watching.{answer_in, listed};
+ghost use Rattle.smi_watchers.specs.declared.answer.WatchAnswer.TheVariants.{Added};
 ghost use Rattle.smi_display.specs.Listening.{before_by};
 
 use crate::displayed::Displayed;
@@ -32,6 +34,8 @@ fn listen(
     ensures room { IfOk result (λ room. room ≡ not
         (watching.is_full (before_by is_newer watchers.old.lists from) object from)) }
     ensures err { OnErr result (watchers.new ≡ watchers.old) }
+    ensures memory { OnErr result
+        (answer_in (listed (before_by is_newer watchers.old.lists from) object) from echo ≡ Added) }
     ensures objects { length watchers.new.lists ≡ length watchers.old.lists }
 {
     if is_newer {
@@ -59,7 +63,7 @@ impl<'a> Displayed<'a> {
     ghost use Rattle.smi_publish.specs.Published.{shown_at};
     ghost use Rattle.smi_tree.specs.Lookups.{station_count};
     ghost use Rattle.smi_display.specs.Displayed.{display_of};
-    ghost use Rattle.smi_display.specs.Listening.{KeepsTheRest};
+    ghost use Rattle.smi_display.specs.Listening.{KeepsTheRest, adds_watcher};
 
     /// Whether an object is the unit of a child of a domain that the station keeps.
     pub(crate) fn is_child_unit(&self, object: u16) -> bool
@@ -95,7 +99,8 @@ impl<'a> Displayed<'a> {
 
     /// A station asks to be shown an object of this one.
     ///
-    /// Its error is that the memory for one more watcher was refused; nothing has changed then.
+    /// Its error is that the memory for one more watcher was refused, where its station is not in the object's list or
+    /// was started again; nothing has changed then.
     pub fn watch_comes(
         &mut self,
         out: &mut Out,
@@ -115,6 +120,7 @@ impl<'a> Displayed<'a> {
             echo)) }
         ensures rest { KeepsTheRest self.old self.new }
         ensures err { OnErr result (self.new ≡ self.old) }
+        ensures memory { OnErr result (adds_watcher (display_of self.old) from object echo ≡ true) }
         ensures unsent { OnErr result (out.new ≡ out.old) }
     {
         let newest = entry_of(&self.echoes, from, 0);

@@ -26,6 +26,13 @@ IfStopped (Err NotStored) P = Unit {0}
 IfStopped (Err Stopped) P = P
 IfStopped (Err Memory) P = Unit {0}
 
+-- memory was refused
+abbrev pub IfMemory : {X : Type 0} → Result X StepFault → Type 0 → Type 0
+IfMemory (Ok x) P = Unit {0}
+IfMemory (Err NotStored) P = Unit {0}
+IfMemory (Err Stopped) P = Unit {0}
+IfMemory (Err Memory) P = P
+
 -- the store failed
 abbrev pub IfCounted : {X : Type 0} → Result X StepFault → Type 0 → Type 0
 IfCounted (Ok x) P = Unit {0}

@@ -22,7 +22,7 @@ fn stored_if(domain: u16, link: Link, mode: Mode) -> Option<StoredLink>
 }
 
 impl<'k, 'a> After<'k, 'a> {
-    ghost use Rattle.std.specs.Prelude.{◌≡◌, ◌≤◌, ◌<◌, ◌^◌, length, IfOk, OnOk};
+    ghost use Rattle.std.specs.Prelude.{◌≡◌, ◌≤◌, ◌<◌, ◌^◌, true, is_some, length, IfOk, OnErr, OnOk};
     ghost use Rattle.smi_tree.specs.Lookups.{domain_count};
     ghost use Rattle.smi_rows.specs.Store.{saved};
     ghost use Rattle.smi_protocol.specs.GrantStep.{OfDomain, OfOperator};
@@ -34,8 +34,10 @@ impl<'k, 'a> After<'k, 'a> {
     /// Makes the row ready that the change has saved, if any: its key is answered, and its bytes stand in the room.
     pub fn row(&self, room: &mut Room) -> Result<Option<Key>, AllocError>
         requires { IsChange self.now.kept.tree self.now.kept.number self.now.change }
-        ensures { IfOk result (λ key. row_with key room.new ≡ saved_by self.now.kept.tree self.now.kept.number
+        ensures row { IfOk result (λ key. row_with key room.new ≡ saved_by self.now.kept.tree self.now.kept.number
             (grants_of self.now.kept) self.now.change) }
+        ensures memory { OnErr result (is_some (saved_by self.now.kept.tree self.now.kept.number
+            (grants_of self.now.kept) self.now.change) ≡ true) }
     {
         match *self.change {
             Change::Nothing => Ok(None),

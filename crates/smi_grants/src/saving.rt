@@ -1,11 +1,11 @@
 //! A change is saved, and then made.
 
-ghost use Rattle.std.specs.Prelude.{◌≡◌, ◌⊎◌, ◌<◌, ◌≤◌, ◌+◌, OnOk, OnErr, IfOk, IfErr, Some};
+ghost use Rattle.std.specs.Prelude.{◌≡◌, ◌⊎◌, ◌<◌, ◌≤◌, ◌+◌, true, is_some, OnOk, OnErr, IfOk, IfErr, Some};
 ghost use Rattle.smi_rows.specs.Store.{Rows, IsSame, with_row};
 ghost use Rattle.smi_protocol.specs.Step.{heard_of};
 ghost use Rattle.smi_grants.specs.Kept.{grants_of};
 ghost use Rattle.smi_grants.specs.Change.{changed, saved_by, with_saved, IsChange};
-ghost use Rattle.smi_grants.specs.Save.{IfKept, IfStopped, IfCounted, row_with};
+ghost use Rattle.smi_grants.specs.Save.{IfKept, IfStopped, IfCounted, IfMemory, row_with};
 
 use crate::after::After;
 use crate::change::Change;
@@ -32,6 +32,8 @@ pub fn save<S: Stable>(store: &mut S, key: Option<Key>, bytes: &[u8]) -> Result<
     ensures saves { S.saves store.new ≤ S.saves store.old + 1 }
     ensures failures { S.failures store.old ≤ S.failures store.new }
     ensures cause { IfCounted result (S.failures store.old < S.failures store.new) }
+    // Memory is wanted for a row that is saved, and for nothing else.
+    ensures memory { IfMemory result (is_some (row_with key bytes.now) ≡ true) }
 {
     match key {
         None => Ok(Heard::Same),
@@ -65,10 +67,16 @@ pub fn carry_out<S: Stable>(
         → IfStopped result (IsSame (S.rows store.new) (S.rows store.old)
         ⊎ IsSame (S.rows store.new)
         (with_saved (saved_by kept.old.tree kept.old.number (grants_of kept.old) change.now) (S.rows store.old))) }
+    ensures crash { S.is_honest store.new → S.is_open store.old → (r : Rows) → S.may_find store.new r
+        → IsSame r (S.rows store.old)
+        ⊎ IsSame r (with_saved (saved_by kept.old.tree kept.old.number (grants_of kept.old) change.now)
+        (S.rows store.old)) }
     ensures honest { S.is_honest store.new → S.is_honest store.old }
     ensures saves { S.saves store.new ≤ S.saves store.old + 1 }
     ensures failures { S.failures store.old ≤ S.failures store.new }
     ensures cause { IfCounted result (S.failures store.old < S.failures store.new) }
+    ensures memory { IfMemory result
+        (is_some (saved_by kept.old.tree kept.old.number (grants_of kept.old) change.now) ≡ true) }
 {
     let alloc = kept.alloc();
     let mut room = mem::replace(&mut kept.room, Room::none(alloc));
@@ -102,10 +110,16 @@ fn save_planned<S: Stable>(
         → IfStopped result (IsSame (S.rows store.new) (S.rows store.old)
         ⊎ IsSame (S.rows store.new)
         (with_saved (saved_by kept.now.tree kept.now.number (grants_of kept.now) change.now) (S.rows store.old))) }
+    ensures crash { S.is_honest store.new → S.is_open store.old → (r : Rows) → S.may_find store.new r
+        → IsSame r (S.rows store.old)
+        ⊎ IsSame r (with_saved (saved_by kept.now.tree kept.now.number (grants_of kept.now) change.now)
+        (S.rows store.old)) }
     ensures honest { S.is_honest store.new → S.is_honest store.old }
     ensures saves { S.saves store.new ≤ S.saves store.old + 1 }
     ensures failures { S.failures store.old ≤ S.failures store.new }
     ensures cause { IfCounted result (S.failures store.old < S.failures store.new) }
+    ensures memory { IfMemory result
+        (is_some (saved_by kept.now.tree kept.now.number (grants_of kept.now) change.now) ≡ true) }
 {
     let after = After::of(kept, change);
     match after.row(room) {

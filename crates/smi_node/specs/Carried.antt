@@ -1,7 +1,7 @@
 -- What one event leaves of a node: of its station, its link, its desk and its board.
 use Rattle.std.specs.Prelude.{ℕ, ◌≡◌, Bool, true, false, List, Option, Some, None, Result, Ok, Err, OnOk}
 use Rattle.smi_rows.specs.Store.{Rows}
-use Rattle.smi_grants.specs.Save.{IfKept, IfStopped}
+use Rattle.smi_grants.specs.Save.{IfKept, IfMemory, IfStopped}
 use Rattle.smi_protocol.specs.Step.{Out, Outcome, after_event, nothing_out}
 use Rattle.smi_protocol.specs.declared.event.Event.{Event}
 use Rattle.smi_protocol.specs.declared.event.Event.TheVariants as event
@@ -15,6 +15,7 @@ use Rattle.smi_operator.specs.declared.ends.Desk.{Desk}
 use Rattle.smi_station.specs.Core.{Core, IsStoredIn, MaySendAll, Steps, is_stopped_by, number_of, station_of, tree_of}
 use Rattle.smi_station.specs.Leaving.{Leaves}
 use Rattle.smi_station.specs.Readers.{Whole}
+use Rattle.smi_station.specs.Wanting.{adds_by, wants_memory}
 use Rattle.smi_view.specs.Shows.{BoardShows}
 use Rattle.smi_node.specs.declared.carrying.CarryFault.{CarryFault}
 use Rattle.smi_node.specs.declared.carrying.CarryFault.TheVariants.{Stopped, Memory}
@@ -27,11 +28,16 @@ abbrev pub outcome_of : Core → Event → Outcome
 outcome_of c e = after_event (tree_of c) (number_of c) (station_of c) e
 
 -- The station and its store go so from before to after in a step: all that is said of `Station::step`.
-pub record StepsTo {S : Type 0} (is_honest is_open : S → Type 0) (rows : S → Rows) (saves failures : S → ℕ)
+pub record StepsTo {S : Type 0} (is_honest is_open : S → Type 0) (rows : S → Rows)
+    (may_find : S → Rows → Type 0) (saves failures : S → ℕ)
     (before : Whole S) (e : Event) (after : Whole S) (handed : Out) (r : Result Heard StepFault) : Type 0 where
   pub step : before.core.is_stopped ≡ false → Steps before.core after.core (outcome_of before.core e) handed r
   pub store : before.core.is_stopped ≡ false
-      → Leaves is_honest is_open rows saves failures before.store after.store r (outcome_of before.core e).saved
+      → Leaves is_honest is_open rows may_find saves failures before.store after.store r (outcome_of before.core
+      e).saved
+  pub memory : before.core.is_stopped ≡ false
+      → IfMemory r (wants_memory (outcome_of before.core e).saved (adds_by (tree_of before.core)
+      (number_of before.core) (station_of before.core).display e) ≡ true)
   pub stored : before.core.is_stopped ≡ false → is_honest after.store → is_open before.store
       → IsStoredIn (rows before.store) before.core → OnOk r (IsStoredIn (rows after.store) after.core)
   pub may_send : before.core.is_stopped ≡ false → OnOk r (MaySendAll after.core handed.datagrams)

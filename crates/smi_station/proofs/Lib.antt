@@ -6,6 +6,7 @@ pub mod Heard
 pub mod Started
 pub mod Steps
 pub mod Stored
+pub mod Wanted
 pub mod Reported
 pub mod Outcomes
 pub mod Saves

@@ -5,7 +5,7 @@ use Rattle.std.specs.Prelude.{IfOk, OnOk, OnErr, if◌then◌else◌}
 use Rattle.smi_tree.specs.Hierarchy.{Hierarchy}
 use Rattle.smi_message.specs.Message.{Message, is_boot}
 use Rattle.smi_message.specs.declared.Body.TheVariants as body
-use Rattle.smi_rows.specs.Store.{Rows, Saved}
+use Rattle.smi_rows.specs.Store.{Rows, Saved, IsSame}
 use Rattle.smi_protocol.specs.Display.{Display, Station}
 use Rattle.smi_protocol.specs.GrantStep.{unchanged}
 use Rattle.smi_protocol.specs.Happening.{Happening, Comes, Reports, Ticks}
@@ -141,28 +141,33 @@ abbrev pub IsRest : {X : Type 0} → Result X StepFault → Type 0
 IsRest (Ok x) = Unit {0}
 IsRest (Err fault) = fault ≡ Memory
 
-pub rests : {T X : Type 0} (is_honest is_open : T → Type 0) (rows : T → Rows) (saves failures : T → ℕ) (store : T)
-    (r : Result X StepFault) → IsRest r → Leaves is_honest is_open rows saves failures store store r None
-rests is_honest is_open rows saves failures store (Ok x) rest = record {
+pub rests : {T X : Type 0} (is_honest is_open : T → Type 0) (rows : T → Rows) (may_find : T → Rows → Type 0)
+    (saves failures : T → ℕ)
+    → ((store : T) → is_honest store → is_open store → (x : Rows) → may_find store x → IsSame x (rows store))
+    → (store : T) (r : Result X StepFault) → IsRest r → Leaves is_honest is_open rows may_find saves failures store
+    store r None
+rests is_honest is_open rows may_find saves failures finds store (Ok x) rest = record {
   saved = λ honest opened. (opened, λ k. refl);
   kept = λ honest. tt;
   unsure = λ honest opened. tt;
+  crash = λ honest opened x may. inl (finds store honest opened x may);
   honest = λ honest. honest;
   one_save = omega arith;
   failures_rise = omega arith;
   cause = tt;
 }
-rests is_honest is_open rows saves failures store (Err Memory) rest = record {
+rests is_honest is_open rows may_find saves failures finds store (Err Memory) rest = record {
   saved = λ honest opened. tt;
   kept = λ honest opened. (opened, λ k. refl);
   unsure = λ honest opened. tt;
+  crash = λ honest opened x may. inl (finds store honest opened x may);
   honest = λ honest. honest;
   one_save = omega arith;
   failures_rise = omega arith;
   cause = tt;
 }
-rests is_honest is_open rows saves failures store (Err NotStored) rest = absurd cc
-rests is_honest is_open rows saves failures store (Err Stopped) rest = absurd cc
+rests is_honest is_open rows may_find saves failures finds store (Err NotStored) rest = absurd cc
+rests is_honest is_open rows may_find saves failures finds store (Err Stopped) rest = absurd cc
 
 -- Watches.
 

@@ -1,5 +1,5 @@
 -- What a step and a start leave in the store says all that the station keeps.
-use Rattle.std.proofs.Common.{ℕ, ◌≡◌, Result, Ok, Err, sym, subst, ◌∙◌}
+use Rattle.std.proofs.Common.{ℕ, ◌≡◌, ◌⊎◌, inl, inr, Result, Ok, Err, sym, subst, ◌∙◌}
 use Rattle.std.specs.Prelude.{IfOk, OnOk}
 use mathlib.Core.Path.{fun_ext}
 use Rattle.smi_tree.specs.Hierarchy.{Hierarchy}
@@ -55,3 +55,17 @@ start_restarts h number before rows r tree own there stored opens =
     only_restarts (tree_of before) (number_of before) (station_of before).grants rows there stored (begun r)
     (subst (λ (x : Hierarchy). Opens x (number_of before) rows (begun r)) tree
     (subst (λ n. Opens h n rows (begun r)) own opens))
+
+-- what is found after a stop in a step
+pub stop_restarts : (h : Hierarchy) (number : ℕ) (s : Station) (e : Event) (before found : Rows)
+    (r : Result Station OpenFault) → IsTree h → IsBetween 1 (station_count h) number → IsStored h number s.grants before
+    → IsSame found before ⊎ IsSame found (with_saved (after_event h number s e).saved before)
+    → Opens h number found r
+    → Restarts h number s.grants r ⊎ Restarts h number (after_event h number s e).station.grants r
+stop_restarts h number s e before found r tree there stored (inl same) opens =
+    inl (only_restarts h number s.grants before there stored r
+    (subst (λ (x : Rows). Opens h number x r) (fun_ext same) opens))
+stop_restarts h number s e before found r tree there stored (inr same) opens =
+    inr (only_restarts h number (after_event h number s e).station.grants
+    (with_saved (after_event h number s e).saved before) there (event_stored h number s before e tree stored) r
+    (subst (λ (x : Rows). Opens h number x r) (fun_ext same) opens))

@@ -6,15 +6,19 @@ use Rattle.smi_grants.specs.Change.{with_saved}
 use Rattle.smi_grants.specs.Save.{IfKept, IfStopped, IfCounted}
 
 -- A step that saves this row, if any, comes to this result. While the store is honest: after a step the row is
--- there; where nothing was saved the rows are as before; and where nobody knows, they are one or the other. It
+-- there; where nothing was saved the rows are as before; and where nobody knows, they are one or the other. So are
+-- those that an open finds after a stop at any moment, whatever the result, also where the store has shut itself. It
 -- saves once at most, and one that was not stored, or stopped, had the store fail.
-pub record Leaves {T X : Type 0} (is_honest is_open : T → Type 0) (rows : T → Rows) (saves failures : T → ℕ)
-    (before after : T) (r : Result X StepFault) (row : Option Saved) : Type 0 where
+pub record Leaves {T X : Type 0} (is_honest is_open : T → Type 0) (rows : T → Rows)
+    (may_find : T → Rows → Type 0) (saves failures : T → ℕ) (before after : T) (r : Result X StepFault)
+    (row : Option Saved) : Type 0 where
   pub saved : is_honest after → is_open before
       → OnOk r (is_open after × IsSame (rows after) (with_saved row (rows before)))
   pub kept : is_honest after → IfKept r (is_open before → is_open after × IsSame (rows after) (rows before))
   pub unsure : is_honest after → is_open after
       → IfStopped r (IsSame (rows after) (rows before) ⊎ IsSame (rows after) (with_saved row (rows before)))
+  pub crash : is_honest after → is_open before → (x : Rows) → may_find after x
+      → IsSame x (rows before) ⊎ IsSame x (with_saved row (rows before))
   pub honest : is_honest after → is_honest before
   pub one_save : saves after ≤ saves before + 1
   pub failures_rise : failures before ≤ failures after

@@ -4,3 +4,4 @@ pub mod Making
 pub mod Lending
 pub mod Readers
 pub mod Stirring
+pub mod Wanting

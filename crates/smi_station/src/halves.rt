@@ -137,9 +137,9 @@ fn is_stopped_by(heard: &Result<Heard, StepFault>) -> bool
 }
 
 impl<'a> Core<'a> {
-    ghost use Rattle.std.specs.Prelude.{◌≡◌, true, false, None, Err, OnErr, OnOk, IfErr, IsOk};
+    ghost use Rattle.std.specs.Prelude.{◌≡◌, true, false, is_some, None, Err, OnErr, OnOk, IfErr, IsOk};
     ghost use Rattle.smi_grants.specs.Kept.{grants_of};
-    ghost use Rattle.smi_grants.specs.Save.{IfKept, IfStopped};
+    ghost use Rattle.smi_grants.specs.Save.{IfKept, IfMemory, IfStopped};
     ghost use Rattle.smi_message.specs.Spelling.{reading};
     ghost use Rattle.smi_message.specs.declared.Body.TheVariants.{Watch};
     ghost use Rattle.smi_protocol.specs.Happening.{Comes, Orders, Reports, Ticks};
@@ -149,6 +149,7 @@ impl<'a> Core<'a> {
     ghost use Rattle.smi_protocol.specs.declared.event.StepFault.TheVariants.{Memory, Stopped};
     ghost use Rattle.smi_station.specs.Core.{MaySendAll, Steps, number_of, station_of, tree_of};
     ghost use Rattle.smi_station.specs.Leaving.{Leaves};
+    ghost use Rattle.smi_station.specs.Wanting.{adds, adds_by, adds_read, adds_taken, wants_memory};
 
     /// An event comes. A station that has stopped makes no step.
     pub(crate) fn step<S: Stable>(
@@ -161,8 +162,11 @@ impl<'a> Core<'a> {
             → Steps self.old self.new (after_event (tree_of self.old) (number_of self.old) (station_of self.old)
             event.entry) out.new result }
         ensures store { self.old.is_stopped ≡ false
-            → Leaves S.is_honest S.is_open S.rows S.saves S.failures store.old store.new result
+            → Leaves S.is_honest S.is_open S.rows S.may_find S.saves S.failures store.old store.new result
             (after_event (tree_of self.old) (number_of self.old) (station_of self.old) event.entry).saved }
+        ensures memory { self.old.is_stopped ≡ false → IfMemory result (wants_memory
+            (after_event (tree_of self.old) (number_of self.old) (station_of self.old) event.entry).saved
+            (adds_by (tree_of self.old) (number_of self.old) (station_of self.old).display event.entry) ≡ true) }
         ensures may_send { self.old.is_stopped ≡ false → OnOk result (MaySendAll self.new out.new.datagrams) }
         ensures kept { IfKept result (self.new ≡ self.old) }
         ensures stops { IfStopped result (self.new ≡ record self.old { is_stopped = true }) }
@@ -191,8 +195,11 @@ impl<'a> Core<'a> {
         requires empty { out.old ≡ nothing_out }
         ensures step { Steps self.old self.new (after_event (tree_of self.old) (number_of self.old)
             (station_of self.old) event.entry) out.new result }
-        ensures store { Leaves S.is_honest S.is_open S.rows S.saves S.failures store.old store.new result
+        ensures store { Leaves S.is_honest S.is_open S.rows S.may_find S.saves S.failures store.old store.new result
             (after_event (tree_of self.old) (number_of self.old) (station_of self.old) event.entry).saved }
+        ensures memory { IfMemory result (wants_memory
+            (after_event (tree_of self.old) (number_of self.old) (station_of self.old) event.entry).saved
+            (adds_by (tree_of self.old) (number_of self.old) (station_of self.old).display event.entry) ≡ true) }
         ensures may_send { OnOk result (MaySendAll self.new out.new.datagrams) }
         ensures unchanged { OnErr result (self.new ≡ self.old) }
     {
@@ -216,8 +223,12 @@ impl<'a> Core<'a> {
         requires empty { out.old ≡ nothing_out }
         ensures step { Steps self.old self.new (after_reading (tree_of self.old) (number_of self.old)
             (station_of self.old) (reading bytes.now)) out.new result }
-        ensures store { Leaves S.is_honest S.is_open S.rows S.saves S.failures store.old store.new result
+        ensures store { Leaves S.is_honest S.is_open S.rows S.may_find S.saves S.failures store.old store.new result
             (after_reading (tree_of self.old) (number_of self.old) (station_of self.old) (reading bytes.now)).saved }
+        ensures memory { IfMemory result (wants_memory
+            (after_reading (tree_of self.old) (number_of self.old) (station_of self.old) (reading bytes.now)).saved
+            (adds_read (tree_of self.old) (number_of self.old) (station_of self.old).display (reading bytes.now))
+            ≡ true) }
         ensures unchanged { OnErr result (self.new ≡ self.old) }
     {
         match decode(bytes) {
@@ -237,8 +248,11 @@ impl<'a> Core<'a> {
         requires empty { out.old ≡ nothing_out }
         ensures step { Steps self.old self.new (after (tree_of self.old) (number_of self.old) (station_of self.old)
             (Comes datagram.now)) out.new result }
-        ensures store { Leaves S.is_honest S.is_open S.rows S.saves S.failures store.old store.new result
+        ensures store { Leaves S.is_honest S.is_open S.rows S.may_find S.saves S.failures store.old store.new result
             (after (tree_of self.old) (number_of self.old) (station_of self.old) (Comes datagram.now)).saved }
+        ensures memory { IfMemory result (wants_memory
+            (after (tree_of self.old) (number_of self.old) (station_of self.old) (Comes datagram.now)).saved
+            (adds_taken (tree_of self.old) (number_of self.old) (station_of self.old).display datagram.now) ≡ true) }
         ensures unchanged { OnErr result (self.new ≡ self.old) }
     {
         match refusal_of_message(self.kept.tree(), self.kept.number(), datagram) {
@@ -259,8 +273,11 @@ impl<'a> Core<'a> {
         requires empty { out.old ≡ nothing_out }
         ensures step { Steps self.old self.new (accepted (tree_of self.old) (number_of self.old)
             (station_of self.old) (Comes datagram.now)) out.new result }
-        ensures store { Leaves S.is_honest S.is_open S.rows S.saves S.failures store.old store.new result
+        ensures store { Leaves S.is_honest S.is_open S.rows S.may_find S.saves S.failures store.old store.new result
             (accepted (tree_of self.old) (number_of self.old) (station_of self.old) (Comes datagram.now)).saved }
+        ensures memory { IfMemory result (wants_memory
+            (accepted (tree_of self.old) (number_of self.old) (station_of self.old) (Comes datagram.now)).saved
+            (adds (station_of self.old).display datagram.now.from datagram.now.body) ≡ true) }
         ensures unchanged { OnErr result (self.new ≡ self.old) }
     {
         match watched_in(&datagram.body) {
@@ -291,6 +308,7 @@ impl<'a> Core<'a> {
             (station_of self.old) (Comes datagram.now)) out.new result }
         ensures unchanged { OnErr result (self.new ≡ self.old) }
         ensures fault { IfErr result (λ fault. fault ≡ Memory) }
+        ensures memory { OnErr result (adds (station_of self.old).display datagram.now.from datagram.now.body ≡ true) }
     {
         let done = self
             .display
@@ -310,9 +328,12 @@ impl<'a> Core<'a> {
         requires empty { out.old ≡ nothing_out }
         ensures step { Steps self.old self.new (after (tree_of self.old) (number_of self.old) (station_of self.old)
             (ordered_or_reported operator order.now)) out.new result }
-        ensures store { Leaves S.is_honest S.is_open S.rows S.saves S.failures store.old store.new result
+        ensures store { Leaves S.is_honest S.is_open S.rows S.may_find S.saves S.failures store.old store.new result
             (after (tree_of self.old) (number_of self.old) (station_of self.old)
             (ordered_or_reported operator order.now)).saved }
+        ensures memory { IfMemory result (is_some
+            (after (tree_of self.old) (number_of self.old) (station_of self.old)
+            (ordered_or_reported operator order.now)).saved ≡ true) }
         ensures unchanged { OnErr result (self.new ≡ self.old) }
     {
         match reported_in(order) {
@@ -333,8 +354,11 @@ impl<'a> Core<'a> {
         requires empty { out.old ≡ nothing_out }
         ensures step { Steps self.old self.new (after (tree_of self.old) (number_of self.old) (station_of self.old)
             (Orders operator order.now)) out.new result }
-        ensures store { Leaves S.is_honest S.is_open S.rows S.saves S.failures store.old store.new result
+        ensures store { Leaves S.is_honest S.is_open S.rows S.may_find S.saves S.failures store.old store.new result
             (after (tree_of self.old) (number_of self.old) (station_of self.old) (Orders operator order.now)).saved }
+        ensures memory { IfMemory result (is_some
+            (after (tree_of self.old) (number_of self.old) (station_of self.old) (Orders operator order.now)).saved
+            ≡ true) }
         ensures unchanged { OnErr result (self.new ≡ self.old) }
     {
         match self.kept.refusal_of_order(operator, order) {

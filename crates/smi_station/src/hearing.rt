@@ -1,7 +1,8 @@
 //! A datagram that a station takes: its grants are saved and changed, and then its display.
 
-ghost use Rattle.std.specs.Prelude.{◌≡◌, false, None, IfOk, OnOk, OnErr};
+ghost use Rattle.std.specs.Prelude.{◌≡◌, true, false, is_some, None, IfOk, OnOk, OnErr};
 ghost use Rattle.smi_display.specs.Displayed.{display_of};
+ghost use Rattle.smi_grants.specs.Save.{IfMemory};
 ghost use Rattle.smi_protocol.specs.Happening.{Comes};
 ghost use Rattle.smi_protocol.specs.Refusals.{refusal_of_message};
 ghost use Rattle.smi_protocol.specs.SoundDisplay.{MayChange};
@@ -46,8 +47,11 @@ pub(crate) fn hear<S: Stable>(
     ensures out { OnOk
         result (out.new
         ≡ (accepted kept.old.tree kept.old.number (station_with kept.old display.old false) (Comes datagram.now)).out) }
-    ensures store { Leaves S.is_honest S.is_open S.rows S.saves S.failures store.old store.new result
+    ensures store { Leaves S.is_honest S.is_open S.rows S.may_find S.saves S.failures store.old store.new result
         (accepted kept.old.tree kept.old.number (station_with kept.old display.old false) (Comes datagram.now)).saved }
+    ensures memory { IfMemory result (is_some
+        (accepted kept.old.tree kept.old.number (station_with kept.old display.old false) (Comes datagram.now)).saved
+        ≡ true) }
     ensures halves { OnOk result (AreHalves kept.new display.new) }
     ensures same { OnOk result ((kept.new.tree ≡ kept.old.tree) × (kept.new.number ≡ kept.old.number)) }
     ensures room { OnOk result (is_stopped.new ≡ false → MayChange (display_of display.new)) }

@@ -12,6 +12,7 @@
 
 mod halves;
 mod hearing;
+pub mod law;
 mod making;
 mod noticing;
 mod obeying;

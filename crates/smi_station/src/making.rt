@@ -1,9 +1,10 @@
 //! A planned step is saved and made, and what was to be handed out for it stays only where it is.
 
-ghost use Rattle.std.specs.Prelude.{◌≡◌, OnOk, OnErr, IfOk};
+ghost use Rattle.std.specs.Prelude.{◌≡◌, true, is_some, OnOk, OnErr, IfOk};
 ghost use Rattle.smi_grants.specs.Change.{IsChange};
 ghost use Rattle.smi_grants.specs.Kept.{grants_of};
 ghost use Rattle.smi_grants.specs.Plans.{Plans};
+ghost use Rattle.smi_grants.specs.Save.{IfMemory};
 ghost use Rattle.smi_protocol.specs.GrantStep.{GrantStep};
 ghost use Rattle.smi_protocol.specs.Step.{heard_of, nothing_out};
 ghost use Rattle.smi_station.specs.Leaving.{Leaves};
@@ -27,8 +28,10 @@ pub(crate) fn make<S: Stable>(
     ensures heard { (step : GrantStep) → Plans kept.old.tree kept.old.number (grants_of kept.old) step change.now
         → IfOk result (λ heard. heard ≡ heard_of (row_of kept.old.tree kept.old.number step)) }
     ensures store { (step : GrantStep) → Plans kept.old.tree kept.old.number (grants_of kept.old) step change.now
-        → Leaves S.is_honest S.is_open S.rows S.saves S.failures store.old store.new result
+        → Leaves S.is_honest S.is_open S.rows S.may_find S.saves S.failures store.old store.new result
         (row_of kept.old.tree kept.old.number step) }
+    ensures memory { (step : GrantStep) → Plans kept.old.tree kept.old.number (grants_of kept.old) step change.now
+        → IfMemory result (is_some (row_of kept.old.tree kept.old.number step) ≡ true) }
     ensures same { OnOk result ((kept.new.tree ≡ kept.old.tree) × (kept.new.number ≡ kept.old.number)
         × (kept.new.boot ≡ kept.old.boot)) }
     ensures unchanged { OnErr result (kept.new ≡ kept.old) }

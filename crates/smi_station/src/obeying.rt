@@ -1,8 +1,9 @@
 //! An order that a station takes.
 
-ghost use Rattle.std.specs.Prelude.{◌≡◌, false, None, IfOk, OnOk, OnErr};
+ghost use Rattle.std.specs.Prelude.{◌≡◌, true, false, is_some, None, IfOk, OnOk, OnErr};
 ghost use Rattle.smi_display.specs.Displayed.{display_of};
 ghost use Rattle.smi_grants.specs.Kept.{grants_of};
+ghost use Rattle.smi_grants.specs.Save.{IfMemory};
 ghost use Rattle.smi_protocol.specs.Happening.{Orders};
 ghost use Rattle.smi_protocol.specs.Refusals.{refusal_of};
 ghost use Rattle.smi_protocol.specs.SoundDisplay.{MayChange};
@@ -42,9 +43,12 @@ pub(crate) fn obey<S: Stable>(
         result (out.new
         ≡ (accepted kept.old.tree kept.old.number (station_with kept.old display.old false)
         (Orders operator what.now)).out) }
-    ensures store { Leaves S.is_honest S.is_open S.rows S.saves S.failures store.old store.new result
+    ensures store { Leaves S.is_honest S.is_open S.rows S.may_find S.saves S.failures store.old store.new result
         (accepted kept.old.tree kept.old.number (station_with kept.old display.old false)
         (Orders operator what.now)).saved }
+    ensures memory { IfMemory result (is_some
+        (accepted kept.old.tree kept.old.number (station_with kept.old display.old false)
+        (Orders operator what.now)).saved ≡ true) }
     ensures halves { OnOk result (AreHalves kept.new display.new) }
     ensures same { OnOk result ((kept.new.tree ≡ kept.old.tree) × (kept.new.number ≡ kept.old.number)) }
     ensures room { OnOk result (MayChange (display_of display.new)) }

@@ -117,11 +117,12 @@ impl<'a, S: Stable> Station<'a, S> {
     ghost use Rattle.smi_station.specs.Core.{IsOf, IsStoredIn, begun};
     ghost use Rattle.smi_station.specs.Readers.{core_in, store_in};
     ghost use Rattle.std.specs.Prelude.{◌≡◌, true, false, Err};
-    ghost use Rattle.smi_grants.specs.Save.{IfKept, IfStopped};
+    ghost use Rattle.smi_grants.specs.Save.{IfKept, IfMemory, IfStopped};
     ghost use Rattle.smi_protocol.specs.Step.{after_event, nothing_out};
     ghost use Rattle.smi_protocol.specs.declared.event.StepFault.TheVariants.{Stopped};
     ghost use Rattle.smi_station.specs.Core.{MaySendAll, Steps, number_of, station_of, tree_of};
     ghost use Rattle.smi_station.specs.Leaving.{Leaves};
+    ghost use Rattle.smi_station.specs.Wanting.{adds_by, wants_memory};
 
     /// A station opens on the store of its rows, by its number of the tree: it is what the rows mean, one boot later,
     /// and the raised boot is saved. All memory is taken and all rows are read before that. Rows of other stations
@@ -172,17 +173,24 @@ impl<'a, S: Stable> Station<'a, S> {
     ///
     /// A step saves before it changes anything and before anything is handed out. After `NotStored`, where the store
     /// answered `Device`, and `Memory`, where memory was refused to the station or the store, the station and its
-    /// rows are unchanged. `Stopped` is answered by a station that has stopped, before all other tests, and where the
-    /// store answered `Unsure`: the station has then stopped, and its rows are as before or as after the step. After
-    /// each of the three nothing is handed out.
+    /// rows are unchanged; `Memory` comes only where a row is saved, or where a watch adds an entry, so ticks, reports
+    /// and all that is refused never answer it. `Stopped` is answered by a station that has stopped, before all other
+    /// tests, and where the store answered `Unsure`: the station has then stopped, and its rows are as before or as
+    /// after the step. After each of the three nothing is handed out. A stop at any moment of a step leaves the rows
+    /// as before or as after it.
     pub fn step(&mut self, event: Event<'_>, out: &mut Out) -> Result<Heard, StepFault>
         ensures step { self.old.core.is_stopped ≡ false
             → Steps self.old.core self.new.core (after_event (tree_of self.old.core) (number_of self.old.core)
             (station_of self.old.core) event.entry) out.new result }
         ensures store { self.old.core.is_stopped ≡ false
-            → Leaves S.is_honest S.is_open S.rows S.saves S.failures self.old.store self.new.store result
+            → Leaves S.is_honest S.is_open S.rows S.may_find S.saves S.failures self.old.store self.new.store result
             (after_event (tree_of self.old.core) (number_of self.old.core) (station_of self.old.core)
             event.entry).saved }
+        // Memory is wanted for a row that is saved, or for a new watcher, and for nothing else.
+        ensures memory { self.old.core.is_stopped ≡ false → IfMemory result (wants_memory
+            (after_event (tree_of self.old.core) (number_of self.old.core) (station_of self.old.core)
+            event.entry).saved (adds_by (tree_of self.old.core) (number_of self.old.core)
+            (station_of self.old.core).display event.entry) ≡ true) }
         // Rows that said all that the station kept do so after the step.
         ensures stored { self.old.core.is_stopped ≡ false → S.is_honest self.new.store → S.is_open self.old.store
             → IsStoredIn (S.rows self.old.store) self.old.core

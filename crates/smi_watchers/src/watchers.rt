@@ -113,6 +113,8 @@ impl Watchers {
         ensures answer { IfOk result (λ answer. answer ≡ answer_in (listed self.old.lists object) station echo) }
         ensures lists { OnOk result (self.new.lists ≡ watched self.old.lists object station echo) }
         ensures full { (result ≡ Err WatchFault.Full) ↔ IsFullFor station (listed self.old.lists object) }
+        ensures memory { result ≡ Err WatchFault.Memory
+            → answer_in (listed self.old.lists object) station echo ≡ WatchAnswer.Added }
         ensures err { OnErr result (self.new ≡ self.old) }
         ensures objects { length self.new.lists ≡ length self.old.lists }
         ensures visits { self.new.visits ≡ self.old.visits }

@@ -1,5 +1,5 @@
 use Rattle.std.proofs.Common.{◌∙◌, refl, ap, Err}
-use Rattle.smi_display.proofs.Listens.{full_left, has_room_at, is_full_at}
+use Rattle.smi_display.proofs.Listens.{full_left, has_room_at, is_full_at, left_adds}
 use Rattle.smi_display.proofs.watching.listen.Goals as goal
 
 pub returns-in-Ok-clause-lists : goal.returns-in-Ok-clause-lists
@@ -37,3 +37,7 @@ returns-in-Err-Full-clause-room c =
           ∙ is_full_at c.args.watchers.now.lists c.args.object c.args.from
           (c.in-Err-Full.ensures.full (ap Err c.in-Err-Full.field-0-is)),
     ) refl
+
+pub returns-in-Err-Memory-clause-memory : goal.returns-in-Err-Memory-clause-memory
+returns-in-Err-Memory-clause-memory c =
+    rw c.if-is_newer.true (left_adds c.args.from c.args.watchers.now.lists c.args.object c.args.echo)

@@ -11,6 +11,11 @@ use Rattle.smi_protocol.proofs.SoundSteps.{stays_sound}
 use Rattle.smi_display.specs.Displayed.{display_of}
 use Rattle.smi_station.proofs.Heard.{heard_out, heard_station, noticed_room, rest_twice}
 use Rattle.smi_station.proofs.Quiet.{still_halves}
+use Rattle.std.specs.Prelude.{is_some, Result}
+use Rattle.smi_grants.specs.Save.{IfMemory}
+use Rattle.smi_protocol.specs.declared.event.Heard.{Heard}
+use Rattle.smi_protocol.specs.declared.event.StepFault.{StepFault}
+use Rattle.smi_station.specs.Making.{row_of}
 use Rattle.smi_station.proofs.hearing.hear.Goals as goal
 
 pub stir-requires-clause-room : goal.stir-requires-clause-room
@@ -75,3 +80,10 @@ returns-in-Err-clause-store g c =
     let m = c.args.datagram.now in
     rw (← c.in-Err.is) (c.make.ensures.store (datagram_comes k.tree k.number (grants_of k) m.from m.body)
     c.plan-change.ensures.plan)
+
+pub returns-in-Err-clause-memory : goal.returns-in-Err-clause-memory
+returns-in-Err-clause-memory g c =
+    let k = c.args.kept.now in
+    let step = datagram_comes k.tree k.number (grants_of k) c.args.datagram.now.from c.args.datagram.now.body in
+    subst (λ (r : Result Heard StepFault). IfMemory r (is_some (row_of k.tree k.number step) ≡ true)) c.in-Err.is
+    (c.make.ensures.memory step c.plan-change.ensures.plan)

@@ -1,4 +1,4 @@
-use Rattle.std.proofs.Common.{◌≡◌, ◌<◌, ◌∙◌, [], List, ap, sym, subst, length, arith}
+use Rattle.std.proofs.Common.{◌≡◌, true, ◌<◌, ◌∙◌, [], List, ap, sym, subst, length, arith}
 use Rattle.smi_grants.specs.Kept.{grants_of}
 use Rattle.smi_out.specs.Handed.{answered_after, most_answers, with_notice}
 use Rattle.smi_plan.specs.Handing.{with_step}
@@ -10,6 +10,11 @@ use Rattle.smi_protocol.specs.declared.order.Answer.{Answer}
 use Rattle.smi_protocol.proofs.SoundSteps.{stays_sound}
 use Rattle.smi_display.specs.Displayed.{display_of}
 use Rattle.smi_station.proofs.Quiet.{obeyed_out, obeyed_room, obeyed_station, order_answers, still_halves}
+use Rattle.std.specs.Prelude.{is_some, Result}
+use Rattle.smi_grants.specs.Save.{IfMemory}
+use Rattle.smi_protocol.specs.declared.event.Heard.{Heard}
+use Rattle.smi_protocol.specs.declared.event.StepFault.{StepFault}
+use Rattle.smi_station.specs.Making.{row_of}
 use Rattle.smi_station.proofs.obeying.obey.Goals as goal
 
 pub order_comes-requires-clause-room : goal.order_comes-requires-clause-room
@@ -78,3 +83,10 @@ returns-in-Err-clause-store g c =
     rw (← c.in-Err.is)
     (c.make.ensures.store (order_comes k.tree k.number (grants_of k) c.args.operator c.args.what.now)
     c.order-change.ensures.plan)
+
+pub returns-in-Err-clause-memory : goal.returns-in-Err-clause-memory
+returns-in-Err-clause-memory g c =
+    let k = c.args.kept.now in
+    let step = order_comes k.tree k.number (grants_of k) c.args.operator c.args.what.now in
+    subst (λ (r : Result Heard StepFault). IfMemory r (is_some (row_of k.tree k.number step) ≡ true)) c.in-Err.is
+    (c.make.ensures.memory step c.order-change.ensures.plan)

@@ -16,6 +16,11 @@ use Rattle.smi_station.specs.Core.{Core, IsCore, Steps, core_with, number_of, st
 use Rattle.smi_station.specs.Leaving.{Leaves}
 use Rattle.smi_station.proofs.Steps.{made_core, made_steps, made_tidy, refused_steps, rests, running, stands}
 use Rattle.smi_station.proofs.Steps.{taken_steps, watched_core, watched_steps}
+use Rattle.smi_grants.specs.Save.{IfMemory}
+use Rattle.std.specs.Prelude.{is_some, true}
+use Rattle.smi_display.specs.Displayed.{display_of}
+use Rattle.smi_station.specs.Wanting.{adds, wants_memory}
+use Rattle.smi_station.proofs.Wanted.{for_entry, for_row}
 use Rattle.smi_station.proofs.halves.Core.accept.Goals as goal
 
 pub invariant_of-self : goal.invariant_of-self
@@ -45,7 +50,26 @@ pub returns-in-None-clause-store : goal.returns-in-None-clause-store
 returns-in-None-clause-store g c =
     let i = c.self.inside in
     stands i.kept i.display i.is_stopped c.args.self.now c.self.view_is c.requires.runs
-    (λ (before : Core). Leaves g.S.Stable.is_honest g.S.Stable.is_open g.S.Stable.rows g.S.Stable.saves
-    g.S.Stable.failures c.args.store.now c.hear.new.store c.hear.result
+    (λ (before : Core). Leaves g.S.Stable.is_honest g.S.Stable.is_open g.S.Stable.rows g.S.Stable.may_find
+    g.S.Stable.saves g.S.Stable.failures c.args.store.now c.hear.new.store c.hear.result
     (accepted (tree_of before) (number_of before) (station_of before) (Comes c.args.datagram.now)).saved)
     c.hear.ensures.store
+
+pub returns-in-None-clause-memory : goal.returns-in-None-clause-memory
+returns-in-None-clause-memory g c =
+    let i = c.self.inside in
+    let m = c.args.datagram.now in
+    stands i.kept i.display i.is_stopped c.args.self.now c.self.view_is c.requires.runs
+    (λ (before : Core). IfMemory c.hear.result (wants_memory
+    (accepted (tree_of before) (number_of before) (station_of before) (Comes m)).saved
+    (adds (station_of before).display m.from m.body) ≡ true))
+    (for_row c.hear.result
+    (accepted i.kept.tree i.kept.number (station_with i.kept i.display false) (Comes m)).saved
+    (adds (display_of i.display) m.from m.body) c.hear.ensures.memory)
+
+pub returns-in-Some-clause-memory : goal.returns-in-Some-clause-memory
+returns-in-Some-clause-memory g c =
+    let now = c.args.self.now in
+    let m = c.args.datagram.now in
+    for_entry c.watch.result (accepted (tree_of now) (number_of now) (station_of now) (Comes m)).saved
+    (adds (station_of now).display m.from m.body) c.watch.ensures.memory

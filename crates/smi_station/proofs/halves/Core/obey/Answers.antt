@@ -19,6 +19,8 @@ use Rattle.smi_rows.specs.Store.{Saved}
 use Rattle.smi_station.specs.Leaving.{Leaves}
 use Rattle.smi_station.proofs.Steps.{made_core, made_steps, made_tidy, runs_on, refused_saves, refused_steps, rests}
 use Rattle.smi_station.proofs.Steps.{running, stands, taken_saves, taken_steps, watched_core, watched_steps}
+use Rattle.smi_grants.specs.Save.{IfMemory}
+use Rattle.std.specs.Prelude.{is_some, true}
 use Rattle.smi_station.proofs.halves.Core.obey.Goals as goal
 
 pub invariant_of-self : goal.invariant_of-self
@@ -43,14 +45,14 @@ returns-in-Some-clause-step g c =
 
 pub returns-in-Some-clause-store : goal.returns-in-Some-clause-store
 returns-in-Some-clause-store g c =
-    subst (λ (row : Option Saved). Leaves g.S.Stable.is_honest g.S.Stable.is_open g.S.Stable.rows g.S.Stable.saves
-    g.S.Stable.failures c.args.store.now c.args.store.now (Ok (Refused c.in-Some.code)) row)
+    subst (λ (row : Option Saved). Leaves g.S.Stable.is_honest g.S.Stable.is_open g.S.Stable.rows g.S.Stable.may_find
+    g.S.Stable.saves g.S.Stable.failures c.args.store.now c.args.store.now (Ok (Refused c.in-Some.code)) row)
     (sym (refused_saves c.args.self.now (Orders c.args.operator c.args.order.now) c.in-Some.code
     (subst (λ (before : Core). refusal_of (tree_of before) (number_of before) (grants_of before.kept)
     (Orders c.args.operator c.args.order.now) ≡ Some c.in-Some.code) c.self.view_is
     (sym c.refusal_of_order.ensures ∙ c.in-Some.is))))
-    (rests g.S.Stable.is_honest g.S.Stable.is_open g.S.Stable.rows g.S.Stable.saves g.S.Stable.failures
-    c.args.store.now (Ok (Refused c.in-Some.code)) tt)
+    (rests g.S.Stable.is_honest g.S.Stable.is_open g.S.Stable.rows g.S.Stable.may_find g.S.Stable.saves
+    g.S.Stable.failures g.met.S.Stable.rests c.args.store.now (Ok (Refused c.in-Some.code)) tt)
 
 pub returns-in-None-clause-step : goal.returns-in-None-clause-step
 returns-in-None-clause-step g c =
@@ -76,10 +78,21 @@ pub returns-in-None-clause-store : goal.returns-in-None-clause-store
 returns-in-None-clause-store g c =
     let i = c.self.inside in
     stands i.kept i.display i.is_stopped c.args.self.now c.self.view_is c.requires.runs
-    (λ (before : Core). Leaves g.S.Stable.is_honest g.S.Stable.is_open g.S.Stable.rows g.S.Stable.saves
-    g.S.Stable.failures c.args.store.now c.obey.new.store c.obey.result
+    (λ (before : Core). Leaves g.S.Stable.is_honest g.S.Stable.is_open g.S.Stable.rows g.S.Stable.may_find
+    g.S.Stable.saves g.S.Stable.failures c.args.store.now c.obey.new.store c.obey.result
     (after (tree_of before) (number_of before) (station_of before) (Orders c.args.operator c.args.order.now)).saved)
-    (subst (λ (row : Option Saved). Leaves g.S.Stable.is_honest g.S.Stable.is_open g.S.Stable.rows g.S.Stable.saves
-    g.S.Stable.failures c.args.store.now c.obey.new.store c.obey.result row)
+    (subst (λ (row : Option Saved). Leaves g.S.Stable.is_honest g.S.Stable.is_open g.S.Stable.rows g.S.Stable.may_find
+    g.S.Stable.saves g.S.Stable.failures c.args.store.now c.obey.new.store c.obey.result row)
     (sym (taken_saves (core_with i.kept i.display false) (Orders c.args.operator c.args.order.now)
     (sym c.refusal_of_order.ensures ∙ c.in-None.is))) c.obey.ensures.store)
+
+pub returns-in-None-clause-memory : goal.returns-in-None-clause-memory
+returns-in-None-clause-memory g c =
+    let i = c.self.inside in
+    stands i.kept i.display i.is_stopped c.args.self.now c.self.view_is c.requires.runs
+    (λ (before : Core). IfMemory c.obey.result
+    (is_some (after (tree_of before) (number_of before) (station_of before)
+    (Orders c.args.operator c.args.order.now)).saved ≡ true))
+    (subst (λ (row : Option Saved). IfMemory c.obey.result (is_some row ≡ true))
+    (sym (taken_saves (core_with i.kept i.display false) (Orders c.args.operator c.args.order.now)
+    (sym c.refusal_of_order.ensures ∙ c.in-None.is))) c.obey.ensures.memory)

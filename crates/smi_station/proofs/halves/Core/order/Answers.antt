@@ -35,7 +35,7 @@ returns-in-None-clause-step g c =
 pub returns-in-None-clause-store : goal.returns-in-None-clause-store
 returns-in-None-clause-store g c =
     let now = c.args.self.now in
-    subst (λ (what : Happening). Leaves g.S.Stable.is_honest g.S.Stable.is_open g.S.Stable.rows g.S.Stable.saves
-    g.S.Stable.failures c.args.store.now c.obey.new.store c.obey.result
+    subst (λ (what : Happening). Leaves g.S.Stable.is_honest g.S.Stable.is_open g.S.Stable.rows g.S.Stable.may_find
+    g.S.Stable.saves g.S.Stable.failures c.args.store.now c.obey.new.store c.obey.result
     (after (tree_of now) (number_of now) (station_of now) what).saved)
     (sym (c.reported_in.ensures.other c.args.operator c.in-None.is)) c.obey.ensures.store

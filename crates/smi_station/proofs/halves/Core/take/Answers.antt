@@ -35,8 +35,8 @@ returns-in-Order-clause-step g c =
 pub returns-in-Order-clause-store : goal.returns-in-Order-clause-store
 returns-in-Order-clause-store g c =
     let now = c.args.self.now in
-    subst (λ (e : Event). Leaves g.S.Stable.is_honest g.S.Stable.is_open g.S.Stable.rows g.S.Stable.saves
-    g.S.Stable.failures c.args.store.now c.order.new.store c.order.result
+    subst (λ (e : Event). Leaves g.S.Stable.is_honest g.S.Stable.is_open g.S.Stable.rows g.S.Stable.may_find
+    g.S.Stable.saves g.S.Stable.failures c.args.store.now c.order.new.store c.order.result
     (after_event (tree_of now) (number_of now) (station_of now) e).saved)
     (sym c.in-Order.is) c.order.ensures.store
 

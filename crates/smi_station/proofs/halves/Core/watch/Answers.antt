@@ -17,6 +17,11 @@ use Rattle.smi_station.specs.Core.{station_with, tree_of}
 use Rattle.smi_station.specs.Leaving.{Leaves}
 use Rattle.smi_station.proofs.Steps.{made_core, made_steps, refused_steps, rests, running, stands, taken_steps}
 use Rattle.smi_station.proofs.Steps.{watched_core, watched_steps}
+use Rattle.std.specs.Prelude.{OnErr, true}
+use Rattle.smi_display.specs.Displayed.{display_of}
+use Rattle.smi_display.specs.Listening.{adds_watcher}
+use Rattle.smi_station.specs.Wanting.{adds, wants_memory}
+use Rattle.smi_station.proofs.Wanted.{as_memory}
 use Rattle.smi_station.proofs.halves.Core.watch.Goals as goal
 
 pub invariant_of-self : goal.invariant_of-self
@@ -64,3 +69,27 @@ returns-clause-step c =
     c.self.invariant.halves (ap (λ (m : Message). m.body) c.datagram.view_is ∙ c.requires.body)
     c.args.out.now c.watch_comes-done.new.out c.watch_comes-done.result c.requires.empty
     c.watch_comes-done.ensures.display c.watch_comes-done.ensures.sent c.watch_comes-done.ensures.unsent))))
+
+pub returns-clause-memory : goal.returns-clause-memory
+returns-clause-memory c =
+    let i = c.self.inside in
+    let m : Message = record {
+      from = c.datagram.inside.from;
+      to = c.datagram.inside.to;
+      tree = c.datagram.inside.tree;
+      body = c.datagram.inside.body;
+    } in
+    let x = c.args.watched.object in
+    let echo = c.args.watched.echo in
+    let done = c.watch_comes-done.result in
+    subst (λ (r : Result Heard StepFault). OnErr r
+    (adds (station_of c.args.self.now).display c.args.datagram.now.from c.args.datagram.now.body ≡ true))
+    (sym c.same_or_memory.ensures)
+    (stands i.kept i.display i.is_stopped c.args.self.now c.self.view_is c.requires.runs
+    (λ (before : Core). OnErr (same_or_memory done)
+    (adds (station_of before).display c.args.datagram.now.from c.args.datagram.now.body ≡ true))
+    (subst (λ (n : Message). OnErr (same_or_memory done) (adds (display_of i.display) n.from n.body ≡ true))
+    c.datagram.view_is
+    (subst (λ b. OnErr (same_or_memory done) (adds (display_of i.display) m.from b ≡ true))
+    (sym (ap (λ (n : Message). n.body) c.datagram.view_is ∙ c.requires.body))
+    (as_memory done (adds_watcher (display_of i.display) m.from x echo ≡ true) c.watch_comes-done.ensures.memory))))

@@ -73,6 +73,15 @@ returns-in_default-room-clause-full c =
     let room = other_many _ _ c.if-is_full.ensures.full in
     (λ e. cc, λ full. absurd (room (omega (arith, others, full))))
 
+pub returns-in_default-room-clause-memory : goal.returns-in_default-room-clause-memory
+returns-in_default-room-clause-memory c =
+    let n = c.self.inside.lists in let lists = ap (λ (l : Listing). l.lists) c.self.view_is in
+    let missed = ap (λ k. place_in c.args.station (steps_of n (k - 1))) (sym c.from.ensures) ∙ sym c.place_of.ensures
+    ∙ c.in_default.is in
+    λ _. answer_none c.args.station c.args.echo _
+    (nobody n c.self.invariant _ lists c.args.object c.requires.object_least c.requires.object_most c.args.station
+    missed)
+
 pub add-requires-clause-absent : goal.add-requires-clause-absent
 add-requires-clause-absent c =
     let n = c.self.inside.lists in let lists = ap (λ (l : Listing). l.lists) c.self.view_is in
