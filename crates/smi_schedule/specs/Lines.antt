@@ -1,6 +1,8 @@
 -- A text that is cut into lines while it is read.
 use Rattle.std.specs.Prelude.{ℕ, ◌≡◌, ◌<◌, List, [], ◌∷◌, length, Option, Some, None, IfSome}
 use Rattle.std.specs.Str.Lines.{lines}
+use Rattle.std.specs.List.{position_or_len}
+use Rattle.smi_tree.specs.Text.{is_line_feed}
 use Rattle.std.specs.Io.KnownBytes.{prepend_known}
 use Rattle.smi_limits.specs.declared.trees.TheConstants.{MOST_BYTES_OF_A_LINE}
 use Rattle.smi_schedule.specs.declared.lines.Cut.{Cut}
@@ -15,6 +17,10 @@ pub record Window : Type 0 where
 -- what is left of the text: what was read, and what the reader still has
 abbrev pub left : Window → Option (List ℕ) → Option (List ℕ)
 left w remaining = prepend_known w.rest remaining
+
+-- no line of it has its end
+abbrev pub HasNoLine : List ℕ → Type 0
+HasNoLine read = position_or_len is_line_feed read ≡ length read
 
 -- how a text is cut: its first line is taken, and these bytes are left; or it has no line; or its first line is too
 -- long

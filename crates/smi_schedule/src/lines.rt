@@ -80,11 +80,12 @@ fn replace(line: &mut Vec<u8>, bytes: &[u8]) -> Result<(), AllocError>
 }
 
 impl Lines {
-    ghost use Rattle.std.specs.Prelude.{ℕ, ◌≡◌, ◌<◌, ◌^◌, ◌++◌, [], List, Some, length, OnOk, MatchOption, IfNone};
+    ghost use Rattle.std.specs.Prelude.{ℕ, ◌≡◌, ◌≢◌, ◌<◌, ◌^◌, ◌++◌, [], List, Some, length, OnOk, MatchOption};
+    ghost use Rattle.std.specs.Prelude.{IfNone, IfSome};
     ghost use Rattle.std.specs.List.{position_or_len};
     ghost use Rattle.std.specs.Io.KnownBytes.{IsAtEnd, Keeps};
     ghost use Rattle.smi_tree.specs.Text.{is_line_feed};
-    ghost use Rattle.smi_schedule.specs.Lines.{left, Cuts, CutsText};
+    ghost use Rattle.smi_schedule.specs.Lines.{left, Cuts, CutsText, HasNoLine};
 
     /// No line is cut yet, and nothing is read.
     pub fn new(alloc: Global) -> Lines
@@ -118,8 +119,9 @@ impl Lines {
     fn take_line(&mut self, end: usize) -> Cut
         requires within { end < length self.old.rest }
         requires first { end ≡ position_or_len is_line_feed self.old.rest }
-        ensures { (later : List ℕ) →
+        ensures cut { (later : List ℕ) →
             CutsText result (self.old.rest ++ later) self.new.line (Some (self.new.rest ++ later)) }
+        ensures read { result ≢ Cut.ReadFault }
     {
         let at = self.from + end;
         let line = without_return(&self.read[self.from..at]);
@@ -134,8 +136,9 @@ impl Lines {
 
     /// Takes what was read as the last line, where there is any.
     fn take_last(&mut self) -> Cut
-        requires { position_or_len is_line_feed self.old.rest ≡ length self.old.rest }
-        ensures { CutsText result self.old.rest self.new.line (Some self.new.rest) }
+        requires { HasNoLine self.old.rest }
+        ensures cut { CutsText result self.old.rest self.new.line (Some self.new.rest) }
+        ensures read { result ≢ Cut.ReadFault }
     {
         if self.rest().is_empty() {
             return Cut::End;
@@ -151,10 +154,10 @@ impl Lines {
 
     /// Cuts what was read, where a line feed is there or the line is too long without.
     fn cut_read(&mut self) -> Option<Cut>
-        ensures { MatchOption result
-            ((self.new ≡ self.old) × (position_or_len is_line_feed self.old.rest ≡ length self.old.rest))
+        ensures cut { MatchOption result ((self.new ≡ self.old) × HasNoLine self.old.rest)
             (λ cut. (later : List ℕ) →
             CutsText cut (self.old.rest ++ later) self.new.line (Some (self.new.rest ++ later))) }
+        ensures read { IfSome result (λ cut. cut ≢ Cut.ReadFault) }
     {
         let rest = self.rest();
         let end = length_of_line(rest);
@@ -186,6 +189,8 @@ impl Lines {
             Keeps (left self.old (R.remaining reader.old)) (left self.new (R.remaining reader.new)) }
         ensures end { result ≡ Filled.End → (self.new.rest ≡ self.old.rest) ×
             Keeps (R.remaining reader.old) (R.remaining reader.new) × IsAtEnd (R.remaining reader.new) }
+        ensures fault { result ≡ Filled.Fault → (self.new.rest ≡ self.old.rest) ×
+            Keeps (R.remaining reader.old) (R.remaining reader.new) }
         ensures reads { self.new.reads < self.old.reads }
     {
         self.reads -= 1;
@@ -209,6 +214,8 @@ impl Lines {
             (Keeps (left self.old (R.remaining reader.old)) (left self.new (R.remaining reader.new)))
             (λ cut. Cuts cut
             (left self.old (R.remaining reader.old)) self.new.line (left self.new (R.remaining reader.new))) }
+        ensures fault { result ≡ Some Cut.ReadFault → HasNoLine self.new.rest
+            × Keeps (left self.old (R.remaining reader.old)) (left self.new (R.remaining reader.new)) }
         ensures reads { IfNone result (self.new.reads < self.old.reads) }
     {
         if let Some(cut) = self.cut_read() {
@@ -227,10 +234,13 @@ impl Lines {
 
     /// Cuts the next line.
     ///
-    /// After anything but a [`Line`](Cut::Line) no more lines are to be had.
+    /// After anything but a [`Line`](Cut::Line) no more lines are to be had. After a read fault all lines that were
+    /// read are cut: what was read and is left has no line feed.
     pub fn cut<R: Read>(&mut self, reader: &mut R) -> Cut
-        ensures { Cuts result
+        ensures cut { Cuts result
             (left self.old (R.remaining reader.old)) self.new.line (left self.new (R.remaining reader.new)) }
+        ensures fault { result ≡ Cut.ReadFault → HasNoLine self.new.rest
+            × Keeps (left self.old (R.remaining reader.old)) (left self.new (R.remaining reader.new)) }
     {
         loop {
             if let Some(cut) = self.step(reader) {

@@ -10,7 +10,7 @@ use Rattle.smi_schedule.specs.Schedule.{items_before_fault}
 use Rattle.smi_trace.specs.Text.{trace_text}
 use Rattle.smi_trace.proofs.Prefixes.{prefix_more}
 use Rattle.smi_protocol.specs.Schedule.{first_world, opening_lines, trace_from, trace_of}
-use Rattle.smi_world.specs.Streaming.{IsDone, ending_of, text_of}
+use Rattle.smi_world.specs.Streaming.{IsDone, MadeOfRead, ending_of, text_of}
 use Rattle.smi_world.specs.declared.streaming.Streamed.{Streamed}
 use Rattle.smi_world.specs.declared.streaming.Streamed.TheVariants as streamed
 use Rattle.smi_world.proofs.Going.{Bytes, still, text_both}
@@ -84,6 +84,21 @@ module _ (t h : Hierarchy) (before now after : Option Bytes) (same : t ≡ h)
       subst (λ (a : Hierarchy). (k : ℕ) × Appends now after
       (trace_text a (trace_from a (first_world h) (items_before_fault a (take k (lines input)))))) same (done is) in
       (told.0, begun_all h before now after (items_before_fault h (take told.0 (lines input))) opened told.1)
+
+  pub read_behind : (o unread : Option Bytes) (how : Streamed)
+      → IfSome o (λ input. how ≡ streamed.ReadFault → MadeOfRead input unread now after
+      (λ ls. trace_text t (trace_from t (first_world h) (items_before_fault t ls))))
+      → IfSome o (λ input. how ≡ streamed.ReadFault → MadeOfRead input unread before after (text_of h))
+  read_behind None unread how done = tt
+  read_behind (Some input) unread how done = λ is.
+      let told : MadeOfRead input unread now after (λ ls. rest_text h (items_before_fault h ls)) =
+      subst (λ (a : Hierarchy). MadeOfRead input unread now after
+      (λ ls. trace_text a (trace_from a (first_world h) (items_before_fault a ls)))) same (done is) in
+      record {
+        made = told.made;
+        all = told.all;
+        written = begun_all h before now after (items_before_fault h told.made) opened told.written;
+      }
 
   pub front_behind : (o : Option Bytes)
       → IfSome o (λ input. (n : ℕ) × Appends now after

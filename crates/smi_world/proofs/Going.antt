@@ -1,9 +1,10 @@
 -- A stream of schedule lines, as far as it has come.
 use Rattle.std.proofs.Common.{ℕ, ◌≡◌, ◌+◌, ◌<◌, true, List, [], ◌∷◌, ◌++◌, length, take, Option, Some, None, Result}
+use Rattle.std.proofs.Common.{length-append}
 use Rattle.std.proofs.Common.{Ok, Err, IfSome, append-nil, append_assoc, refl, sym, ap, ◌∙◌, subst, arith}
 use Rattle.std.specs.Prelude.{if◌then◌else◌, is_ok, nat_lt}
 use Rattle.std.specs.Str.Lines.{lines}
-use Rattle.std.specs.Io.KnownBytes.{Appends, prepend_known}
+use Rattle.std.specs.Io.KnownBytes.{Appends, Keeps, prepend_known}
 use Rattle.std.proofs.KnownBytes.{Appends-trans}
 use Rattle.std.proofs.lemmas.List.{take_at}
 use Rattle.std.proofs.lemmas.Grind.{flat_map-append}
@@ -18,7 +19,7 @@ use Rattle.smi_protocol.specs.declared.item.Line.{Line}
 use Rattle.smi_schedule.specs.Line as schedule_line
 use Rattle.smi_schedule.specs.Line.{item_in}
 use Rattle.smi_tree.specs.Text.{words}
-use Rattle.smi_schedule.specs.Lines.{Cuts, CutsText, Window, left}
+use Rattle.smi_schedule.specs.Lines.{Cuts, CutsText, HasNoLine, Window, left}
 use Rattle.smi_schedule.specs.declared.lines.Cut.{Cut}
 use Rattle.smi_schedule.specs.Schedule.{fault_or, first_fault, items_before_fault, items_on}
 use Rattle.smi_schedule.specs.declared.lines.Cut.TheVariants as cut
@@ -26,7 +27,8 @@ use Rattle.smi_trace.specs.Text.{trace_text, line_text}
 use Rattle.smi_trace.proofs.Prefixes.{prefix_more}
 use Rattle.smi_protocol.specs.Schedule.{World, trace_from}
 use Rattle.smi_world.specs.Posts.{Held, IsAt}
-use Rattle.smi_world.specs.Streaming.{IsFault, ended_by, ending_of, lines_after, world_after}
+use Rattle.smi_world.specs.Streaming.{IsAllMade, IsFault, MadeOfRead, ended_by, ending_of, lines_after, most_lines}
+use Rattle.smi_world.specs.Streaming.{world_after}
 use Rattle.smi_world.specs.declared.streaming.Streamed.{Streamed}
 use Rattle.smi_world.specs.declared.streaming.Streamed.TheVariants as streamed
 
@@ -43,6 +45,7 @@ pub record Gone (h : Hierarchy) (w : World) (input : Bytes) (number : ℕ) (x : 
   pub made : List Bytes
   pub world : World
   pub done : List Line
+  pub count : length made + 1 ≡ number
   pub is : IsAt x world
   pub text : lines input ≡ made ++ lines later
   pub splits : (more : List Bytes) → trace_from h w (items_before_fault h (made ++ more)) ≡ done
@@ -62,6 +65,7 @@ nothing_gone h w input x c is = record {
   made = [];
   world = w;
   done = [];
+  count = refl;
   is = is;
   text = refl;
   splits = λ more. refl;
@@ -124,6 +128,7 @@ module _ (h : Hierarchy) (w : World) (input : Bytes) (number : ℕ) (x : Held) (
     made = gone.made ++ line ∷ [];
     world = world_after h v (item_in h line);
     done = gone.done ++ lines_after h v (item_in h line);
+    count = omega (arith, length-append gone.made (line ∷ []), gone.count);
     is = at;
     text = gone.text ∙ ap (λ (ls : List Bytes). gone.made ++ ls) cuts
         ∙ sym (append_assoc gone.made (line ∷ []) (lines rest));
@@ -194,23 +199,24 @@ module _ (h : Hierarchy) (w : World) (input : Bytes) (number : ℕ) (x : Held) (
       by (Err fault) is told = subst Comes (sym told) (gone_faulty line more fault cuts is)
 
   -- what is written is that of the lines that were made
+  pub gone_made : Appends before now (trace_text h (trace_from h w (items_before_fault h gone.made)))
+  gone_made =
+      subst (λ (ls : List Line). Appends before now (trace_text h ls))
+      (sym (ap (λ (ls : List Bytes). trace_from h w (items_before_fault h ls)) (sym (append-nil gone.made))
+      ∙ gone.splits [] ∙ ap (λ (xs : List Item). gone.done ++ trace_from h v xs) (before_none h)
+      ∙ append-nil gone.done)) gone.written
+
+  -- and so of that many lines of the text
   pub gone_whole : (k : ℕ) × Appends before now
       (trace_text h (trace_from h w (items_before_fault h (take k (lines input)))))
   gone_whole = (
     length gone.made,
     subst (λ (ls : List Bytes). Appends before now (trace_text h (trace_from h w (items_before_fault h ls))))
-        (sym these) of_these,
+        (sym these) gone_made,
   )
     where
       these : take (length gone.made) (lines input) ≡ gone.made
       these = ap (take (length gone.made)) gone.text ∙ take_at gone.made (lines later) (length gone.made) refl
-
-      of_these : Appends before now (trace_text h (trace_from h w (items_before_fault h gone.made)))
-      of_these =
-          subst (λ (ls : List Line). Appends before now (trace_text h ls))
-          (sym (ap (λ (ls : List Bytes). trace_from h w (items_before_fault h ls)) (sym (append-nil gone.made))
-          ∙ gone.splits [] ∙ ap (λ (xs : List Item). gone.done ++ trace_from h v xs) (before_none h)
-          ∙ append-nil gone.done)) gone.written
 
   -- and a prefix
   pub gone_front : (n : ℕ) × Appends before now
@@ -309,6 +315,34 @@ module _ (h : Hierarchy) (w : World) (input : Bytes) (number : ℕ) (x : Held) (
   pub wrote_whole : (k : ℕ) × Appends before now
       (trace_text h (trace_from h w (items_before_fault h (take k (lines input)))))
   wrote_whole = gone_whole h w input number x before now going.later going.gone
+
+  abbrev pub TextOf : List Bytes → Bytes
+  TextOf ls = trace_text h (trace_from h w (items_before_fault h ls))
+
+  -- a read has failed, and this is left of what was read and still to be read
+  pub wrote_read : (window : Window) (unread : Option Bytes) → HasNoLine window.rest → Keeps text (left window unread)
+      → MadeOfRead input unread before now TextOf
+  wrote_read window unread no_line keeps = record {
+    made = going.gone.made;
+    all = λ few. by unread (subst (λ (t : Option Bytes). Keeps t (left window unread)) going.left keeps);
+    written = gone_made h w input number x before now going.later going.gone;
+  }
+    where
+      by : (o : Option Bytes) → Keeps (Some going.later) (left window o) → IfSome o (IsAllMade input going.gone.made)
+      by None kept = tt
+      by (Some later) kept = record {
+        rest = window.rest;
+        no_line = no_line;
+        text = going.gone.text ∙ ap (λ (t : Bytes). going.gone.made ++ lines t) (sym kept);
+      }
+
+  -- no more lines are looked for
+  pub wrote_most : (unread : Option Bytes) → most_lines < number → MadeOfRead input unread before now TextOf
+  wrote_most unread most = record {
+    made = going.gone.made;
+    all = λ few. absurd (omega (arith, few, most, going.gone.count));
+    written = gone_made h w input number x before now going.later going.gone;
+  }
 
   pub wrote_front : (n : ℕ) × Appends before now
       (take n (trace_text h (trace_from h w (items_before_fault h (lines input)))))

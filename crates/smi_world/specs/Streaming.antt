@@ -1,5 +1,9 @@
 -- The trace of a schedule that is read line by line.
-use Rattle.std.specs.Prelude.{ℕ, ◌≡◌, List, [], Option, Some, None, Result, Ok, Err}
+use Rattle.std.specs.Prelude.{ℕ, ◌≡◌, ◌<◌, ◌-◌, ◌^◌, ◌++◌, List, [], length, Option, Some, None, IfSome, Result, Ok}
+use Rattle.std.specs.Prelude.{Err}
+use Rattle.std.specs.Str.Lines.{lines}
+use Rattle.std.specs.Io.KnownBytes.{Appends}
+use Rattle.smi_schedule.specs.Lines.{HasNoLine}
 use Rattle.smi_tree.specs.Fault.{fault_code}
 use Rattle.smi_tree.specs.Hierarchy.{Hierarchy}
 use Rattle.smi_tree.specs.declared.fault.Fault.{Fault}
@@ -36,6 +40,24 @@ IsDone (streamed.Faulty number code) = Unit {0}
 IsDone streamed.ReadFault = ⊥
 IsDone streamed.WriteFault = ⊥
 IsDone streamed.Memory = ⊥
+
+-- so many lines are looked for at most
+abbrev pub most_lines : ℕ
+most_lines = 2 ^ 64 - 2
+
+-- of what was read no whole line is left: these lines are made, and bytes without a line feed stand before what the
+-- reader still has
+pub record IsAllMade (input : List ℕ) (made : List (List ℕ)) (unread : List ℕ) : Type 0 where
+  pub rest : List ℕ
+  pub no_line : HasNoLine rest
+  pub text : lines input ≡ made ++ lines (rest ++ unread)
+
+-- A read has failed: of all lines that were read before it, this text is written.
+pub record MadeOfRead (input : List ℕ) (unread before now : Option (List ℕ)) (text : List (List ℕ) → List ℕ)
+    : Type 0 where
+  pub made : List (List ℕ)
+  pub all : length made < most_lines → IfSome unread (IsAllMade input made)
+  pub written : Appends before now (text made)
 
 -- the world after a line that stands, and the lines that it leaves
 abbrev pub world_after : Hierarchy → World → Result (Option Item) Fault → World

@@ -32,5 +32,7 @@ pub use left::Left;
 pub use opening::push_opening;
 pub use running::{Trace, WorldFault, run};
 pub use settling::{Settled, stream_drawn_settled, stream_settled};
+pub use smi_law::law::every_run_is_safe;
+pub use smi_schedule::{ScheduleFault, draw_schedule, item_of, read_schedule};
 pub use streaming::{Streamed, stream};
 pub use world::{ActFault, World};

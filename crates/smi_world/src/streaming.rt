@@ -6,7 +6,7 @@ ghost use Rattle.smi_protocol.specs.Schedule.{World as Defined, lines_of, openin
 ghost use Rattle.smi_trace.specs.Text.{trace_text};
 ghost use Rattle.smi_schedule.specs.Naming.{has_item};
 ghost use Rattle.smi_world.specs.Posts.{IsAt};
-ghost use Rattle.smi_world.specs.Streaming.{IsDone, ending_of, text_of};
+ghost use Rattle.smi_world.specs.Streaming.{IsDone, MadeOfRead, ending_of, text_of};
 
 use crate::left::Left;
 use crate::opening::push_opening;
@@ -161,6 +161,10 @@ pub(crate) fn stream_on<R: Read, W: Write>(
         Appends (W.contents writer.old) (W.contents writer.new)
         (trace_text world.old.tree (trace_from world.old.tree w
         (items_before_fault world.old.tree (take k (lines input)))))) }
+    ensures read { (w : Defined) → IsAt world.old w
+        → IfSome (R.remaining reader.old) (λ input. result ≡ ReadFault →
+        MadeOfRead input (R.remaining reader.new) (W.contents writer.old) (W.contents writer.new)
+        (λ ls. trace_text world.old.tree (trace_from world.old.tree w (items_before_fault world.old.tree ls)))) }
     ensures prefix { (w : Defined) → IsAt world.old w → IfSome (R.remaining reader.old) (λ input. (n : ℕ) ×
         Appends (W.contents writer.old) (W.contents writer.new)
         (take n (trace_text world.old.tree (trace_from world.old.tree w
@@ -208,6 +212,8 @@ fn stream_all<R: Read, W: Write>(
         × Appends (W.contents writer.old) (W.contents writer.new) (text_of tree.now (lines input))) }
     ensures whole { IfSome (R.remaining reader.old) (λ input. result ≡ ReadFault → (k : ℕ) ×
         Appends (W.contents writer.old) (W.contents writer.new) (text_of tree.now (take k (lines input)))) }
+    ensures read { IfSome (R.remaining reader.old) (λ input. result ≡ ReadFault →
+        MadeOfRead input (R.remaining reader.new) (W.contents writer.old) (W.contents writer.new) (text_of tree.now)) }
     ensures prefix { IfSome (R.remaining reader.old) (λ input. (n : ℕ) ×
         Appends (W.contents writer.old) (W.contents writer.new) (take n (text_of tree.now (lines input)))) }
 {
@@ -236,9 +242,10 @@ fn unflushed(streamed: Streamed) -> Streamed
 /// leaves are written, before the next line is read. At the end the writer is flushed.
 ///
 /// What is written is the text of the trace that [`run`](crate::run) answers for the items of all lines before the end
-/// or the first faulty line, so that it is safe at every moment. After a read fault it is that of the lines before;
-/// where a write fails or memory runs out, it is a prefix. A write or flush that fails is told also where a line was
-/// refused before it. A reader that gives no end in 2^32 reads counts as one that fails.
+/// or the first faulty line, so that it is safe at every moment. After a read fault it is that of all lines that were
+/// read before: what was read and is not in it has no line feed (`read`, specs/Streaming.antt); where a write fails or
+/// memory runs out, it is a prefix. A write or flush that fails is told also where a line was refused before it. A
+/// reader that gives no end in 2^32 reads counts as one that fails.
 pub fn stream<R: Read, W: Write>(
     alloc: Global,
     tree: &Tree,
@@ -250,6 +257,8 @@ pub fn stream<R: Read, W: Write>(
         × Appends (W.contents writer.old) (W.contents writer.new) (text_of tree.now (lines input))) }
     ensures whole { IfSome (R.remaining reader.old) (λ input. result ≡ ReadFault → (k : ℕ) ×
         Appends (W.contents writer.old) (W.contents writer.new) (text_of tree.now (take k (lines input)))) }
+    ensures read { IfSome (R.remaining reader.old) (λ input. result ≡ ReadFault →
+        MadeOfRead input (R.remaining reader.new) (W.contents writer.old) (W.contents writer.new) (text_of tree.now)) }
     ensures prefix { IfSome (R.remaining reader.old) (λ input. (n : ℕ) ×
         Appends (W.contents writer.old) (W.contents writer.new) (take n (text_of tree.now (lines input)))) }
 {

@@ -83,7 +83,7 @@ impl<'a> World<'a> {
     ghost use Rattle.smi_protocol.specs.Schedule.{World as Defined, first_world};
     ghost use Rattle.smi_world.specs.declared.world.ActFault.TheVariants as fault;
     ghost use Rattle.smi_schedule.specs.Naming.{has_item as names};
-    ghost use Rattle.smi_world.specs.Posts.{IsAt, IsMade};
+    ghost use Rattle.smi_world.specs.Posts.{IsAt, IsMade, IsReached};
     ghost use Rattle.smi_world.specs.Tasks.{IsUnmade};
     ghost use Rattle.std.specs.Prelude.{length};
 
@@ -103,9 +103,13 @@ impl<'a> World<'a> {
         }
     }
 
-    /// The tree whose stations these are.
+    /// The tree whose stations these are. The world is one that some run reaches, so all that is true of every such
+    /// world is true of it: each record and each link that claims a grant of it, each `RUN` that was sent, each busy
+    /// domain and each `STATE` with a present echo (`links_know_their_records`, `commands_are_handed_on` and
+    /// `states_are_safe` of `smi_law`).
     pub fn tree(&self) -> &'a Tree
-        ensures { result.now ≡ self.now.tree }
+        ensures tree { result.now ≡ self.now.tree }
+        ensures reached { IsReached self.now }
     {
         self.tree
     }

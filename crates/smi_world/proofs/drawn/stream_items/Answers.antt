@@ -17,7 +17,7 @@ loop-init g c = record {
 pub write_item-requires : goal.write_item-requires
 write_item-requires g c =
     let named = drawn_named c.tree-tree.result.now c.station_count-stations.ensures.tree (word_of c.loop.drawer) in
-    ap (λ (a : Hierarchy). has_item a c.draw-item.result) (c.loop.invariant.tree ∙ sym c.tree-tree.ensures)
+    ap (λ (a : Hierarchy). has_item a c.draw-item.result) (c.loop.invariant.tree ∙ sym c.tree-tree.ensures.tree)
     ∙ ap (has_item c.tree-tree.result.now) c.draw-item.ensures.item ∙ named
 
 pub returns-in-Err-clause-prefix : goal.returns-in-Err-clause-prefix
@@ -26,7 +26,7 @@ returns-in-Err-clause-prefix g c = λ w is.
     (items_drawn c.args.world.now.tree (c.args.steps - (c.loop.counter + 1)) c.draw-item.new.self) _
     c.loop.invariant.tree
     (first_drawn c.tree-tree.result.now c.args.world.now.tree (c.args.steps - c.loop.counter)
-    (c.args.steps - (c.loop.counter + 1)) c.loop.drawer c.draw-item.new.self c.draw-item.result c.tree-tree.ensures
+    (c.args.steps - (c.loop.counter + 1)) c.loop.drawer c.draw-item.new.self c.draw-item.result c.tree-tree.ensures.tree
     (omega arith) c.draw-item.ensures.item c.draw-item.ensures.after)
     c.write_item.ensures.prefix
 
@@ -39,7 +39,7 @@ loop-preserved g c = record {
       c.loop.invariant.tree
       (first_drawn c.tree-tree.result.now c.args.world.now.tree (c.args.steps - c.loop.counter)
       (c.args.steps - (c.loop.counter + 1)) c.loop.drawer c.draw-item.new.self c.draw-item.result
-      c.tree-tree.ensures (omega arith) c.draw-item.ensures.item c.draw-item.ensures.after)
+      c.tree-tree.ensures.tree (omega arith) c.draw-item.ensures.item c.draw-item.ensures.after)
       c.in-Ok.ensures.next c.in-Ok.ensures.all;
 }
 

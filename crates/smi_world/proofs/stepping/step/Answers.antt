@@ -8,3 +8,12 @@ returns-in-Err-clause-stored c = λ stored.
     (found_in c.step.new.self.store.list) c.in-Err.field-0
     c.in-Err.ensures.kept ((c.in-Err.ensures.store c.requires.runs).kept tt)
     ((c.in-Err.ensures.store c.requires.runs).cause) stored
+
+pub returns-in-Ok-clause-steps : goal.returns-in-Ok-clause-steps
+returns-in-Ok-clause-steps c =
+    let made = c.in-Ok.ensures.step c.requires.runs in
+    record {
+      station = made.station;
+      out = made.out;
+      same = record { tree = made.tree; number = made.number };
+    }

@@ -12,7 +12,7 @@ use Rattle.smi_world.proofs.streaming.stream_line.Goals as goal
 pub write_item-requires : goal.write_item-requires
 write_item-requires g c =
     let h = c.args.world.now.tree in
-    let same = ap (λ (t : Hierarchy). item_in t c.args.line.now) c.tree.ensures in
+    let same = ap (λ (t : Hierarchy). item_in t c.args.line.now) c.tree.ensures.tree in
     read_named h c.args.line.now c.in-Ok-Some.item
     (sym same ∙ sym c.read_item.ensures ∙ c.in-Ok-Some.is ∙ ap Ok c.in-Ok-Some.field-0-is)
 
@@ -20,7 +20,7 @@ pub returns-in-Ok-clause-prefix : goal.returns-in-Ok-clause-prefix
 returns-in-Ok-clause-prefix g c = λ w is.
     let contents = g.W.Write.contents in
     let h = c.args.world.now.tree in
-    let same = ap (λ (t : Hierarchy). item_in t c.args.line.now) c.tree.ensures in
+    let same = ap (λ (t : Hierarchy). item_in t c.args.line.now) c.tree.ensures.tree in
     let e = sym same ∙ sym c.read_item.ensures ∙ c.in-Ok-Some.is ∙ ap Ok c.in-Ok-Some.field-0-is in
     subst (λ (r : Result (Option Item) Fault). (n : ℕ)
     × Appends (contents c.args.writer.now) (contents c.write_item.new.writer)
@@ -30,7 +30,7 @@ pub returns-in-Err-write_item-clause-prefix : goal.returns-in-Err-write_item-cla
 returns-in-Err-write_item-clause-prefix g c = λ w is.
     let contents = g.W.Write.contents in
     let h = c.args.world.now.tree in
-    let same = ap (λ (t : Hierarchy). item_in t c.args.line.now) c.tree.ensures in
+    let same = ap (λ (t : Hierarchy). item_in t c.args.line.now) c.tree.ensures.tree in
     let e = sym same ∙ sym c.read_item.ensures ∙ c.in-Ok-Some.is ∙ ap Ok c.in-Ok-Some.field-0-is in
     subst (λ (r : Result (Option Item) Fault). (n : ℕ)
     × Appends (contents c.args.writer.now) (contents c.write_item.new.writer)

@@ -13,7 +13,7 @@ returns-in-Ok-clause-prefix g c = λ w is.
     let made = lines_of w (turn h w c.args.item.now) in
     let prefix = c.write_lines.ensures.prefix in
     let text =
-    ap (λ (t : Hierarchy). trace_text t c.as_slice.result.now) (c.tree.ensures ∙ c.act_into.ensures.tree)
+    ap (λ (t : Hierarchy). trace_text t c.as_slice.result.now) (c.tree.ensures.tree ∙ c.act_into.ensures.tree)
     ∙ ap (trace_text h) (c.as_slice.ensures.value ∙ c.in-Ok.ensures.lines w is
     ∙ ap (λ (ls : List Line). ls ++ made) c.clear.ensures.items) in (
       prefix.0,

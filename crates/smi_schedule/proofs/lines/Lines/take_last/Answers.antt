@@ -4,8 +4,8 @@ use Rattle.smi_schedule.specs.Lines.{Window}
 use Rattle.smi_schedule.proofs.Cuts.{last_taken}
 use Rattle.smi_schedule.proofs.lines.Lines.take_last.Goals as goal
 
-pub returns-in-Ok : goal.returns-in-Ok
-returns-in-Ok c =
+pub returns-in-Ok-clause-cut : goal.returns-in-Ok-clause-cut
+returns-in-Ok-clause-cut c =
     let from = c.self.inside.from in
     let some : 0 < length c.args.self.now.rest = rw (← c.rest.ensures) (grind (arith, nat_tests)) in
     last_taken c.self.inside.read.items c.args.self.now.rest c.replace.new.line.items from c.len-self-inside.result

@@ -4,8 +4,8 @@ use Rattle.smi_schedule.specs.Lines.{Window}
 use Rattle.smi_schedule.proofs.Cuts.{line_taken}
 use Rattle.smi_schedule.proofs.lines.Lines.take_line.Goals as goal
 
-pub returns-in-Ok : goal.returns-in-Ok
-returns-in-Ok c = λ later.
+pub returns-in-Ok-clause-cut : goal.returns-in-Ok-clause-cut
+returns-in-Ok-clause-cut c = λ later.
     let from = c.self.inside.from in
     let end = c.args.end in
     line_taken c.self.inside.read.items c.args.self.now.rest later c.without_return-line.result.now
