@@ -20,10 +20,10 @@ ghost use Rattle.smi_scene.specs.Figures.{
 };
 
 use crate::listed::{Listing, put_listed};
-use crate::names;
 use crate::words::{put, put_number, put_quoted};
 use smi_grant::{Holder, Phase};
 use smi_picture::{Hearing, Picture, Sight};
+use smi_trace::names;
 use smi_tree::Tree;
 use std::alloc::{AllocError, Global};
 

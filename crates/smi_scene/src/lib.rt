@@ -10,7 +10,6 @@
 
 mod figures;
 mod listed;
-mod names;
 mod orders;
 mod scene;
 mod shape;

@@ -16,10 +16,10 @@ ghost use Rattle.smi_scene.specs.Scene.{
 };
 
 use crate::listed::{Listing, put_list};
-use crate::names;
 use crate::words::{put, put_number, put_quoted};
 use smi_grant::{Holder, Phase, Record};
 use smi_picture::{Hearing, Picture, Sight};
+use smi_trace::names;
 use smi_tree::Tree;
 use std::alloc::{AllocError, Global};
 

@@ -20,8 +20,8 @@ ghost use Rattle.smi_scene.specs.Shape.{
 ghost use Rattle.smi_scene.specs.Words.{quoted};
 
 use crate::listed::{Listing, put_list};
-use crate::names;
 use crate::words::{put, put_flag, put_number, put_quoted};
+use smi_trace::names;
 use smi_tree::Tree;
 use std::alloc::{AllocError, Global};
 

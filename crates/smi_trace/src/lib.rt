@@ -10,7 +10,7 @@
 
 mod entries;
 mod line;
-mod names;
+pub mod names;
 mod node;
 mod orders;
 mod sent;

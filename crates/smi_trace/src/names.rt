@@ -1,4 +1,4 @@
-//! The names of what a tree has, by number.
+//! The names of what a tree has, by number; nothing where it has no such thing.
 
 ghost use Rattle.std.specs.Prelude.{◌≡◌, option_map};
 ghost use Rattle.smi_tree.specs.Hierarchy.{entry};
@@ -6,7 +6,8 @@ ghost use Rattle.smi_tree.specs.Lookups.{object_name};
 
 use smi_tree::Tree;
 
-pub(crate) fn station(tree: &Tree, number: u16) -> Option<&[u8]>
+/// The name of the station of this number.
+pub fn station(tree: &Tree, number: u16) -> Option<&[u8]>
     ensures { option_map (λ n. n.now) result ≡ entry tree.now.station_names number }
 {
     if 1 <= number && number <= tree.station_count() {
@@ -16,7 +17,8 @@ pub(crate) fn station(tree: &Tree, number: u16) -> Option<&[u8]>
     }
 }
 
-pub(crate) fn operator(tree: &Tree, number: u16) -> Option<&[u8]>
+/// The name of the operator of this number.
+pub fn operator(tree: &Tree, number: u16) -> Option<&[u8]>
     ensures { option_map (λ n. n.now) result ≡ entry tree.now.operator_names number }
 {
     if 1 <= number && number <= tree.operator_count() {
@@ -26,7 +28,8 @@ pub(crate) fn operator(tree: &Tree, number: u16) -> Option<&[u8]>
     }
 }
 
-pub(crate) fn domain(tree: &Tree, number: u16) -> Option<&[u8]>
+/// The name of the domain of this number.
+pub fn domain(tree: &Tree, number: u16) -> Option<&[u8]>
     ensures { option_map (λ n. n.now) result ≡ entry tree.now.domain_names number }
 {
     if 1 <= number && number <= tree.domain_count() {
@@ -36,7 +39,8 @@ pub(crate) fn domain(tree: &Tree, number: u16) -> Option<&[u8]>
     }
 }
 
-pub(crate) fn device(tree: &Tree, number: u16) -> Option<&[u8]>
+/// The name of the device of this number.
+pub fn device(tree: &Tree, number: u16) -> Option<&[u8]>
     ensures { option_map (λ n. n.now) result ≡ entry tree.now.device_names number }
 {
     if 1 <= number && number <= tree.device_count() {
@@ -46,7 +50,8 @@ pub(crate) fn device(tree: &Tree, number: u16) -> Option<&[u8]>
     }
 }
 
-pub(crate) fn object(tree: &Tree, number: u16) -> Option<&[u8]>
+/// The name of the object of this number.
+pub fn object(tree: &Tree, number: u16) -> Option<&[u8]>
     ensures { option_map (λ n. n.now) result ≡ object_name tree.now number }
 {
     if number <= tree.domain_count() {
@@ -56,7 +61,8 @@ pub(crate) fn object(tree: &Tree, number: u16) -> Option<&[u8]>
     }
 }
 
-pub(crate) fn state(tree: &Tree, number: u16) -> Option<&[u8]>
+/// The name of the state of this number.
+pub fn state(tree: &Tree, number: u16) -> Option<&[u8]>
     ensures { option_map (λ n. n.now) result ≡ entry tree.now.state_names number }
 {
     if 1 <= number && number <= tree.state_count() {
@@ -66,7 +72,8 @@ pub(crate) fn state(tree: &Tree, number: u16) -> Option<&[u8]>
     }
 }
 
-pub(crate) fn action(tree: &Tree, number: u16) -> Option<&[u8]>
+/// The name of the action of this number.
+pub fn action(tree: &Tree, number: u16) -> Option<&[u8]>
     ensures { option_map (λ n. n.now) result ≡ entry tree.now.action_names number }
 {
     if 1 <= number && number <= tree.action_count() {
