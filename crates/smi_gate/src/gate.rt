@@ -99,7 +99,8 @@ impl Gate {
     {
         if self.guests.len() == MOST_GUESTS {
             let place = self.first_to_go();
-            let _gone = self.guests.swap_remove(place);
+            self.guests.as_mut_slice().swap(place, MOST_GUESTS - 1);
+            self.guests.truncate(MOST_GUESTS - 1);
         }
     }
 

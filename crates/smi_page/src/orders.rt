@@ -28,9 +28,9 @@ pub const ORDERS: &str = "<style>
 \"use strict\";
 // How often it is asked what became of the orders, and how many that have ended are shown, and for how long.
 const BETWEEN = 400, SHOWN = 4, SHOWN_FOR = 20000;
-// Who orders; the orders that were given from here and when each was first seen to have ended; and whether there is a
-// connection with the console.
-let who = \"\", given = [], ended = new Map(), hasConsole = false, drawn = \"\";
+// Who orders; the orders that were given from this screen, when each was first seen to have ended, which of them are
+// known as this page's own, and whose ends are awaited here; and whether there is a connection with the console.
+let who = \"\", given = [], ended = new Map(), found = new Set(), awaited = [], hasConsole = false, drawn = \"\";
 
 const holderOf = (d) => d.told && d.told.holder;
 const holderName = (d) => { const h = holderOf(d); return !d.told ? \"\" : !h ? \"nobody\" : h.operator || h.domain; };
@@ -47,17 +47,67 @@ function above(d) {
   return null;
 }
 
-// Whether the last order about the mode of a domain that was given from here made it manual.
+// A domain's record counts the commands that have run there. `d.counted` is how many they are if none but this page has
+// ordered there since it was begun, how many of these orders are open, and which children they have made manual. More
+// of them, or another epoch, say that somebody else has ordered too, who may have included such a child again: then it
+// is begun anew.
+function countedAt(d) {
+  const { epoch, last } = d.told, old = d.counted;
+  return old && old.epoch === epoch && last <= old.last ? old : { epoch, last, open: 0, manual: new Set() };
+}
+
+// Whether a child is manual for certain: this page has made it so, and nobody else has ordered at its parent since.
 function isManual(d) {
-  const about = given.filter((it) => it.code === 0 && it.line.endsWith(\" \" + d.name)
-    && / (include|exclude|manual|ignore) /.test(it.line));
-  return about.length > 0 && / manual /.test(about[about.length - 1].line);
+  const parent = domains.get(d.parent), old = parent.counted;
+  return !!old && !old.open && !isSilent(parent) && countedAt(parent) === old && old.manual.has(d.name);
+}
+
+const isOfMode = (verb) => verb in ASKED;
+
+// The domains at which an order runs where it ends well: where it is given, and of a mode those down to the parent. How
+// far an action goes is not known: below that it counts as somebody else's.
+function wayOf([verb, name, target]) {
+  const way = isOfMode(verb) || verb === \"do\" ? [domains.get(name)] : [];
+  for (let d = isOfMode(verb) ? parentOf(target) : null; d && d !== way[0]; d = domains.get(d.parent)) way.push(d);
+  return way.filter((d) => d.told);
+}
+const parentOf = (name) => domains.get(domains.get(name).parent);
+
+// Counts an order that is about to be given: each domain on its way, with its count.
+function countedFor(words) {
+  return wayOf(words).map((d) => {
+    const count = d.counted = countedAt(d);
+    count.last += 1;
+    count.open += 1;
+    if (isOfMode(words[0])) count.manual.delete(words[2]);
+    return [d, count];
+  });
+}
+
+// What is known once it has ended. With a code above 9 or with none it may not have run, and with any but 0 not below
+// the domain where it was given. 3 says that the child was manual already.
+function endCounted([verb, name, target], counts, code) {
+  counts.forEach(([d, count]) => {
+    count.open -= 1;
+    const hasRun = code !== null && (d.name === name ? code <= 9 : code === 0);
+    if (!hasRun && d.counted === count) d.counted = null;
+    if (verb === \"manual\" && d === parentOf(target) && (code === 0 || code === 3)) count.manual.add(target);
+  });
 }
 
 // The silent domains that a command at a domain would wait for: no mode is told, so one that may be manual is among
 // them.
 function silentBelow(d) {
   return held(d).filter((c) => !isManual(c)).flatMap((c) => isSilent(c) ? [c] : silentBelow(c));
+}
+
+// The silent domains through which an order about a mode has to go, from where it is given down to the parent.
+function silentOnWay(d) {
+  const top = above(d), silent = [];
+  for (let at = domains.get(d.parent); top && at !== top; at = domains.get(at.parent)) {
+    if (isSilent(at) && !isManual(at)) silent.push(at);
+  }
+  return silent;
 }
 
 // What may be ordered of a domain: the order, the question before it, and why it would be refused, if it would.
@@ -100,8 +150,8 @@ function deedsOf(d) {
   if (d.parent) {
     Object.keys(ASKED).forEach((verb) => deeds.push({ name: verb, asked: ASKED[verb](d),
       line: () => verb + \" \" + above(d).name + \" \" + d.name, why: () => whyNoMode(d, verb),
-      waitsFor: () => isSilent(d) && (verb === \"include\" || verb === \"exclude\") ? [d] : [],
-      at: domains.get(d.parent), isOfMode: true }));
+      waitsFor: () => silentOnWay(d).concat(isSilent(d) && (verb === \"include\" || verb === \"exclude\") ? [d] : []),
+      get at() { return above(d) || domains.get(d.parent); }, isOfMode: true }));
   }
   return deeds;
 }
@@ -146,35 +196,49 @@ function confirm(deed) {
 
 function tellGiven(text) { set(by(\"told\"), text); }
 
-// Gives an order; its line where it is on its way, and nothing else.
-async function give(order) {
-  const line = \"order \" + who + \" \" + order, gone = new AbortController();
-  const bell = setTimeout(() => gone.abort(), PATIENCE);
+// Sends the line of an order; whether it is on its way.
+async function send(line) {
+  const gone = new AbortController(), bell = setTimeout(() => gone.abort(), PATIENCE);
   try {
     const answer = await fetch(\"/api/orders\", { method: \"POST\", body: line, headers: { Authorization: KEY },
       signal: gone.signal, cache: \"no-store\", credentials: \"omit\" });
     tellGiven(line + \": \" + await answer.text());
-    return answer.status === 202 ? line : \"\";
+    return answer.status === 202;
   } catch (refused) {
     tellGiven(line + \": not known whether the screen has it, look below\");
-    return \"\";
+    return false;
   } finally { clearTimeout(bell); }
 }
 
 // The code with which an order ends that was given behind so many; nothing where that was lost.
-async function endOf(line, behind) {
-  for (;;) {
-    await new Promise((next) => { setTimeout(next, BETWEEN); });
-    const it = given.find((one) => one.number > behind && one.line === line);
-    if (it && !it.waits) return it.code;
-  }
+function endOf(line, behind) {
+  return new Promise((tell) => { awaited.push({ line, behind, number: 0, tell }); });
+}
+
+// Tells the ends that are known now.
+function tellEnds() {
+  awaited = awaited.filter((one) => {
+    const it = given.find(({ number, line }) => one.number ? number === one.number
+      : line === one.line && number > one.behind && !found.has(number));
+    if (it) found.add(one.number = it.number);
+    if (!it || it.waits) return true;
+    one.tell(it.code);
+    return false;
+  });
+}
+
+// Gives an order, and waits until it has ended; its code, nothing where that is not known.
+async function give(order) {
+  const line = \"order \" + who + \" \" + order, words = order.split(\" \"), counts = countedFor(words);
+  const behind = given.length ? given[given.length - 1].number : 0;
+  const code = await send(line) ? await endOf(line, behind) : null;
+  endCounted(words, counts, code);
+  return code;
 }
 
 async function giveAfterManual(deed, names) {
   for (const name of names) {
-    const behind = given.length ? given[given.length - 1].number : 0;
-    const line = await give(\"manual \" + deed.at.name + \" \" + name);
-    const code = line ? await endOf(line, behind) : null;
+    const code = await give(\"manual \" + deed.at.name + \" \" + name);
     // 3 says that it was manual already.
     if (code !== 0 && code !== 3) {
       tellGiven(deed.name + \" was not ordered: \" + name + \" was not made manual\");
@@ -223,6 +287,7 @@ async function followOrders() {
     const text = await ask(\"/api/orders\"), next = text ? JSON.parse(text) : null;
     hasConsole = !!next && next.console;
     if (next) given = next.orders;
+    tellEnds();
   } finally {
     flag(by(\"console\"), \"away\", !hasConsole);
     set(by(\"console\"), hasConsole ? \"orders: connected\" : \"orders: NO CONSOLE\");

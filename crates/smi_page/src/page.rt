@@ -298,7 +298,8 @@ function showDomain(d, heard, time) {
   paint(at.state, state);
   set(at.state, state || \"NOT SEEN\");
   const colour = boss ? personColour(boss) : \"\";
-  style(at.box, \"--edge\", colour);
+  // a box that is nobody's would have the colour of the box around it
+  style(at.box, \"--edge\", colour || \"var(--line)\");
   style(at.who, \"--who\", colour);
   style(at.who, \"--whot\", colour ? inkOn(colour) : \"\");
   set(at.who, byDomain && deep ? \"\" : boss === null ? \"\" : boss || \"free\");
@@ -342,9 +343,9 @@ function alarmsOf(heard, time) {
   const stations = new Set();
   domains.forEach((d) => {
     const silence = silenceOf(d, heard, time);
-    if (silence === null || silence < 0 || stations.has(d.station)) return;
+    if (silence === null || (silence < 0 && time <= limit()) || stations.has(d.station)) return;
     stations.add(d.station);
-    out.push({ kind: \"warn\", domain: d.name, text: d.station + \" silent \" + age(silence),
+    out.push({ kind: \"warn\", domain: d.name, text: d.station + (silence < 0 ? \" not heard\" : \" silent \" + age(silence)),
       said: \"station \" + d.station + \" is silent\" });
   });
   return out;

@@ -15,6 +15,7 @@ mod console;
 mod hosts;
 mod post;
 mod running;
+mod stage;
 
 pub use console::{Console, Place};
 pub use hosts::hosts_of;

@@ -8,6 +8,7 @@ ghost use Rattle.smi_screen.specs.Ending.{has_stopped};
 
 use crate::console::Console;
 use crate::running::Ended;
+use crate::stage::Stage;
 use smi_gate::Gate;
 use smi_link::DatagramLink;
 use smi_observer::{Came, Pace, look};
@@ -19,10 +20,14 @@ use smi_tree::Tree;
 use smi_window::Window;
 use std::alloc::Global;
 use std::net::Net;
+use std::sync::Wait;
 use std::time::{Clock, Instant};
 
 /// How many milliseconds lie between two frames.
 const BETWEEN_FRAMES: u64 = 200;
+
+/// How many turns an endless screen makes at once, before it begins again with all that it has.
+const TURNS_AT_ONCE: u32 = 1_000_000;
 
 /// So many turns in a row whose receives end in a fault end the service.
 const MOST_FAULTS: u32 = 100;
@@ -50,16 +55,20 @@ pub(crate) struct Post {
 }
 
 impl Post {
+    /// A post before this stage and at this gate, whose time begins at a moment.
     pub(crate) fn new(
         alloc: Global,
         operator: u16,
         start: Instant,
         pace: Pace,
-        picture: Picture,
-        window: Window,
+        stage: Stage,
         gate: Gate,
-        console: Option<Console>,
     ) -> Post {
+        let Stage {
+            picture,
+            window,
+            console,
+        } = stage;
         Post {
             alloc,
             operator,
@@ -90,7 +99,8 @@ impl Post {
 
     /// Makes a new frame, if it is time. One for which there is no memory is left out.
     fn make_frame(&mut self, tree: &Tree)
-        ensures { self.new.picture ≡ self.old.picture }
+        ensures picture { self.new.picture ≡ self.old.picture }
+        ensures operator { self.new.operator ≡ self.old.operator }
     {
         if self.now.saturating_sub(self.framed) < BETWEEN_FRAMES {
             return;
@@ -106,7 +116,8 @@ impl Post {
 
     /// Orders that were given go to their console, and what it says is heard.
     fn relay_orders<R: Net>(&mut self, rt: &R)
-        ensures { self.new.picture ≡ self.old.picture }
+        ensures picture { self.new.picture ≡ self.old.picture }
+        ensures operator { self.new.operator ≡ self.old.operator }
     {
         if let (Some(console), Some(orders)) = (&mut self.console, &mut self.window.orders) {
             orders.time = self.now;
@@ -117,6 +128,7 @@ impl Post {
     /// Counts the turns in a row that ended in a fault of the link; an error where they are too many.
     fn count(&mut self, came: Came) -> Result<(), Ended>
         ensures picture { self.new.picture ≡ self.old.picture }
+        ensures operator { self.new.operator ≡ self.old.operator }
         ensures goes_on { has_stopped result ≡ false }
     {
         self.faults = match came {
@@ -135,10 +147,11 @@ impl Post {
         station: &mut Station<'_, S>,
         link: &mut L,
     ) -> Result<Came, Ended>
-        ensures { Looks (StepsTo S.is_honest S.is_open S.rows S.saves S.failures) self.old.operator
+        ensures looks { Looks (StepsTo S.is_honest S.is_open S.rows S.may_find S.saves S.failures) self.old.operator
             (view station.old (shown_by L.received L.handed L.failures link.old) self.old.picture)
             (view station.new (shown_by L.received L.handed L.failures link.new) self.new.picture)
             (has_stopped result) }
+        ensures operator { self.new.operator ≡ self.old.operator }
     {
         let operator = self.operator;
         match look(
@@ -159,6 +172,7 @@ impl Post {
     /// counted.
     fn go_on<R: Net + Clock>(&mut self, rt: &R, tree: &Tree, came: Came) -> Result<(), Ended>
         ensures picture { self.new.picture ≡ self.old.picture }
+        ensures operator { self.new.operator ≡ self.old.operator }
         ensures goes_on { has_stopped result ≡ false }
     {
         self.relay_orders(rt);
@@ -175,6 +189,7 @@ impl Post {
         looked: Result<Came, Ended>,
     ) -> Result<(), Ended>
         ensures picture { self.new.picture ≡ self.old.picture }
+        ensures operator { self.new.operator ≡ self.old.operator }
         ensures stopped { has_stopped result ≡ has_stopped looked }
     {
         match looked {
@@ -183,31 +198,73 @@ impl Post {
         }
     }
 
-    /// One turn: the station looks, orders go on, a frame is made, and the guests have their turn.
+    /// One turn: the station looks, orders go on, a frame is made, and the guests have their turn. Of all that, the
+    /// station is told nothing but what the look tells it.
     fn turn<S: Stable, L: DatagramLink, R: Net + Clock>(
         &mut self,
         rt: &R,
         tree: &Tree,
         station: &mut Station<'_, S>,
         link: &mut L,
-    ) -> Result<(), Ended> {
+    ) -> Result<(), Ended>
+        ensures looks { Looks (StepsTo S.is_honest S.is_open S.rows S.may_find S.saves S.failures) self.old.operator
+            (view station.old (shown_by L.received L.handed L.failures link.old) self.old.picture)
+            (view station.new (shown_by L.received L.handed L.failures link.new) self.new.picture)
+            (has_stopped result) }
+        ensures operator { self.new.operator ≡ self.old.operator }
+    {
         self.tell_time(rt);
         let looked = self.look(station, link);
         self.follow(rt, tree, looked)
     }
 
     /// So many turns, or fewer where a fault ends them.
-    pub(crate) fn turns<S: Stable, L: DatagramLink, R: Net + Clock>(
+    fn turns<S: Stable, L: DatagramLink, R: Net + Clock>(
         &mut self,
         rt: &R,
         tree: &Tree,
         station: &mut Station<'_, S>,
         link: &mut L,
         turns: u32,
-    ) -> Result<(), Ended> {
+    ) -> Result<(), Ended>
+        ensures looks { Looks (StepsTo S.is_honest S.is_open S.rows S.may_find S.saves S.failures) self.old.operator
+            (view station.old (shown_by L.received L.handed L.failures link.old) self.old.picture)
+            (view station.new (shown_by L.received L.handed L.failures link.new) self.new.picture)
+            (has_stopped result) }
+        ensures operator { self.new.operator ≡ self.old.operator }
+    {
         for _ in 0..turns {
-            self.turn(rt, tree, station, link)?;
+            match self.turn(rt, tree, station, link) {
+                Ok(()) => {}
+                Err(ended) => return Err(ended),
+            }
         }
         Ok(())
+    }
+
+    /// Turns, so many or without end: all that becomes of the station by them is what it looks.
+    pub(crate) fn serve<S: Stable, L: DatagramLink, R: Net + Wait + Clock>(
+        &mut self,
+        rt: &R,
+        tree: &Tree,
+        station: &mut Station<'_, S>,
+        link: &mut L,
+        turns: Option<u32>,
+    ) -> Result<(), Ended>
+        ensures { Looks (StepsTo S.is_honest S.is_open S.rows S.may_find S.saves S.failures) self.old.operator
+            (view station.old (shown_by L.received L.handed L.failures link.old) self.old.picture)
+            (view station.new (shown_by L.received L.handed L.failures link.new) self.new.picture)
+            (has_stopped result) }
+    {
+        let Some(turns) = turns else {
+            for _ in rt.forever() {
+                match self.turns(rt, tree, station, link, TURNS_AT_ONCE) {
+                    Ok(()) => {}
+                    Err(ended) => return Err(ended),
+                }
+            }
+            unreachable!()
+        };
+        self.turns(rt, tree, station, link, turns)
     }
 }

@@ -1,21 +1,20 @@
 //! A screen begins, looks, and ends.
 
-use crate::console::{Console, Place};
+use crate::console::Place;
 use crate::post::Post;
+use crate::stage::staged;
 use bytes::Bytes;
 use smi_gate::Gate;
-use smi_link::{DatagramLink, UdpLink};
+use smi_link::UdpLink;
 use smi_observer::Pace;
-use smi_picture::Picture;
 use smi_protocol::OpenFault;
-use smi_relay::Relay;
 use smi_rows::Stable;
 use smi_station::{Station, migrate};
 use smi_tree::Tree;
-use smi_window::{Frame, Orders, Window};
 use std::alloc::{AllocError, Global};
 use std::hash::RandomState;
 use std::io::{self, ErrorKind};
+use std::mem::replace;
 use std::net::{Net, SocketAddr, TcpListener, TcpStream};
 use std::sync::Wait;
 use std::time::{Clock, Instant};
@@ -74,9 +73,6 @@ pub struct Plan {
     pub turns: Option<u32>,
 }
 
-/// How many turns an endless screen makes at once, before it begins again with all that it has.
-const TURNS_AT_ONCE: u32 = 1_000_000;
-
 /// Why there is no socket: out of memory, or this.
 fn refused(error: io::Error, other: Ended) -> Ended {
     if error.kind() == ErrorKind::OutOfMemory {
@@ -84,35 +80,6 @@ fn refused(error: io::Error, other: Ended) -> Ended {
     } else {
         other
     }
-}
-
-/// A window on a picture of which nothing was seen, for these hosts.
-fn window_on(
-    alloc: Global,
-    page: Bytes,
-    hosts: Vec<Vec<u8>>,
-    tree: &Tree,
-    picture: &Picture,
-) -> Result<Window, AllocError> {
-    let frame = Frame::first(alloc, page, tree, picture)?;
-    Ok(Window {
-        hosts,
-        frame,
-        orders: None,
-    })
-}
-
-/// A window may be given orders at from now on, which go to this console.
-fn with_orders(alloc: Global, window: &mut Window, giving: Giving) -> Result<Console, AllocError> {
-    let Giving { console, key, tree } = giving;
-    window.orders = Some(Orders {
-        tree,
-        key,
-        relay: Relay::new(alloc),
-        time: 0,
-    });
-    window.tell_orders(alloc)?;
-    Ok(Console::new(alloc, console))
 }
 
 /// A gate at an address.
@@ -128,51 +95,38 @@ fn gate_at<R: Net<Listener = TcpListener, Stream = TcpStream>>(
     }
 }
 
-/// Turns, so many or without end.
-fn served<S: Stable, L: DatagramLink, R: Net + Wait + Clock>(
-    rt: &R,
-    tree: &Tree,
-    station: &mut Station<'_, S>,
-    link: &mut L,
-    post: &mut Post,
-    turns: Option<u32>,
-) -> Result<(), Ended> {
-    match turns {
-        Some(turns) => post.turns(rt, tree, station, link, turns),
-        None => {
-            for _ in rt.forever() {
-                post.turns(rt, tree, station, link, TURNS_AT_ONCE)?;
-            }
-            unreachable!()
-        }
-    }
-}
-
-/// What a screen works with, once its gate is open.
+/// What a screen works with, once its gate is open, in a box, since whoever drops one is dear to prove.
 fn posted<R: Net<Listener = TcpListener, Stream = TcpStream> + Wait + Clock + AllocGlobal>(
     rt: &R,
     tree: &Tree,
     operator: u16,
     keys: RandomState,
-    http: SocketAddr,
-    hosts: Vec<Vec<u8>>,
-    page: Bytes,
-    giving: Option<Giving>,
-) -> Result<Post, Ended> {
+    plan: &mut Plan,
+) -> Result<Box<Post>, Ended> {
     let alloc = rt.alloc();
-    let (objects, domains) = (tree.object_count(), tree.domain_count());
-    let picture = Picture::new(alloc, objects, domains)?;
-    let mut window = window_on(alloc, page, hosts, tree, &picture)?;
-    let console = match giving {
-        Some(giving) => Some(with_orders(alloc, &mut window, giving)?),
-        None => None,
-    };
-    let gate = gate_at(rt, alloc, keys, http)?;
     let Ok(start) = Instant::now(rt) else {
         return Err(Ended::Gate);
     };
-    let pace = Pace::new(objects, domains);
-    Ok(Post::new(alloc, operator, start, pace, picture, window, gate, console))
+    let stage = staged(alloc, tree, plan)?;
+    let gate = gate_at(rt, alloc, keys, plan.http)?;
+    let pace = Pace::new(tree.object_count(), tree.domain_count());
+    let post = Post::new(alloc, operator, start, pace, Box::into_inner(stage), gate);
+    match Box::new(alloc, post) {
+        Ok(post) => Ok(post),
+        Err(_) => Err(Ended::Memory),
+    }
+}
+
+/// The link of a station, which takes its peers out of the plan.
+fn linked<'a, R: Net + Clock + AllocGlobal>(
+    rt: &'a R,
+    plan: &mut Plan,
+) -> Result<UdpLink<&'a R>, Ended> {
+    let peers = replace(&mut plan.peers, Vec::new(rt.alloc()));
+    match UdpLink::open(rt, rt, plan.station, peers) {
+        Ok(link) => Ok(link),
+        Err(error) => Err(refused(error, Ended::Link)),
+    }
 }
 
 /// Looks with a station that is open.
@@ -183,27 +137,15 @@ fn looked<
     rt: &R,
     tree: &Tree,
     keys: RandomState,
-    plan: Plan,
+    plan: &mut Plan,
     station: &mut Station<'_, S>,
 ) -> Result<(), Ended> {
     let Some(operator) = station.operators().first().copied() else {
         return Err(Ended::NoOperator);
     };
-    let Plan {
-        station: number,
-        peers,
-        http,
-        hosts,
-        page,
-        giving,
-        turns,
-    } = plan;
-    let mut link = match UdpLink::open(rt, rt, number, peers) {
-        Ok(link) => link,
-        Err(error) => return Err(refused(error, Ended::Link)),
-    };
-    let mut post = posted(rt, tree, operator, keys, http, hosts, page, giving)?;
-    served(rt, tree, station, &mut link, &mut post, turns)
+    let mut link = linked(rt, plan)?;
+    let mut post = posted(rt, tree, operator, keys, plan)?;
+    post.serve(rt, tree, station, &mut link, plan.turns)
 }
 
 fn how_it_ended(looked: Result<(), Ended>) -> Ended {
@@ -217,7 +159,7 @@ fn how_it_ended(looked: Result<(), Ended>) -> Ended {
 fn opened<
     S: Stable,
     R: Net<Listener = TcpListener, Stream = TcpStream> + Wait + Clock + AllocGlobal,
->(rt: &R, tree: &Tree, keys: RandomState, plan: Plan, store: S) -> (Ended, S) {
+>(rt: &R, tree: &Tree, keys: RandomState, plan: &mut Plan, store: S) -> (Ended, S) {
     match Station::open(rt.alloc(), tree, plan.station, store) {
         Ok(station) => {
             let mut station = station;
@@ -232,10 +174,11 @@ fn opened<
 ///
 /// The rows of its station are brought into their newest schema, the station is opened, its own socket is, and last
 /// that for its guests; then it looks, for so many turns or until a fault. The keys are those of its guests' headers.
+/// What the plan has is taken out of it as it is needed.
 pub fn run<
     S: Stable,
     R: Net<Listener = TcpListener, Stream = TcpStream> + Wait + Clock + AllocGlobal,
->(rt: &R, tree: &Tree, keys: RandomState, plan: Plan, store: S) -> (Ended, S) {
+>(rt: &R, tree: &Tree, keys: RandomState, plan: &mut Plan, store: S) -> (Ended, S) {
     let mut store = store;
     match migrate(rt.alloc(), tree, plan.station, &mut store) {
         Ok(_) => opened(rt, tree, keys, plan, store),

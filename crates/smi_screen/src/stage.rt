@@ -1,0 +1,68 @@
+//! What a screen shows, and where the orders go that are given from its page.
+
+use crate::console::Console;
+use crate::running::{Giving, Plan};
+use bytes::Bytes;
+use smi_picture::Picture;
+use smi_relay::Relay;
+use smi_tree::Tree;
+use smi_window::{Frame, Orders, Window};
+use std::alloc::{AllocError, Global};
+use std::mem::replace;
+
+/// A picture, the window on it, and the console that its orders go to, where there may be orders.
+#[derive(Drop)]
+pub(crate) struct Stage {
+    pub(crate) picture: Picture,
+    pub(crate) window: Window,
+    pub(crate) console: Option<Console>,
+}
+
+/// What the window of a page has that may give orders, and the console that they go to.
+fn ordering(alloc: Global, giving: Giving) -> (Orders, Console) {
+    let Giving { console, key, tree } = giving;
+    let orders = Orders {
+        tree,
+        key,
+        relay: Relay::new(alloc),
+        time: 0,
+    };
+    (orders, Console::new(alloc, console))
+}
+
+/// A stage on which nothing was seen, with what the plan has for it.
+fn stage_with(alloc: Global, plan: &mut Plan, picture: Picture, frame: Frame) -> Stage {
+    let hosts = replace(&mut plan.hosts, Vec::new(alloc));
+    let (orders, console) = match replace(&mut plan.giving, None) {
+        Some(giving) => {
+            let (orders, console) = ordering(alloc, giving);
+            (Some(orders), Some(console))
+        }
+        None => (None, None),
+    };
+    Stage {
+        picture,
+        window: Window {
+            hosts,
+            frame,
+            orders,
+        },
+        console,
+    }
+}
+
+/// A stage on which nothing was seen, with what the plan has for it, which is taken out of it.
+///
+/// It is handed out in a box, since whoever drops one is dear to prove.
+pub(crate) fn staged(
+    alloc: Global,
+    tree: &Tree,
+    plan: &mut Plan,
+) -> Result<Box<Stage>, AllocError> {
+    let picture = Picture::new(alloc, tree.object_count(), tree.domain_count())?;
+    let page = replace(&mut plan.page, Bytes::from_static(b""));
+    let frame = Frame::first(alloc, page, tree, &picture)?;
+    let mut stage = Box::new(alloc, stage_with(alloc, plan, picture, frame))?;
+    stage.window.tell_orders(alloc)?;
+    Ok(stage)
+}
