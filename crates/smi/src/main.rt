@@ -4,8 +4,9 @@
 #![tactic(auto)]
 
 use smi_cli::status::no_memory;
-use smi_commands::program;
+use smi_commands::{program, tell_help};
 use smi_line::words_of;
+use std::io::IsTerminal;
 use std::process::ExitCode;
 
 fn main(rt: HostRuntime) -> ExitCode {
@@ -21,5 +22,8 @@ fn main(rt: HostRuntime) -> ExitCode {
         ),
         Err(_) => no_memory(&mut faults).code(),
     };
+    let is_terminal = faults.is_terminal();
+    // Where that can't be written there is nowhere left to say so.
+    let _ = tell_help(status, is_terminal, &mut faults);
     ExitCode::from(status)
 }

@@ -61,66 +61,117 @@ fn place_of(alloc: Global, word: &str) -> Result<Place, AllocError> {
     }
 }
 
-/// A page that may give orders by a key of these bytes, to the console of this word, and what it is done with.
-fn page_with(
-    alloc: Global,
-    bytes: [u8; KEY],
-    word: &str,
-    tree: Tree,
-) -> Result<(Bytes, Option<Giving>), AllocError> {
-    let key = key_in(alloc, bytes)?;
-    let page = kept(page_with_orders(alloc, key.as_slice())?)?;
-    let giving = Giving {
-        console: place_of(alloc, word)?,
-        key: kept(key)?,
-        tree,
-    };
-    Ok((page, Some(giving)))
+/// A page that may give orders, the key that it has for that, and the console that they go to.
+#[derive(Drop)]
+struct Keyed {
+    page: Bytes,
+    key: Bytes,
+    console: Place,
 }
 
-/// The page, and with what it may give orders, if it may: by a key that nobody can guess.
-fn page_of<H: Files + RandomSource + AllocGlobal, F: Write>(
+/// A page that may give orders by a key of these bytes, to the console of this word.
+fn page_with_key(alloc: Global, bytes: [u8; KEY], word: &str) -> Result<Keyed, AllocError> {
+    let key = key_in(alloc, bytes)?;
+    let page = page_with_orders(alloc, key.as_slice())?;
+    Ok(Keyed {
+        page: kept(page)?,
+        key: kept(key)?,
+        console: place_of(alloc, word)?,
+    })
+}
+
+/// The page of a plan may give orders from now on, of operators of this tree.
+fn give(plan: &mut Plan, keyed: Keyed, tree: Tree) {
+    let Keyed { page, key, console } = keyed;
+    plan.page = page;
+    plan.giving = Some(Giving { console, key, tree });
+}
+
+/// Random bytes, which nobody can guess.
+fn random<H: RandomSource, F: Write>(host: &H, faults: &mut F) -> Result<[u8; KEY], Status> {
+    let mut bytes = [0u8; KEY];
+    match host.fill_bytes(&mut bytes) {
+        Ok(()) => Ok(bytes),
+        Err(_) => Err(read_fault(faults)),
+    }
+}
+
+/// The page of a plan may give orders from now on, to the console of this word.
+fn with_orders<H: Files + RandomSource + AllocGlobal, F: Write>(
     host: &H,
     words: &Words,
     line: ScreenLine<'_>,
+    word: &str,
+    plan: &mut Plan,
     faults: &mut F,
-) -> Result<(Bytes, Option<Giving>), Status> {
-    let Some(word) = line.orders else {
-        return Ok((Bytes::from_static(page_bytes()), None));
-    };
+) -> Result<(), Status> {
+    let bytes = random(host, faults)?;
     let tree = read_tree(host, bytes_of(words, line.tree), faults)?;
-    let mut bytes = [0u8; KEY];
-    if host.fill_bytes(&mut bytes).is_err() {
-        return Err(read_fault(faults));
-    }
-    match page_with(host.alloc(), bytes, word, tree) {
-        Ok(page) => Ok(page),
+    match page_with_key(host.alloc(), bytes, word) {
+        Ok(keyed) => {
+            give(plan, keyed, tree);
+            Ok(())
+        }
         Err(_) => Err(no_memory(faults)),
     }
 }
 
-/// What the screen of a station is run with, beside its page.
+/// What the screen of a station is run with, whose page gives no orders.
 fn plan_of(
     alloc: Global,
     tree: &Tree,
     station: u16,
     line: ScreenLine<'_>,
-    page: Bytes,
-    giving: Option<Giving>,
 ) -> Result<Plan, AllocError> {
+    let peers = addresses(alloc, tree)?;
     Ok(Plan {
         station,
-        peers: addresses(alloc, tree)?,
+        peers,
         http: line.http,
         hosts: hosts_of(alloc, line.http, line.name)?,
-        page,
-        giving,
+        page: Bytes::from_static(page_bytes()),
+        giving: None,
         turns: line.turns,
     })
 }
 
-/// The screen of a station looks, as its line says.
+/// The screen of a station looks, with what is planned.
 fn looked<
+    H: Files
+        + Stores
+        + Net<Listener = TcpListener, Stream = TcpStream>
+        + RandomSource
+        + Wait
+        + Clock
+        + AllocGlobal,
+    F: Write,
+>(
+    host: &H,
+    words: &Words,
+    tree: &Tree,
+    mark: &Mark,
+    keys: RandomState,
+    plan: &mut Plan,
+    line: ScreenLine<'_>,
+    faults: &mut F,
+) -> Status {
+    if let Some(word) = line.orders {
+        if let Err(status) = with_orders(host, words, line, word, plan, faults) {
+            return status;
+        }
+    }
+    match opened(host, bytes_of(words, line.store), mark, faults) {
+        Ok(stable) => {
+            let (how, stable) = run(host, tree, keys, plan, stable);
+            host.close(stable);
+            told_end(how, faults)
+        }
+        Err(status) => status,
+    }
+}
+
+/// What the screen of a station is run with is planned, and then it looks.
+fn planned<
     H: Files
         + Stores
         + Net<Listener = TcpListener, Stream = TcpStream>
@@ -141,20 +192,12 @@ fn looked<
     let Ok(keys) = RandomState::new(host) else {
         return read_fault(faults);
     };
-    let (page, giving) = match page_of(host, words, line, faults) {
-        Ok(page) => page,
-        Err(status) => return status,
-    };
-    let Ok(plan) = plan_of(host.alloc(), tree, station, line, page, giving) else {
-        return no_memory(faults);
-    };
-    match opened(host, bytes_of(words, line.store), mark, faults) {
-        Ok(stable) => {
-            let (how, stable) = run(host, tree, keys, plan, stable);
-            host.close(stable);
-            told_end(how, faults)
+    match plan_of(host.alloc(), tree, station, line) {
+        Ok(plan) => {
+            let mut plan = plan;
+            looked(host, words, tree, mark, keys, &mut plan, line, faults)
         }
-        Err(status) => status,
+        Err(_) => no_memory(faults),
     }
 }
 
@@ -174,7 +217,7 @@ pub fn run_screen<
         Err(status) => return status,
     };
     match tree.station_named(line.station.as_bytes()) {
-        Some(station) => looked(host, words, &tree, &mark, station, line, faults),
+        Some(station) => planned(host, words, &tree, &mark, station, line, faults),
         None => wrong_line(faults),
     }
 }

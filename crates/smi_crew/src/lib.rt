@@ -5,13 +5,14 @@
 //! fault is told (`opening`). Then it serves the station in its own thread, with `serve_before` of `smi_node`, which
 //! is told each step that it makes, and counts (`smi_counts`).
 //!
-//! Three threads, which nobody joins, have the consoles. One reads the lines of the standard input and hands them on
-//! (`reading`); one writes what the standard input is told (`outlet`). The third stands at the front (`attending`): it
-//! has the front desk of `smi_front`, hears the standard input and the connections (`hall`, `guest`) that come in at
-//! the doors (`doors`), and tells each what it asked for. It waits for all of them at once, for none of them alone, and
-//! is woken by the thread that serves (`chime`) once a turn has brought an answer, a state or an action (`herald`,
-//! `dispatch`). Orders that were given are followed by a datagram to the node's own socket, an empty one that every
-//! station refuses, so that a station at rest looks at its seats at once (`bell`).
+//! Three threads, which nobody joins, have the consoles (`starting`). One reads the lines of the standard input and
+//! hands them on (`reading`); one writes what the standard input is told (`outlet`). The third stands at the front
+//! (`attending`): it has the front desk of `smi_front`, hears the standard input and the connections (`hall`,
+//! `guest`) that come in at the doors (`doors`), and tells each what it asked for. It waits for all of them at
+//! once, for none of them alone, and is woken by the thread that serves (`chime`) once a turn has brought an
+//! answer, a state or an action (`herald`, `dispatch`). Orders that were given are followed by a datagram to the
+//! node's own socket, an empty one that every station refuses, so that a station at rest looks at its seats at once
+//! (`bell`).
 //!
 //! The lines, the statuses and what is printed stand in docs/FORMATS.md, "A node's lines".
 #![tactic(auto)]
@@ -28,7 +29,9 @@ mod opening;
 mod outlet;
 mod reading;
 mod running;
+mod starting;
 
 pub use doors::Place;
 pub use opening::{link_fault, opening_fault, stopped, told};
-pub use running::{Console, Plan, Turns, addresses, run};
+pub use running::{Plan, Turns, addresses, run};
+pub use starting::Console;

@@ -1,8 +1,8 @@
 //! A node begins, serves, and ends.
 
-ghost use Rattle.std.specs.Prelude.{◌≡◌};
+ghost use Rattle.std.specs.Prelude.{◌≡◌, IfOk, length};
+ghost use Rattle.smi_tree.specs.Lookups.{station_count};
 
-use crate::attending::{Post, attend};
 use crate::bell::Bell;
 use crate::chime::{Chime, ChimedLink};
 use crate::dispatch::Dispatch;
@@ -10,9 +10,8 @@ use crate::doors::Place;
 use crate::hall::Hall;
 use crate::herald::Herald;
 use crate::opening::{console_fault, link_fault, opening_fault, stopped};
-use crate::outlet::{HANDED, Outlet, Progress, write_all};
-use crate::reading::{Input, read_all};
-use crossbeam_channel::{Receiver, Sender, bounded};
+use crate::starting::{Console, Lobby, begin_console};
+use crossbeam_channel::Sender;
 use smi_cli::status::{Status, no_memory};
 use smi_counts::{CountedLink, Counter, Counts};
 use smi_front::{Front, News, Office};
@@ -31,16 +30,8 @@ use std::io::{self, ErrorKind, Read, Write};
 use std::marker::Brand;
 use std::net::{Ipv4Addr, Net, SocketAddr, SocketAddrV4};
 use std::sync::{Arc, Wait};
-use std::thread::{Threads, spawn};
+use std::thread::Threads;
 use std::time::Clock;
-
-/// What a crew types into and reads: all of it goes to the thread that reads lines.
-#[derive(Drop)]
-pub struct Console<I, O, E> {
-    pub input: I,
-    pub output: O,
-    pub faults: E,
-}
 
 /// What a node is run with, beside its store and its console.
 #[derive(Drop)]
@@ -65,11 +56,6 @@ pub enum Turns {
 
 /// How many turns an endless node serves at once, before it begins again with all that it has.
 const TURNS_AT_ONCE: u32 = 1_000_000;
-
-/// How many lines that were read, and how much news, may wait for the thread at the front.
-const LINES: usize = 16;
-
-const NEWS: usize = 4_096;
 
 /// Why a node that has opened its station does not serve.
 #[derive(Clone, Copy, Debug, PartialEq, Eq)]
@@ -102,10 +88,12 @@ fn socket_address(address: Address) -> SocketAddr {
 }
 
 /// The addresses of all stations, by number.
-pub fn addresses(alloc: Global, tree: &Tree) -> Result<Vec<SocketAddr>, AllocError> {
+pub fn addresses(alloc: Global, tree: &Tree) -> Result<Vec<SocketAddr>, AllocError>
+    ensures { IfOk result (λ peers. length peers.items ≡ station_count tree.now) }
+{
     let mut peers = Vec::new(alloc);
-    for station in 1..=tree.station_count() {
-        peers.push(socket_address(tree.address(station)))?;
+    for before in 0..tree.station_count() {
+        peers.push(socket_address(tree.address(before + 1)))?;
     }
     Ok(peers)
 }
@@ -146,9 +134,10 @@ fn posted<'a, J: BoardId, H: Net + Clock + AllocGlobal>(
     plan: &Plan,
     operators: &[u16],
     glance: Glance<J>,
-    counts: Arc<Counts, Global>,
+    counts: &Arc<Counts, Global>,
 ) -> Result<(UdpLink<&'a H>, Desk, Box<Front<J>>, Bell), Halt> {
     let alloc = rt.alloc();
+    let counts = Arc::try_clone(counts)?;
     let count = operators.len().min(MOST_OPERATORS_OF_A_STATION) + 1;
     let (seats, desk) = open_seats(alloc, count)?;
     let front = front_of(alloc, plan, operators, seats, glance, counts)?;
@@ -171,112 +160,22 @@ fn hall_of<H: Files + Net + AllocGlobal>(
     }
 }
 
-/// Starts the thread that reads lines. Nobody joins it: it ends with the input, with the thread at the front, or with
-/// the program.
-fn begin_reading<
-    H: Wait + Threads + AllocGlobal + Clone + Drop + Send + 'static,
-    I: Read + Drop + Send + 'static,
->(rt: &H, input: I, lines: Sender<Input>, chime: Arc<Chime, Global>) -> Result<(), AllocError> {
-    let there = rt.clone()?;
-    let alloc = rt.alloc();
-    let begun = spawn(rt, move || {
-        let mut input = input;
-        read_all(&there, alloc, &mut input, &lines, &chime)
-    });
-    match begun {
-        Ok(_thread) => Ok(()),
-        Err(_refused) => Err(AllocError),
-    }
-}
-
-/// Starts the thread that writes the standard output. Nobody joins it: it ends with the thread at the front, with a
-/// write that fails, or with the program.
-fn begin_writing<
-    H: Wait + Threads + AllocGlobal + Clone + Drop + Send + 'static,
-    O: Write + Drop + Send + 'static,
->(rt: &H, output: O, chime: Arc<Chime, Global>) -> Result<Outlet, AllocError> {
-    let (sender, blocks) = bounded(rt.alloc(), HANDED)?;
-    let progress = match Arc::new(rt.alloc(), Progress::new()) {
-        Ok(progress) => progress,
-        Err(_refused) => return Err(AllocError),
-    };
-    let outlet = Outlet::new(rt.alloc(), sender, Arc::try_clone(&progress)?);
-    let there = rt.clone()?;
-    let begun = spawn(rt, move || {
-        let mut output = output;
-        write_all(&there, &blocks, &progress, &chime, &mut output)
-    });
-    match begun {
-        Ok(_thread) => Ok(outlet),
-        Err(_refused) => Err(AllocError),
-    }
-}
-
-/// Starts the thread at the front. Nobody joins it: it ends with the program, or before.
-fn begin_attending<
-    J: BoardId + Send + Sync + 'static,
-    H: Wait + Threads + Clock + AllocGlobal + Clone + Drop + Send + 'static,
-    E: Write + Drop + Send + 'static,
->(rt: &H, tree: Arc<Tree, Global>, post: Post<J>, faults: E) -> Result<(), AllocError> {
-    let there = rt.clone()?;
-    let begun = spawn(rt, move || {
-        let (mut post, mut faults) = (post, faults);
-        attend(&there, &tree, &mut post, &mut faults)
-    });
-    match begun {
-        Ok(_thread) => Ok(()),
-        Err(_refused) => Err(AllocError),
-    }
-}
-
-/// What stands at the front beside its threads.
-#[derive(Drop)]
-struct Lobby<J: BoardId> {
-    front: Box<Front<J>>,
-    hall: Box<Hall>,
-    bell: Bell,
-    chime: Arc<Chime, Global>,
-}
-
-/// Starts the threads of a node's consoles, and answers the way by which they are told news.
-fn begin_console<
-    J: BoardId + Send + Sync + 'static,
-    H: Wait + Threads + Clock + AllocGlobal + Clone + Drop + Send + 'static,
-    I: Read + Drop + Send + 'static,
-    O: Write + Drop + Send + 'static,
-    E: Write + Drop + Send + 'static,
->(
+/// All that stands at the front of a node, with its doors, and a chime to it.
+fn lobby_of<J: BoardId, H: Files + Net + AllocGlobal>(
     rt: &H,
-    tree: Arc<Tree, Global>,
-    lobby: Lobby<J>,
-    console: Console<I, O, E>,
-) -> Result<Sender<News>, AllocError> {
-    let Console {
-        input,
-        output,
-        faults,
-    } = console;
-    let Lobby {
+    plan: &Plan,
+    front: Box<Front<J>>,
+    bell: Bell,
+) -> Result<(Lobby<J>, Arc<Chime, Global>), Halt> {
+    let (hall, chime) = hall_of(rt, plan)?;
+    let own = Arc::try_clone(&chime)?;
+    let lobby = Lobby {
         front,
         hall,
         bell,
-        chime,
-    } = lobby;
-    let (sender, lines) = bounded(rt.alloc(), LINES)?;
-    let (news_sender, news) = bounded(rt.alloc(), NEWS)?;
-    let outlet = begin_writing(rt, output, Arc::try_clone(&chime)?)?;
-    let post = Post {
-        front,
-        hall,
-        bell,
-        outlet,
-        lines,
-        news,
-        is_plain_over: false,
+        chime: own,
     };
-    begin_attending(rt, tree, post, faults)?;
-    begin_reading(rt, input, sender, chime)?;
-    Ok(news_sender)
+    Ok((lobby, chime))
 }
 
 /// Tells how a service ended.
@@ -318,6 +217,34 @@ fn served<S: Stable, L: DatagramLink, J: BoardId, V: Witness, R: Wait>(
     }
 }
 
+/// The link of a station, which is counted, and wakes the thread at the front.
+fn link_with<L: DatagramLink + Drop>(
+    link: L,
+    counts: &Arc<Counts, Global>,
+    chime: &Arc<Chime, Global>,
+) -> Result<ChimedLink<CountedLink<L>>, AllocError> {
+    let counts = Arc::try_clone(counts)?;
+    let chime = Arc::try_clone(chime)?;
+    Ok(ChimedLink::over(CountedLink::over(link, counts), chime))
+}
+
+/// Who tells the thread at the front of what a station does, by this way, and counts.
+fn herald_of<S: Stable, H: Wait + AllocGlobal + Clone + Drop>(
+    rt: &H,
+    plan: &Plan,
+    station: &Station<'_, S>,
+    counts: &Arc<Counts, Global>,
+    chime: &Arc<Chime, Global>,
+    news: Sender<News>,
+) -> Result<Herald<H>, AllocError> {
+    let counts = Arc::try_clone(counts)?;
+    let chime = Arc::try_clone(chime)?;
+    let tree = Arc::try_clone(&plan.tree)?;
+    let there = rt.clone()?;
+    let dispatch = Dispatch::new(rt.alloc(), there, chime, news);
+    Herald::new(rt.alloc(), tree, station, Counter::new(counts), dispatch)
+}
+
 /// Serves a station that is open, with a board that is.
 fn crewed<
     'a,
@@ -336,23 +263,12 @@ fn crewed<
     console: Console<I, O, E>,
 ) -> Result<Result<(), ServeFault>, Halt> {
     let counts = counted(rt.alloc())?;
-    let shared = Arc::try_clone(&counts)?;
-    let (link, mut desk, front, bell) = posted(rt, plan, station.operators(), glance, shared)?;
-    let (hall, chime) = hall_of(rt, plan)?;
-    let tree = Arc::try_clone(&plan.tree)?;
-    let lobby = Lobby {
-        front,
-        hall,
-        bell,
-        chime: Arc::try_clone(&chime)?,
-    };
-    let news = begin_console(rt, tree, lobby, console)?;
-    let link = CountedLink::over(link, Arc::try_clone(&counts)?);
-    let mut link = ChimedLink::over(link, Arc::try_clone(&chime)?);
-    let counter = Counter::new(counts);
-    let dispatch = Dispatch::new(rt.alloc(), rt.clone()?, chime, news);
-    let tree = Arc::try_clone(&plan.tree)?;
-    let mut herald = Herald::new(rt.alloc(), tree, station, counter, dispatch)?;
+    let (link, desk, front, bell) = posted(rt, plan, station.operators(), glance, &counts)?;
+    let (lobby, chime) = lobby_of(rt, plan, front, bell)?;
+    let news = begin_console(rt, plan, lobby, console)?;
+    let mut herald = herald_of(rt, plan, station, &counts, &chime, news)?;
+    let mut link = link_with(link, &counts, &chime)?;
+    let mut desk = desk;
     Ok(served(
         rt,
         plan.turns,

@@ -40,12 +40,8 @@ impl Stores for HostRuntime {
         &self,
         path: &[u8],
     ) -> Result<Watched<SqliteStable<FileStore<File>>, Place<HostRuntime>>, StoreFault> {
-        let Ok(path) = str::from_utf8(path) else {
-            return Err(StoreFault::Device);
-        };
-        match smi_file::open(self, path) {
-            Ok(connection) => watched(adopted(connection)?, placed(self, path)),
-            Err(Error::SqliteFailure(ErrorCode::OutOfMemory)) => Err(StoreFault::Memory),
+        match str::from_utf8(path) {
+            Ok(path) => watched(smi_file::open(self, path), self, path),
             Err(_) => Err(StoreFault::Device),
         }
     }
@@ -64,8 +60,24 @@ fn placed(host: &HostRuntime, path: &str) -> io::Result<Place<HostRuntime>> {
     Place::of(host.clone()?, String::from_str(host.alloc(), path)?)
 }
 
+/// A store with the file that it is in, or what it means that there is none, or that the file could not be looked at.
+fn watched<S: Alter>(
+    opened: Result<Connection<S>, Error>,
+    host: &HostRuntime,
+    path: &str,
+) -> Result<Watched<SqliteStable<S>, Place<HostRuntime>>, StoreFault>
+where
+    Connection<S>: Ending,
+{
+    match opened {
+        Ok(connection) => beside_its_place(adopted(connection)?, placed(host, path)),
+        Err(Error::SqliteFailure(ErrorCode::OutOfMemory)) => Err(StoreFault::Memory),
+        Err(_) => Err(StoreFault::Device),
+    }
+}
+
 /// A store with the file that it is in, or what it means that this could not be looked at.
-fn watched<S: Alter, P>(
+fn beside_its_place<S: Alter, P>(
     stable: SqliteStable<S>,
     place: io::Result<P>,
 ) -> Result<Watched<SqliteStable<S>, P>, StoreFault>
@@ -96,7 +108,7 @@ impl Ending for Connection<FileStore<File>> {
     }
 }
 
-// Both over any store, since each function that names the store of SQLite is dear to prove.
+// All three over any store, since each function that names the store of SQLite is dear to prove.
 fn adopted<S: Alter>(connection: Connection<S>) -> Result<SqliteStable<S>, StoreFault>
 where
     Connection<S>: Ending,

@@ -52,8 +52,13 @@ pub struct Watched<S, P> {
 }
 
 impl<S, P> Watched<S, P> {
+    ghost use Rattle.std.specs.Prelude.{◌≡◌};
+
     /// A store that is open, and its file.
-    pub fn new(store: S, presence: P) -> Watched<S, P> {
+    pub fn new(store: S, presence: P) -> Watched<S, P>
+        ensures store { result.store ≡ store }
+        ensures missed { result.missed.count ≡ 0 }
+    {
         Watched {
             store,
             presence,
@@ -66,6 +71,7 @@ impl<S, P> Watched<S, P> {
     pub fn into_inner(self) -> S
     where
         P: Drop,
+        ensures { result ≡ self.store }
     {
         let Watched {
             store,
