@@ -1,17 +1,22 @@
 """A console for people: what is typed goes to a node, what it answers is printed.
 
-usage: console.py [--tree TREE] WHERE [WORD ..]
+usage: console.py [--tree TREE] [--wait] WHERE [WORD ..]
 
 WHERE is what the node was started with as --console: a path, or A.B.C.D:PORT. Words behind it are one line, which is
 given and answered: `console.py stores/A order ANN take DCS`. Without them lines are read, and each waits for the answer
 of the one before; `@a LINE` is one that does not. Lines are those of docs/FORMATS.md, "A node's lines"; `help` lists
 them. At a terminal, lines can be called back, and with a TREE the Tab key completes words and names. The console ends
-with its input, Ctrl-D, once all is answered, or with Ctrl-C at once. The status is 1 where there is no node, or where
-the one line was not taken or its order did not end with 0. A node that has just been started is waited for.
+with its input, Ctrl-D, once all is answered, or with Ctrl-C at once. With --wait a node that has just been started is
+waited for, five seconds at most.
+
+The status is 1 where the one line was not taken, or its order did not end with 0, and after Ctrl-C. It is 3 where no
+node listens there (`no console at ..` on standard error), and where the connection ended before all was answered
+(`connection lost`): so it always is where it ends under `follow` or `actions`.
 """
 
 import argparse
 import os
+import signal
 import socket
 import sys
 import threading
@@ -26,6 +31,11 @@ WORDS = ["order", "report", "show", "states", "follow", "actions", "under", "way
 DECLARED = ["operator", "domain", "device", "state", "action"]
 # How long a node that is not there is waited for, in seconds.
 PATIENCE = 5
+# With which word the last line of an answer begins. What follows or tells actions has no last line.
+LAST = {"order": "told", "report": "told", "show": "board", "counts": "counts", "states": "states", "under": "under",
+        "help": "help"}
+# The exit status where there is no node, or no longer one.
+NOBODY = 3
 
 
 def names_in(path):
@@ -50,24 +60,73 @@ def with_history(words):
     readline.parse_and_bind("tab: complete")
 
 
-def connected(where):
+def connected(where, patience):
     """A connection with a node, which may only be on its way."""
-    until = time.monotonic() + PATIENCE
+    until = time.monotonic() + patience
     while True:
         try:
             return lunskaf.connected(where, lunskaf.PATIENCE)
         except lunskaf.Lost as lost:
-            if time.monotonic() > until:
-                sys.exit(str(lost))
+            # a node whose connections wait in a row is there
+            is_busy = isinstance(lost.__cause__, BlockingIOError) and time.monotonic() < until + PATIENCE
+            if time.monotonic() > until and not is_busy:
+                print(lost, file=sys.stderr)
+                sys.exit(NOBODY)
             time.sleep(0.05)
 
 
-def printed(made):
+class Owed:
+    """The lines of a connection that are not answered yet, each by its tag, or its number, and its first word."""
+
+    def __init__(self):
+        self.count, self.lines = 0, []
+
+    def give(self, line):
+        words = line.split()
+        self.count += 1
+        if words and not words[0].startswith("#"):
+            tag = words.pop(0) if words[0].startswith("@") else str(self.count)
+            self.lines.append((tag, words[0] if words else ""))
+
+    def hear(self, line):
+        """Takes away the line of which this is the last that is told."""
+        words = line.split()
+        tag = words.pop(0) if words and words[0].startswith("@") else ""
+        if words[:1] == ["full"]:
+            self.lines.clear()
+        elif words[:1] == ["line"] and words[2:3] == ["fault"]:
+            self.leave(lambda it: it[0] == words[1])
+        elif words[:1] == ["fault"]:
+            self.leave(lambda it: it[0] == tag)
+        elif words and (words[0] != "help" or words[1:] and words[1].isdigit()):
+            self.leave(lambda it: (it[0] == tag if tag else not it[0].startswith("@")) and LAST.get(it[1]) == words[0])
+
+    def leave(self, fits):
+        """Takes away the first line that fits."""
+        found = next((it for it in self.lines if fits(it)), None)
+        if found:
+            self.lines.remove(found)
+
+
+def lines_of(made):
+    """What comes, line by line, until the connection ends."""
+    with made.makefile("r", encoding="ascii", errors="replace", newline="\n") as lines:
+        while True:
+            try:
+                line = lines.readline()
+            except ConnectionError:
+                return
+            if not line:
+                return
+            yield line
+
+
+def printed(made, owed):
     """Prints what comes, until the connection ends; the last line."""
     line = ""
-    with made.makefile("r", encoding="ascii", errors="replace", newline="\n") as lines:
-        for line in lines:
-            print(line.rstrip("\n"), flush=True)
+    for line in lines_of(made):
+        owed.hear(line)
+        print(line.rstrip("\n"), flush=True)
     return line.split()
 
 
@@ -79,39 +138,103 @@ def is_well(words):
     return bool(words) and words[0] != "fault" and words[2:3] != ["fault"] and words != ["full"]
 
 
-def give(made, line):
-    """Gives one line; whether it is well."""
-    made.sendall((line + "\n").encode("ascii", "replace"))
-    made.shutdown(socket.SHUT_WR)
-    return is_well(printed(made))
+def tell_loss():
+    """Tells that the connection has ended too early; the status."""
+    print("connection lost", file=sys.stderr, flush=True)
+    return NOBODY
 
 
-def talk(made):
-    """Gives each line of the input as it comes."""
-    reader = threading.Thread(target=printed, args=[made], daemon=True)
-    reader.start()
+def send(made, owed, line):
+    """Sends a line. Where the connection has ended, whoever reads there finds it out."""
+    owed.give(line)
     try:
-        while reader.is_alive():
-            made.sendall((input() + "\n").encode("ascii", "replace"))
-    except EOFError:
+        made.sendall((line + "\n").encode("ascii", "replace"))
+    except OSError:
+        pass
+
+
+def end_sending(made):
+    """No further line comes."""
+    try:
         made.shutdown(socket.SHUT_WR)
-        reader.join()
+    except OSError:
+        pass
+
+
+def give(made, line):
+    """Gives one line; the status."""
+    owed = Owed()
+    send(made, owed, line)
+    end_sending(made)
+    last = printed(made, owed)
+    if owed.lines:
+        return tell_loss()
+    return 0 if is_well(last) else 1
+
+
+class Gone(Exception):
+    """The connection has ended while there may be more to give."""
+
+
+def gone(_signal, _frame):
+    raise Gone
+
+
+class Talk:
+    """Each line of the input is given as it comes."""
+
+    def __init__(self, made):
+        self.made, self.owed, self.has_more, self.is_read = made, Owed(), True, True
+
+    def read(self):
+        try:
+            printed(self.made, self.owed)
+        except BrokenPipeError:
+            self.is_read = False
+        if self.has_more:
+            # who types is told now, and not at the next line
+            signal.pthread_kill(threading.main_thread().ident, signal.SIGUSR1)
+
+    def run(self):
+        """Gives what is typed; the status."""
+        signal.signal(signal.SIGUSR1, gone)
+        reader = threading.Thread(target=self.read, daemon=True)
+        try:
+            reader.start()
+            try:
+                while True:
+                    send(self.made, self.owed, input())
+            except EOFError:
+                self.has_more = False
+                end_sending(self.made)
+                reader.join()
+        except Gone:
+            return self.status(is_whole=False)
+        return self.status(is_whole=not self.owed.lines)
+
+    def status(self, is_whole):
+        if not self.is_read:
+            raise BrokenPipeError
+        return 0 if is_whole else tell_loss()
 
 
 def main():
     words = argparse.ArgumentParser(usage=__doc__.split("\n\n")[1].removeprefix("usage: "))
     words.add_argument("--tree")
+    words.add_argument("--wait", action="store_true")
     words.add_argument("where")
     words.add_argument("line", nargs=argparse.REMAINDER)
-    said = words.parse_args()
-    if sys.stdin.isatty() and not said.line:
-        with_history(WORDS + (names_in(said.tree) if said.tree else []))
-    made = connected(said.where)
+    given = words.parse_args()
+    if sys.stdin.isatty() and not given.line:
+        with_history(WORDS + (names_in(given.tree) if given.tree else []))
     try:
-        if said.line:
-            sys.exit(0 if give(made, " ".join(said.line)) else 1)
-        talk(made)
-    except (KeyboardInterrupt, OSError):
+        made = connected(given.where, PATIENCE if given.wait else 0)
+        sys.exit(give(made, " ".join(given.line)) if given.line else Talk(made).run())
+    except KeyboardInterrupt:
+        sys.exit(1)
+    except BrokenPipeError:
+        # nobody reads what is printed: what is left of it goes nowhere
+        os.dup2(os.open(os.devnull, os.O_WRONLY), sys.stdout.fileno())
         sys.exit(1)
 
 

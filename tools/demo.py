@@ -12,6 +12,7 @@ import argparse
 import os
 import re
 import shutil
+import signal
 import socket
 import subprocess
 import sys
@@ -172,6 +173,21 @@ def play(detector, pause=0.0, until=None, away=AWAY, tell=print):
             time.sleep(pause)
 
 
+def is_up(detector):
+    """Whether the screen listens, and is the one that was started here."""
+    host, _, port = detector.http.rpartition(":")
+    end = time.monotonic() + PATIENCE
+    while detector.screen.poll() is None and time.monotonic() < end:
+        try:
+            socket.create_connection((host, int(port)), timeout=1).close()
+            # one that could not listen has ended by now
+            time.sleep(0.5)
+            return detector.screen.poll() is None
+        except OSError:
+            time.sleep(0.1)
+    return False
+
+
 def main():
     words = argparse.ArgumentParser(description=__doc__.split("\n\n")[0])
     words.add_argument("program")
@@ -180,7 +196,11 @@ def main():
     given = words.parse_args()
     folder = tempfile.mkdtemp()
     detector = Detector(os.path.abspath(given.program), folder, given.http)
+    # whoever ends this by a signal ends all that it has started
+    signal.signal(signal.SIGTERM, signal.default_int_handler)
     try:
+        if not is_up(detector):
+            sys.exit("there is no screen at %s: is the address taken? (--http ADDRESS:PORT)" % given.http)
         print("the screen is at http://%s/ (Ctrl-C ends all)" % given.http, flush=True)
         play(detector, given.pause, tell=lambda text: print(text, flush=True))
         print("the shift has ended; Ctrl-C ends all", flush=True)

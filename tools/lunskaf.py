@@ -43,27 +43,27 @@ LONGEST = 200
 
 ADDRESS = re.compile(r"(\d+\.\d+\.\d+\.\d+):(\d+)")
 
-# What a code says, by docs/NUMBERS.md.
+# What a code says, in the words of docs/NUMBERS.md, "How an order ends".
 CODES = {
     0: "done",
     1: "a domain on the way does not accept the action",
     2: "the target is not below the domain",
-    3: "the child is held, and is in that mode, already",
+    3: "the child is held and in that mode already",
     4: "the child is not held",
     5: "another one holds the domain",
-    6: "a child on the way is not held, or is manual",
+    6: "a child on the way is not held or is manual",
     7: "a million commands were given to a child under one grant",
-    8: "the command has ended, and its outcome was not seen",
+    8: "ended, and how was not seen",
     9: "the domain's epochs are used up",
-    21: "you do not hold the domain",
-    22: "too many commands on the domain are not answered",
-    23: "you hold the domain already, or are taking it or giving it back",
+    21: "the operator does not hold the domain",
+    22: "a command on the domain is not answered yet",
+    23: "the operator holds the domain already, or takes it or gives it back",
     24: "a million commands were given under this grant",
-    25: "you hold or wait for sixteen domains",
-    26: "nothing of that name is at this station",
+    25: "the operator holds or waits for sixteen domains",
+    26: "nothing of that name is there",
     31: "the store did not save it",
     32: "the station has stopped",
-    33: "out of memory",
+    33: "the node is out of memory",
 }
 
 # What a node shows of an object: its state, and the version of that by the boot of its station and a sequence in it.

@@ -3,7 +3,8 @@
 usage: rows.py STORE TREE [SMI]
 
 It reads the listing of `smi rows STORE`, so the store may be in use: by bin/smi where no other program is named, or
-where that is not there by the one that is installed.
+where that is not there by the one that is installed. Where the mark beside the store is of a tree with another number,
+it says so and ends with status 1.
 Whether a row is right is for `smi node` to say: a row that is cut or of no known schema is shown as it stands.
 """
 
@@ -150,12 +151,25 @@ def lines_of(tree, listing):
     return found
 
 
+def is_of_another(store, tree):
+    """Whether the mark beside the store says that it was made for a tree with another number."""
+    try:
+        with open(store + "-tree", "rb") as file:
+            mark = file.read()
+    except OSError:
+        return False
+    return len(mark) == 34 and int.from_bytes(mark[:2], "big") != tree.number
+
+
 def main():
     if len(sys.argv) not in (3, 4):
         sys.exit(__doc__.split("\n\n")[1])
     program = sys.argv[3] if len(sys.argv) == 4 else BUILT if os.path.isfile(BUILT) else "smi"
+    tree = hierarchy.read(sys.argv[2])
+    if is_of_another(sys.argv[1], tree):
+        sys.exit("store of another tree")
     done = subprocess.run([program, "rows", sys.argv[1]], stdout=subprocess.PIPE, check=False)
-    for line in lines_of(hierarchy.read(sys.argv[2]), done.stdout.decode()):
+    for line in lines_of(tree, done.stdout.decode()):
         print(line)
     sys.exit(done.returncode)
 

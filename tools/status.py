@@ -11,7 +11,7 @@ named. A station is silent that was not heard for so many SECONDS: two, or what 
 long again, where none are named.
 
 The exit status is that of a monitor's plugin: 0 where all is well, 1 where a station is silent or was never heard, 2
-where something is in alarm, 3 where the screen does not answer or its answer can't be read.
+where something is in alarm, 3 where the screen does not answer, its answer can't be read, or the words are wrong.
 """
 
 import argparse
@@ -137,16 +137,37 @@ def judged(detector, pattern):
     return status, "%s: %s" % (WORDS[status], "; ".join(told + [counted]))
 
 
+def pattern_of(text):
+    """A pattern as it stands among the words."""
+    try:
+        return re.compile(text)
+    except re.error as error:
+        raise argparse.ArgumentTypeError("%s is no pattern: %s" % (text, error)) from error
+
+
+def place_of(where):
+    """An address and a port, also as the page's address has them: http://127.0.0.1:8080/."""
+    return where.removeprefix("http://").rstrip("/")
+
+
+class Words(argparse.ArgumentParser):
+    """The words of this tool: wrong ones end with the status that tells nothing of the detector."""
+
+    def error(self, message):
+        self.print_usage(sys.stderr)
+        self.exit(UNKNOWN, "%s: %s\n" % (self.prog, message))
+
+
 def main():
-    words = argparse.ArgumentParser(usage=__doc__.split("usage: ")[1].split("\n")[0])
+    words = Words(usage=__doc__.split("usage: ")[1].split("\n")[0])
     words.add_argument("where")
-    words.add_argument("--alarm", type=re.compile, default=re.compile(ALARM))
+    words.add_argument("--alarm", type=pattern_of, default=re.compile(ALARM))
     words.add_argument("--silent", type=float)
     words.add_argument("--brief", action="store_true")
     words.add_argument("--patience", type=float, default=5.0)
     said = words.parse_args()
     try:
-        tree, picture = (fetched(said.where, it, said.patience) for it in ("/api/tree", "/api/picture"))
+        tree, picture = (fetched(place_of(said.where), it, said.patience) for it in ("/api/tree", "/api/picture"))
         detector = Detector(tree, picture, said.silent)
         status, summary = judged(detector, said.alarm)
         lines = [] if said.brief else table([["DOMAIN", "STATE", "COMMANDED BY", "LAST COMMAND", "STATION, HEARD"],
