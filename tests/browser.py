@@ -8,6 +8,7 @@ elements and compared with the trace of examples/shift.schedule up to there. Wit
 name has it. Where there is no browser this says so, and counts as skipped. The last line is 'N passed, M failed'.
 """
 
+import json
 import os
 import random
 import re
@@ -186,8 +187,12 @@ class Hand:
         return self.browser.run("(() => { const b = document.querySelector('[data-deed=%s]');"
                                 " return [b.getAttribute('aria-disabled'), b.title]; })()" % deed)
 
-    def click(self, deed):
-        """What is asked once it is clicked, and what can be answered; nothing where nothing is asked."""
+    def click(self, deed, silent="MUON"):
+        """What is asked once it is clicked, and what can be answered; nothing where nothing is asked.
+
+        It is clicked once all stations are heard but one that may be silent, since any other is asked about too.
+        """
+        self.browser.waits_for("[...domains.values()].every((d) => !isSilent(d) || d.station === '%s')" % silent, 20)
         self.browser.run("document.querySelector('[data-deed=%s]').click()" % deed)
         if not self.browser.run(QUESTION + ".open"):
             return None
@@ -200,6 +205,15 @@ class Hand:
     def sees(self, order, fate, patience=20):
         """Whether the page comes to say this of an order."""
         return self.browser.waits_for("%s.includes('%s%s')" % (GIVEN, order, fate), patience) is not None
+
+    def times(self, order):
+        """How often an order was done, of those that the page still knows."""
+        return self.browser.run("given.filter((it) => it.line === 'order %s' && it.code === 0).length" % order)
+
+    def is_done_again(self, order, times, patience=20):
+        """Whether an order is done once more than so many times."""
+        return self.browser.waits_for("given.filter((it) => it.line === 'order %s' && it.code === 0).length === %d"
+                                      % (order, times + 1), patience) is not None
 
 
 def shows(browser, domain, state, patience=20):
@@ -277,6 +291,7 @@ def silent_cases(detector, browser, hand):
     yield "silent: nothing waits", browser.run(GIVEN + ".filter((text) => text.includes('waits')).length") == 0
     yield "silent: asked no more", hand.click("START") == ["START at %s?" % TOP, ["yes, START", "cancel"]]
     hand.shut()
+    yield from elsewhere_cases(detector, browser, hand)
     hand.open("MUO")
     words, choices = hand.click("include")
     yield "silent: including it would hold too", words.endswith("until it is back.") and choices == [
@@ -291,6 +306,36 @@ def silent_cases(detector, browser, hand):
     yield "silent: it is", hand.sees("%s include %s MUO" % (LEADER, TOP), "0: done")
 
 
+def elsewhere_cases(detector, browser, hand):
+    """A silent child that was made manual here, and then included again at a console, is asked about."""
+    orders = ["%s %s %s" % (LEADER, deed, TOP) for deed in ("manual", "include", "do")]
+    manual, include, start, stop = orders[0] + " MUO", orders[1] + " MUO", orders[2] + " START", orders[2] + " STOP"
+    # a machine that others use may have other stations silent for a moment
+    waits = "[domains.get('%s')].some((d) => !isSilent(d) && silentBelow(d).some((c) => c.name === 'MUO'))" % TOP
+    hand.open(TOP)
+    yield "elsewhere: not asked before, however long", browser.waits_for(waits, 4) is None
+    yield "elsewhere: included at a console", detector.order(include) == "told %s 0" % include
+    took = browser.waits_for(waits, 20)
+    yield "elsewhere: it is known in %s s" % took, took is not None and took < SILENT + SLACK
+    before = [hand.times(order) for order in (manual, start, stop)]
+    words, choices = hand.click("START")
+    is_asked = words.endswith("until it is back.") and choices[0] == "make MUO manual, then START"
+    yield "elsewhere: it is asked", is_asked
+    if not is_asked:
+        # given all the same, a command would hang, and all that follows
+        hand.shut()
+        return
+    hand.answer(0)
+    yield "elsewhere: made manual again", hand.is_done_again(manual, before[0])
+    yield "elsewhere: and then started", hand.is_done_again(start, before[1])
+    yield "elsewhere: asked no more", hand.click("STOP") == ["STOP at %s?" % TOP, ["yes, STOP", "cancel"]]
+    hand.answer(0)
+    yield "elsewhere: stopped", hand.is_done_again(stop, before[2])
+    yield "elsewhere: a command from elsewhere is a doubt", detector.order(stop) == "told %s 0" % stop \
+        and browser.waits_for(waits, 20) is not None
+    hand.shut()
+
+
 def waiting_cases(detector, browser):
     """An order that waits is shown with its seconds and the station that it waits for."""
     hand = Hand(browser)
@@ -299,7 +344,7 @@ def waiting_cases(detector, browser):
     silent = "document.querySelector('#main [data-domain=INFRA]').closest('section').classList.contains('silent')"
     browser.waits_for(silent, 20)
     hand.open("INFRA")
-    asked = hand.click("take")
+    asked = hand.click("take", "SERVICES")
     yield "waiting: it is asked", asked == ["take INFRA?", ["yes, take", "cancel"]]
     hand.answer(0)
     waits = "%s.some((text) => /^%s take INFRAwaits [2-9] s for station SERVICES$/.test(text))" % (GIVEN, LEADER)
@@ -361,6 +406,95 @@ def lost_cases(detector, browser):
         "document.getElementById('console').textContent === 'orders: connected'", 20) is not None
 
 
+# A tree of three levels, each at a station of its own, of which that in the middle is silent.
+LEVELS = """
+  tree = { tree: 1, states: ["OFF"], actions: ["GO"], stations: [], devices: [],
+    operators: [{ name: "ANN", station: "A" }], domains: [["TOP", "A", null], ["MID", "B", "TOP"], ["LOW", "C", "MID"]]
+      .map(([name, station, parent]) => ({ name, station, parent, accepts: [true] })) };
+  build();
+  const told = (holder, heard) => ({ holder, epoch: 1, last: 0, busy: false, outcome: 0, since: 0, heard });
+  take({ frame: 1, now: 60000, devices: [], domains: [
+    { name: "TOP", shown: null, told: told({ operator: "ANN" }, 60000) },
+    { name: "MID", shown: null, told: told({ domain: "TOP" }, 1000) },
+    { name: "LOW", shown: null, told: told({ domain: "MID" }, 60000) }] });
+  who = "ANN";"""
+# What the page would ask about before each order about the lowest domain.
+DEEP = """(() => {""" + LEVELS + """
+  return deedsOf(domains.get("LOW")).filter((deed) => deed.isOfMode)
+    .map((deed) => [deed.line(), deed.at.name, deed.waitsFor().map((d) => d.name)]); })()"""
+# Whose boxes have no colour where the middle one is free, and what is on top where the lowest was never heard.
+UNHELD = """(() => {""" + LEVELS + """
+  take({ frame: 2, now: 60100, devices: [], domains: [
+    { name: "TOP", shown: null, told: told({ operator: "ANN" }, 60100) },
+    { name: "MID", shown: null, told: told(null, 60100) }, { name: "LOW", shown: null, told: null }] });
+  const probe = document.createElement("i");
+  probe.style.color = "var(--line)";
+  document.body.append(probe);
+  const none = getComputedStyle(probe).color;
+  probe.remove();
+  return [...[...domains.values()].map((d) => getComputedStyle(d.at.box).borderLeftColor === none),
+    document.getElementById("alarms").textContent]; })()"""
+# Whether the page takes the silent domain for manual after each of these steps: an order of its own, with the code with
+# which it ends, or `waits`, or `lost` where nobody knows; or a record of the domain above, its epoch and last command.
+COUNTED = """(async () => {""" + LEVELS + """
+  const asked = window.fetch, seen = [];
+  const settle = async () => { for (let n = 0; n < 30; n += 1) await null; };
+  let number = Math.max(1000, ...found);
+  given = [];
+  for (const [text, how, last] of %s) {
+    if (text === "record") domains.get("TOP").told = { ...domains.get("TOP").told, epoch: how, last };
+    else {
+      window.fetch = async () => { if (how === "lost") throw Error(how); return { status: 202, text: async () => "" }; };
+      give(text);
+      await settle();
+      number += 1;
+      given = [{ number, line: "order ANN " + text, waits: how === "waits", code: how === "waits" ? null : how }];
+      tellEnds();
+      await settle();
+    }
+    seen.push(isManual(domains.get("MID")));
+  }
+  window.fetch = asked;
+  return seen; })()"""
+MANUAL, ACTION = "manual TOP MID", "do TOP GO"
+COUNTS = [
+    ("made manual", [(MANUAL, 0, True), ("record", 1, 1, True)]),
+    ("it was so already", [(MANUAL, 3, True), ("record", 1, 1, True)]),
+    ("refused", [(MANUAL, 4, False), ("record", 1, 1, False)]),
+    ("then a command from elsewhere", [(MANUAL, 0, True), ("record", 1, 2, False), ("record", 1, 3, False)]),
+    ("before it a command from elsewhere", [("record", 1, 7, False), (MANUAL, 0, True), ("record", 1, 9, False)]),
+    ("then another grant", [(MANUAL, 0, True), ("record", 3, 0, False), ("record", 3, 1, False)]),
+    ("then a command of its own", [(MANUAL, 0, True), (ACTION, 0, True), ("record", 1, 2, True),
+                                   ("record", 1, 3, False)]),
+    ("then one that ends with another code", [(MANUAL, 0, True), (ACTION, 5, True), ("record", 1, 2, True)]),
+    ("then one that waits", [(MANUAL, 0, True), (ACTION, "waits", False), ("record", 1, 2, False)]),
+    ("then one that was never run", [(MANUAL, 0, True), (ACTION, 21, False), ("record", 1, 2, False)]),
+    ("then one of which nobody knows", [(MANUAL, 0, True), (ACTION, "lost", False), ("record", 1, 1, False)]),
+    ("then included again", [(MANUAL, 0, True), ("include TOP MID", 0, False), ("record", 1, 2, False)]),
+    ("then another mode that was refused", [(MANUAL, 0, True), ("ignore TOP MID", 7, False)]),
+    ("another one made manual", [("manual TOP LOW", 0, False), ("record", 1, 1, False)])]
+
+
+def deep_cases(browser):
+    """An order about a mode goes through each domain on its way: it waits for one that is silent."""
+    asked = browser.run(DEEP)
+    yield "deep: what waits on the way %s" % asked, asked == [
+        ["%s TOP LOW" % verb, "TOP", ["MID"]] for verb in ("include", "exclude", "manual", "ignore")]
+
+
+def unheld_cases(browser):
+    """Nobody's box has a colour, also within one that somebody commands; a station that was never heard is told."""
+    told = browser.run(UNHELD)
+    yield "unheld: whose boxes have no colour, and what is on top: %s" % told, told == [False, True, True, "C not heard"]
+
+
+def counted_cases(browser):
+    """A child counts as manual only as long as nobody else can have changed that."""
+    for name, steps in COUNTS:
+        seen = browser.run(COUNTED % json.dumps([step[:-1] for step in steps]))
+        yield "counted: %s" % name, seen == [step[-1] for step in steps]
+
+
 LARGE = """(() => {
   const domains = [], devices = [], states = ["OFF", "READY", "RUNNING", "ERROR"];
   for (let d = 0; d < %d; d += 1) domains.push({ name: "D" + d, station: "S" + d,
@@ -411,6 +545,9 @@ def cases(program, path, folder):
         yield from waiting_cases(detector, browser)
         yield from trip_cases(detector, browser)
         yield from lost_cases(detector, browser)
+        yield from deep_cases(browser)
+        yield from unheld_cases(browser)
+        yield from counted_cases(browser)
         yield from large_cases(browser)
     finally:
         browser.end()

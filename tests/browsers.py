@@ -64,6 +64,10 @@ class Wire:
                 return text.decode()
 
 
+class Gone(ValueError):
+    """The page went away while it was asked, since another is loaded in its place."""
+
+
 class Browser:
     """A browser with one page."""
 
@@ -122,6 +126,8 @@ class Browser:
     def run(self, script):
         """What an expression is worth on the page."""
         told = self.call("Runtime.evaluate", expression=script, returnByValue=True, awaitPromise=True)
+        if "result" not in told:
+            raise Gone(script)
         if "exceptionDetails" in told:
             raise ValueError(told["exceptionDetails"].get("exception", {}).get("description", script))
         return told["result"].get("value")
@@ -130,8 +136,11 @@ class Browser:
         """How many seconds pass until an expression is true; nothing where they are too many."""
         begun = time.monotonic()
         while time.monotonic() - begun < patience:
-            if self.run(script):
-                return time.monotonic() - begun
+            try:
+                if self.run(script):
+                    return time.monotonic() - begun
+            except Gone:
+                pass
             time.sleep(0.03)
         return None
 

@@ -9,13 +9,13 @@ directory` reads the standard input from a directory, `to full` writes to a devi
 for the path of the worked tree file and for a path where there is none.
 
 After the table, a take is tried with other values in its fields, at the ends of their ranges and beyond, and in other
-lengths, against the layout in layout.py, each tree file of trees.py is checked, each store of stores.py listed, a store
-that SMI_TRIAL saved is read by others, and each growth of some runs, and of the layers' objects in SMI_TRIAL, is
-refused in turn (growths.py). Words that are no text and stores that may only be read are tried (paths.py), and each
-layer at its limits (limits.py). Watcher lists answer random calls as plain lists do (random_calls.py), schedules leave
-what is said of them (schedules.py), and stations over each store do the same (plays.py). With a TEXT only the cases are
-run whose name has it; the growths of a run or a layer go together, under its name. The last line is 'N passed, M
-failed'.
+lengths, against the layout in layout.py, each tree file of trees.py is checked, each store of stores.py listed, a
+store that SMI_TRIAL saved is read by others, and each growth of some runs, and of the layers' objects in SMI_TRIAL, is
+refused in turn (growths.py). Words that are no text and stores that may only be read are tried (paths.py), wrong lines
+at a terminal (terminals.py), reads that are interrupted (interrupts.py), and each layer at its limits (limits.py).
+Watcher lists answer random calls as plain lists do (random_calls.py), schedules leave what is said of them
+(schedules.py), and stations over each store do the same (plays.py). With a TEXT only the cases are run whose name has
+it; the growths of a run or a layer go together, under its name. The last line is 'N passed, M failed'.
 """
 
 import os
@@ -24,6 +24,7 @@ import sys
 import tempfile
 
 import growths
+import interrupts
 import layout
 import limits
 import paths
@@ -32,6 +33,7 @@ import random_calls
 import schedules
 import settling
 import stores
+import terminals
 import trees
 
 HERE = os.path.dirname(os.path.abspath(__file__))
@@ -179,6 +181,9 @@ def main():
         others += growths.store_cases(program, folder, only)
         others += growths.layer_cases(trial, folder, only)
         others += [case for case in paths.cases(program, room(folder, "of paths")) if only in case[0]]
+        at_terminals = terminals.cases(program, room(folder, "at terminals"), PATHS["TREE"], PATHS["NOWHERE"])
+        others += [case for case in at_terminals if only in case[0]]
+        others += [case for case in interrupts.cases(program, room(folder, "of interrupts")) if only in case[0]]
         at_limits = room(folder, "at limits")
         others += limits.layer_cases(trial, at_limits, only)
         others += limits.answer_case(program, at_limits, table[0]["in"], table[0]["out"], only)

@@ -24,6 +24,7 @@ import hierarchy
 import lines
 import lunskaf
 import nodes
+import threads
 import wires
 
 HERE = os.path.dirname(os.path.abspath(__file__))
@@ -31,6 +32,9 @@ EXAMPLES = os.path.join(HERE, os.pardir, "examples")
 PATIENCE = 30
 # How soon an answer comes that waits for nobody, by the median and at most, in seconds.
 SOON, LATEST = 0.05, 2
+# On a machine that others use answers may come later: so many times as late as they came to the same questions from a
+# node that nobody is rude to.
+BUSY = 3
 # The most connections at once, how many orders each gives, and how many connections come one after the other.
 GUESTS, ORDERS, COMERS = 64, 100, 10_000
 # How long a client may take nothing, in seconds, by docs/FORMATS.md; and how much more a test waits for its end.
@@ -38,6 +42,13 @@ STUCK, SLACK = 2, 20
 
 # How many actions are told one after the other, and how many reports are given while nobody reads what is told.
 ACTIONS, UNREAD, TOO_MANY = 1_000, 4_000, 12_000
+# How many actions may wait for the front desk, by docs/FORMATS.md; how many devices a domain has at most; and how many
+# commands are given while the front desk stands still, so that actions of some of them are left out.
+WAITING, DEVICES, COMMANDS = 8_192, 16, 600
+
+# tools/console.py, and how soon it says what it says at once, with the start of Python.
+CONSOLE = [sys.executable, os.path.join(HERE, os.pardir, "tools", "console.py")]
+AT_ONCE = 4
 
 # Three operators at one station, whose domain FAR is at another.
 TREE = """tree 5
@@ -134,10 +145,10 @@ def wait_for(where, node):
 class Place:
     """A node HERE of the tree with its console, and the words by which AWAY is started."""
 
-    def __init__(self, program, folder, consoles=None, turns="--endless"):
+    def __init__(self, program, folder, consoles=None, turns="--endless", tree=TREE):
         self.program, self.folder = program, folder
         self.ports = nodes.free_ports(2)
-        self.tree = nodes.write_tree(folder, self.ports, (TREE % tuple(self.ports)).splitlines())
+        self.tree = nodes.write_tree(folder, self.ports, (tree % tuple(self.ports)).splitlines())
         self.where = os.path.join(folder, "console")
         self.words = [self.tree, "HERE", os.path.join(folder, "here"), turns]
         for console in [self.where] if consoles is None else consoles:
@@ -148,8 +159,8 @@ class Place:
     def wait(self):
         wait_for(self.where, self.node)
 
-    def start_away(self):
-        words = [self.tree, "AWAY", os.path.join(self.folder, "away"), "--endless"]
+    def start_away(self, *more):
+        words = [self.tree, "AWAY", os.path.join(self.folder, "away"), "--endless", *more]
         return nodes.Node(self.program, words)
 
     def memory(self):
@@ -169,6 +180,37 @@ def timed(ask, lines):
         told.append(ask(line))
         took.append(time.monotonic() - begun)
     return told, took
+
+
+def is_soon(took, usual):
+    """Whether answers came soon, by the median and at most; on a busy machine, not much later than they usually do."""
+    limits = [max(limit, BUSY * of(usual)) for limit, of in [(SOON, statistics.median), (LATEST, max)]]
+    return statistics.median(took) < limits[0] and max(took) < limits[1]
+
+
+class Flood:
+    """A client that asks for all states without end; what it is told it reads, or not."""
+
+    def __init__(self, where, is_read):
+        self.console = Console(where)
+        self.console.socket.setsockopt(socket.SOL_SOCKET, socket.SO_RCVBUF, 4096)
+        self.threads = [threading.Thread(target=said_until_lost, args=[self.console, "states\n" * 1000], daemon=True)]
+        if is_read:
+            self.threads.append(threading.Thread(target=self.console.rest, daemon=True))
+        for thread in self.threads:
+            thread.start()
+
+    def is_let_go(self, patience):
+        """Whether the node ends its connection in time."""
+        self.threads[0].join(patience)
+        return not self.threads[0].is_alive()
+
+    def end(self):
+        """It leaves."""
+        self.console.socket.shutdown(socket.SHUT_RDWR)
+        for thread in self.threads:
+            thread.join(PATIENCE)
+        self.console.close()
 
 
 def waiting_case(program, folder):
@@ -281,24 +323,24 @@ def many_case(program, folder):
 def rude_case(program, folder):
     """Clients that leave in the middle, that never read, and that send no line."""
     place = Place(program, folder)
-    steady = Console(place.where)
+    steady, asked = Console(place.where), ["order ANN ask LEFT"] * 50
+    answers = ["told ANN ask LEFT free 0 0 settled 0"] * len(asked)
+    usual = timed(steady.ask, asked)[1]
     for text in ["order ANN ta", "order ANN ask LEFT\nord", "states\n" * 300, "@x follow\n", "x" * 100_000,
                  "\0\n" * 50]:
         rude = Console(place.where)
         rude.say(text)
         rude.close()
-    told, took = timed(steady.ask, ["order ANN ask LEFT"] * 50)
-    yield "clients that leave in the middle of a line or of an answer hold up nobody", told == [
-        "told ANN ask LEFT free 0 0 settled 0"] * 50 and statistics.median(took) < SOON
-    deaf = Console(place.where)
-    deaf.socket.setsockopt(socket.SOL_SOCKET, socket.SO_RCVBUF, 4096)
-    flood = threading.Thread(target=lambda: said_until_lost(deaf, "states\n" * 1000), daemon=True)
-    flood.start()
-    told, took = timed(steady.ask, ["order ANN ask LEFT"] * 50)
-    yield "nor does one that never reads", told == ["told ANN ask LEFT free 0 0 settled 0"] * 50 \
-        and statistics.median(took) < SOON and max(took) < LATEST
-    flood.join(STUCK + SLACK)
-    yield "which is let go", not flood.is_alive()
+    told, took = timed(steady.ask, asked)
+    yield "clients that leave in the middle of a line or of an answer hold up nobody", told == answers and is_soon(
+        took, usual)
+    polite = Flood(place.where, True)
+    usual = timed(steady.ask, asked)[1]
+    polite.end()
+    deaf = Flood(place.where, False)
+    told, took = timed(steady.ask, asked)
+    yield "nor does one that never reads", told == answers and is_soon(took, usual)
+    yield "which is let go", deaf.is_let_go(STUCK + SLACK)
     slow = Console(place.where)
     for letter in "order ANN ask LEFT\n":
         slow.say(letter)
@@ -309,7 +351,7 @@ def rude_case(program, folder):
         "line 2 fault 10: more than 200 bytes", "board L none"]
     gone = [Console(place.where) for _ in range(GUESTS - 3)]
     for rude in gone:
-        rude.say("order EVE take FAR\nshow L\n")
+        said_once(rude, "order EVE take FAR\nshow L\n")
         rude.close()
     time.sleep(STUCK)
     until, told = time.monotonic() + SLACK, None
@@ -321,6 +363,14 @@ def rude_case(program, folder):
     yield "clients that leave while their orders wait make room", told == "board L none"
     yield "the node is there after all that", place.is_running() and steady.ask("show L") == "board L none"
     place.node.kill()
+
+
+def said_once(console, text):
+    """Gives a text, also where the node has ended the connection."""
+    try:
+        console.say(text)
+    except OSError:
+        pass
 
 
 def said_until_lost(console, text):
@@ -473,6 +523,44 @@ def actions_case(program, folder):
     yield "and no more", told.ask("show L") == "board L none"
     standard = place.node.ask("@s actions R")
     yield "standard input is told behind a tag", standard == "@s actions 1"
+    place.node.kill()
+
+
+def with_many_devices(text):
+    """The tree with as many devices in a domain of HERE as one may have, and an operator elsewhere."""
+    more = "".join("device L%d LEFT DEV\n" % number for number in range(2, DEVICES + 1))
+    return text.replace("operator EVE HERE\n", "operator EVE HERE\noperator FAY AWAY\n") + more
+
+
+def missed_case(program, folder):
+    """Actions for which there is no room are counted, and told as so many before any later one."""
+    place = Place(program, folder, tree=with_many_devices(TREE))
+    there = os.path.join(folder, "there")
+    away = place.start_away("--console", there)
+    wait_for(there, away)
+    console = Console(place.where)
+    devices = ["L"] + ["L%d" % number for number in range(2, DEVICES + 1)]
+    with lunskaf.Node(there, patience=PATIENCE) as fay:
+        fay.take("FAY", "LEFT")
+        yield "actions of all devices", console.ask("actions " + " ".join(devices)) == "actions %d" % DEVICES
+        for device in devices:
+            place.node.ask("report %s READY" % device)
+        fay.do("FAY", "LEFT", "GO")
+        told = {console.line() for _ in devices}
+        # no action moves a device that is READY already, so none of these is shown in a new state
+        lines = ["acted %s GO 1.1 READY" % device for device in devices]
+        yield "each is told", told == set(lines)
+        with threads.held(place.node.child.pid):
+            for _ in range(COMMANDS):
+                fay.do("FAY", "LEFT", "GO")
+        told = [console.line() for _ in range(WAITING)]
+        yield "as many as may wait are told, in their order", told == lines * (WAITING // DEVICES)
+        left_out = COMMANDS * DEVICES - WAITING
+        yield "and then how many were left out", console.line() == "missed %d" % left_out
+        fay.do("FAY", "LEFT", "GO")
+        yield "and then all later ones", [console.line() for _ in lines] == lines
+    console.close()
+    away.kill()
     place.node.kill()
 
 
@@ -647,12 +735,13 @@ class Detector:
         self.program, self.folder = program, folder
         with open(os.path.join(EXAMPLES, "detector-local.tree"), encoding="ascii") as file:
             text = file.read()
-        ports = iter(nodes.free_ports(6))
+        ports = iter(nodes.free_ports(7))
         text = re.sub(r"^(station \S+) .*$", lambda it: "%s 127.0.0.1:%d" % (it[1], next(ports)), text, flags=re.M)
         self.path = nodes.write_tree(folder, [], text.splitlines())
         self.tree = hierarchy.read(self.path)
         self.nodes, self.consoles, self.drivers = {}, {}, {}
-        for station in self.tree.stations:
+        # the screen's station keeps no domain, and is not needed here
+        for station in dict.fromkeys(self.tree.station_of(domain) for domain in self.tree.domains):
             self.start(station)
             self.consoles[station] = lunskaf.Node(self.where(station))
             devices = [line.split()[1] for line in lines.lines(self.tree, "report", station, "OFF")]
@@ -730,8 +819,8 @@ def people_case(program, folder):
     place = Place(program, folder)
 
     def ran(words, text=None):
-        script = [sys.executable, os.path.join(HERE, os.pardir, "tools", "console.py"), *words]
-        done = subprocess.run(script, input=text, stdout=subprocess.PIPE, text=True, timeout=PATIENCE, check=False)
+        done = subprocess.run(CONSOLE + words, input=text, stdout=subprocess.PIPE, text=True, timeout=PATIENCE,
+                              check=False)
         return done.stdout.splitlines(), done.returncode
 
     lines, status = ran(["--tree", place.tree, place.where], "order ANN take LEFT\n@x show L\nhelp\n")
@@ -743,12 +832,91 @@ def people_case(program, folder):
                                ("@x order BOB grab LEFT", "@x fault 1: a word that no line has there", 1),
                                ("show L", "board L none", 0), ("@x report L OFF", "@x told report L OFF 0", 0)]:
         yield "one line: " + line, ran([place.where, *line.split()]) == ([told], status)
-    yield "where there is no node", ran([os.path.join(folder, "nowhere"), "help"]) == ([], 1)
     place.node.kill()
 
 
+def begun(words, **how):
+    """A console for people that runs, what it prints and tells at hand."""
+    return subprocess.Popen(CONSOLE + words, stdout=subprocess.PIPE, stderr=subprocess.PIPE, text=True, **how)
+
+
+def ended(console):
+    """What a console prints from now on, what it tells on standard error, and its status; nothing where it goes on."""
+    try:
+        out, told = console.communicate(timeout=PATIENCE)
+    except subprocess.TimeoutExpired:
+        console.kill()
+        return None
+    return out.splitlines(), told.splitlines(), console.returncode
+
+
+def nobody_case(program, folder):
+    """tools/console.py where nobody listens: it is told at once, or a node is waited for where that is asked."""
+    nowhere, file = os.path.join(folder, "nowhere"), os.path.join(folder, "file")
+    socket.socket(socket.AF_UNIX).bind(file)
+    port = "127.0.0.1:%d" % free_tcp_port()
+    for where, why in [(nowhere, "[Errno 2] No such file or directory"), (file, "[Errno 111] Connection refused"),
+                       (port, "[Errno 111] Connection refused")]:
+        begun_at = time.monotonic()
+        told = ended(begun([where, "help"]))
+        yield "where nobody listens: " + why, told == ([], ["no console at %s: %s" % (where, why)], 3)
+        yield "it is told at once", time.monotonic() - begun_at < AT_ONCE
+    begun_at = time.monotonic()
+    told = ended(begun(["--wait", nowhere, "help"]))
+    yield "with --wait it is told later", time.monotonic() - begun_at > 5 and told == (
+        [], ["no console at %s: [Errno 2] No such file or directory" % nowhere], 3)
+    where = os.path.join(folder, "console")
+    early = begun(["--wait", where, "show", "L"])
+    time.sleep(1)
+    place = Place(program, folder)
+    yield "with --wait a node that comes later is found", ended(early) == (["board L none"], [], 0)
+    place.node.kill()
+
+
+GONE = (["connection lost"], 3)
+
+
+def lost_case(program, folder):
+    """tools/console.py where the node ends while it tells what it is told without end: the status says so."""
+    for words, first in [(["follow"], "board TOP 1.0 OFF"), (["follow", "L"], "board L 1.0 OFF"),
+                         (["actions"], "actions 3"), (["@a", "actions", "L"], "@a actions 1")]:
+        with tempfile.TemporaryDirectory() as inner:
+            place = Place(program, inner)
+            console = begun([place.where, *words])
+            yield "it is told: " + " ".join(words), console.stdout.readline().rstrip() == first
+            place.node.kill()
+            yield "and so is the end of its node", ended(console)[1:] == GONE
+
+
+def cut_case(program, folder):
+    """tools/console.py where the node ends before all is answered, and where that is not so."""
+    place = Place(program, folder)
+    order = begun([place.where, "order", "ANN", "take", "FAR"])
+    piped = begun([place.where], stdin=subprocess.PIPE)
+    piped.stdin.write("show L\norder BOB take FAR\n")
+    piped.stdin.close()
+    piped.stdin = None
+    typed = begun([place.where], stdin=subprocess.PIPE)
+    typed.stdin.write("show L\n")
+    typed.stdin.flush()
+    with lunskaf.Node(place.where) as node:
+        yield "two orders wait", until_same(lambda: len(node.under_way()), 2) \
+            and typed.stdout.readline() == "board L none\n"
+    whole = begun([place.where], stdin=subprocess.PIPE).communicate("show L\nfollow NOBODY\n", timeout=PATIENCE)
+    yield "an input that has ended, and is answered to its end, is no loss", whole == (
+        "board L none\nline 2 fault 5: NOBODY is no domain or device of the tree\n", "")
+    place.node.kill()
+    yield "an order that waits", ended(order) == ([], *GONE)
+    yield "an input that has ended, but for an order that waits", ended(piped) == (["board L none"], *GONE)
+    # its input stays open: communicate would end it
+    told = [typed.stderr.readline().rstrip()], typed.wait(PATIENCE)
+    yield "an input that has not ended", told == GONE
+    typed.communicate()
+
+
 CASES = [waiting_case, partitions_case, many_case, rude_case, comers_case, lines_case, doors_case, actions_case,
-         unread_case, client_case, supply_case, shift_case, people_case]
+         missed_case, unread_case, client_case, supply_case, shift_case, people_case, nobody_case, lost_case,
+         cut_case]
 
 
 def main():

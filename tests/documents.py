@@ -6,9 +6,9 @@ Each page is played as a reader would play it: its fenced blocks of the kind `co
 top of the page to its end, in one shell and one folder, and then once more. What stands after `$ ` is a command, and
 the lines below it up to the next are what it prints, standard error included. A line `...` stands for any lines up to
 the one below it, or up to the next command; the seconds in a line of `under way` may be any. The folder has a copy of
-the examples, in which stations have ports of their own. `make run` and `make test` are not run: that they are targets
-of the Makefile is looked at. With a TEXT only the cases are run whose name has it. The last line is 'N passed, M
-failed'.
+the examples, in which stations have ports of their own, and a screen has one in place of the port of its command line.
+`make run` and `make test` are not run: that they are targets of the Makefile is looked at. With a TEXT only the cases
+are run whose name has it. The last line is 'N passed, M failed'.
 """
 
 import glob
@@ -24,15 +24,22 @@ import threading
 import time
 
 import nodes
+import screens
 import verdict
 
 HERE = os.path.dirname(os.path.abspath(__file__))
 ROOT = os.path.dirname(HERE)
+sys.path.insert(0, os.path.join(ROOT, "tools"))
+
+import lunskaf  # noqa: E402 (this stands in tools/)
+
 PATIENCE = 20
 # What a reader of a first page can be asked to read.
 README_LINES = 150
 # What is in a command that only looks, and may be given again.
-LOOKS = ("'show ", "tools/rows.py")
+LOOKS = (" show ", "tools/rows.py", "tools/status.py")
+# Where a page has its screen.
+SCREEN = "127.0.0.1:8080"
 # How often a page is played in one folder.
 PLAYS = 2
 # How long an order has waited, at the end of a line of `under way`.
@@ -105,7 +112,8 @@ def is_function(crate, name):
 
 
 def is_edit(crate, name):
-    paths = [os.path.join(ROOT, "crates", crate, folder, name + ".edit") for folder in ("edits", "must-fail")]
+    folders = ("edits", "must-fail", "below")
+    paths = [os.path.join(ROOT, "crates", crate, folder, name + ".edit") for folder in folders]
     return any(map(os.path.isfile, paths))
 
 
@@ -139,12 +147,15 @@ def rule_cases():
 
 
 def local_cases():
-    """The detector on one machine is the detector, but for its addresses."""
+    """The detector on one machine is the detector, but for its addresses, and for a screen's station and operator."""
     here, there = (re.sub(r"^#.*\n|(?<=[A-Z] )[\d.]+:\d+$", "", read("examples", name), flags=re.M)
                    for name in ("detector-local.tree", "detector.tree"))
-    yield "examples/detector-local.tree is examples/detector.tree", here == there and "station CONTROL \n" in here
+    more = screens.with_screen(there.splitlines(), 0)
+    wanted = [re.sub(r"^(station SCREEN ).*", r"\1", line) for line in more]
+    yield "examples/detector-local.tree is examples/detector.tree with a screen", here.splitlines() == wanted \
+        and "station CONTROL \n" in here and len(more) == len(there.splitlines()) + 2
     addresses = re.findall(r"^station \w+ (.*)$", read("examples", "detector-local.tree"), flags=re.M)
-    yield "examples/detector-local.tree has its stations on one machine", len(set(addresses)) == len(addresses) == 6 \
+    yield "examples/detector-local.tree has its stations on one machine", len(set(addresses)) == len(addresses) == 7 \
         and all(it.startswith("127.0.0.1:") for it in addresses)
 
 
@@ -206,10 +217,11 @@ def promise_cases():
     rows = tables(section(read("README.md"), "What is promised"))
     for promise, kind, where in rows:
         yield "README.md: what is proved: %s" % promise[:40], kind in ("definitions", "code")
-        for word in re.findall(r"`([^`]+)`", where):
+        # clauses are named too, and are no functions
+        for word in re.findall(r"`([^`]+)`", re.sub(r"clauses? `\w+`(?: and `\w+`)*", "", where)):
             if word.startswith("crates/"):
                 path = word
-            elif not word.endswith(".antt") and word not in ("Safe", "trace", "safe"):
+            elif not word.endswith(".antt") and word != "Safe":
                 yield "README.md: %s has %s" % (path, word), re.search(r"\bpub fn %s\b" % word, read(path)) is not None
     yield "README.md has its promises", len(rows) > 10
 
@@ -278,6 +290,17 @@ def number_cases():
     told = re.findall(r"`([a-z][a-z ]+)`", section(read("README.md"), "The commands"))
     told = [it for it in told if it.endswith(("fault", "line", "spent", "memory", "stopped"))]
     yield "NUMBERS.md: lines on standard error", len(told) > 5 and all("`%s`" % it in text for it in told)
+
+
+def meaning_cases():
+    """What a code means is said with the same words by the screen, by tools/lunskaf.py and in docs/NUMBERS.md."""
+    words = dict(re.findall(r'^ +(\d+) => b"(.*)",$', read("crates", "smi_relay", "src", "ending.rt"), flags=re.M))
+    rows = {row[0]: row[1] for row in tables(section(read("docs", "NUMBERS.md"), "How an order ends"))}
+    yield "codes: the same three times", list(words) == list(map(str, lunskaf.CODES)) == list(rows) and len(words) > 15
+    for code, said in words.items():
+        yield "codes: tools/lunskaf.py says of %s: %s" % (code, said), lunskaf.CODES.get(int(code)) == said
+        begun = re.escape(said[0].upper() + said[1:]) + r"[.,:]( |$)"
+        yield "codes: NUMBERS.md says of %s: %s" % (code, said), re.match(begun, rows.get(code, "")) is not None
 
 
 def word_cases():
@@ -421,9 +444,10 @@ def shown_in_time(shell, command, wanted):
 
 def played(shell, commands):
     """Each command of a page in turn, and whether it prints what stands below it, up to the first that does not."""
+    screen = "127.0.0.1:%d" % screens.tcp_port()
     for command, wanted in commands:
         how = shown_in_time if any(it in command for it in LOOKS) else Shell.run
-        found, said = how(shell, command, wanted)
+        found, said = how(shell, command.replace(SCREEN, screen), wanted)
         if found != said:
             print("  after %s\n    wanted %s\n    found  %s" % (command, said, found))
         yield command, found == said
@@ -488,6 +512,7 @@ def cases(program, only):
     yield from link_cases()
     yield from make_cases()
     yield from number_cases()
+    yield from meaning_cases()
     yield from word_cases()
     yield from order_cases(program)
     yield from broken_cases()
