@@ -1,5 +1,6 @@
 pub mod Answering
 pub mod Ends
 pub mod Handings
+pub mod Left
 pub mod Listeners
 pub mod Sends

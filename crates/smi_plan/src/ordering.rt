@@ -14,10 +14,11 @@ ghost use Rattle.smi_roles.specs.Roles.{is_number};
 ghost use Rattle.smi_plan.specs.Handing.{with_step};
 
 use crate::due::send_newest;
+use crate::leaving::ordered;
 use smi_command::{Link, begin_drop, begin_take, issue};
 use smi_grant::{Command, Holder};
 use smi_grants::{Change, Kept};
-use smi_out::Out;
+use smi_out::{Entries, Out};
 use smi_protocol::{Mark, Order};
 
 /// Which command of which grant was issued, where one was.
@@ -60,6 +61,7 @@ fn hand_out(
                 domain,
                 &link,
             );
+            out.keep(Entries::one(ordered(operator, domain, command, &link)));
             match issued(domain, command, &link) {
                 Some(mark) => out.issue(mark),
                 None => {}
