@@ -1,4 +1,5 @@
 pub mod Answering
+pub mod Commanded
 pub mod Ends
 pub mod Handings
 pub mod Left
