@@ -29,7 +29,7 @@ fn tell_not_stored(what: &Coming, out: &mut Out)
     ensures passed { out.new.passed ≡ [] }
 {
     if let Coming::Order(operator, order) = what {
-        if let Order::Report(_, _) = order {
+        if let Request::Report(_, _) = order.request() {
             return;
         }
         out.answer(Answer {
@@ -49,7 +49,7 @@ ghost use Rattle.smi_protocol.specs.Schedule.{not_stored};
 ghost use Rattle.smi_protocol.specs.Happening.{told_entries};
 ghost use Rattle.smi_protocol.specs.Step.{nothing_out};
 
-use smi_protocol::{Answer, Order, Told};
+use smi_protocol::{Answer, Order, Request, Told};
 
 /// The row is as before: the order is answered so.
 fn fail_at_device(post: &Post<'_>, what: &Coming, left: &mut Left)
