@@ -24,6 +24,7 @@ import threading
 import time
 
 import nodes
+import places
 import screens
 import verdict
 
@@ -209,6 +210,48 @@ def crate_cases():
             words = [it for whole in re.findall(r"`([\w:]+)`", row[1]) for it in whole.split("::")]
             lost = [it for it in words if it not in crates and not re.search(r"\b%s\b" % it, text)]
             yield "PROOF.md: what is claimed of %s%s" % (name, ", but " + " ".join(lost) if lost else ""), not lost
+
+
+def spread_cases():
+    """docs/CHANGING.md lists all files in which a thing is spread, and names none that is not there."""
+    text = section(read("docs", "CHANGING.md"), "Where a thing is spread")
+    kinds = [it for it in headings(text)]
+    for kind in kinds:
+        rows = list(places.lists_in(section(text, kind)))
+        for where, pattern, files in rows:
+            faults = places.faults_of(where, pattern, files) if where in places.SEARCHED else \
+                [it for it in files if not os.path.isfile(os.path.join(ROOT, it))]
+            name = "CHANGING.md, %s: %s %s" % (kind, where, pattern)
+            yield name + "".join("\n    " + it for it in faults), not faults
+        yield "CHANGING.md, %s has lists" % kind, len([it for it in rows if it[1] and it[2]]) >= 2
+    yield "CHANGING.md says where things are spread", len(kinds) >= 8
+
+
+def proof_cases():
+    """Each proof stands where docs/CHANGING.md says."""
+    found = [(path, places.stands_right(path)) for path in sorted(places.found_by("crates/*/proofs/**/*.antt"))]
+    for path, is_right in found:
+        if not is_right:
+            yield "%s stands where the rule says" % path, False
+    yield "proofs stand where the rule says", len(found) > 100 and all(is_right for _, is_right in found)
+
+
+def planted_cases():
+    """A file that is left out of a list, one that does not belong there and one that is not there are seen; and so is
+    a proof in another folder."""
+    orders = r"Order\w*::Include"
+    whole = places.having("sources", orders)
+    for name, files, is_right in [("whole", whole, True), ("one left out", whole[1:], False),
+                                  ("one more", whole + ["crates/smi_bytes/src/lib.rt"], False),
+                                  ("one that is not there", whole + ["crates/smi_bytes/src/none.rt"], False)]:
+        yield "a list of files: " + name, (not places.faults_of("sources", orders, files)) == is_right
+    for path, is_right in [
+            ("crates/smi_grants/proofs/kept/Kept/put_child/Answers.antt", True),
+            ("crates/smi_grants/proofs/commit/Kept/put_child/Answers.antt", False),
+            ("crates/smi_plan/proofs/running/run/Answers.antt", True),
+            ("crates/smi_plan/proofs/asking/run/Answers.antt", False),
+            ("crates/smi_plan/proofs/running/run/Lemmas.antt", False)]:
+        yield "a proof at %s" % path, places.stands_right(path) == is_right
 
 
 def promise_cases():
@@ -508,6 +551,9 @@ def cases(program, only):
     yield from worked_cases()
     yield from local_cases()
     yield from crate_cases()
+    yield from spread_cases()
+    yield from proof_cases()
+    yield from planted_cases()
     yield from promise_cases()
     yield from link_cases()
     yield from make_cases()
