@@ -182,14 +182,11 @@ def section_of_lines(text):
 
 
 def crate_cases():
-    """The crates have their lines, stand on what is said there and drawn, and have what is claimed of them."""
+    """The crates have their lines, stand on what is drawn, and have what is claimed of them."""
     crates = crate_lines()
     architecture, proof = read("docs", "ARCHITECTURE.md"), read("docs", "PROOF.md")
     rows = tables(section(architecture, "The crates"))
-    told = {row[0].strip("`"): re.findall(r"[`*](\w+)[`*]", row[2]) for row in rows}
-    yield "ARCHITECTURE.md has the crates", sorted(told) == sorted(crates)
-    for name, below in crates.items():
-        yield "ARCHITECTURE.md: what %s stands on" % name, told.get(name) == below
+    yield "ARCHITECTURE.md has the crates, in the order of crates.txt", [it[0].strip("`") for it in rows] == list(crates)
     layers = re.search(r"^```\n(the program.*?)^```$", architecture, flags=re.M | re.S)
     heights = {name: -place for place, line in enumerate(layers[1].splitlines() if layers else [])
                for name in re.findall(r"\bsmi\w*", line[18:])}
@@ -252,6 +249,17 @@ def planted_cases():
             ("crates/smi_plan/proofs/asking/run/Answers.antt", False),
             ("crates/smi_plan/proofs/running/run/Lemmas.antt", False)]:
         yield "a proof at %s" % path, places.stands_right(path) == is_right
+
+
+def walk_cases():
+    """The way of one event through the code names functions that stand in the files beside them."""
+    text = section(read("docs", "ARCHITECTURE.md"), "One event's way")
+    named_there = re.findall(r"`(crates/[\w/]+\.rt)`: `(\w+)`", text)
+    named_there += [(path, it) for it, path in re.findall(r"`(\w+)` in `(crates/[\w/]+\.rt)`", text)]
+    for path, name in named_there:
+        yield "ARCHITECTURE.md: %s has %s" % (path, name), re.search(r"\bfn %s\b" % name, read(path)) is not None
+    yield "ARCHITECTURE.md walks an event through the code", len(named_there) > 15 and all(
+        re.search(r"`\w+`", row[1]) for row in tables(text))
 
 
 def promise_cases():
@@ -554,6 +562,7 @@ def cases(program, only):
     yield from spread_cases()
     yield from proof_cases()
     yield from planted_cases()
+    yield from walk_cases()
     yield from promise_cases()
     yield from link_cases()
     yield from make_cases()
