@@ -37,6 +37,8 @@ import lunskaf  # noqa: E402 (this stands in tools/)
 PATIENCE = 20
 # What a reader of a first page can be asked to read.
 README_LINES = 150
+# What docs/PROOF.md may ask of its readers: so many lines, and so many words in a sentence.
+PROOF_LINES, MOST_WORDS = 200, 40
 # What is in a command that only looks, and may be given again.
 LOOKS = (" show ", "tools/rows.py", "tools/status.py")
 # Where a page has its screen.
@@ -275,6 +277,28 @@ def promise_cases():
             elif not word.endswith(".antt") and word != "Safe":
                 yield "README.md: %s has %s" % (path, word), re.search(r"\bpub fn %s\b" % word, read(path)) is not None
     yield "README.md has its promises", len(rows) > 10
+
+
+def sentences(text):
+    """The sentences of a page, those of each cell and item apart. A colon ends one too."""
+    units = re.split(r"\n\n|\n(?=[|#]|[-*] |\d+\. )", prose(text))
+    for unit in units:
+        for cell in unit.strip("|").split("|") if unit.startswith("|") else [unit]:
+            yield from re.split(r"(?<=[.?!:])(?:\*\*)?\s+", cell)
+
+
+def is_long(sentence):
+    return len(re.findall(r"[^\s|]*\w[^\s|]*", sentence)) > MOST_WORDS
+
+
+def long_cases():
+    """docs/PROOF.md is short, and so are its sentences."""
+    text = read("docs", "PROOF.md")
+    yield "PROOF.md is short", len(text.splitlines()) <= PROOF_LINES
+    for sentence in filter(is_long, sentences(text)):
+        yield "PROOF.md has short sentences, but: %s" % sentence[:60], False
+    yield "a long sentence is seen", is_long("word " * 41) and not is_long("word " * 40) and len(
+        list(sentences("One. Two: three.\n\n| four | five |\n- six\n  and seven"))) == 6
 
 
 def slug(heading):
@@ -564,6 +588,7 @@ def cases(program, only):
     yield from planted_cases()
     yield from walk_cases()
     yield from promise_cases()
+    yield from long_cases()
     yield from link_cases()
     yield from make_cases()
     yield from number_cases()
