@@ -27,6 +27,7 @@ import nodes
 import places
 import screens
 import verdict
+import words
 
 HERE = os.path.dirname(os.path.abspath(__file__))
 ROOT = os.path.dirname(HERE)
@@ -41,6 +42,8 @@ README_LINES = 150
 PROOF_LINES, MOST_WORDS = 200, 40
 # What is in a command that only looks, and may be given again.
 LOOKS = (" show ", "tools/rows.py", "tools/status.py")
+# How the names of crates end that are no part of the program.
+NO_PROGRAM = ("_tests", "_samples", "_bench", "_trial")
 # Where a page has its screen.
 SCREEN = "127.0.0.1:8080"
 # How often a page is played in one folder.
@@ -192,7 +195,7 @@ def crate_cases():
     layers = re.search(r"^```\n(the program.*?)^```$", architecture, flags=re.M | re.S)
     heights = {name: -place for place, line in enumerate(layers[1].splitlines() if layers else [])
                for name in re.findall(r"\bsmi\w*", line[18:])}
-    beside = {name for name in crates if name.endswith(("_tests", "_samples", "_bench", "_trial"))}
+    beside = {name for name in crates if name.endswith(NO_PROGRAM)}
     yield "ARCHITECTURE.md draws the crates", set(heights) == set(crates) - beside
     yield "ARCHITECTURE.md: layers stand on lower ones", all(
         heights[name] > heights[it] for name in heights for it in crates.get(name, ()) if it in heights)
@@ -206,8 +209,8 @@ def crate_cases():
     for row in rows:
         for name in re.findall(r"`(\w+)`", row[0])[:1]:
             text = sources(name, ("src", "specs")) + sources("smi_protocol", ("specs",))
-            words = [it for whole in re.findall(r"`([\w:]+)`", row[1]) for it in whole.split("::")]
-            lost = [it for it in words if it not in crates and not re.search(r"\b%s\b" % it, text)]
+            claimed = [it for whole in re.findall(r"`([\w:]+)`", row[1]) for it in whole.split("::")]
+            lost = [it for it in claimed if it not in crates and not re.search(r"\b%s\b" % it, text)]
             yield "PROOF.md: what is claimed of %s%s" % (name, ", but " + " ".join(lost) if lost else ""), not lost
 
 
@@ -369,22 +372,55 @@ def number_cases():
 
 def meaning_cases():
     """What a code means is said with the same words by the screen, by tools/lunskaf.py and in docs/NUMBERS.md."""
-    words = dict(re.findall(r'^ +(\d+) => b"(.*)",$', read("crates", "smi_relay", "src", "ending.rt"), flags=re.M))
+    meanings = dict(re.findall(r'^ +(\d+) => b"(.*)",$', read("crates", "smi_relay", "src", "ending.rt"), flags=re.M))
     rows = {row[0]: row[1] for row in tables(section(read("docs", "NUMBERS.md"), "How an order ends"))}
-    yield "codes: the same three times", list(words) == list(map(str, lunskaf.CODES)) == list(rows) and len(words) > 15
-    for code, said in words.items():
+    yield "codes: the same three times", list(meanings) == list(map(str, lunskaf.CODES)) == list(rows) and len(rows) > 15
+    for code, said in meanings.items():
         yield "codes: tools/lunskaf.py says of %s: %s" % (code, said), lunskaf.CODES.get(int(code)) == said
         begun = re.escape(said[0].upper() + said[1:]) + r"[.,:]( |$)"
         yield "codes: NUMBERS.md says of %s: %s" % (code, said), re.match(begun, rows.get(code, "")) is not None
 
 
+def declared_in(path):
+    """The types that a source file declares."""
+    return re.findall(r"^(?:pub(?:\(\w+\))? )?(?:struct|enum|trait) (\w+)", read(path), flags=re.M)
+
+
+def types_of_several():
+    """The names of types that stand in more than one crate, each with these crates."""
+    found = {}
+    for path in places.searched("sources"):
+        crate = path.split("/")[1]
+        if not crate.endswith(NO_PROGRAM):
+            for name in declared_in(path):
+                found.setdefault(name, set()).add(crate)
+    return {name: sorted(of) for name, of in found.items() if len(of) > 1}
+
+
+def in_code(name, crate, file):
+    """Whether a crate, or a file of its definitions, has this name outside comments."""
+    text = read("crates", crate, "specs", file + ".antt") if file else sources(crate, ("src", "specs"))
+    return re.search(r"\b%s\b" % name, re.sub(r"^\s*(//|--).*$", "", text, flags=re.M)) is not None
+
+
 def word_cases():
-    """docs/GLOSSARY.md has each word once, in the order of letters."""
-    rows = tables(section(read("docs", "GLOSSARY.md"), "Words"))
-    words = [row[0] for row in rows]
-    yield "GLOSSARY.md has each word once", len(set(words)) == len(words) > 30
-    yield "GLOSSARY.md is in order", words == sorted(words, key=str.lower)
+    """docs/GLOSSARY.md has each word once, in the order of letters, and what stands for it in the code is there; it has
+    the names that several types have, and its ordinary words are those that tests/words.py asks for."""
+    text = read("docs", "GLOSSARY.md")
+    rows = tables(section(text, "Words"))
+    of_words = [row[0] for row in rows]
+    yield "GLOSSARY.md has each word once", len(set(of_words)) == len(of_words) > 30
+    yield "GLOSSARY.md is in order", of_words == sorted(of_words, key=str.lower)
     yield "GLOSSARY.md explains each", all(len(row[1]) > 10 for row in rows)
+    for word, _, code in rows:
+        yield "GLOSSARY.md: %s stands in the code" % word, named(code) and len(named(code)) == code.count("(") and all(
+            in_code(name, crate, file) for name, crate, file in named(code))
+    yield "GLOSSARY.md: a name that no crate has is seen", not in_code("no_such_name", "smi_grant", "")
+    told = {row[0].strip("`"): re.findall(r"`(\w+)`:", row[1])
+            for row in tables(section(text, "Names that several types have"))}
+    yield "GLOSSARY.md has the names that several types have", told == types_of_several()
+    for _, unwanted in tables(section(text, "Ordinary words")):
+        yield "GLOSSARY.md: %s is looked for" % unwanted, words.unusual("it is %s line" % unwanted) is not None
 
 
 # Commands
@@ -398,8 +434,8 @@ def order_cases(program):
         path = os.path.join(folder, "schedule")
         with open(path, "w", encoding="ascii") as file:
             file.write("\n".join(orders) + "\n")
-        words = [program, "sim", os.path.join(ROOT, "examples", "detector.tree"), path]
-        done = subprocess.run(words, stdout=subprocess.PIPE, stderr=subprocess.PIPE, check=False)
+        command = [program, "sim", os.path.join(ROOT, "examples", "detector.tree"), path]
+        done = subprocess.run(command, stdout=subprocess.PIPE, stderr=subprocess.PIPE, check=False)
     fault = re.search(rb"line (\d+) fault", done.stderr)
     name = ": " + orders[int(fault[1]) - 1] if fault else ""
     yield "HANDBOOK.md: its orders%s" % name, done.returncode == 0 and len(orders) > 15

@@ -21,8 +21,6 @@ UNUSUAL = re.compile(r"\b(growths?|want of memory|(?:stays?|is|are|stayed) as (?
                      r"|behind the (?:save|others|first|next|last|opening))\b", re.IGNORECASE)
 # The glossary names them to say what stands in their place.
 GLOSSARY = "docs/GLOSSARY.md"
-
-
 # What stands between backquotes is a name.
 NAME = re.compile(r"`[^`]*`")
 
@@ -70,4 +68,5 @@ def main():
     sys.exit(1 if failed else 0)
 
 
-main()
+if __name__ == "__main__":
+    main()
