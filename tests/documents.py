@@ -42,6 +42,8 @@ README_LINES = 150
 PROOF_LINES, MOST_WORDS = 200, 40
 # What is in a command that only looks, and may be given again.
 LOOKS = (" show ", "tools/rows.py", "tools/status.py")
+# The code of a command whose outcome was not seen: it stands in no record.
+UNSEEN = 8
 # How the names of crates end that are no part of the program.
 NO_PROGRAM = ("_tests", "_samples", "_bench", "_trial")
 # Where a page has its screen.
@@ -351,8 +353,9 @@ def number_cases():
     def listed(heading):
         return numbers_in(tables(section(text, heading)))
 
-    orders = numbers_in(tables(section(protocol, "Outcomes")))
-    orders += [int(it) for it in set(re.findall(r"\b2\d\b", section(protocol, "Orders")))] + [31, 32, 33]
+    most, last = map(int, re.search(r"is_outcome x = nat_le x (\d+) \|\| x == (\d+)",
+                                    read("crates", "smi_grant", "specs", "Record.antt")).groups())
+    orders = [*range(most + 1), last, UNSEEN] + [int(it) for it in set(re.findall(r"\b2\d\b", section(protocol, "Orders")))] + [31, 32, 33]
     tests = numbers_in(tables(section(formats, "Datagrams")[section(formats, "Datagrams").index("Code"):]))
     refusals = numbers_in(tables(section(protocol, "Refusals").split("Where it stands")[0])[1:])
     faults = numbers_in(tables(section(formats, "Faults of a tree file")), 1)
@@ -368,6 +371,15 @@ def number_cases():
     told = re.findall(r"`([a-z][a-z ]+)`", section(read("README.md"), "The commands"))
     told = [it for it in told if it.endswith(("fault", "line", "spent", "memory", "stopped"))]
     yield "NUMBERS.md: lines on standard error", len(told) > 5 and all("`%s`" % it in text for it in told)
+
+
+def code_cases():
+    """Codes are explained in docs/NUMBERS.md alone."""
+    head = re.compile(r"^\| (Code|C|Answer|Fault) \| (What|Meaning|Do\b)", re.M)
+    for path in documents():
+        if path != "docs/NUMBERS.md":
+            yield "%s leaves codes to docs/NUMBERS.md" % path, not head.search(read(path))
+    yield "a table of codes is seen", head.search("| Code | What it means |") is not None
 
 
 def meaning_cases():
@@ -628,6 +640,7 @@ def cases(program, only):
     yield from link_cases()
     yield from make_cases()
     yield from number_cases()
+    yield from code_cases()
     yield from meaning_cases()
     yield from word_cases()
     yield from order_cases(program)
