@@ -151,7 +151,7 @@ def rule_cases():
             # a cell of which nothing is read would say anything
             cells = (definitions, functions, edits)
             yield name + ", all names are read", all(cell.count("(") == len(named(cell)) for cell in cells)
-    yield "rules of the protocol are told", found > 40
+    yield verdict.case("rules of the protocol are told", found, 40, ">")
 
 
 def local_cases():
@@ -177,7 +177,7 @@ def worked_cases():
     """The lines of examples/worked.tree are those that a law of smi_protocol reads, and those that tests share."""
     lines = read("examples", "worked.tree").splitlines()
     told = section_of_lines(read("crates", "smi_protocol", "specs", "examples", "WorkedTree.antt"))
-    yield "the worked tree of the laws is examples/worked.tree", told == lines
+    yield verdict.case("the worked tree of the laws is examples/worked.tree", told, lines)
     shared = re.search(r'WORKED: &\[u8\] =\s*b"([^"]*)"', read("crates", "smi_samples", "src", "trees.rt"))
     yield "the worked tree of the tests is examples/worked.tree", shared and shared[1].split("\\n") == [*lines, ""]
 
@@ -193,21 +193,22 @@ def crate_cases():
     crates = crate_lines()
     architecture, proof = read("docs", "ARCHITECTURE.md"), read("docs", "PROOF.md")
     rows = tables(section(architecture, "The crates"))
-    yield "ARCHITECTURE.md has the crates, in the order of crates.txt", [it[0].strip("`") for it in rows] == list(crates)
+    yield verdict.case(
+        "ARCHITECTURE.md has the crates, in the order of crates.txt", [it[0].strip("`") for it in rows], list(crates))
     layers = re.search(r"^```\n(the program.*?)^```$", architecture, flags=re.M | re.S)
     heights = {name: -place for place, line in enumerate(layers[1].splitlines() if layers else [])
                for name in re.findall(r"\bsmi\w*", line[18:])}
     beside = {name for name in crates if name.endswith(NO_PROGRAM)}
-    yield "ARCHITECTURE.md draws the crates", set(heights) == set(crates) - beside
+    yield verdict.case("ARCHITECTURE.md draws the crates", set(heights), set(crates) - beside)
     yield "ARCHITECTURE.md: layers stand on lower ones", all(
         heights[name] > heights[it] for name in heights for it in crates.get(name, ()) if it in heights)
     scripts = glob.glob("tools/*.py", root_dir=ROOT) + glob.glob("tests/*.py", root_dir=ROOT)
     outside = tables(section(architecture, "Outside the crates"))
     told = [it for row in outside for it in re.findall(r"`(\S+\.py)`", row[0])]
-    yield "ARCHITECTURE.md has the scripts", sorted(told) == sorted(scripts)
+    yield verdict.case("ARCHITECTURE.md has the scripts", sorted(told), sorted(scripts))
     rows = tables(section(proof, "Crate by crate"))
     listed = [name for row in rows for name in re.findall(r"`(\w+)`", row[0])]
-    yield "PROOF.md has the crates", sorted(listed) == sorted(crates)
+    yield verdict.case("PROOF.md has the crates", sorted(listed), sorted(crates))
     for row in rows:
         for name in re.findall(r"`(\w+)`", row[0])[:1]:
             text = sources(name, ("src", "specs")) + sources("smi_protocol", ("specs",))
@@ -227,8 +228,8 @@ def spread_cases():
                 [it for it in files if not os.path.isfile(os.path.join(ROOT, it))]
             name = "CHANGING.md, %s: %s %s" % (kind, where, pattern)
             yield name + "".join("\n    " + it for it in faults), not faults
-        yield "CHANGING.md, %s has lists" % kind, len([it for it in rows if it[1] and it[2]]) >= 2
-    yield "CHANGING.md says where things are spread", len(kinds) >= 8
+        yield verdict.case("CHANGING.md, %s has lists" % kind, len([it for it in rows if it[1] and it[2]]), 2, ">=")
+    yield verdict.case("CHANGING.md says where things are spread", len(kinds), 8, ">=")
 
 
 def proof_cases():
@@ -248,14 +249,14 @@ def planted_cases():
     for name, files, is_right in [("whole", whole, True), ("one left out", whole[1:], False),
                                   ("one more", whole + ["crates/smi_bytes/src/lib.rt"], False),
                                   ("one that is not there", whole + ["crates/smi_bytes/src/none.rt"], False)]:
-        yield "a list of files: " + name, (not places.faults_of("sources", orders, files)) == is_right
+        yield verdict.case("a list of files: " + name, not places.faults_of("sources", orders, files), is_right)
     for path, is_right in [
             ("crates/smi_grants/proofs/kept/Kept/put_child/Answers.antt", True),
             ("crates/smi_grants/proofs/commit/Kept/put_child/Answers.antt", False),
             ("crates/smi_plan/proofs/running/run/Answers.antt", True),
             ("crates/smi_plan/proofs/asking/run/Answers.antt", False),
             ("crates/smi_plan/proofs/running/run/Lemmas.antt", False)]:
-        yield "a proof at %s" % path, places.stands_right(path) == is_right
+        yield verdict.case("a proof at %s" % path, places.stands_right(path), is_right)
 
 
 def walk_cases():
@@ -264,7 +265,8 @@ def walk_cases():
     named_there = re.findall(r"`(crates/[\w/]+\.rt)`: `(\w+)`", text)
     named_there += [(path, it) for it, path in re.findall(r"`(\w+)` in `(crates/[\w/]+\.rt)`", text)]
     for path, name in named_there:
-        yield "ARCHITECTURE.md: %s has %s" % (path, name), re.search(r"\bfn %s\b" % name, read(path)) is not None
+        yield verdict.case(
+            "ARCHITECTURE.md: %s has %s" % (path, name), re.search(r"\bfn %s\b" % name, read(path)), None, "is not")
     yield "ARCHITECTURE.md walks an event through the code", len(named_there) > 15 and all(
         re.search(r"`\w+`", row[1]) for row in tables(text))
 
@@ -274,14 +276,16 @@ def promise_cases():
     path = None
     rows = tables(section(read("README.md"), "What is promised"))
     for promise, kind, where in rows:
-        yield "README.md: what is proved: %s" % promise[:40], kind in ("definitions", "code")
+        yield verdict.case("README.md: what is proved: %s" % promise[:40], kind, ("definitions", "code"), "in")
         # clauses are named too, and are no functions
         for word in re.findall(r"`([^`]+)`", re.sub(r"clauses? `\w+`(?: and `\w+`)*", "", where)):
             if word.startswith("crates/"):
                 path = word
             elif not word.endswith(".antt") and word != "Safe":
-                yield "README.md: %s has %s" % (path, word), re.search(r"\bpub fn %s\b" % word, read(path)) is not None
-    yield "README.md has its promises", len(rows) > 10
+                yield verdict.case(
+                    "README.md: %s has %s" % (path, word), re.search(r"\bpub fn %s\b" % word, read(path)), None,
+                    "is not")
+    yield verdict.case("README.md has its promises", len(rows), 10, ">")
 
 
 def sentences(text):
@@ -299,11 +303,14 @@ def is_long(sentence):
 def long_cases():
     """docs/PROOF.md is short, and so are its sentences."""
     text = read("docs", "PROOF.md")
-    yield "PROOF.md is short", len(text.splitlines()) <= PROOF_LINES
+    yield verdict.case("PROOF.md is short", len(text.splitlines()), PROOF_LINES, "<=")
     for sentence in filter(is_long, sentences(text)):
         yield "PROOF.md has short sentences, but: %s" % sentence[:60], False
-    yield "a long sentence is seen", is_long("word " * 41) and not is_long("word " * 40) and len(
-        list(sentences("One. Two: three.\n\n| four | five |\n- six\n  and seven"))) == 6
+    yield verdict.case(
+        "a long sentence is seen",
+        [is_long("word " * 41), not is_long("word " * 40),
+         len(list(sentences("One. Two: three.\n\n| four | five |\n- six\n  and seven")))],
+        [True, True, 6])
 
 
 def slug(heading):
@@ -327,7 +334,7 @@ def link_cases():
         for target in sorted(it for it in paths if not it.startswith(made)):
             yield "%s: there is %s" % (path, target), bool(glob.glob(os.path.join(ROOT, target)))
         for target, quoted in re.findall(r"(docs/\w+\.md), \"([^\"]+)\"", text):
-            yield "%s: %s has \"%s\"" % (path, target, quoted), quoted in headings(read(target))
+            yield verdict.case("%s: %s has \"%s\"" % (path, target, quoted), quoted, headings(read(target)), "in")
 
 
 def make_cases():
@@ -335,8 +342,8 @@ def make_cases():
     targets = set(re.findall(r"^([\w/-]+):", read("Makefile"), flags=re.M))
     for path in documents():
         for target in sorted(set(re.findall(r"(?:`|^    )make ([a-z-]+)", read(path), flags=re.M))):
-            yield "%s: make %s" % (path, target), target in targets
-    yield "README.md is short", len(read("README.md").splitlines()) < README_LINES
+            yield verdict.case("%s: make %s" % (path, target), target, targets, "in")
+    yield verdict.case("README.md is short", len(read("README.md").splitlines()), README_LINES, "<")
     yield "README.md has its two commands", all("    make %s " % it in read("README.md") for it in ("run", "test"))
 
 
@@ -365,7 +372,8 @@ def number_cases():
     for heading, wanted in [
             ("How an order ends", orders), ("Refused datagrams", tests + refusals), ("Faults of a tree file", faults),
             ("Faults of a line", schedule), ("Faults of a row", set(rows)), ("Statuses of the program", statuses)]:
-        yield "NUMBERS.md: %s" % heading, sorted(listed(heading)) == sorted(wanted) and len(wanted) > 3
+        yield verdict.case(
+            "NUMBERS.md: %s" % heading, [sorted(listed(heading)), len(wanted) > 3], [sorted(wanted), True])
     for row in tables(text):
         yield "NUMBERS.md: %s is explained" % row[0], len(row) >= 2 and all(len(cell) > 3 for cell in row[1:])
     told = re.findall(r"`([a-z][a-z ]+)`", section(read("README.md"), "The commands"))
@@ -379,7 +387,7 @@ def code_cases():
     for path in documents():
         if path != "docs/NUMBERS.md":
             yield "%s leaves codes to docs/NUMBERS.md" % path, not head.search(read(path))
-    yield "a table of codes is seen", head.search("| Code | What it means |") is not None
+    yield verdict.case("a table of codes is seen", head.search("| Code | What it means |"), None, "is not")
 
 
 def meaning_cases():
@@ -388,9 +396,10 @@ def meaning_cases():
     rows = {row[0]: row[1] for row in tables(section(read("docs", "NUMBERS.md"), "How an order ends"))}
     yield "codes: the same three times", list(meanings) == list(map(str, lunskaf.CODES)) == list(rows) and len(rows) > 15
     for code, said in meanings.items():
-        yield "codes: tools/lunskaf.py says of %s: %s" % (code, said), lunskaf.CODES.get(int(code)) == said
+        yield verdict.case("codes: tools/lunskaf.py says of %s: %s" % (code, said), lunskaf.CODES.get(int(code)), said)
         begun = re.escape(said[0].upper() + said[1:]) + r"[.,:]( |$)"
-        yield "codes: NUMBERS.md says of %s: %s" % (code, said), re.match(begun, rows.get(code, "")) is not None
+        yield verdict.case(
+            "codes: NUMBERS.md says of %s: %s" % (code, said), re.match(begun, rows.get(code, "")), None, "is not")
 
 
 def declared_in(path):
@@ -422,7 +431,7 @@ def word_cases():
     rows = tables(section(text, "Words"))
     of_words = [row[0] for row in rows]
     yield "GLOSSARY.md has each word once", len(set(of_words)) == len(of_words) > 30
-    yield "GLOSSARY.md is in order", of_words == sorted(of_words, key=str.lower)
+    yield verdict.case("GLOSSARY.md is in order", of_words, sorted(of_words, key=str.lower))
     yield "GLOSSARY.md explains each", all(len(row[1]) > 10 for row in rows)
     for word, _, code in rows:
         yield "GLOSSARY.md: %s stands in the code" % word, named(code) and len(named(code)) == code.count("(") and all(
@@ -430,9 +439,10 @@ def word_cases():
     yield "GLOSSARY.md: a name that no crate has is seen", not in_code("no_such_name", "smi_grant", "")
     told = {row[0].strip("`"): re.findall(r"`(\w+)`:", row[1])
             for row in tables(section(text, "Names that several types have"))}
-    yield "GLOSSARY.md has the names that several types have", told == types_of_several()
+    yield verdict.case("GLOSSARY.md has the names that several types have", told, types_of_several())
     for _, unwanted in tables(section(text, "Ordinary words")):
-        yield "GLOSSARY.md: %s is looked for" % unwanted, words.unusual("it is %s line" % unwanted) is not None
+        yield verdict.case(
+            "GLOSSARY.md: %s is looked for" % unwanted, words.unusual("it is %s line" % unwanted), None, "is not")
 
 
 # Commands
@@ -450,7 +460,7 @@ def order_cases(program):
         done = subprocess.run(command, stdout=subprocess.PIPE, stderr=subprocess.PIPE, check=False)
     fault = re.search(rb"line (\d+) fault", done.stderr)
     name = ": " + orders[int(fault[1]) - 1] if fault else ""
-    yield "HANDBOOK.md: its orders%s" % name, done.returncode == 0 and len(orders) > 15
+    yield verdict.case("HANDBOOK.md: its orders%s" % name, [done.returncode, len(orders) > 15], [0, True])
 
 
 def blocks(path):
@@ -573,7 +583,7 @@ def played(shell, commands):
         found, said = how(shell, command.replace(SCREEN, screen), wanted)
         if found != said:
             print("  after %s\n    wanted %s\n    found  %s" % (command, said, found))
-        yield command, found == said
+        yield verdict.case(command, found, said)
         if found != said:
             return
 
@@ -591,7 +601,8 @@ def page_cases(program, path, commands):
                     yield "%s, play %d: %s" % (path, play, command), ended
                 if not ended:
                     return
-                yield "%s, play %d leaves nothing behind" % (path, play), sorted(os.listdir(folder)) == before
+                yield verdict.case(
+                    "%s, play %d leaves nothing behind" % (path, play), sorted(os.listdir(folder)), before)
         finally:
             shell.end()
 
@@ -604,7 +615,7 @@ def command_cases(program, only):
         count += len(commands)
         if commands and (only in path or any(only in command for command, _ in commands)):
             yield from page_cases(program, path, commands)
-    yield "there are commands to run", count >= 100
+    yield verdict.case("there are commands to run", count, 100, ">=")
 
 
 def broken_cases():
@@ -623,7 +634,7 @@ def broken_cases():
                 found, said = shell.run(command, wanted)
             finally:
                 shell.end()
-        yield "a command that prints %s" % name, (found == said) == is_right
+        yield verdict.case("a command that prints %s" % name, found == said, is_right)
 
 
 def cases(program, only):

@@ -7,6 +7,7 @@ import threading
 
 import stores
 import trees
+import verdict
 
 # What no form of a command line has: a word that is not UTF-8, or that ends the options.
 ODD = b"\xff\xfe"
@@ -32,27 +33,29 @@ def word_cases(program, folder):
     for words in [[ODD], [b"answer", ODD], [b"check", tree, ODD], [b"check", ODD, tree], [b"check", b"-" + ODD],
                   [b"rows", b"--" + ODD], [ODD, b"answer"], [b"--"], [b"--", b"answer"], [b"answer", b"--"],
                   [b"check", b"--", tree], [b"check", tree, b"--"], [b"rows", b"--", ODD]]:
-        yield "words %s" % words, run(program, *words) == wrong
+        yield verdict.case("words %s" % words, run(program, *words), wrong)
     path = os.path.join(folder.encode(), b"tree " + ODD)
-    yield "a tree file that is not there, by no text", run(program, "check", path) == (b"", b"read fault\n", 3)
+    yield verdict.case(
+        "a tree file that is not there, by no text", run(program, "check", path), (b"", b"read fault\n", 3))
     with open(path, "w", encoding="ascii") as file:
         file.write(trees.WORKED)
     counts = b"tree 17 stations 2 operators 2 domains 2 devices 1\n"
-    yield "a tree file by no text", run(program, "check", path) == (counts, b"", 0)
+    yield verdict.case("a tree file by no text", run(program, "check", path), (counts, b"", 0))
     # Two paths that read the same, and are not.
     play = os.path.join(folder.encode(), b"tree " + ODD[::-1])
     with open(play, "wb") as file:
         file.write(b"order BOB take TPC\n")
     trace = b"booted A 1\npassed DCS 1.0 OFF\nbooted B 1\npassed TPC 1.0 OFF\npassed HV 1.0 OFF\nsent 1 TAKE B B TPC\n"
-    yield "a tree file and a schedule by no text", run(program, "sim", path, play) == (trace, b"", 0)
-    yield "a schedule that is not there, by no text", run(program, "sim", path, play + ODD) == (b"", b"read fault\n", 3)
+    yield verdict.case("a tree file and a schedule by no text", run(program, "sim", path, play), (trace, b"", 0))
+    yield verdict.case(
+        "a schedule that is not there, by no text", run(program, "sim", path, play + ODD), (b"", b"read fault\n", 3))
     # A name that has the sign for what is no text is another file's.
     other = os.path.join(folder, "tree \ufffd\ufffd")
-    yield "a tree file by another name", run(program, "check", other) == (b"", b"read fault\n", 3)
+    yield verdict.case("a tree file by another name", run(program, "check", other), (b"", b"read fault\n", 3))
     path = os.path.join(folder.encode(), b"store " + ODD)
-    yield "a store that is not there, by no text", run(program, "rows", path) == (b"", b"store fault\n", 3)
+    yield verdict.case("a store that is not there, by no text", run(program, "rows", path), (b"", b"store fault\n", 3))
     os.rename(stores.store(os.path.join(folder, "text"), stores.TABLE, stores.ROWS), path)
-    yield "a store by no text", run(program, "rows", path) == (stores.listing(stores.ROWS).encode(), b"", 0)
+    yield verdict.case("a store by no text", run(program, "rows", path), (stores.listing(stores.ROWS).encode(), b"", 0))
 
 
 def contents(folder):
@@ -88,7 +91,7 @@ def reading_cases(program, folder):
     yield "a store that may not be written", is_listed_alone(program, path, stores.ROWS)
     link = os.path.join(folder, "link")
     os.symlink(path, link)
-    yield "a store by a link", run(program, "rows", link) == (stores.listing(stores.ROWS).encode(), b"", 0)
+    yield verdict.case("a store by a link", run(program, "rows", link), (stores.listing(stores.ROWS).encode(), b"", 0))
     path = store_in(folder, "blank")
     open(path, "wb").close()
     yield "a file with nothing in it", is_listed_alone(program, path, [])
@@ -107,11 +110,11 @@ def reading_cases(program, folder):
     yield "a store with a log", os.path.getsize(path + "-wal") > 0 and is_listed_alone(program, path, stores.ROWS)
     fifo = os.path.join(folder, "fifo")
     os.mkfifo(fifo)
-    yield "a pipe with a name", run(program, "rows", fifo) == (b"", b"store fault\n", 3)
+    yield verdict.case("a pipe with a name", run(program, "rows", fifo), (b"", b"store fault\n", 3))
     path = stores.store(store_in(folder, "journal"), stores.TABLE, stores.ROWS)
     with open(path + "-journal", "wb") as file:
         file.write(b"\xd9\xd5\x05\xf9\x20\xa1\x63\xd7")
-    yield "a store to be played back", run(program, "rows", path) == (b"", b"store fault\n", 3)
+    yield verdict.case("a store to be played back", run(program, "rows", path), (b"", b"store fault\n", 3))
 
 
 def row(place):

@@ -9,7 +9,8 @@ and in documents (docs/GLOSSARY.md, "Ordinary words"). The last line is 'N passe
 import glob
 import os
 import re
-import sys
+
+import verdict
 
 ROOT = os.path.join(os.path.dirname(os.path.abspath(__file__)), "..")
 WIDTH = 120
@@ -64,8 +65,7 @@ def main():
             for number, what in faults:
                 print("%s:%d: %s" % (path, number, what))
             passed, failed = passed + (not faults), failed + bool(faults)
-    print("%d passed, %d failed" % (passed, failed))
-    sys.exit(1 if failed else 0)
+    verdict.end_of(passed, failed)
 
 
 if __name__ == "__main__":
