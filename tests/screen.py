@@ -157,9 +157,9 @@ def picture_cases(program, folder):
                 crews["A"].ask("order ANN include DCS TPC"), crews["A"].ask("order ANN do DCS CONFIGURE")]
         yield verdict.case("picture: the crew is told", [line and line.rsplit(" ", 1)[1] for line in told], ["0"] * 4)
         wanted = {"DCS": "READY", "TPC": "READY", "HV": "READY"}
-        yield screen.comes("picture: states", lambda picture: screens.states_of(picture), wanted)
+        yield screen.comes("picture: states", screens.states_of, wanted)
         held = {"DCS": "ANN", "TPC": "DCS"}
-        yield screen.comes("picture: holders", lambda picture: screens.holders_of(picture), held)
+        yield screen.comes("picture: holders", screens.holders_of, held)
         record = screens.by_name(screen.picture()["domains"])["DCS"]["told"]
         yield verdict.case(
             "picture: the record", [record[key] for key in ("holder", "epoch", "last", "busy", "outcome")],
@@ -169,7 +169,7 @@ def picture_cases(program, folder):
         screen.end()
         screen = screens.Screen(program, tree, screens.store_of(folder, "screen"))
         yield "picture: a screen that begins again", screen.is_up() and screen.waits_for(
-            lambda picture: screens.states_of(picture) == wanted and screens.holders_of(picture) == held)
+            screens.states_of == wanted and screens.holders_of(picture) == held)
         crews["B"].kill()
         before = screens.by_name(screen.picture()["domains"])["TPC"]["told"]["heard"]
         time.sleep(2.5)
@@ -493,10 +493,12 @@ def node_cases(program, folder):
         for order, code in [("ANN take DCS", 0), ("ANN take DCS", 23), ("ANN include DCS TPC", 0),
                             ("ANN drop TPC", 21)]:
             yield verdict.case("node: %s ends with %d" % (order, code), screen.order(order), code)
-        yield screen.comes("node: the picture has it", lambda picture: screens.holders_of(picture), {"DCS": "ANN", "TPC": "DCS"})
+        yield screen.comes("node: the picture has it", screens.holders_of, {"DCS": "ANN", "TPC": "DCS"})
         screen.give("order BOB take TPC")
         fault = "fault 5: BOB is no operator of this station"
-        yield verdict.comes("node: an operator of another", lambda: fates(screen)[-1], ("order BOB take TPC", False, fault, None, None), nodes.PATIENCE)
+        yield verdict.comes(
+            "node: an operator of another", lambda: fates(screen)[-1], ("order BOB take TPC", False, fault, None, None),
+            nodes.PATIENCE)
         crews["A"].kill()
         yield "node: it goes", screen.waits_for_orders(lambda: not screen.told_orders()["console"])
         crews["A"] = node("A", "--console", where)
