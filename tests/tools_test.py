@@ -17,6 +17,7 @@ import re
 import sys
 import tempfile
 import threading
+import time
 import unittest
 from unittest import mock
 
@@ -234,14 +235,17 @@ class Libraries(unittest.TestCase):
             pace.done(Crate(name), 60)
         self.assertEqual(pace.told(), "")
 
-    def built(self, lanes, failing=()):
-        """Which libraries are begun, in their order, whether all are there, and whether each had all below it."""
+    def built(self, lanes, failing=(), slow=()):
+        """Which libraries are begun, in their order, whether all are there, and whether each had all below it. Those
+        that are slow end after others."""
         begun, done, sound, lock = [], set(), [], threading.Lock()
 
         def build(crate):
             with lock:
                 begun.append(crate.name)
                 sound.append(all(it.name in done for it in crate.deps))
+            time.sleep(0.2 if crate.name in slow else 0.01)
+            with lock:
                 done.update([] if crate.name in failing else [crate.name])
             return crate.name not in failing, "why\n", 1
 
@@ -259,6 +263,9 @@ class Libraries(unittest.TestCase):
 
     def test_the_first_that_fails_ends_it(self):
         self.assertEqual(self.built(1, ["two"]), (["one", "two"], False, True))
+        # also where one beside it ends well after it
+        begun, well, _ = self.built(2, ["one"], ["five"])
+        self.assertEqual((sorted(begun), well), (["five", "one"], False))
 
 
 class Costs(unittest.TestCase):
@@ -359,6 +366,9 @@ class Soak(unittest.TestCase):
                 (record_row(0, 0, 4, 0, 0), link_of(1, 2, 3, 2))]:
             self.assertNotEqual(self.grants(record, link), [], (record, link))
         self.assertEqual(len(soak.unknown_grants({(1, 1, 0): held})), 1)
+        links = operator_row(link_of(1, 2, 3, 2))
+        found = soak.unknown_grants({(1, 1, 0): held, (1, 0, 1): links, (1, 0, 2): links})
+        self.assertEqual(found, ["(1, 2) holds domain 1 at epoch 3, whose record is (1, 1, 3)"])
 
 
 def eyes():
