@@ -201,10 +201,10 @@ def runs_of(lines):
     return found
 
 
-def states_hold(tree, place, trace):
-    """Whether every unit is in the state that it must be in at a place."""
+def states_of(tree, trace):
+    """The state of every unit at the end of a trace."""
     passed = last(trace, ["passed"], 1)
-    return {unit: passed.get(unit) for unit in tree.domains} == place.states
+    return {unit: passed.get(unit) for unit in tree.domains}
 
 
 def cases(program):
@@ -215,7 +215,7 @@ def cases(program):
     for place, (name, trace) in zip(PLACES, found):
         shown, new = last(trace, ["showed", "CONTROL"], 2), trace[len(before):]
         yield verdict.case(name + ": it goes on", [trace[:len(before)], len(trace) > len(before)], [before, True])
-        yield name + ": states", states_hold(tree, place, trace)
+        yield verdict.case(name + ": states", states_of(tree, trace), place.states)
         wanted = {top: place.shown.get(top, place.states[top]) for top in TOPS}
         yield verdict.case(name + ": what the control room sees", {top: shown.get(top) for top in TOPS}, wanted)
         yield verdict.case(
@@ -236,7 +236,7 @@ def blind_case(program):
         path = os.path.join(folder, "blind.tree")
         with open(path, "w", encoding="ascii") as file:
             file.write(blind)
-        held = {name: states_hold(hierarchy.read(path), places[name], trace)
+        held = {name: states_of(hierarchy.read(path), trace) == places[name].states
                 for name, trace in traces(program, path, ("a run", "a trip"))}
     yield verdict.case(
         "a tree that does not see a trip", [blind != text, held], [True, {"a run": True, "a trip": False}])

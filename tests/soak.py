@@ -352,10 +352,11 @@ def cases(soak):
     seconds = soak.said.seconds
     yield verdict.case("soak: violations", soak.violations, [])
     yield verdict.case("soak: orders were told", soak.told, seconds, ">")
-    yield "soak: nodes were killed", soak.kills > seconds // 10 or not soak.said.kills
+    yield verdict.case("soak: nodes were killed", soak.kills, seconds // 10 if soak.said.kills else -1, ">")
     yield verdict.case("soak: datagrams were passed on", soak.proxy.count["passed on"], seconds, ">")
     for what, rate in [("lost", "loss"), ("repeated", "repeat"), ("delayed", "delay")]:
-        yield "soak: datagrams were " + what, soak.proxy.count[what] > seconds // 10 or not soak.proxy.rates[rate]
+        most = seconds // 10 if soak.proxy.rates[rate] else -1
+        yield verdict.case("soak: datagrams were " + what, soak.proxy.count[what], most, ">")
     yield verdict.case("soak: rows were read", soak.samples, seconds, ">")
 
 

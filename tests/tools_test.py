@@ -8,6 +8,7 @@ Nothing is proved and no node runs. With a TEXT only the tests are run whose nam
 failed'.
 """
 
+import ast
 import collections
 import contextlib
 import glob
@@ -415,6 +416,27 @@ class Verdicts(unittest.TestCase):
         self.assertEqual(verdict.comes("one", lambda: next(seen), 3, 10), ("one", True))
         late = verdict.comes("one", lambda: 1, 2, 0)
         self.assertEqual((late, late.came), (("one", False), 1))
+
+
+class Scripts(unittest.TestCase):
+    """No script does anything where it is imported, and each tells of its end in one way."""
+
+    def paths(self):
+        return sorted(glob.glob(os.path.join(ROOT, "tools", "*.py")) + glob.glob(os.path.join(HERE, "*.py")))
+
+    def test_nothing_runs_where_it_is_imported(self):
+        for path in self.paths():
+            with open(path, encoding="utf-8") as file:
+                body = ast.parse(file.read()).body
+            calls = [ast.unparse(it) for it in body if isinstance(it, ast.Expr) and isinstance(it.value, ast.Call)]
+            self.assertEqual([it for it in calls if not it.startswith("sys.path.insert(")], [], path)
+
+    def test_one_way_to_end(self):
+        for path in self.paths():
+            with open(path, encoding="utf-8") as file:
+                own = "passed, %d failed" in file.read()
+            if path.startswith(HERE) and path != __file__:
+                self.assertEqual(own, os.path.basename(path) == "verdict.py", path)
 
 
 class Borrowed(unittest.TestCase):
