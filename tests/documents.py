@@ -44,6 +44,8 @@ PROOF_LINES, MOST_WORDS = 200, 40
 LOOKS = (" show ", "tools/rows.py", "tools/status.py")
 # The code of a command whose outcome was not seen: it stands in no record.
 UNSEEN = 8
+# A part of a document, as others name it.
+QUOTED = re.compile(r"(docs/[\w-]+\.md|README\.md), \"([^\"]+)\"")
 # How the names of crates end that are no part of the program.
 NO_PROGRAM = ("_tests", "_samples", "_bench", "_trial")
 # Where a page has its screen.
@@ -333,8 +335,21 @@ def link_cases():
         paths = set(re.findall(r"(?<![\w/.-])((?:crates|docs|examples|tests|tools)/[\w./*@-]*[\w*@/])", text))
         for target in sorted(it for it in paths if not it.startswith(made)):
             yield "%s: there is %s" % (path, target), bool(glob.glob(os.path.join(ROOT, target)))
-        for target, quoted in re.findall(r"(docs/\w+\.md), \"([^\"]+)\"", text):
+        for target, quoted in QUOTED.findall(text):
             yield verdict.case("%s: %s has \"%s\"" % (path, target, quoted), quoted, headings(read(target)), "in")
+
+
+def comment_cases():
+    """Comments of sources, scripts and examples name parts of documents that are there."""
+    count = 0
+    for path in sorted({it for patterns in (*places.SEARCHED.values(), ["tests/*.c"]) for pattern in patterns
+                        for it in places.found_by(pattern)} - set(documents())):
+        # a name may go on in the next line of a comment
+        text = re.sub(r"\n\s*(///|//!|//|--|#|\*)?\s*", " ", read(path))
+        for target, quoted in QUOTED.findall(text):
+            count += 1
+            yield verdict.case("%s: %s has \"%s\"" % (path, target, quoted), quoted, headings(read(target)), "in")
+    yield verdict.case("comments name parts of documents", count, 30, ">")
 
 
 def make_cases():
@@ -649,6 +664,7 @@ def cases(program, only):
     yield from promise_cases()
     yield from long_cases()
     yield from link_cases()
+    yield from comment_cases()
     yield from make_cases()
     yield from number_cases()
     yield from code_cases()

@@ -21,7 +21,8 @@ class Case(tuple):
 
     def __new__(cls, name, came, wanted, how):
         made = super().__new__(cls, (name, bool(HOW[how](came, wanted))))
-        made.came, made.wanted, made.how = came, wanted, how
+        # what held is not kept: it may be long
+        made.came, made.wanted, made.how = (None, None, how) if made[1] else (came, wanted, how)
         return made
 
 
