@@ -249,7 +249,7 @@ def shown_case(program, folder):
     tree = write_tree(folder, free_ports(2))
     keeper = Node(program, [tree, "B", os.path.join(folder, "B"), "--turns", SOME])
     other = Node(program, [tree, "A", os.path.join(folder, "A"), "--turns", SOME])
-    seen = []
+    seen, shown = [], []
     for line, wanted in [("show TPC", "board TPC 1.0 OFF"), ("report HV READY", "told report HV READY 0"),
                          ("show TPC", "board TPC 1.1 READY"), ("report HV RUNNING", "told report HV RUNNING 0"),
                          ("show TPC", "board TPC 1.2 RUNNING")]:
@@ -258,8 +258,8 @@ def shown_case(program, folder):
         while answer != wanted and line.startswith("show") and time.monotonic() < until:
             time.sleep(0.02)
             answer = node.ask(line)
-        seen.append(answer == wanted)
-    yield "a board of another station's objects", all(seen)
+        seen, shown = seen + [answer], shown + [wanted]
+    yield verdict.case("a board of another station's objects", seen, shown)
     keeper.kill()
     keeper = Node(program, [tree, "B", os.path.join(folder, "B"), "--turns", SOME])
     answers = [other.ask("show TPC")]
@@ -713,7 +713,7 @@ def growth_cases(program, folder):
             if is_without_memory(ran, whole):
                 break
         told += ran != whole
-        yield "growths of a node: %d" % growth, is_without_memory(ran, whole)
+        yield verdict.case("growths of a node: %d" % growth, whole if is_without_memory(ran, whole) else ran, whole)
     yield verdict.case("growths of a node: %d of them needed" % told, told, 0, ">")
 
 

@@ -68,8 +68,8 @@ def contents(folder):
     return found
 
 
-def is_listed_alone(program, path, rows):
-    """Whether a store is listed, and neither it nor its folder changes; both may not be written."""
+def listed_alone(name, program, path, rows):
+    """A case: that a store is listed, and neither it nor its folder changes; both may not be written."""
     folder = os.path.dirname(path)
     before = contents(folder)
     for name in before:
@@ -77,7 +77,7 @@ def is_listed_alone(program, path, rows):
     os.chmod(folder, 0o555)
     done = run(program, "rows", path)
     os.chmod(folder, 0o755)
-    return done == (stores.listing(rows).encode(), b"", 0) and contents(folder) == before
+    return verdict.case(name, (done, contents(folder)), ((stores.listing(rows).encode(), b"", 0), before))
 
 
 def store_in(folder, name):
@@ -88,13 +88,13 @@ def store_in(folder, name):
 def reading_cases(program, folder):
     """Each store that is only read: a name, and whether it is listed and left as it was."""
     path = stores.store(store_in(folder, "alone"), stores.TABLE, stores.ROWS)
-    yield "a store that may not be written", is_listed_alone(program, path, stores.ROWS)
+    yield listed_alone("a store that may not be written", program, path, stores.ROWS)
     link = os.path.join(folder, "link")
     os.symlink(path, link)
     yield verdict.case("a store by a link", run(program, "rows", link), (stores.listing(stores.ROWS).encode(), b"", 0))
     path = store_in(folder, "blank")
     open(path, "wb").close()
-    yield "a file with nothing in it", is_listed_alone(program, path, [])
+    yield listed_alone("a file with nothing in it", program, path, [])
     # Two rows of three stand in the log alone.
     path, there = store_in(folder, "logged"), store_in(folder, "there")
     with sqlite3.connect(there) as file:
@@ -107,7 +107,8 @@ def reading_cases(program, folder):
             with open(there + more, "rb") as source, open(path + more, "wb") as copy:
                 copy.write(source.read())
     file.close()
-    yield "a store with a log", os.path.getsize(path + "-wal") > 0 and is_listed_alone(program, path, stores.ROWS)
+    yield verdict.case("a store with a log: it has one", os.path.getsize(path + "-wal"), 0, ">")
+    yield listed_alone("a store with a log", program, path, stores.ROWS)
     fifo = os.path.join(folder, "fifo")
     os.mkfifo(fifo)
     yield verdict.case("a pipe with a name", run(program, "rows", fifo), (b"", b"store fault\n", 3))
@@ -149,12 +150,14 @@ def crowd_case(program, folder):
     after = written[0] + 1
     is_over.set()
     writer.join()
-    held = after > before + 1
+    yield verdict.case("forty listings beside a writer: it wrote meanwhile", after, before + 1, ">")
+    wrong = []
     for (out, err), status in done:
         count = out.count(b"\n")
         wanted = stores.listing([row(place) for place in range(1, count + 1)]).encode()
-        held = held and (out, err, status) == (wanted, b"", 0) and before <= count <= after
-    yield "forty listings beside a writer", held
+        is_so = (out, err, status) == (wanted, b"", 0) and before <= count <= after
+        wrong += [] if is_so else [(out[-200:], err, status, before, count, after)]
+    yield verdict.case("forty listings beside a writer", wrong, [])
 
 
 def cases(program, folder):
