@@ -5,7 +5,7 @@ SOURCES := crates.txt $(shell find crates -path '*/out' -prune -o -type f \( -na
 # So many crates are proved side by side: one for each processor, and 4 GB for each.
 LANES := $(shell awk -v most=$$(nproc) '/^MemAvailable/ { fit = int($$2 / 4000000); print fit < 1 ? 1 : fit < most ? fit : most }' /proc/meminfo)
 
-.PHONY: smi run try test gate record check cases nodes marks full consoles soak crowd shift screen browser bridge demo tools documents pictures edits edits-test costs bench
+.PHONY: smi run try test gate record check cases nodes marks full consoles soak crowd shift screen browser bridge demo tools documents pictures edits edits-test tools-test costs bench
 .PHONY: install deb package
 
 # The program, proved and built, at bin/smi.
@@ -151,6 +151,10 @@ edits:
 # Whether that tells an edit that is refused from one that is not.
 edits-test:
 	@python3 tests/edits_test.py
+
+# The tools that say whether a change is sound, or the tests whose name has a text: make tools-test ONLY=Soak.
+tools-test:
+	@python3 tests/tools_test.py $(if $(ONLY),'$(ONLY)')
 
 # What crates cost the gate: make costs CRATE='smi_grant smi_tree'
 costs:

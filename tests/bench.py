@@ -376,4 +376,5 @@ def main():
         saves(bench, folder)
 
 
-main()
+if __name__ == "__main__":
+    main()

@@ -155,4 +155,5 @@ def main():
         sockets(program, folder)
 
 
-main()
+if __name__ == "__main__":
+    main()

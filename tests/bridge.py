@@ -16,6 +16,8 @@ import sys
 import tempfile
 import time
 
+import verdict
+
 HERE = os.path.dirname(os.path.abspath(__file__))
 sys.path.insert(0, os.path.join(HERE, "..", "tools"))
 BRIDGE = os.path.join(HERE, "..", "tools", "tango_bridge.py")
@@ -128,16 +130,14 @@ def python_with_tango():
     return None
 
 
-def comes(holds):
-    until = time.monotonic() + SOON
-    while time.monotonic() < until:
+def comes(name, look, wanted):
+    """A case: that what is looked at comes to be what is wanted."""
+    def seen():
         try:
-            if holds():
-                return True
+            return look()
         except OSError:
-            pass
-        time.sleep(0.05)
-    return False
+            return "no answer"
+    return verdict.comes(name, seen, wanted, SOON)
 
 
 class Place:
@@ -186,39 +186,41 @@ class Place:
     def states(self):
         return {shown.object: shown.state for shown in self.client.states()}
 
-    def comes_to(self, **wanted):
-        def holds():
+    def comes_to(self, case, **wanted):
+        """A case: that these objects come into these states."""
+        def look():
             try:
                 states = self.states()
-            except self.lost:
-                return False
-            return all(states.get(name) == state for name, state in wanted.items())
-        return comes(holds)
+            except (OSError, self.lost):
+                return "no answer"
+            return {name: states.get(name) for name in wanted}
+        return verdict.comes(case, look, wanted, SOON)
 
 
 def device_cases(place):
     place.node()
     place.server()
     place.bridge()
-    yield "both supplies are reported", place.comes_to(HV="OFF", LV="OFF", TPC="OFF")
+    yield place.comes_to("both supplies are reported", HV="OFF", LV="OFF", TPC="OFF")
     place.client.take("ANN", "TPC")
     place.client.do("ANN", "TPC", "CONFIGURE")
-    yield "an action moves the devices and the domain", place.states()["TPC"] in ("RAMPING", "READY")
-    yield "the supplies ramp and are ready", place.comes_to(HV="READY", LV="READY", TPC="READY")
-    yield "each was started once", [place.tango("test/supply/" + it, "started") for it in ("hv", "lv")] == ["1", "1"]
+    yield verdict.case("an action moves the devices and the domain", place.states()["TPC"], ("RAMPING", "READY"), "in")
+    yield place.comes_to("the supplies ramp and are ready", HV="READY", LV="READY", TPC="READY")
+    yield verdict.case(
+        "each was started once", [place.tango("test/supply/" + it, "started") for it in ("hv", "lv")], ["1", "1"])
     place.tango("test/supply/hv", "Trip")
-    yield "a trip is reported", place.comes_to(HV="ERROR", LV="READY", TPC="ERROR")
+    yield place.comes_to("a trip is reported", HV="ERROR", LV="READY", TPC="ERROR")
     place.client.do("ANN", "TPC", "STANDBY")
-    yield "another action", place.comes_to(HV="OFF", LV="OFF", TPC="OFF")
+    yield place.comes_to("another action", HV="OFF", LV="OFF", TPC="OFF")
     place.end("server")
-    yield "a server that is gone", place.comes_to(HV="UNKNOWN", LV="UNKNOWN", TPC="UNKNOWN")
+    yield place.comes_to("a server that is gone", HV="UNKNOWN", LV="UNKNOWN", TPC="UNKNOWN")
     place.server()
-    yield "and comes back", place.comes_to(HV="OFF", LV="OFF", TPC="OFF")
+    yield place.comes_to("and comes back", HV="OFF", LV="OFF", TPC="OFF")
     place.tango("test/supply/lv", "On")
-    yield "what TANGO does by itself is reported", place.comes_to(HV="OFF", LV="READY")
+    yield place.comes_to("what TANGO does by itself is reported", HV="OFF", LV="READY")
     place.end("node")
     place.node()
-    yield "a node that is started again is told anew", place.comes_to(HV="OFF", LV="READY")
+    yield place.comes_to("a node that is started again is told anew", HV="OFF", LV="READY")
 
 
 def domain_cases(place):
@@ -232,12 +234,12 @@ def domain_cases(place):
     def told(word):
         return place.tango("smi/domain/TPC", word, place.domain_port)
 
-    yield "a domain as a TANGO device", comes(lambda: told("commander") == "ANN")
-    yield "its state", comes(lambda: told("smi_state") == place.states()["TPC"])
+    yield comes("a domain as a TANGO device", lambda: told("commander"), "ANN")
+    yield comes("its state", lambda: told("smi_state") == place.states()["TPC"], True)
     place.tango("test/supply/hv", "Trip")
-    yield "an alarm is a fault", comes(lambda: told("State") == "FAULT") and told("smi_state") == "ERROR"
+    yield comes("an alarm is a fault", lambda: (told("State"), told("smi_state")), ("FAULT", "ERROR"))
     place.end("node")
-    yield "a silent station is unknown", comes(lambda: told("State") == "UNKNOWN")
+    yield comes("a silent station is unknown", lambda: told("State"), "UNKNOWN")
 
 
 def main():
@@ -245,8 +247,6 @@ def main():
         return serve(sys.argv[2])
     if sys.argv[1] == "--call":
         return call(*sys.argv[2:])
-    import verdict
-
     python = python_with_tango()
     if python is None:
         print("skipped: there is no PyTango here (Debian's python3-tango)\n0 passed, 0 failed")

@@ -96,9 +96,11 @@ def labels(names, states, holders):
 def shift_cases(program, detector, browser):
     """A shift: what is shown is what the schedule's trace says."""
     names = detector.names
-    yield "shift: the page joins", browser.waits_for("document.getElementById('live').textContent === 'live'") is not None
+    yield verdict.case(
+        "shift: the page joins", browser.waits_for("document.getElementById('live').textContent === 'live'"), None,
+        "is not")
     everywhere = "[...document.querySelectorAll('#main section')].every((box) => !box.classList.contains('silent'))"
-    yield "shift: all stations are heard", browser.waits_for(everywhere) is not None
+    yield verdict.case("shift: all stations are heard", browser.waits_for(everywhere), None, "is not")
     demo.play(detector, until=PLACE, tell=lambda text: None)
     states, holders = traced(program, PLACE)
     wanted = labels(names, states, holders)
@@ -106,13 +108,14 @@ def shift_cases(program, detector, browser):
                       % states["EXPERIMENT"], 10)
     time.sleep(1.5)
     shown = browser.run(SHOWN)
-    yield "shift: states", {it["name"]: it["state"] for it in shown} == {name: states[name] for name in names.domains}
+    yield verdict.case(
+        "shift: states", {it["name"]: it["state"] for it in shown}, {name: states[name] for name in names.domains})
     differ = {it["name"]: it["label"] for it in shown if it["label"] != wanted[it["name"]]}
     yield "shift: who commands %s" % (differ or ""), not differ
     dots = sorted(browser.run(DOTS))
-    yield "shift: devices", dots == sorted("%s %s" % (name, states[name]) for name in names.devices)
+    yield verdict.case("shift: devices", dots, sorted("%s %s" % (name, states[name]) for name in names.devices))
     legend = browser.run("[...document.querySelectorAll('#states b')].map((b) => b.textContent)")
-    yield "shift: the legend is the tree's", legend[:-1] == names.states
+    yield verdict.case("shift: the legend is the tree's", legend[:-1], names.states)
 
 
 def key_cases(detector, browser):
@@ -122,23 +125,25 @@ def key_cases(detector, browser):
     for _ in range(len(detector.names.domains) + 10):
         browser.key("Tab")
         reached.add(browser.run("document.activeElement.dataset.domain || ''"))
-    yield "keys: Tab reaches every domain", set(detector.names.domains) <= reached
+    yield verdict.case("keys: Tab reaches every domain", set(detector.names.domains), reached, "<=")
     browser.run("document.querySelector('[data-domain=TRK]').focus()")
     browser.key("ArrowDown")
-    yield "keys: an arrow leads on", browser.run("document.activeElement.dataset.domain") == "PIXEL"
+    yield verdict.case("keys: an arrow leads on", browser.run("document.activeElement.dataset.domain"), "PIXEL")
     browser.key("Enter")
-    yield "keys: Enter opens a domain", browser.waits_for("document.getElementById('more').open", 5) is not None
+    yield verdict.case(
+        "keys: Enter opens a domain", browser.waits_for("document.getElementById('more').open", 5), None, "is not")
     told = browser.run("document.getElementById('more').textContent")
     yield "keys: what it says", all(text in told for text in ["PIXEL", "READY", "SHIFT_LEADER", "mode unknown", "TRACKER"])
     browser.key("Escape")
     back = "!document.getElementById('more').open && document.activeElement.dataset.domain === 'PIXEL'"
-    yield "keys: Escape leads back", browser.waits_for(back, 5) is not None
+    yield verdict.case("keys: Escape leads back", browser.waits_for(back, 5), None, "is not")
     before = browser.run("getComputedStyle(document.body).color")
     browser.key("t")
-    yield "keys: t turns light and dark", browser.run("getComputedStyle(document.body).color") != before
+    yield verdict.case(
+        "keys: t turns light and dark", browser.run("getComputedStyle(document.body).color"), before, "!=")
     browser.key("t")
     nameless = "[...document.querySelectorAll('button')].filter((b) => !(b.getAttribute('aria-label') || b.textContent)).length"
-    yield "keys: each button has a name", browser.run(nameless) == 0
+    yield verdict.case("keys: each button has a name", browser.run(nameless), 0)
 
 
 def look_cases(browser):
@@ -150,12 +155,12 @@ def look_cases(browser):
         time.sleep(0.7)
         backs.append(browser.run("getComputedStyle(document.documentElement).backgroundColor"))
         faint = browser.run(CONTRASTS)
-        yield "looks: contrast in %s %s" % (scheme, faint or ""), faint == []
-    yield "looks: the machine's own choice of dark and light", backs[0] != backs[1]
+        yield verdict.case("looks: contrast in %s %s" % (scheme, faint or ""), faint, [])
+    yield verdict.case("looks: the machine's own choice of dark and light", backs[0], backs[1], "!=")
     browser.size(390, 844, True)
     time.sleep(0.7)
     wide = browser.run("document.documentElement.scrollWidth")
-    yield "looks: a telephone (%d wide)" % wide, wide <= 390
+    yield verdict.case("looks: a telephone (%d wide)" % wide, wide, 390, "<=")
     browser.size(1920, 1080)
 
 
@@ -224,27 +229,32 @@ def shows(browser, domain, state, patience=20):
 def order_cases(detector, browser):
     """Orders from the page: greyed with a reason, one click and one confirmation, and then the node has it."""
     hand = Hand(browser)
-    yield "orders: the console is there", browser.waits_for(
-        "document.getElementById('console').textContent === 'orders: connected'", 20) is not None
+    yield verdict.case(
+        "orders: the console is there",
+        browser.waits_for("document.getElementById('console').textContent === 'orders: connected'", 20), None, "is not")
     yield "orders: a domain opens", hand.open(TOP)
-    yield "orders: nobody is chosen", hand.button("START") == ["true", "choose who orders, at the top of the page"]
-    yield "orders: nothing is asked for nobody", hand.click("START") is None
+    yield verdict.case(
+        "orders: nobody is chosen", hand.button("START"), ["true", "choose who orders, at the top of the page"])
+    yield verdict.case("orders: nothing is asked for nobody", hand.click("START"), None, "is")
     hand.choose(LEADER)
-    yield "orders: greyed: held already", hand.button("take") == ["true", "%s holds %s already" % (LEADER, TOP)]
-    yield "orders: no mode of a root", browser.run("document.querySelectorAll('[data-deed=exclude]').length") == 0
-    yield "orders: a greyed one asks nothing", hand.click("take") is None
+    yield verdict.case(
+        "orders: greyed: held already", hand.button("take"), ["true", "%s holds %s already" % (LEADER, TOP)])
+    yield verdict.case(
+        "orders: no mode of a root", browser.run("document.querySelectorAll('[data-deed=exclude]').length"), 0)
+    yield verdict.case("orders: a greyed one asks nothing", hand.click("take"), None, "is")
     hand.open("TRK")
-    yield "orders: greyed: held by what stands above", hand.button("STOP") == [
-        "true", "%s does not hold TRK: order at %s" % (LEADER, TOP)]
-    yield "orders: not greyed", hand.button("exclude") == ["false", "exclude TRK from %s?" % TOP]
+    yield verdict.case(
+        "orders: greyed: held by what stands above", hand.button("STOP"),
+        ["true", "%s does not hold TRK: order at %s" % (LEADER, TOP)])
+    yield verdict.case("orders: not greyed", hand.button("exclude"), ["false", "exclude TRK from %s?" % TOP])
     hand.open("INFRA")
-    yield "orders: not greyed: what is free", hand.button("take")[0] == "false"
+    yield verdict.case("orders: not greyed: what is free", hand.button("take")[0], "false")
     hand.open(TOP)
     asked = hand.click("START")
-    yield "orders: it is asked", asked == ["START at %s?" % TOP, ["yes, START", "cancel"]]
+    yield verdict.case("orders: it is asked", asked, ["START at %s?" % TOP, ["yes, START", "cancel"]])
     hand.answer(1)
     time.sleep(1)
-    yield "orders: cancelled, nothing is given", browser.run(GIVEN) == []
+    yield verdict.case("orders: cancelled, nothing is given", browser.run(GIVEN), [])
     hand.click("START")
     hand.answer(0)
     yield "orders: one is given and ends", hand.sees("%s do %s START" % (LEADER, TOP), "0: done")
@@ -260,48 +270,54 @@ def order_key_cases(browser, hand):
     hand.open(TOP)
     browser.run("document.querySelector('[data-deed=STOP]').focus()")
     browser.key("Enter")
-    yield "orders: Enter asks", browser.waits_for(QUESTION + ".open", 5) is not None
+    yield verdict.case("orders: Enter asks", browser.waits_for(QUESTION + ".open", 5), None, "is not")
     browser.key("Escape")
-    yield "orders: Escape says no", browser.waits_for("!%s.open && document.getElementById('more').open" % QUESTION,
-                                                      5) is not None
-    yield "orders: and leads back", browser.run("document.activeElement.dataset.deed") == "STOP"
+    yield verdict.case(
+        "orders: Escape says no", browser.waits_for("!%s.open && document.getElementById('more').open" % QUESTION, 5),
+        None, "is not")
+    yield verdict.case("orders: and leads back", browser.run("document.activeElement.dataset.deed"), "STOP")
     nameless = "[...document.querySelectorAll('#more button, select')].filter((b) => !(b.labels && b.labels.length)" \
         " && !b.textContent).length"
-    yield "orders: each button has a name", browser.run(nameless) == 0
+    yield verdict.case("orders: each button has a name", browser.run(nameless), 0)
 
 
 def silent_cases(detector, browser, hand):
     """Before a command a silent station is asked about, and can be left out."""
     detector.stop("MUON")
     silent = "document.querySelector('#main [data-domain=MUO]').closest('section').classList.contains('silent')"
-    yield "silent: it is", browser.waits_for(silent, 20) is not None
+    yield verdict.case("silent: it is", browser.waits_for(silent, 20), None, "is not")
     hand.open(TOP)
     words, choices = hand.click("STOP")
-    yield "silent: the question (%s)" % words, re.fullmatch(
+    yield verdict.case(
+        "silent: the question (%s)" % words,
+        re.fullmatch(
         r"MUON has been silent for [0-9]+ s\. STOP will hold EXPERIMENT, and nobody will command TRK, CAL, TRG, DAQ"
-        r" until it is back\.", words) is not None
-    yield "silent: what can be answered", choices == ["make MUO manual, then STOP", "STOP anyway", "cancel"]
+        r" until it is back\.", words),
+        None, "is not")
+    yield verdict.case("silent: what can be answered", choices, ["make MUO manual, then STOP", "STOP anyway", "cancel"])
     hand.answer(2)
     time.sleep(1)
-    yield "silent: cancelled, nothing is given", "STOP" not in "".join(browser.run(GIVEN))
+    yield verdict.case("silent: cancelled, nothing is given", "STOP", "".join(browser.run(GIVEN)), "not in")
     hand.click("STOP")
     hand.answer(0)
     yield "silent: made manual", hand.sees("%s manual %s MUO" % (LEADER, TOP), "0: done")
     yield "silent: and then stopped", hand.sees("%s do %s STOP" % (LEADER, TOP), "0: done")
-    yield "silent: nothing waits", browser.run(GIVEN + ".filter((text) => text.includes('waits')).length") == 0
-    yield "silent: asked no more", hand.click("START") == ["START at %s?" % TOP, ["yes, START", "cancel"]]
+    yield verdict.case(
+        "silent: nothing waits", browser.run(GIVEN + ".filter((text) => text.includes('waits')).length"), 0)
+    yield verdict.case("silent: asked no more", hand.click("START"), ["START at %s?" % TOP, ["yes, START", "cancel"]])
     hand.shut()
     yield from elsewhere_cases(detector, browser, hand)
     hand.open("MUO")
     words, choices = hand.click("include")
-    yield "silent: including it would hold too", words.endswith("until it is back.") and choices == [
-        "include anyway", "cancel"]
+    yield verdict.case(
+        "silent: including it would hold too", [words.endswith("until it is back."), choices],
+        [True, ["include anyway", "cancel"]])
     hand.answer(1)
     detector.start("MUON")
-    yield "silent: it comes back", browser.waits_for("!" + silent, 20) is not None
+    yield verdict.case("silent: it comes back", browser.waits_for("!" + silent, 20), None, "is not")
     hand.open("MUO")
     asked = hand.click("include")
-    yield "silent: included again", asked == ["include MUO in %s?" % TOP, ["yes, include", "cancel"]]
+    yield verdict.case("silent: included again", asked, ["include MUO in %s?" % TOP, ["yes, include", "cancel"]])
     hand.answer(0)
     yield "silent: it is", hand.sees("%s include %s MUO" % (LEADER, TOP), "0: done")
 
@@ -313,8 +329,8 @@ def elsewhere_cases(detector, browser, hand):
     # a machine that others use may have other stations silent for a moment
     waits = "[domains.get('%s')].some((d) => !isSilent(d) && silentBelow(d).some((c) => c.name === 'MUO'))" % TOP
     hand.open(TOP)
-    yield "elsewhere: not asked before, however long", browser.waits_for(waits, 4) is None
-    yield "elsewhere: included at a console", detector.order(include) == "told %s 0" % include
+    yield verdict.case("elsewhere: not asked before, however long", browser.waits_for(waits, 4), None, "is")
+    yield verdict.case("elsewhere: included at a console", detector.order(include), "told %s 0" % include)
     took = browser.waits_for(waits, 20)
     yield "elsewhere: it is known in %s s" % took, took is not None and took < SILENT + SLACK
     before = [hand.times(order) for order in (manual, start, stop)]
@@ -328,11 +344,12 @@ def elsewhere_cases(detector, browser, hand):
     hand.answer(0)
     yield "elsewhere: made manual again", hand.is_done_again(manual, before[0])
     yield "elsewhere: and then started", hand.is_done_again(start, before[1])
-    yield "elsewhere: asked no more", hand.click("STOP") == ["STOP at %s?" % TOP, ["yes, STOP", "cancel"]]
+    yield verdict.case("elsewhere: asked no more", hand.click("STOP"), ["STOP at %s?" % TOP, ["yes, STOP", "cancel"]])
     hand.answer(0)
     yield "elsewhere: stopped", hand.is_done_again(stop, before[2])
-    yield "elsewhere: a command from elsewhere is a doubt", detector.order(stop) == "told %s 0" % stop \
-        and browser.waits_for(waits, 20) is not None
+    yield verdict.case(
+        "elsewhere: a command from elsewhere is a doubt",
+        [detector.order(stop), browser.waits_for(waits, 20) is not None], ["told %s 0" % stop, True])
     hand.shut()
 
 
@@ -345,16 +362,17 @@ def waiting_cases(detector, browser):
     browser.waits_for(silent, 20)
     hand.open("INFRA")
     asked = hand.click("take", "SERVICES")
-    yield "waiting: it is asked", asked == ["take INFRA?", ["yes, take", "cancel"]]
+    yield verdict.case("waiting: it is asked", asked, ["take INFRA?", ["yes, take", "cancel"]])
     hand.answer(0)
     waits = "%s.some((text) => /^%s take INFRAwaits [2-9] s for station SERVICES$/.test(text))" % (GIVEN, LEADER)
-    yield "waiting: with its seconds and its station", browser.waits_for(waits, 10) is not None
+    yield verdict.case("waiting: with its seconds and its station", browser.waits_for(waits, 10), None, "is not")
     detector.start("SERVICES")
     yield "waiting: and ends", hand.sees("%s take INFRA" % LEADER, "0: done")
     hand.open("INFRA")
     browser.waits_for("document.querySelector('[data-deed=drop]').getAttribute('aria-disabled') === 'false'", 20)
     asked = hand.click("drop")
-    yield "waiting: it may be given back (%s)" % hand.button("drop")[1], asked == ["drop INFRA?", ["yes, drop", "cancel"]]
+    yield verdict.case(
+        "waiting: it may be given back (%s)" % hand.button("drop")[1], asked, ["drop INFRA?", ["yes, drop", "cancel"]])
     hand.answer(0)
     yield "waiting: and is %s" % browser.run(GIVEN), hand.sees("%s drop INFRA" % LEADER, "0: done")
     hand.shut()
@@ -376,15 +394,15 @@ def trip_cases(detector, browser):
     yield "trips: a killed station is silent in %.1f s" % took, seen is not None and took < SILENT + SLACK
     others = [it["name"] for it in browser.run(SHOWN) if it["silent"]]
     of = [name for name in detector.names.domains if detector.names.station_of(name) == "MUON"]
-    yield "trips: and no other", sorted(others) == sorted(of)
+    yield verdict.case("trips: and no other", sorted(others), sorted(of))
     told = browser.waits_for("/MUON silent [0-9]+ s/.test(document.getElementById('alarms').textContent)", 5)
-    yield "trips: it is told on top", told is not None
+    yield verdict.case("trips: it is told on top", told, None, "is not")
     detector.start("MUON")
-    yield "trips: it comes back", browser.waits_for("!" + silent, 20) is not None
+    yield verdict.case("trips: it comes back", browser.waits_for("!" + silent, 20), None, "is not")
     browser.run("document.getElementById('hour').open = true")
     logged = browser.waits_for("/MUO silent/.test(document.getElementById('log').textContent)"
                                " && /PIXEL_HV7 ERROR/.test(document.getElementById('log').textContent)", 5)
-    yield "trips: the log has both", logged is not None
+    yield verdict.case("trips: the log has both", logged, None, "is not")
 
 
 def lost_cases(detector, browser):
@@ -397,13 +415,14 @@ def lost_cases(detector, browser):
     took = time.monotonic() - begun
     yield "lost: it is told in %.1f s" % took, seen is not None and took < LOST + SLACK
     large = browser.run("parseFloat(getComputedStyle(document.getElementById('lost')).fontSize)")
-    yield "lost: in large letters", large > 80
+    yield verdict.case("lost: in large letters", large, 80, ">")
     detector.screen = detector.looking()
     # The page is loaded anew, with the key of the screen that has begun again.
     back = "!!document.body && !document.body.classList.contains('lost') && !!tree && !!picture"
-    yield "lost: it comes back", browser.waits_for(back, 30) is not None
-    yield "lost: and orders go on", browser.waits_for(
-        "document.getElementById('console').textContent === 'orders: connected'", 20) is not None
+    yield verdict.case("lost: it comes back", browser.waits_for(back, 30), None, "is not")
+    yield verdict.case(
+        "lost: and orders go on",
+        browser.waits_for("document.getElementById('console').textContent === 'orders: connected'", 20), None, "is not")
 
 
 # A tree of three levels, each at a station of its own, of which that in the middle is silent.
@@ -478,21 +497,23 @@ COUNTS = [
 def deep_cases(browser):
     """An order about a mode goes through each domain on its way: it waits for one that is silent."""
     asked = browser.run(DEEP)
-    yield "deep: what waits on the way %s" % asked, asked == [
-        ["%s TOP LOW" % verb, "TOP", ["MID"]] for verb in ("include", "exclude", "manual", "ignore")]
+    yield verdict.case(
+        "deep: what waits on the way %s" % asked, asked,
+        [["%s TOP LOW" % verb, "TOP", ["MID"]] for verb in ("include", "exclude", "manual", "ignore")])
 
 
 def unheld_cases(browser):
     """Nobody's box has a colour, also within one that somebody commands; a station that was never heard is told."""
     told = browser.run(UNHELD)
-    yield "unheld: whose boxes have no colour, and what is on top: %s" % told, told == [False, True, True, "C not heard"]
+    yield verdict.case(
+        "unheld: whose boxes have no colour, and what is on top: %s" % told, told, [False, True, True, "C not heard"])
 
 
 def counted_cases(browser):
     """A child counts as manual only as long as nobody else can have changed that."""
     for name, steps in COUNTS:
         seen = browser.run(COUNTED % json.dumps([step[:-1] for step in steps]))
-        yield "counted: %s" % name, seen == [step[-1] for step in steps]
+        yield verdict.case("counted: %s" % name, seen, [step[-1] for step in steps])
 
 
 LARGE = """(() => {
@@ -523,7 +544,8 @@ def large_cases(browser):
     """The largest tree, all of which changes at each picture."""
     times = browser.run(LARGE % (DOMAINS, DEVICES, DOMAINS, random.randrange(1 << 30)))
     middle = times[len(times) // 2]
-    yield "large: %d domains and %d devices in %.0f ms" % (DOMAINS, DEVICES, middle), middle < FRAME * (1 + SLACK)
+    yield verdict.case(
+        "large: %d domains and %d devices in %.0f ms" % (DOMAINS, DEVICES, middle), middle, FRAME * (1 + SLACK), "<")
 
 
 def cases(program, path, folder):

@@ -35,6 +35,7 @@ import settling
 import stores
 import terminals
 import trees
+import verdict
 
 HERE = os.path.dirname(os.path.abspath(__file__))
 PATHS = {"TREE": os.path.join(HERE, "..", "examples", "worked.tree"), "NOWHERE": os.path.join(HERE, "no-such-file")}
@@ -91,14 +92,9 @@ def run(program, case):
     return done.stdout or b"", done.stderr.decode(), done.returncode
 
 
-def holds(program, case):
-    """Whether the program does as the case says."""
-    got = run(program, case)
-    want = (case["out"], case["err"], case["status"])
-    if got == want:
-        return True
-    print("FAILED %s\n  wanted %s\n  got    %s" % (case["name"], want, got))
-    return False
+def ran(program, case):
+    """A case: that the program does as the table says."""
+    return verdict.case(case["name"], run(program, case), (case["out"], case["err"], case["status"]))
 
 
 # Of each field of a take that has a range, the values at both ends of what is accepted and beyond, and beyond what a
@@ -175,7 +171,7 @@ def main():
     with tempfile.TemporaryDirectory() as folder:
         table += tree_cases(folder)
         table += store_cases(folder)
-        done = [holds(program, case) for case in table if only in case["name"]]
+        done = [ran(program, case) for case in table if only in case["name"]]
         others = [case for case in stores.ours(program, trial, folder) if only in case[0]]
         others += growths.refused_cases(program, folder, only)
         others += growths.store_cases(program, folder, only)
@@ -192,15 +188,8 @@ def main():
         others += schedules.cases(program, room(folder, "of schedules"), only)
         others += settling.cases(program, only)
         others += plays.cases(trial, room(folder, "of plays"), only)
-        for name, held in others:
-            done.append(held)
-            if not held:
-                print("FAILED " + name)
-    passed = sum(done)
-    failed = len(done) - passed
-    print("%d passed, %d failed" % (passed, failed))
-    # a text that no case has tests nothing
-    sys.exit(1 if failed or not done else 0)
+    verdict.end(done + others)
 
 
-main()
+if __name__ == "__main__":
+    main()

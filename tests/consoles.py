@@ -7,7 +7,6 @@ other programs may run beside.
 """
 
 import os
-import random
 import re
 import socket
 import statistics
@@ -25,7 +24,7 @@ import lines
 import lunskaf
 import nodes
 import threads
-import wires
+import verdict
 
 HERE = os.path.dirname(os.path.abspath(__file__))
 EXAMPLES = os.path.join(HERE, os.pardir, "examples")
@@ -217,21 +216,23 @@ def waiting_case(program, folder):
     """One connection waits for a station that is away; another gives orders and reports; a third asks."""
     place = Place(program, folder)
     ann, bob, eve = (Console(place.where) for _ in range(3))
-    yield "a take is told", ann.ask("order ANN take TOP") == "told ANN take TOP 0"
+    yield verdict.case("a take is told", ann.ask("order ANN take TOP"), "told ANN take TOP 0")
     ann.say("order ANN include TOP FAR\nshow L\n")
     lines = ["order BOB take LEFT", "report L READY", "order BOB do LEFT FALL", "report R OFF", "order BOB drop LEFT"]
     wanted = ["told BOB take LEFT 0", "told report L READY 0", "told BOB do LEFT FALL 0", "told report R OFF 0",
               "told BOB drop LEFT 0"]
     told, took = timed(bob.ask, lines * 10)
-    yield "beside an order that waits all others are answered", told == wanted * 10
+    yield verdict.case("beside an order that waits all others are answered", told, wanted * 10)
     yield "and soon", statistics.median(took) < SOON and max(took) < LATEST
     eve.say("under way\n")
     way = [eve.line(), eve.line()]
-    yield "what is under way is told to others", (way[0].rsplit(" ", 1)[0], way[1]) == (
-        "way ANN include TOP FAR", "under way 1")
+    yield verdict.case(
+        "what is under way is told to others", (way[0].rsplit(" ", 1)[0], way[1]),
+        ("way ANN include TOP FAR", "under way 1"))
     away = place.start_away()
-    yield "once the station is there, the order that waited is told first, and then the line behind it", [
-        ann.line(), ann.line()] == ["told ANN include TOP FAR 0", "board L none"]
+    yield verdict.case(
+        "once the station is there, the order that waited is told first, and then the line behind it",
+        [ann.line(), ann.line()], ["told ANN include TOP FAR 0", "board L none"])
     for console in (ann, bob, eve):
         console.close()
     away.kill()
@@ -253,15 +254,16 @@ def partitions_case(program, folder):
             ann.do("ANN", "LEFT", "FALL")
             bob.do("BOB", "RIGHT", "FALL")
         held = [(ann.ask("ANN", domain).holder, ann.ask("ANN", domain).last) for domain in ("LEFT", "RIGHT")]
-        yield "two operators command two sub-detectors from one node", held == [("ANN", 40), ("BOB", 40)]
-        yield "while the order of a third waits", third.is_alive() and [
-            (it.operator, it.order) for it in bob.under_way()] == [("EVE", "take FAR")]
+        yield verdict.case("two operators command two sub-detectors from one node", held, [("ANN", 40), ("BOB", 40)])
+        yield verdict.case(
+            "while the order of a third waits", [third.is_alive(), [(it.operator, it.order) for it in bob.under_way()]],
+            [True, [("EVE", "take FAR")]])
         try:
             bob.take("BOB", "LEFT")
             code = 0
         except lunskaf.Refused as refused:
             code = refused.code
-        yield "and neither can take the other's", code == 5
+        yield verdict.case("and neither can take the other's", code, 5)
         away = place.start_away()
         third.join(PATIENCE)
         yield "until its station is there", not third.is_alive()
@@ -307,16 +309,16 @@ def many_case(program, folder):
     yield "%d connections with %d orders each: all are answered once, and to the right one" % (GUESTS, ORDERS), \
         not failures and not any(thread.is_alive() for thread in threads)
     full = [Console(place.where) for _ in range(GUESTS)]
-    yield "so many are there at once", [it.ask("show L") for it in full] == ["board L none"] * GUESTS
+    yield verdict.case("so many are there at once", [it.ask("show L") for it in full], ["board L none"] * GUESTS)
     more = Console(place.where)
-    yield "and one more is told that it is full", more.rest() == ["full"]
+    yield verdict.case("and one more is told that it is full", more.rest(), ["full"])
     full.pop().close()
     until, told = time.monotonic() + PATIENCE, None
     while time.monotonic() < until and told != "board L none":
         again = Console(place.where)
         told = again.ask("show L")
         again.close()
-    yield "where one has left there is room again", told == "board L none"
+    yield verdict.case("where one has left there is room again", told, "board L none")
     place.node.kill()
 
 
@@ -332,23 +334,25 @@ def rude_case(program, folder):
         rude.say(text)
         rude.close()
     told, took = timed(steady.ask, asked)
-    yield "clients that leave in the middle of a line or of an answer hold up nobody", told == answers and is_soon(
-        took, usual)
+    yield verdict.case(
+        "clients that leave in the middle of a line or of an answer hold up nobody", [told, is_soon(took, usual)],
+        [answers, True])
     polite = Flood(place.where, True)
     usual = timed(steady.ask, asked)[1]
     polite.end()
     deaf = Flood(place.where, False)
     told, took = timed(steady.ask, asked)
-    yield "nor does one that never reads", told == answers and is_soon(took, usual)
+    yield verdict.case("nor does one that never reads", [told, is_soon(took, usual)], [answers, True])
     yield "which is let go", deaf.is_let_go(STUCK + SLACK)
     slow = Console(place.where)
     for letter in "order ANN ask LEFT\n":
         slow.say(letter)
         time.sleep(0.01)
-    yield "a line that comes byte by byte is a line", slow.line() == "told ANN ask LEFT free 0 0 settled 0"
+    yield verdict.case("a line that comes byte by byte is a line", slow.line(), "told ANN ask LEFT free 0 0 settled 0")
     slow.say("y" * 1_000_000 + "\nshow L\n")
-    yield "one of a million bytes is too long, and the next is heard", [slow.line(), slow.line()] == [
-        "line 2 fault 10: more than 200 bytes", "board L none"]
+    yield verdict.case(
+        "one of a million bytes is too long, and the next is heard", [slow.line(), slow.line()],
+        ["line 2 fault 10: more than 200 bytes", "board L none"])
     gone = [Console(place.where) for _ in range(GUESTS - 3)]
     for rude in gone:
         said_once(rude, "order EVE take FAR\nshow L\n")
@@ -360,8 +364,9 @@ def rude_case(program, folder):
         told = many[-1].ask("show L")
         for console in many:
             console.close()
-    yield "clients that leave while their orders wait make room", told == "board L none"
-    yield "the node is there after all that", place.is_running() and steady.ask("show L") == "board L none"
+    yield verdict.case("clients that leave while their orders wait make room", told, "board L none")
+    yield verdict.case(
+        "the node is there after all that", [place.is_running(), steady.ask("show L")], [True, "board L none"])
     place.node.kill()
 
 
@@ -393,7 +398,7 @@ def comers_case(program, folder):
         if number == COMERS // 10:
             before = place.memory()
     yield "%d connections one after the other are answered" % COMERS, well
-    yield "and leave no memory behind", place.memory() - before < 512
+    yield verdict.case("and leave no memory behind", place.memory() - before, 512, "<")
     place.node.kill()
 
 
@@ -414,33 +419,35 @@ def lines_case(program, folder):
                          ("states now", "line 11 fault 2: too few words, or too many"),
                          ("follow L NOBODY", "line 12 fault 5: NOBODY is no domain or device of the tree"),
                          ("@c order ANN ask LEFT\r", "@c told ANN ask LEFT free 0 0 settled 0")]:
-        yield "on a connection: " + line, console.ask(line) == wanted
+        yield verdict.case("on a connection: " + line, console.ask(line), wanted)
     console.say("\n# nothing\nhelp\n")
     helped = [console.line() for _ in range(13)]
-    yield "help", helped[-1] == "help 12" and all(line.startswith("help ") for line in helped)
+    yield verdict.case("help", [helped[-1], all(line.startswith("help ") for line in helped)], ["help 12", True])
     console.say("counts\n")
     yield "counts", console.line().startswith("counts received ")
     console.say("@s states\n")
     first = ["@s board %s 1.0 OFF" % name for name in ("TOP", "LEFT", "RIGHT", "L", "R")] + ["@s states 5"]
-    yield "states of what the station keeps", [console.line() for _ in first] == first
+    yield verdict.case("states of what the station keeps", [console.line() for _ in first], first)
     console.say("@f follow L LEFT\n")
-    yield "follow begins with the newest", [console.line(), console.line()] == first_two("@f", "LEFT", "L")
+    yield verdict.case("follow begins with the newest", [console.line(), console.line()], first_two("@f", "LEFT", "L"))
     told = [console.ask("@r report L READY"), console.line(), console.line()]
-    yield "a report is followed", sorted(told) == ["@f board L 1.1 READY", "@f board LEFT 1.1 READY",
-                                                   "@r told report L READY 0"]
-    yield "and other objects are not", console.ask("@r report R READY") == "@r told report R READY 0"
+    yield verdict.case(
+        "a report is followed", sorted(told),
+        ["@f board L 1.1 READY", "@f board LEFT 1.1 READY", "@r told report L READY 0"])
+    yield verdict.case("and other objects are not", console.ask("@r report R READY"), "@r told report R READY 0")
     console.socket.shutdown(socket.SHUT_WR)
     other = Console(place.where)
     other.ask("report L OFF")
-    yield "one that types no more still follows", console.line() == "@f board L 1.2 OFF"
+    yield verdict.case("one that types no more still follows", console.line(), "@f board L 1.2 OFF")
     other.say("show L\norder ANN ask LEFT")
     other.socket.shutdown(socket.SHUT_WR)
-    yield "a last line without its end is a line, and then the node ends the connection", other.rest() == [
-        "board L none", "told ANN ask LEFT free 0 0 settled 0"]
-    yield "standard input keeps its grammar", place.node.ask("states") == "line 1 fault 1"
-    yield "and has the questions behind a tag", place.node.ask("@x under way") == "@x under way 0"
+    yield verdict.case(
+        "a last line without its end is a line, and then the node ends the connection", other.rest(),
+        ["board L none", "told ANN ask LEFT free 0 0 settled 0"])
+    yield verdict.case("standard input keeps its grammar", place.node.ask("states"), "line 1 fault 1")
+    yield verdict.case("and has the questions behind a tag", place.node.ask("@x under way"), "@x under way 0")
     place.node.child.stdin.close()
-    yield "connections go on where standard input has ended", other_asked(place) == "board L none"
+    yield verdict.case("connections go on where standard input has ended", other_asked(place), "board L none")
     place.node.kill()
 
 
@@ -461,29 +468,29 @@ def doors_case(program, folder):
     where = os.path.join(folder, "console")
     place = Place(program, folder, [where, "127.0.0.1:%d" % port])
     tcp = Console("127.0.0.1:%d" % port)
-    yield "TCP", tcp.ask("order ANN take LEFT") == "told ANN take LEFT 0"
-    yield "and a path at once", other_asked(place) == "board L none"
+    yield verdict.case("TCP", tcp.ask("order ANN take LEFT"), "told ANN take LEFT 0")
+    yield verdict.case("and a path at once", other_asked(place), "board L none")
     mode = os.stat(where).st_mode & 0o777
-    yield "the file's rights are those that the process gives", mode == 0o777 & ~current_mask()
+    yield verdict.case("the file's rights are those that the process gives", mode, 0o777 & ~current_mask())
     place.node.kill()
     yield "a killed node leaves its socket behind", os.path.exists(where)
     again = Place(program, folder, [where])
-    yield "which the next one replaces", other_asked(again) == "board L none"
+    yield verdict.case("which the next one replaces", other_asked(again), "board L none")
     words = [again.tree, "AWAY", os.path.join(folder, "away"), "--turns", 20]
     taken = nodes.ran(program, words + ["--console", where])
     faulty = ([], ["console fault"], 3)
-    yield "a socket that somebody listens at stays", (taken, other_asked(again)) == (faulty, "board L none")
+    yield verdict.case("a socket that somebody listens at stays", (taken, other_asked(again)), (faulty, "board L none"))
     again.node.kill()
     other = os.path.join(folder, "file")
     with open(other, "w", encoding="ascii") as file:
         file.write("kept")
     taken = nodes.ran(program, words + ["--console", other])
     with open(other, encoding="ascii") as file:
-        yield "and so does any other file", (taken, file.read()) == (faulty, "kept")
+        yield verdict.case("and so does any other file", (taken, file.read()), (faulty, "kept"))
     for bad in ["/nonexistent/console", "300.0.0.1:80/", folder]:
-        yield "no console at " + bad, nodes.ran(program, words + ["--console", bad]) == faulty
+        yield verdict.case("no console at " + bad, nodes.ran(program, words + ["--console", bad]), faulty)
     three = [word for name in "abc" for word in ("--console", os.path.join(folder, name))]
-    yield "three consoles are no form", nodes.ran(program, words + three) == ([], ["wrong line"], 2)
+    yield verdict.case("three consoles are no form", nodes.ran(program, words + three), ([], ["wrong line"], 2))
 
 
 def actions_case(program, folder):
@@ -491,26 +498,26 @@ def actions_case(program, folder):
     place = Place(program, folder)
     ann, told = Console(place.where), Console(place.where)
     ann.ask("order ANN take LEFT")
-    yield "actions of one device", told.ask("actions L") == "actions 1"
+    yield verdict.case("actions of one device", told.ask("actions L"), "actions 1")
     for order, code, wanted in [("do LEFT GO", 0, "acted L GO 1.1 READY"), ("do LEFT GO", 0, "acted L GO 1.1 READY"),
                                 ("do LEFT SLEEP", 1, None), ("do LEFT FALL", 0, "acted L FALL 1.2 OFF")]:
-        yield order, ann.ask("order ANN " + order) == "told ANN %s %d" % (order, code)
+        yield verdict.case(order, ann.ask("order ANN " + order), "told ANN %s %d" % (order, code))
         if wanted is not None:
-            yield "is told: " + wanted, told.line() == wanted
-    yield "a report is no action", ann.ask("report L READY") == "told report L READY 0"
-    yield "of all devices", told.ask("@a actions") == "@a actions 3"
+            yield verdict.case("is told: " + wanted, told.line(), wanted)
+    yield verdict.case("a report is no action", ann.ask("report L READY"), "told report L READY 0")
+    yield verdict.case("of all devices", told.ask("@a actions"), "@a actions 3")
     ann.ask("order ANN take RIGHT")
     ann.ask("order ANN do RIGHT GO")
-    yield "another device is told too", told.line() == "@a acted R GO 1.1 READY"
+    yield verdict.case("another device is told too", told.line(), "@a acted R GO 1.1 READY")
     ann.ask("order ANN do LEFT FALL")
-    yield "and what a report had moved", told.line() == "@a acted L FALL 1.4 OFF"
+    yield verdict.case("and what a report had moved", told.line(), "@a acted L FALL 1.4 OFF")
     wanted, found = [], []
     for number in range(ACTIONS):
         action, state = (("GO", "READY"), ("FALL", "OFF"))[number % 2]
         ann.ask("order ANN do LEFT " + action)
         wanted.append("@a acted L %s 1.%d %s" % (action, number + 5, state))
         found.append(told.line())
-    yield "%d actions are told, each once and in their order" % ACTIONS, found == wanted
+    yield verdict.case("%d actions are told, each once and in their order" % ACTIONS, found, wanted)
     many, found = Console(place.where), []
     reader = threading.Thread(target=lambda: found.extend(iter(told.line, "@a acted R GO 1.1 READY")))
     reader.start()
@@ -518,11 +525,12 @@ def actions_case(program, folder):
     done = sum(many.line().endswith(" 0") for _ in range(ACTIONS))
     ann.ask("order ANN do RIGHT GO")
     reader.join(PATIENCE)
-    yield "as many are told as were done of orders given at once", done > 0 and found == [
-        "@a acted L GO 1.%d READY" % (ACTIONS + 5)] * done
-    yield "and no more", told.ask("show L") == "board L none"
+    yield verdict.case(
+        "as many are told as were done of orders given at once", [done > 0, found],
+        [True, ["@a acted L GO 1.%d READY" % (ACTIONS + 5)] * done])
+    yield verdict.case("and no more", told.ask("show L"), "board L none")
     standard = place.node.ask("@s actions R")
-    yield "standard input is told behind a tag", standard == "@s actions 1"
+    yield verdict.case("standard input is told behind a tag", standard, "@s actions 1")
     place.node.kill()
 
 
@@ -542,23 +550,24 @@ def missed_case(program, folder):
     devices = ["L"] + ["L%d" % number for number in range(2, DEVICES + 1)]
     with lunskaf.Node(there, patience=PATIENCE) as fay:
         fay.take("FAY", "LEFT")
-        yield "actions of all devices", console.ask("actions " + " ".join(devices)) == "actions %d" % DEVICES
+        yield verdict.case(
+            "actions of all devices", console.ask("actions " + " ".join(devices)), "actions %d" % DEVICES)
         for device in devices:
             place.node.ask("report %s READY" % device)
         fay.do("FAY", "LEFT", "GO")
         told = {console.line() for _ in devices}
         # no action moves a device that is READY already, so none of these is shown in a new state
         lines = ["acted %s GO 1.1 READY" % device for device in devices]
-        yield "each is told", told == set(lines)
+        yield verdict.case("each is told", told, set(lines))
         with threads.held(place.node.child.pid):
             for _ in range(COMMANDS):
                 fay.do("FAY", "LEFT", "GO")
         told = [console.line() for _ in range(WAITING)]
-        yield "as many as may wait are told, in their order", told == lines * (WAITING // DEVICES)
+        yield verdict.case("as many as may wait are told, in their order", told, lines * (WAITING // DEVICES))
         left_out = COMMANDS * DEVICES - WAITING
-        yield "and then how many were left out", console.line() == "missed %d" % left_out
+        yield verdict.case("and then how many were left out", console.line(), "missed %d" % left_out)
         fay.do("FAY", "LEFT", "GO")
-        yield "and then all later ones", [console.line() for _ in lines] == lines
+        yield verdict.case("and then all later ones", [console.line() for _ in lines], lines)
     console.close()
     away.kill()
     place.node.kill()
@@ -579,17 +588,19 @@ def unread_case(program, folder):
     steady = Console(place.where)
     lines = ["report L " + ("READY", "OFF")[number % 2] for number in range(UNREAD)]
     told, took = timed(steady.ask, lines)
-    yield "others are answered while nobody reads", told == ["told %s 0" % line for line in lines]
+    yield verdict.case("others are answered while nobody reads", told, ["told %s 0" % line for line in lines])
     yield "and soon", statistics.median(took) < SOON and max(took) < LATEST
     found = [child.stdout.readline().decode().rstrip() for _ in lines]
-    yield "what was told is there once it is read", found == [
-        "@f board L %s.%d %s" % (boot, number + 1, ("READY", "OFF")[number % 2]) for number in range(UNREAD)]
+    yield verdict.case(
+        "what was told is there once it is read", found,
+        ["@f board L %s.%d %s" % (boot, number + 1, ("READY", "OFF")[number % 2]) for number in range(UNREAD)])
     lines = ["report L " + ("READY", "OFF")[number % 2] for number in range(TOO_MANY)]
     told, took = timed(steady.ask, lines)
-    yield "where it is never read they are answered too", told == ["told %s 0" % line for line in lines] \
-        and statistics.median(took) < SOON and max(took) < LATEST
-    yield "and the standard input ends", child.stderr.readline() == b"write fault\n"
-    yield "alone", other_asked(place) == "board L none" and child.poll() is None
+    yield verdict.case(
+        "where it is never read they are answered too", [told, statistics.median(took) < SOON, max(took) < LATEST],
+        [["told %s 0" % line for line in lines], True, True])
+    yield verdict.case("and the standard input ends", child.stderr.readline(), b"write fault\n")
+    yield verdict.case("alone", [other_asked(place), child.poll() is None], ["board L none", True])
     child.kill()
     child.wait()
 
@@ -614,34 +625,28 @@ def client_case(program, folder):
     node.include("ANN", "TOP", "LEFT")
     node.report("L", "OFF")
     node.do("ANN", "TOP", "GO")
-    yield "ask", node.ask("ANN", "LEFT") == lunskaf.Record("LEFT", "TOP", 1, 1, "settled", 0)
+    yield verdict.case("ask", node.ask("ANN", "LEFT"), lunskaf.Record("LEFT", "TOP", 1, 1, "settled", 0))
     wanted = {"TOP": "READY", "LEFT": "READY", "RIGHT": "OFF", "L": "READY", "R": "OFF"}
     # a command has run when its answer is there, and the states may be on their way
-    yield "states", until_same(lambda: {shown.object: shown.state for shown in node.states()}, wanted)
-    yield "counts", node.counts()["saved"] > 0 and node.counts()["refused21"] == 0
-    yield "show", node.show("L") is None
-    yield "refused", raised(lambda: node.do("BOB", "LEFT", "GO")) == (lunskaf.Refused, 21)
-    yield "fault", raised(lambda: node.take("ANN", "NOBODY")) == (lunskaf.Fault, 5)
-    yield "time-out", raised(lambda: node.include("ANN", "TOP", "FAR", patience=0.3)) == (lunskaf.TimeOut, None)
-    yield "under way", [(it.operator, it.order) for it in node.under_way()] == [("ANN", "include TOP FAR")]
+    yield verdict.comes("states", lambda: {shown.object: shown.state for shown in node.states()}, wanted, PATIENCE)
+    yield verdict.case("counts", [node.counts()["saved"] > 0, node.counts()["refused21"]], [True, 0])
+    yield verdict.case("show", node.show("L"), None, "is")
+    yield verdict.case("refused", raised(lambda: node.do("BOB", "LEFT", "GO")), (lunskaf.Refused, 21))
+    yield verdict.case("fault", raised(lambda: node.take("ANN", "NOBODY")), (lunskaf.Fault, 5))
+    yield verdict.case(
+        "time-out", raised(lambda: node.include("ANN", "TOP", "FAR", patience=0.3)), (lunskaf.TimeOut, None))
+    yield verdict.case("under way", [(it.operator, it.order) for it in node.under_way()], [("ANN", "include TOP FAR")])
     followed = node.follow("L")
-    yield "follow", (next(followed).state, node.report("L", "OFF"), next(followed).state) == ("READY", None, "OFF")
+    yield verdict.case(
+        "follow", (next(followed).state, node.report("L", "OFF"), next(followed).state), ("READY", None, "OFF"))
     place.node.kill()
-    yield "lost", raised(lambda: node.show("L"))[0] is lunskaf.Lost
+    yield verdict.case("lost", raised(lambda: node.show("L"))[0], lunskaf.Lost, "is")
     place.node = nodes.Node(program, place.words)
     place.wait()
-    yield "connected anew", node.ask("ANN", "TOP").holder == "ANN"
-    yield "follow goes on after a restart", next(followed) == lunskaf.Shown("L", 2, 0, "OFF")
+    yield verdict.case("connected anew", node.ask("ANN", "TOP").holder, "ANN")
+    yield verdict.case("follow goes on after a restart", next(followed), lunskaf.Shown("L", 2, 0, "OFF"))
     node.close()
     place.node.kill()
-
-
-def until_same(look, wanted):
-    """Whether what is looked at comes to be what is wanted."""
-    until = time.monotonic() + PATIENCE
-    while look() != wanted and time.monotonic() < until:
-        time.sleep(0.05)
-    return look() == wanted
 
 
 def raised(call):
@@ -691,7 +696,7 @@ def supply_case(program, folder):
     running = nodes.Node(program, words)
     yield "a node that was started again is told", seen("STANDBY")
     with lunskaf.Node(where) as node:
-        yield "and has it", until_same(lambda: {it.object: it.state for it in node.states()}["PIXEL_HV1"], "STANDBY")
+        yield verdict.comes("and has it", lambda: {it.object: it.state for it in node.states()}["PIXEL_HV1"], "STANDBY", PATIENCE)
     supply.kill()
     running.kill()
 
@@ -765,13 +770,20 @@ class Detector:
         except lunskaf.Refused as refused:
             return refused.code
 
-    def orders(self, operator, *texts):
-        return [self.order(operator, *text.split()) for text in texts] == [0] * len(texts)
-
-    def is_in(self, name, state):
-        """Whether an object comes into a state, by the station that keeps it."""
+    def state(self, name, wanted):
+        """The state that an object comes into, by the station that keeps it, or in which it is at last."""
         console = self.consoles[self.tree.station_of(name)]
-        return until_same(lambda: {it.object: it.state for it in console.states()}.get(name), state)
+        return verdict.at_last(lambda: {it.object: it.state for it in console.states()}.get(name), wanted, PATIENCE)
+
+    def is_in(self, case, **states):
+        """A case: that these objects come into these states."""
+        return verdict.case(case, {name: self.state(name, wanted) for name, wanted in states.items()}, states)
+
+    def orders(self, case, operator, *texts, **states):
+        """A case: that these orders end with 0, one after the other, and these objects then come into these states."""
+        codes = [self.order(operator, *text.split()) for text in texts]
+        came = {name: self.state(name, wanted) for name, wanted in states.items()}
+        return verdict.case(case, (codes, came), ([0] * len(texts), states))
 
     def end(self):
         for drivers in self.drivers.values():
@@ -784,33 +796,32 @@ def shift_case(program, folder):
     """A shift over the example detector, all of whose devices are programs at the consoles of its nodes."""
     detector = Detector(program, folder)
     orders, is_in = detector.orders, detector.is_in
-    yield "all devices are reported", is_in("PIXEL_HV", "OFF") and is_in("MONITOR", "OFF") and is_in("RACKS", "READY")
+    yield is_in("all devices are reported", PIXEL_HV="OFF", MONITOR="OFF", RACKS="READY")
     for operator, domain in [("TRK_EXPERT", "TRK"), ("CAL_EXPERT", "CAL"), ("MUO_EXPERT", "MUO"),
                              ("TRG_EXPERT", "TRG"), ("RUN_CONTROL", "DAQ")]:
         made = [line.split(" ", 2)[2] for line in lines.lines(detector.tree, "include", operator, domain)]
-        yield "%s includes what is below %s" % (operator, domain), orders(operator, *made)
+        yield orders("%s includes what is below %s" % (operator, domain), operator, *made)
     parts = ["include EXPERIMENT " + it for it in ("TRK", "CAL", "MUO", "TRG", "DAQ")]
-    yield "one person commands the detector", orders("SHIFT_LEADER", "take EXPERIMENT", *parts)
-    yield "standby", orders("SHIFT_LEADER", "do EXPERIMENT GO_STANDBY") and is_in("EXPERIMENT", "STANDBY")
-    yield "all high voltages ramp", orders("SHIFT_LEADER", "do EXPERIMENT CONFIGURE") and is_in("EXPERIMENT", "READY")
-    yield "a run", orders("SHIFT_LEADER", "do EXPERIMENT START") and is_in("EXPERIMENT", "RUNNING")
+    yield orders("one person commands the detector", "SHIFT_LEADER", "take EXPERIMENT", *parts)
+    yield orders("standby", "SHIFT_LEADER", "do EXPERIMENT GO_STANDBY", EXPERIMENT="STANDBY")
+    yield orders("all high voltages ramp", "SHIFT_LEADER", "do EXPERIMENT CONFIGURE", EXPERIMENT="READY")
+    yield orders("a run", "SHIFT_LEADER", "do EXPERIMENT START", EXPERIMENT="RUNNING")
     detector.drivers["TRACKER"].report("PIXEL_HV7", "ERROR")
-    yield "a trip", is_in("EXPERIMENT", "ERROR")
-    yield "the tracker is taken out", orders("SHIFT_LEADER", "exclude EXPERIMENT TRK") \
-        and is_in("EXPERIMENT", "RUNNING")
-    yield "and recovers", orders("TRK_EXPERT", "take TRK", "do TRK STOP", "do TRK RECOVER", "do TRK GO_STANDBY",
-                                 "do TRK CONFIGURE") and is_in("TRK", "READY")
-    yield "nobody else commands it", detector.order("SHIFT_LEADER", "include", "EXPERIMENT", "TRK") == 5
-    yield "it is given back", orders("TRK_EXPERT", "drop TRK") and orders(
-        "SHIFT_LEADER", "include EXPERIMENT TRK", "do EXPERIMENT START") and is_in("EXPERIMENT", "RUNNING")
+    yield is_in("a trip", EXPERIMENT="ERROR")
+    yield orders("the tracker is taken out", "SHIFT_LEADER", "exclude EXPERIMENT TRK", EXPERIMENT="RUNNING")
+    yield orders("and recovers", "TRK_EXPERT", "take TRK", "do TRK STOP", "do TRK RECOVER", "do TRK GO_STANDBY",
+                 "do TRK CONFIGURE", TRK="READY")
+    yield verdict.case("nobody else commands it", detector.order("SHIFT_LEADER", "include", "EXPERIMENT", "TRK"), 5)
+    yield orders("it is given back", "TRK_EXPERT", "drop TRK")
+    yield orders("and runs with the others", "SHIFT_LEADER", "include EXPERIMENT TRK", "do EXPERIMENT START",
+                 EXPERIMENT="RUNNING")
     detector.nodes["MUON"].kill()
-    yield "a station dies", orders("SHIFT_LEADER", "manual EXPERIMENT MUO", "do EXPERIMENT STOP") \
-        and is_in("TRK", "READY")
+    yield orders("a station dies", "SHIFT_LEADER", "manual EXPERIMENT MUO", "do EXPERIMENT STOP", TRK="READY")
     detector.start("MUON")
-    yield "its devices tell what they are in", is_in("MUO", "RUNNING")
-    yield "it stops with the others", orders("SHIFT_LEADER", "include EXPERIMENT MUO", "do EXPERIMENT STOP") \
-        and is_in("EXPERIMENT", "READY")
-    yield "all is switched off", orders("SHIFT_LEADER", "do EXPERIMENT GO_STANDBY") and is_in("EXPERIMENT", "STANDBY")
+    yield is_in("its devices tell what they are in", MUO="RUNNING")
+    yield orders("it stops with the others", "SHIFT_LEADER", "include EXPERIMENT MUO", "do EXPERIMENT STOP",
+                 EXPERIMENT="READY")
+    yield orders("all is switched off", "SHIFT_LEADER", "do EXPERIMENT GO_STANDBY", EXPERIMENT="STANDBY")
     detector.end()
 
 
@@ -824,14 +835,15 @@ def people_case(program, folder):
         return done.stdout.splitlines(), done.returncode
 
     lines, status = ran(["--tree", place.tree, place.where], "order ANN take LEFT\n@x show L\nhelp\n")
-    yield "a console for people", (sorted(lines[:2]), lines[-1], status) == (
-        ["@x board L none", "told ANN take LEFT 0"], "help 12", 0)
+    yield verdict.case(
+        "a console for people", (sorted(lines[:2]), lines[-1], status),
+        (["@x board L none", "told ANN take LEFT 0"], "help 12", 0))
     for line, told, status in [("order ANN ask LEFT", "told ANN ask LEFT ANN 1 0 settled 0", 0),
                                ("order BOB take LEFT", "told BOB take LEFT 5", 1),
                                ("order BOB grab LEFT", "line 1 fault 1: a word that no line has there", 1),
                                ("@x order BOB grab LEFT", "@x fault 1: a word that no line has there", 1),
                                ("show L", "board L none", 0), ("@x report L OFF", "@x told report L OFF 0", 0)]:
-        yield "one line: " + line, ran([place.where, *line.split()]) == ([told], status)
+        yield verdict.case("one line: " + line, ran([place.where, *line.split()]), ([told], status))
     place.node.kill()
 
 
@@ -859,17 +871,18 @@ def nobody_case(program, folder):
                        (port, "[Errno 111] Connection refused")]:
         begun_at = time.monotonic()
         told = ended(begun([where, "help"]))
-        yield "where nobody listens: " + why, told == ([], ["no console at %s: %s" % (where, why)], 3)
-        yield "it is told at once", time.monotonic() - begun_at < AT_ONCE
+        yield verdict.case("where nobody listens: " + why, told, ([], ["no console at %s: %s" % (where, why)], 3))
+        yield verdict.case("it is told at once", time.monotonic() - begun_at, AT_ONCE, "<")
     begun_at = time.monotonic()
     told = ended(begun(["--wait", nowhere, "help"]))
-    yield "with --wait it is told later", time.monotonic() - begun_at > 5 and told == (
-        [], ["no console at %s: [Errno 2] No such file or directory" % nowhere], 3)
+    yield verdict.case(
+        "with --wait it is told later", [time.monotonic() - begun_at > 5, told],
+        [True, ([], ["no console at %s: [Errno 2] No such file or directory" % nowhere], 3)])
     where = os.path.join(folder, "console")
     early = begun(["--wait", where, "show", "L"])
     time.sleep(1)
     place = Place(program, folder)
-    yield "with --wait a node that comes later is found", ended(early) == (["board L none"], [], 0)
+    yield verdict.case("with --wait a node that comes later is found", ended(early), (["board L none"], [], 0))
     place.node.kill()
 
 
@@ -883,9 +896,9 @@ def lost_case(program, folder):
         with tempfile.TemporaryDirectory() as inner:
             place = Place(program, inner)
             console = begun([place.where, *words])
-            yield "it is told: " + " ".join(words), console.stdout.readline().rstrip() == first
+            yield verdict.case("it is told: " + " ".join(words), console.stdout.readline().rstrip(), first)
             place.node.kill()
-            yield "and so is the end of its node", ended(console)[1:] == GONE
+            yield verdict.case("and so is the end of its node", ended(console)[1:], GONE)
 
 
 def cut_case(program, folder):
@@ -900,17 +913,20 @@ def cut_case(program, folder):
     typed.stdin.write("show L\n")
     typed.stdin.flush()
     with lunskaf.Node(place.where) as node:
-        yield "two orders wait", until_same(lambda: len(node.under_way()), 2) \
-            and typed.stdout.readline() == "board L none\n"
+        yield verdict.case(
+            "two orders wait",
+            [verdict.at_last(lambda: len(node.under_way()), 2, PATIENCE), typed.stdout.readline()],
+            [2, "board L none\n"])
     whole = begun([place.where], stdin=subprocess.PIPE).communicate("show L\nfollow NOBODY\n", timeout=PATIENCE)
-    yield "an input that has ended, and is answered to its end, is no loss", whole == (
-        "board L none\nline 2 fault 5: NOBODY is no domain or device of the tree\n", "")
+    yield verdict.case(
+        "an input that has ended, and is answered to its end, is no loss", whole,
+        ("board L none\nline 2 fault 5: NOBODY is no domain or device of the tree\n", ""))
     place.node.kill()
-    yield "an order that waits", ended(order) == ([], *GONE)
-    yield "an input that has ended, but for an order that waits", ended(piped) == (["board L none"], *GONE)
+    yield verdict.case("an order that waits", ended(order), ([], *GONE))
+    yield verdict.case("an input that has ended, but for an order that waits", ended(piped), (["board L none"], *GONE))
     # its input stays open: communicate would end it
     told = [typed.stderr.readline().rstrip()], typed.wait(PATIENCE)
-    yield "an input that has not ended", told == GONE
+    yield verdict.case("an input that has not ended", told, GONE)
     typed.communicate()
 
 
@@ -923,17 +939,12 @@ def main():
     if len(sys.argv) not in (2, 3):
         sys.exit(__doc__.split("\n\n")[1])
     program, only = os.path.abspath(sys.argv[1]), sys.argv[2] if len(sys.argv) == 3 else ""
-    passed = failed = 0
+    held = []
     for case in CASES:
-        if only not in case.__name__:
-            continue
-        with tempfile.TemporaryDirectory() as folder:
-            for name, holds in case(program, folder):
-                if not holds:
-                    print("FAILED " + name)
-                passed, failed = passed + bool(holds), failed + (not holds)
-    print("%d passed, %d failed" % (passed, failed))
-    sys.exit(1 if failed else 0)
+        if only in case.__name__:
+            with tempfile.TemporaryDirectory() as folder:
+                held += map(verdict.counted, case(program, folder))
+    verdict.end_of(sum(held), len(held) - sum(held))
 
 
 if __name__ == "__main__":

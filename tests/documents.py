@@ -24,8 +24,10 @@ import threading
 import time
 
 import nodes
+import places
 import screens
 import verdict
+import words
 
 HERE = os.path.dirname(os.path.abspath(__file__))
 ROOT = os.path.dirname(HERE)
@@ -36,8 +38,16 @@ import lunskaf  # noqa: E402 (this stands in tools/)
 PATIENCE = 20
 # What a reader of a first page can be asked to read.
 README_LINES = 150
+# What docs/PROOF.md may ask of its readers: so many lines, and so many words in a sentence.
+PROOF_LINES, MOST_WORDS = 200, 40
 # What is in a command that only looks, and may be given again.
 LOOKS = (" show ", "tools/rows.py", "tools/status.py")
+# The code of a command whose outcome was not seen: it stands in no record.
+UNSEEN = 8
+# A part of a document, as others name it.
+QUOTED = re.compile(r"(docs/[\w-]+\.md|README\.md), \"([^\"]+)\"")
+# How the names of crates end that are no part of the program.
+NO_PROGRAM = ("_tests", "_samples", "_bench", "_trial")
 # Where a page has its screen.
 SCREEN = "127.0.0.1:8080"
 # How often a page is played in one folder.
@@ -143,7 +153,7 @@ def rule_cases():
             # a cell of which nothing is read would say anything
             cells = (definitions, functions, edits)
             yield name + ", all names are read", all(cell.count("(") == len(named(cell)) for cell in cells)
-    yield "rules of the protocol are told", found > 40
+    yield verdict.case("rules of the protocol are told", found, 40, ">")
 
 
 def local_cases():
@@ -169,7 +179,7 @@ def worked_cases():
     """The lines of examples/worked.tree are those that a law of smi_protocol reads, and those that tests share."""
     lines = read("examples", "worked.tree").splitlines()
     told = section_of_lines(read("crates", "smi_protocol", "specs", "examples", "WorkedTree.antt"))
-    yield "the worked tree of the laws is examples/worked.tree", told == lines
+    yield verdict.case("the worked tree of the laws is examples/worked.tree", told, lines)
     shared = re.search(r'WORKED: &\[u8\] =\s*b"([^"]*)"', read("crates", "smi_samples", "src", "trees.rt"))
     yield "the worked tree of the tests is examples/worked.tree", shared and shared[1].split("\\n") == [*lines, ""]
 
@@ -181,34 +191,86 @@ def section_of_lines(text):
 
 
 def crate_cases():
-    """The crates have their lines, stand on what is said there and drawn, and have what is claimed of them."""
+    """The crates have their lines, stand on what is drawn, and have what is claimed of them."""
     crates = crate_lines()
     architecture, proof = read("docs", "ARCHITECTURE.md"), read("docs", "PROOF.md")
     rows = tables(section(architecture, "The crates"))
-    told = {row[0].strip("`"): re.findall(r"[`*](\w+)[`*]", row[2]) for row in rows}
-    yield "ARCHITECTURE.md has the crates", sorted(told) == sorted(crates)
-    for name, below in crates.items():
-        yield "ARCHITECTURE.md: what %s stands on" % name, told.get(name) == below
+    yield verdict.case(
+        "ARCHITECTURE.md has the crates, in the order of crates.txt", [it[0].strip("`") for it in rows], list(crates))
     layers = re.search(r"^```\n(the program.*?)^```$", architecture, flags=re.M | re.S)
     heights = {name: -place for place, line in enumerate(layers[1].splitlines() if layers else [])
                for name in re.findall(r"\bsmi\w*", line[18:])}
-    beside = {name for name in crates if name.endswith(("_tests", "_samples", "_bench", "_trial"))}
-    yield "ARCHITECTURE.md draws the crates", set(heights) == set(crates) - beside
+    beside = {name for name in crates if name.endswith(NO_PROGRAM)}
+    yield verdict.case("ARCHITECTURE.md draws the crates", set(heights), set(crates) - beside)
     yield "ARCHITECTURE.md: layers stand on lower ones", all(
         heights[name] > heights[it] for name in heights for it in crates.get(name, ()) if it in heights)
     scripts = glob.glob("tools/*.py", root_dir=ROOT) + glob.glob("tests/*.py", root_dir=ROOT)
     outside = tables(section(architecture, "Outside the crates"))
     told = [it for row in outside for it in re.findall(r"`(\S+\.py)`", row[0])]
-    yield "ARCHITECTURE.md has the scripts", sorted(told) == sorted(scripts)
+    yield verdict.case("ARCHITECTURE.md has the scripts", sorted(told), sorted(scripts))
     rows = tables(section(proof, "Crate by crate"))
     listed = [name for row in rows for name in re.findall(r"`(\w+)`", row[0])]
-    yield "PROOF.md has the crates", sorted(listed) == sorted(crates)
+    yield verdict.case("PROOF.md has the crates", sorted(listed), sorted(crates))
     for row in rows:
         for name in re.findall(r"`(\w+)`", row[0])[:1]:
             text = sources(name, ("src", "specs")) + sources("smi_protocol", ("specs",))
-            words = [it for whole in re.findall(r"`([\w:]+)`", row[1]) for it in whole.split("::")]
-            lost = [it for it in words if it not in crates and not re.search(r"\b%s\b" % it, text)]
+            claimed = [it for whole in re.findall(r"`([\w:]+)`", row[1]) for it in whole.split("::")]
+            lost = [it for it in claimed if it not in crates and not re.search(r"\b%s\b" % it, text)]
             yield "PROOF.md: what is claimed of %s%s" % (name, ", but " + " ".join(lost) if lost else ""), not lost
+
+
+def spread_cases():
+    """docs/CHANGING.md lists all files in which a thing is spread, and names none that is not there."""
+    text = section(read("docs", "CHANGING.md"), "Where a thing is spread")
+    kinds = [it for it in headings(text)]
+    for kind in kinds:
+        rows = list(places.lists_in(section(text, kind)))
+        for where, pattern, files in rows:
+            faults = places.faults_of(where, pattern, files) if where in places.SEARCHED else \
+                [it for it in files if not os.path.isfile(os.path.join(ROOT, it))]
+            name = "CHANGING.md, %s: %s %s" % (kind, where, pattern)
+            yield name + "".join("\n    " + it for it in faults), not faults
+        yield verdict.case("CHANGING.md, %s has lists" % kind, len([it for it in rows if it[1] and it[2]]), 2, ">=")
+    yield verdict.case("CHANGING.md says where things are spread", len(kinds), 8, ">=")
+
+
+def proof_cases():
+    """Each proof stands where docs/CHANGING.md says."""
+    found = [(path, places.stands_right(path)) for path in sorted(places.found_by("crates/*/proofs/**/*.antt"))]
+    for path, is_right in found:
+        if not is_right:
+            yield "%s stands where the rule says" % path, False
+    yield "proofs stand where the rule says", len(found) > 100 and all(is_right for _, is_right in found)
+
+
+def planted_cases():
+    """A file that is left out of a list, one that does not belong there and one that is not there are seen; and so is
+    a proof in another folder."""
+    orders = r"Order\w*::Include"
+    whole = places.having("sources", orders)
+    for name, files, is_right in [("whole", whole, True), ("one left out", whole[1:], False),
+                                  ("one more", whole + ["crates/smi_bytes/src/lib.rt"], False),
+                                  ("one that is not there", whole + ["crates/smi_bytes/src/none.rt"], False)]:
+        yield verdict.case("a list of files: " + name, not places.faults_of("sources", orders, files), is_right)
+    for path, is_right in [
+            ("crates/smi_grants/proofs/kept/Kept/put_child/Answers.antt", True),
+            ("crates/smi_grants/proofs/commit/Kept/put_child/Answers.antt", False),
+            ("crates/smi_plan/proofs/running/run/Answers.antt", True),
+            ("crates/smi_plan/proofs/asking/run/Answers.antt", False),
+            ("crates/smi_plan/proofs/running/run/Lemmas.antt", False)]:
+        yield verdict.case("a proof at %s" % path, places.stands_right(path), is_right)
+
+
+def walk_cases():
+    """The way of one event through the code names functions that stand in the files beside them."""
+    text = section(read("docs", "ARCHITECTURE.md"), "One event's way")
+    named_there = re.findall(r"`(crates/[\w/]+\.rt)`: `(\w+)`", text)
+    named_there += [(path, it) for it, path in re.findall(r"`(\w+)` in `(crates/[\w/]+\.rt)`", text)]
+    for path, name in named_there:
+        yield verdict.case(
+            "ARCHITECTURE.md: %s has %s" % (path, name), re.search(r"\bfn %s\b" % name, read(path)), None, "is not")
+    yield "ARCHITECTURE.md walks an event through the code", len(named_there) > 15 and all(
+        re.search(r"`\w+`", row[1]) for row in tables(text))
 
 
 def promise_cases():
@@ -216,14 +278,41 @@ def promise_cases():
     path = None
     rows = tables(section(read("README.md"), "What is promised"))
     for promise, kind, where in rows:
-        yield "README.md: what is proved: %s" % promise[:40], kind in ("definitions", "code")
+        yield verdict.case("README.md: what is proved: %s" % promise[:40], kind, ("definitions", "code"), "in")
         # clauses are named too, and are no functions
         for word in re.findall(r"`([^`]+)`", re.sub(r"clauses? `\w+`(?: and `\w+`)*", "", where)):
             if word.startswith("crates/"):
                 path = word
             elif not word.endswith(".antt") and word != "Safe":
-                yield "README.md: %s has %s" % (path, word), re.search(r"\bpub fn %s\b" % word, read(path)) is not None
-    yield "README.md has its promises", len(rows) > 10
+                yield verdict.case(
+                    "README.md: %s has %s" % (path, word), re.search(r"\bpub fn %s\b" % word, read(path)), None,
+                    "is not")
+    yield verdict.case("README.md has its promises", len(rows), 10, ">")
+
+
+def sentences(text):
+    """The sentences of a page, those of each cell and item apart. A colon ends one too."""
+    units = re.split(r"\n\n|\n(?=[|#]|[-*] |\d+\. )", prose(text))
+    for unit in units:
+        for cell in unit.strip("|").split("|") if unit.startswith("|") else [unit]:
+            yield from re.split(r"(?<=[.?!:])(?:\*\*)?\s+", cell)
+
+
+def is_long(sentence):
+    return len(re.findall(r"[^\s|]*\w[^\s|]*", sentence)) > MOST_WORDS
+
+
+def long_cases():
+    """docs/PROOF.md is short, and so are its sentences."""
+    text = read("docs", "PROOF.md")
+    yield verdict.case("PROOF.md is short", len(text.splitlines()), PROOF_LINES, "<=")
+    for sentence in filter(is_long, sentences(text)):
+        yield "PROOF.md has short sentences, but: %s" % sentence[:60], False
+    yield verdict.case(
+        "a long sentence is seen",
+        [is_long("word " * 41), not is_long("word " * 40),
+         len(list(sentences("One. Two: three.\n\n| four | five |\n- six\n  and seven")))],
+        [True, True, 6])
 
 
 def slug(heading):
@@ -246,8 +335,21 @@ def link_cases():
         paths = set(re.findall(r"(?<![\w/.-])((?:crates|docs|examples|tests|tools)/[\w./*@-]*[\w*@/])", text))
         for target in sorted(it for it in paths if not it.startswith(made)):
             yield "%s: there is %s" % (path, target), bool(glob.glob(os.path.join(ROOT, target)))
-        for target, quoted in re.findall(r"(docs/\w+\.md), \"([^\"]+)\"", text):
-            yield "%s: %s has \"%s\"" % (path, target, quoted), quoted in headings(read(target))
+        for target, quoted in QUOTED.findall(text):
+            yield verdict.case("%s: %s has \"%s\"" % (path, target, quoted), quoted, headings(read(target)), "in")
+
+
+def comment_cases():
+    """Comments of sources, scripts and examples name parts of documents that are there."""
+    count = 0
+    for path in sorted({it for patterns in (*places.SEARCHED.values(), ["tests/*.c"]) for pattern in patterns
+                        for it in places.found_by(pattern)} - set(documents())):
+        # a name may go on in the next line of a comment
+        text = re.sub(r"\n\s*(///|//!|//|--|#|\*)?\s*", " ", read(path))
+        for target, quoted in QUOTED.findall(text):
+            count += 1
+            yield verdict.case("%s: %s has \"%s\"" % (path, target, quoted), quoted, headings(read(target)), "in")
+    yield verdict.case("comments name parts of documents", count, 30, ">")
 
 
 def make_cases():
@@ -255,8 +357,8 @@ def make_cases():
     targets = set(re.findall(r"^([\w/-]+):", read("Makefile"), flags=re.M))
     for path in documents():
         for target in sorted(set(re.findall(r"(?:`|^    )make ([a-z-]+)", read(path), flags=re.M))):
-            yield "%s: make %s" % (path, target), target in targets
-    yield "README.md is short", len(read("README.md").splitlines()) < README_LINES
+            yield verdict.case("%s: make %s" % (path, target), target, targets, "in")
+    yield verdict.case("README.md is short", len(read("README.md").splitlines()), README_LINES, "<")
     yield "README.md has its two commands", all("    make %s " % it in read("README.md") for it in ("run", "test"))
 
 
@@ -273,8 +375,9 @@ def number_cases():
     def listed(heading):
         return numbers_in(tables(section(text, heading)))
 
-    orders = numbers_in(tables(section(protocol, "Outcomes")))
-    orders += [int(it) for it in set(re.findall(r"\b2\d\b", section(protocol, "Orders")))] + [31, 32, 33]
+    most, last = map(int, re.search(r"is_outcome x = nat_le x (\d+) \|\| x == (\d+)",
+                                    read("crates", "smi_grant", "specs", "Record.antt")).groups())
+    orders = [*range(most + 1), last, UNSEEN] + [int(it) for it in set(re.findall(r"\b2\d\b", section(protocol, "Orders")))] + [31, 32, 33]
     tests = numbers_in(tables(section(formats, "Datagrams")[section(formats, "Datagrams").index("Code"):]))
     refusals = numbers_in(tables(section(protocol, "Refusals").split("Where it stands")[0])[1:])
     faults = numbers_in(tables(section(formats, "Faults of a tree file")), 1)
@@ -284,7 +387,8 @@ def number_cases():
     for heading, wanted in [
             ("How an order ends", orders), ("Refused datagrams", tests + refusals), ("Faults of a tree file", faults),
             ("Faults of a line", schedule), ("Faults of a row", set(rows)), ("Statuses of the program", statuses)]:
-        yield "NUMBERS.md: %s" % heading, sorted(listed(heading)) == sorted(wanted) and len(wanted) > 3
+        yield verdict.case(
+            "NUMBERS.md: %s" % heading, [sorted(listed(heading)), len(wanted) > 3], [sorted(wanted), True])
     for row in tables(text):
         yield "NUMBERS.md: %s is explained" % row[0], len(row) >= 2 and all(len(cell) > 3 for cell in row[1:])
     told = re.findall(r"`([a-z][a-z ]+)`", section(read("README.md"), "The commands"))
@@ -292,24 +396,68 @@ def number_cases():
     yield "NUMBERS.md: lines on standard error", len(told) > 5 and all("`%s`" % it in text for it in told)
 
 
+def code_cases():
+    """Codes are explained in docs/NUMBERS.md alone."""
+    head = re.compile(r"^\| (Code|C|Answer|Fault) \| (What|Meaning|Do\b)", re.M)
+    for path in documents():
+        if path != "docs/NUMBERS.md":
+            yield "%s leaves codes to docs/NUMBERS.md" % path, not head.search(read(path))
+    yield verdict.case("a table of codes is seen", head.search("| Code | What it means |"), None, "is not")
+
+
 def meaning_cases():
     """What a code means is said with the same words by the screen, by tools/lunskaf.py and in docs/NUMBERS.md."""
-    words = dict(re.findall(r'^ +(\d+) => b"(.*)",$', read("crates", "smi_relay", "src", "ending.rt"), flags=re.M))
+    meanings = dict(re.findall(r'^ +(\d+) => b"(.*)",$', read("crates", "smi_relay", "src", "ending.rt"), flags=re.M))
     rows = {row[0]: row[1] for row in tables(section(read("docs", "NUMBERS.md"), "How an order ends"))}
-    yield "codes: the same three times", list(words) == list(map(str, lunskaf.CODES)) == list(rows) and len(words) > 15
-    for code, said in words.items():
-        yield "codes: tools/lunskaf.py says of %s: %s" % (code, said), lunskaf.CODES.get(int(code)) == said
+    yield "codes: the same three times", list(meanings) == list(map(str, lunskaf.CODES)) == list(rows) and len(rows) > 15
+    for code, said in meanings.items():
+        yield verdict.case("codes: tools/lunskaf.py says of %s: %s" % (code, said), lunskaf.CODES.get(int(code)), said)
         begun = re.escape(said[0].upper() + said[1:]) + r"[.,:]( |$)"
-        yield "codes: NUMBERS.md says of %s: %s" % (code, said), re.match(begun, rows.get(code, "")) is not None
+        yield verdict.case(
+            "codes: NUMBERS.md says of %s: %s" % (code, said), re.match(begun, rows.get(code, "")), None, "is not")
+
+
+def declared_in(path):
+    """The types that a source file declares."""
+    return re.findall(r"^(?:pub(?:\(\w+\))? )?(?:struct|enum|trait) (\w+)", read(path), flags=re.M)
+
+
+def types_of_several():
+    """The names of types that stand in more than one crate, each with these crates."""
+    found = {}
+    for path in places.searched("sources"):
+        crate = path.split("/")[1]
+        if not crate.endswith(NO_PROGRAM):
+            for name in declared_in(path):
+                found.setdefault(name, set()).add(crate)
+    return {name: sorted(of) for name, of in found.items() if len(of) > 1}
+
+
+def in_code(name, crate, file):
+    """Whether a crate, or a file of its definitions, has this name outside comments."""
+    text = read("crates", crate, "specs", file + ".antt") if file else sources(crate, ("src", "specs"))
+    return re.search(r"\b%s\b" % name, re.sub(r"^\s*(//|--).*$", "", text, flags=re.M)) is not None
 
 
 def word_cases():
-    """docs/GLOSSARY.md has each word once, in the order of letters."""
-    rows = tables(section(read("docs", "GLOSSARY.md"), "Words"))
-    words = [row[0] for row in rows]
-    yield "GLOSSARY.md has each word once", len(set(words)) == len(words) > 30
-    yield "GLOSSARY.md is in order", words == sorted(words, key=str.lower)
+    """docs/GLOSSARY.md has each word once, in the order of letters, and what stands for it in the code is there; it has
+    the names that several types have, and its ordinary words are those that tests/words.py asks for."""
+    text = read("docs", "GLOSSARY.md")
+    rows = tables(section(text, "Words"))
+    of_words = [row[0] for row in rows]
+    yield "GLOSSARY.md has each word once", len(set(of_words)) == len(of_words) > 30
+    yield verdict.case("GLOSSARY.md is in order", of_words, sorted(of_words, key=str.lower))
     yield "GLOSSARY.md explains each", all(len(row[1]) > 10 for row in rows)
+    for word, _, code in rows:
+        yield "GLOSSARY.md: %s stands in the code" % word, named(code) and len(named(code)) == code.count("(") and all(
+            in_code(name, crate, file) for name, crate, file in named(code))
+    yield "GLOSSARY.md: a name that no crate has is seen", not in_code("no_such_name", "smi_grant", "")
+    told = {row[0].strip("`"): re.findall(r"`(\w+)`:", row[1])
+            for row in tables(section(text, "Names that several types have"))}
+    yield verdict.case("GLOSSARY.md has the names that several types have", told, types_of_several())
+    for _, unwanted in tables(section(text, "Ordinary words")):
+        yield verdict.case(
+            "GLOSSARY.md: %s is looked for" % unwanted, words.unusual("it is %s line" % unwanted), None, "is not")
 
 
 # Commands
@@ -323,11 +471,11 @@ def order_cases(program):
         path = os.path.join(folder, "schedule")
         with open(path, "w", encoding="ascii") as file:
             file.write("\n".join(orders) + "\n")
-        words = [program, "sim", os.path.join(ROOT, "examples", "detector.tree"), path]
-        done = subprocess.run(words, stdout=subprocess.PIPE, stderr=subprocess.PIPE, check=False)
+        command = [program, "sim", os.path.join(ROOT, "examples", "detector.tree"), path]
+        done = subprocess.run(command, stdout=subprocess.PIPE, stderr=subprocess.PIPE, check=False)
     fault = re.search(rb"line (\d+) fault", done.stderr)
     name = ": " + orders[int(fault[1]) - 1] if fault else ""
-    yield "HANDBOOK.md: its orders%s" % name, done.returncode == 0 and len(orders) > 15
+    yield verdict.case("HANDBOOK.md: its orders%s" % name, [done.returncode, len(orders) > 15], [0, True])
 
 
 def blocks(path):
@@ -450,7 +598,7 @@ def played(shell, commands):
         found, said = how(shell, command.replace(SCREEN, screen), wanted)
         if found != said:
             print("  after %s\n    wanted %s\n    found  %s" % (command, said, found))
-        yield command, found == said
+        yield verdict.case(command, found, said)
         if found != said:
             return
 
@@ -468,7 +616,8 @@ def page_cases(program, path, commands):
                     yield "%s, play %d: %s" % (path, play, command), ended
                 if not ended:
                     return
-                yield "%s, play %d leaves nothing behind" % (path, play), sorted(os.listdir(folder)) == before
+                yield verdict.case(
+                    "%s, play %d leaves nothing behind" % (path, play), sorted(os.listdir(folder)), before)
         finally:
             shell.end()
 
@@ -481,7 +630,7 @@ def command_cases(program, only):
         count += len(commands)
         if commands and (only in path or any(only in command for command, _ in commands)):
             yield from page_cases(program, path, commands)
-    yield "there are commands to run", count >= 100
+    yield verdict.case("there are commands to run", count, 100, ">=")
 
 
 def broken_cases():
@@ -500,7 +649,7 @@ def broken_cases():
                 found, said = shell.run(command, wanted)
             finally:
                 shell.end()
-        yield "a command that prints %s" % name, (found == said) == is_right
+        yield verdict.case("a command that prints %s" % name, found == said, is_right)
 
 
 def cases(program, only):
@@ -508,10 +657,17 @@ def cases(program, only):
     yield from worked_cases()
     yield from local_cases()
     yield from crate_cases()
+    yield from spread_cases()
+    yield from proof_cases()
+    yield from planted_cases()
+    yield from walk_cases()
     yield from promise_cases()
+    yield from long_cases()
     yield from link_cases()
+    yield from comment_cases()
     yield from make_cases()
     yield from number_cases()
+    yield from code_cases()
     yield from meaning_cases()
     yield from word_cases()
     yield from order_cases(program)

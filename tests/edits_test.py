@@ -18,6 +18,7 @@ sys.path.insert(0, os.path.join(HERE, "..", "tools"))
 
 import edits
 import kit
+import verdict
 
 WANTED = {
     "refused_argument": edits.REFUSED,
@@ -53,15 +54,12 @@ def main():
     since = float(sys.argv[1]) if len(sys.argv) > 1 else None
     found = edits.try_all(kit.crates(["smi_grant"]), os.path.join(HERE, "edits"), since=since)["smi_grant"] or []
     how = {edit.name: edit.how for edit in found}
-    wrong = ["%s: %s" % (name, how.get(name)) for name in sorted({*WANTED, *how}) if how.get(name) != WANTED.get(name)]
-    for line in wrong:
-        print("FAILED " + line)
+    done = [verdict.case(name, how.get(name), WANTED.get(name)) for name in sorted({*WANTED, *how})]
     # what was told of them has to end in a failed run
-    counted = edits.summary({"smi_grant": found}) == (1, len(WANTED) - 1)
-    read = kit.public(LIBRARY % (HIDDEN, HIDDEN)) == LIBRARY % ("", "")
-    failed = len(wrong) + (not counted) + (not read)
-    print("%d passed, %d failed" % (len(WANTED) + 2 - failed, failed))
-    sys.exit(1 if failed else 0)
+    done.append(verdict.case("how many are refused", edits.summary({"smi_grant": found}), (1, len(WANTED) - 1)))
+    done.append(verdict.case("what others can read", kit.public(LIBRARY % (HIDDEN, HIDDEN)), LIBRARY % ("", "")))
+    verdict.end(done)
 
 
-main()
+if __name__ == "__main__":
+    main()

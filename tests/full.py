@@ -131,20 +131,23 @@ def crew_cases(detector):
         wanted[it] = ["told OP%d %s 0" % (it, order) for order in orders]
         told[it] = [detector.ask(CREW, "order OP%d %s" % (it, order)) for order in orders]
     for it, lines in told.items():
-        yield "operator %d of eight commands a root and what is below it" % it, lines == wanted[it]
+        yield verdict.case("operator %d of eight commands a root and what is below it" % it, lines, wanted[it])
     others = [detector.ask(CREW, "order OP%d do %s START" % (it % OPERATORS + 1, root(it))) for it in told]
-    yield "nobody commands another one's root", others == ["told OP%d do %s START 21" % (it % OPERATORS + 1, root(it))
-                                                            for it in told]
+    yield verdict.case(
+        "nobody commands another one's root", others,
+        ["told OP%d do %s START 21" % (it % OPERATORS + 1, root(it)) for it in told])
 
 
 def far_cases(detector):
     """Stations before and behind the crew's reach the keeper, and its answers reach them."""
     for station, name in [(1, "FIRST"), (LAST, "ALONE")]:
         record = detector.ask(station, "order %s ask %s" % (name, root(OPERATORS)))
-        yield "station %d is answered" % station, record == "told %s ask %s OP%d 1 %d settled 0" % (
-            name, root(OPERATORS), OPERATORS, BELOW + 1)
+        yield verdict.case(
+            "station %d is answered" % station, record,
+            "told %s ask %s OP%d 1 %d settled 0" % (name, root(OPERATORS), OPERATORS, BELOW + 1))
         refused = detector.ask(station, "order %s take %s" % (name, root(1)))
-        yield "station %d is told who holds a root" % station, refused == "told %s take %s 5" % (name, root(1))
+        yield verdict.case(
+            "station %d is told who holds a root" % station, refused, "told %s take %s 5" % (name, root(1)))
 
 
 def shown_cases(detector, boot, state, sequence):
@@ -153,8 +156,9 @@ def shown_cases(detector, boot, state, sequence):
     names += ["%s_D%d" % (name, place) for name in list(names) for place in range(1, DEVICES + 1)]
     if boot == 1:
         told = [detector.ask(CREW, "order OP%d watch %s" % (1 + at % OPERATORS, name)) for at, name in enumerate(names)]
-        yield "all %d objects can be watched" % len(names), told == [
-            "told OP%d watch %s 0" % (1 + at % OPERATORS, name) for at, name in enumerate(names)]
+        yield verdict.case(
+            "all %d objects can be watched" % len(names), told,
+            ["told OP%d watch %s 0" % (1 + at % OPERATORS, name) for at, name in enumerate(names)])
     missing = [name for name in names if not waits_for(detector.nodes[CREW], "show " + name, "board %s %d.%d %s" % (
         name, boot, sequence, state))]
     yield "all %d objects are shown at boot %d%s" % (len(names), boot, ", but " + missing[0] if missing else ""), (
@@ -165,18 +169,19 @@ def restart_cases(detector):
     """The keeper of all domains is killed and started again: it has its rows, and goes on where it was."""
     detector.nodes[KEEPER].kill()
     before = dict(stores.rows_in(detector.store(KEEPER)))
-    yield "a keeper of 128 domains has a row of each", len(before) == DOMAINS + 1
+    yield verdict.case("a keeper of 128 domains has a row of each", len(before), DOMAINS + 1)
     detector.start(KEEPER)
     told = detector.ask(CREW, "order OP%d do %s START" % (OPERATORS, root(OPERATORS)))
-    yield "a keeper of 128 domains starts again", told == "told OP%d do %s START 0" % (OPERATORS, root(OPERATORS))
+    yield verdict.case(
+        "a keeper of 128 domains starts again", told, "told OP%d do %s START 0" % (OPERATORS, root(OPERATORS)))
     record = detector.ask(CREW, "order OP1 ask %s" % root(1))
-    yield "it knows who holds what", record == "told OP1 ask %s OP1 1 %d settled 0" % (root(1), BELOW + 1)
+    yield verdict.case("it knows who holds what", record, "told OP1 ask %s OP1 1 %d settled 0" % (root(1), BELOW + 1))
     # what devices are in is not stable: each shows its first state until it is reported
     yield from shown_cases(detector, 2, "OFF", 0)
     detector.nodes[KEEPER].kill()
     after = dict(stores.rows_in(detector.store(KEEPER)))
-    yield "it has all its rows", sorted(after) == sorted(before)
-    yield "it has started twice", after[(KEEPER, 0, 0)] == "0200000000000002"
+    yield verdict.case("it has all its rows", sorted(after), sorted(before))
+    yield verdict.case("it has started twice", after[(KEEPER, 0, 0)], "0200000000000002")
     left = {key: row for key, row in before.items() if key[1] and not begins_with(key, root(OPERATORS))}
     yield "the rows of other roots are unchanged", all(after[key] == row for key, row in left.items())
 

@@ -11,6 +11,7 @@ import subprocess
 import sys
 
 import stores
+import verdict
 
 HERE = os.path.dirname(os.path.abspath(__file__))
 EXAMPLES = os.path.join(HERE, "..", "examples")
@@ -69,8 +70,8 @@ def refused_cases(program, folder, only=""):
         for growth in range(1, growths + 1):
             refused = run(program, words, source, {"LD_PRELOAD": refusing, "REFUSE": str(growth)})
             told += refused != whole
-            yield "%s: %d" % (name, growth), refused == whole or is_told(whole, refused)
-        yield "%s: all %d, %d of them needed" % (name, growths, told), whole[2] == 0 and told > 0
+            yield verdict.case("%s: %d" % (name, growth), whole if is_told(whole, refused) else refused, whole)
+        yield verdict.case("%s: all %d, %d of them needed" % (name, growths, told), [whole[2], told > 0], [0, True])
 
 
 def store_cases(program, folder, only=""):
@@ -89,15 +90,16 @@ def store_cases(program, folder, only=""):
             stores.store(kept, stores.TABLE, rows)
         wanted = stores.rows_in(kept)
         growths, whole = counted(program, ["rows", kept], os.devnull, refusing, folder)
-        yield "%s: all %d" % (name, growths), growths > 0 and whole == (stores.listing(rows or []).encode(), b"", 0)
+        yield verdict.case(
+            "%s: all %d" % (name, growths), [growths > 0, whole], [True, (stores.listing(rows or []).encode(), b"", 0)])
         for growth in range(1, growths + 1):
             for left in [path, path + "-wal", path + "-shm"]:
                 if os.path.exists(left):
                     os.remove(left)
             shutil.copyfile(kept, path)
             refused = run(program, ["rows", path], os.devnull, {"LD_PRELOAD": refusing, "REFUSE": str(growth)})
-            held = refused == whole or is_told(whole, refused)
-            yield "%s: %d" % (name, growth), held and stores.rows_in(path) == wanted
+            come = whole if is_told(whole, refused) else refused
+            yield verdict.case("%s: %d" % (name, growth), (come, stores.rows_in(path)), (whole, wanted))
 
 
 def layer_cases(trial, folder, only=""):
@@ -111,11 +113,12 @@ def layer_cases(trial, folder, only=""):
         if only not in "growths of " + layer:
             continue
         growths, whole = counted(trial, ["refused", layer], os.devnull, refusing, folder)
-        yield "growths of %s: all %d" % (layer, growths), (whole[0], whole[2]) == (b"whole\n", 0)
+        yield verdict.case("growths of %s: all %d" % (layer, growths), (whole[0], whole[2]), (b"whole\n", 0))
         kept = 0
         for growth in range(1, growths + 1):
             out, _, status = run(trial, ["refused", layer], os.devnull, {"LD_PRELOAD": refusing, "REFUSE": str(growth)})
             kept += out == b"kept\n"
-            is_so = (out, status) in [(b"kept\n", 0), (b"whole\n", 0)]
-            yield "growths of %s: %d" % (layer, growth), is_so or (kept == 0 and out == b"" and status == 1)
-        yield "growths of %s: %d of its own" % (layer, kept), kept > 0
+            given_up = [] if kept else [(b"", 1)]
+            yield verdict.case("growths of %s: %d" % (layer, growth), (out, status),
+                               [(b"kept\n", 0), (b"whole\n", 0), *given_up], "in")
+        yield verdict.case("growths of %s: %d of its own" % (layer, kept), kept, 0, ">")

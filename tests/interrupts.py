@@ -8,6 +8,7 @@ the trace that it leaves without them.
 
 import os
 import subprocess
+import verdict
 
 HERE = os.path.dirname(os.path.abspath(__file__))
 EXAMPLES = os.path.join(HERE, "..", "examples")
@@ -40,14 +41,16 @@ def interrupted_cases(program, folder):
     """Each read is interrupted once, and nothing is lost by it."""
     interrupted, datagrams = library(folder), read(os.path.join(EXAMPLES, "one-domain.datagrams"))
     answers = ran(program, ["answer"], datagrams)
-    yield "interrupted: there are answers", (len(answers[0]) // 44 > 0, *answers[1:]) == (True, b"", 0)
-    yield "interrupted: answer", ran(program, ["answer"], datagrams, interrupted) == answers
+    yield verdict.case("interrupted: there are answers", (len(answers[0]) // 44 > 0, *answers[1:]), (True, b"", 0))
+    yield verdict.case("interrupted: answer", ran(program, ["answer"], datagrams, interrupted), answers)
     many = datagrams * 5_000
-    yield "interrupted: answer, of many", ran(program, ["answer"], many, interrupted) == ran(program, ["answer"], many)
+    yield verdict.case(
+        "interrupted: answer, of many", ran(program, ["answer"], many, interrupted), ran(program, ["answer"], many))
     trace = ran(program, ["sim", TREE, SCHEDULE], b"")
-    yield "interrupted: there is a trace", (b"\n" in trace[0], *trace[1:]) == (True, b"", 0)
-    yield "interrupted: sim", ran(program, ["sim", TREE, SCHEDULE], b"", interrupted) == trace
-    yield "interrupted: check", ran(program, ["check", TREE], b"", interrupted) == ran(program, ["check", TREE], b"")
+    yield verdict.case("interrupted: there is a trace", (b"\n" in trace[0], *trace[1:]), (True, b"", 0))
+    yield verdict.case("interrupted: sim", ran(program, ["sim", TREE, SCHEDULE], b"", interrupted), trace)
+    yield verdict.case(
+        "interrupted: check", ran(program, ["check", TREE], b"", interrupted), ran(program, ["check", TREE], b""))
 
 
 def large_cases(program, folder):
@@ -56,13 +59,14 @@ def large_cases(program, folder):
     line = b"# " + b"x" * 120 + b"\n"
     with open(path, "wb") as file:
         file.write(line * (MANY // len(line)) + read(SCHEDULE))
-    yield "a schedule of %d bytes" % os.path.getsize(path), ran(program, ["sim", TREE, path], b"") == trace
+    yield verdict.case("a schedule of %d bytes" % os.path.getsize(path), ran(program, ["sim", TREE, path], b""), trace)
     with open(path, "ab") as file:
         file.write(b"nonsense\n")
     lines = MANY // len(line) + read(SCHEDULE).count(b"\n") + 1
     out, err, status = ran(program, ["sim", TREE, path], b"")
-    yield "its last line has its number", (out, err.split(b" fault ")[0], status) == (
-        trace[0], b"schedule line %d" % lines, 1)
+    yield verdict.case(
+        "its last line has its number", (out, err.split(b" fault ")[0], status),
+        (trace[0], b"schedule line %d" % lines, 1))
 
 
 def cases(program, folder):

@@ -6,6 +6,7 @@ import subprocess
 
 import stores
 import trees
+import verdict
 
 # The layers that need no tree, and those over the tree at every limit.
 LAYERS = ["board", "told", "lists", "seats", "link", "udp", "stops"]
@@ -25,7 +26,7 @@ def layer_cases(trial, folder, only=""):
         if only not in "limits: " + words[0]:
             continue
         done = subprocess.run([trial, "limits"] + words, stdout=subprocess.PIPE, check=False)
-        yield "limits: " + words[0], (done.stdout, done.returncode) == (b"whole\n", 0)
+        yield verdict.case("limits: " + words[0], (done.stdout, done.returncode), (b"whole\n", 0))
 
 
 def answer_case(program, folder, take, answered, only=""):
@@ -45,7 +46,7 @@ def answer_case(program, folder, take, answered, only=""):
                     for _ in range(MANY // block)) and not file.read(1)
     os.remove(source)
     os.remove(result)
-    yield name, (whole, done.stderr, done.returncode) == (True, b"", 0)
+    yield verdict.case(name, (whole, done.stderr, done.returncode), (True, b"", 0))
 
 
 def rows_case(program, folder, only=""):
@@ -63,4 +64,4 @@ def rows_case(program, folder, only=""):
     stores.store(path, stores.TABLE, rows)
     done = subprocess.run([program, "rows", path], stdout=subprocess.PIPE, stderr=subprocess.PIPE, check=False)
     wanted = stores.listing(rows).encode()
-    yield name, (done.stdout, done.stderr, done.returncode) == (wanted, b"", 0)
+    yield verdict.case(name, (done.stdout, done.stderr, done.returncode), (wanted, b"", 0))

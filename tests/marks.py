@@ -36,6 +36,9 @@ def mark_of(lines):
 
 
 def read(path):
+    """What a file has, nothing where there is none."""
+    if not os.path.exists(path):
+        return None
     with open(path, "rb") as file:
         return file.read()
 
@@ -75,17 +78,18 @@ class Room:
 def made_cases(program, folder):
     """A mark is made with the store, and stays."""
     room = Room(program, folder, "made")
-    yield "a store that is made", room.begun() == WELL
-    yield "its mark", read(room.mark) == mark_of(room.lines)
+    yield verdict.case("a store that is made", room.begun(), WELL)
+    yield verdict.case("its mark", read(room.mark), mark_of(room.lines))
     yield "nothing unfinished is left", not os.path.exists(room.mark + "-new")
     for name, lines in [("the same tree", room.lines), ("the same laid out anew", laid_out_anew(room.lines)),
                         ("other addresses", changed(room.lines, "127.0.0.1:%d" % room.ports[1], "127.4.5.6:9002"))]:
-        yield name, room.begun(lines) == WELL and read(room.mark) == mark_of(room.lines)
+        yield verdict.case(name, [room.begun(lines), read(room.mark)], [WELL, mark_of(room.lines)])
     os.remove(room.mark)
-    yield "a store without a mark gets one", room.begun() == WELL and read(room.mark) == mark_of(room.lines)
+    yield verdict.case("a store without a mark gets one", [room.begun(), read(room.mark)], [WELL, mark_of(room.lines)])
     write(room.mark + "-new", b"half a mark")
     os.remove(room.mark)
-    yield "after a mark that was not finished", room.begun() == WELL and read(room.mark) == mark_of(room.lines)
+    yield verdict.case(
+        "after a mark that was not finished", [room.begun(), read(room.mark)], [WELL, mark_of(room.lines)])
 
 
 def refused_cases(program, folder):
@@ -93,39 +97,40 @@ def refused_cases(program, folder):
     room = Room(program, folder, "refused")
     room.begun()
     rows = stores.rows_in(room.store)
-    yield "another number", room.begun(changed(room.lines, "tree 17", "tree 18")) == OTHER
-    yield "another number and other words", room.begun(
-        changed(changed(room.lines, "tree 17", "tree 273"), "ANN", "EVE")) == OTHER
-    yield "nothing was saved", stores.rows_in(room.store) == rows
+    yield verdict.case("another number", room.begun(changed(room.lines, "tree 17", "tree 18")), OTHER)
+    yield verdict.case(
+        "another number and other words", room.begun(changed(changed(room.lines, "tree 17", "tree 273"), "ANN", "EVE")),
+        OTHER)
+    yield verdict.case("nothing was saved", stores.rows_in(room.store), rows)
     mark = read(room.mark)
     for name, data in [("an empty mark", b""), ("a mark that is cut", mark[:-1]), ("a longer one", mark + b"\0")]:
         write(room.mark, data)
-        yield name, room.begun() == OTHER and read(room.mark) == data
+        yield verdict.case(name, [room.begun(), read(room.mark)], [OTHER, data])
     write(room.mark, mark)
-    yield "the right one again", room.begun() == WELL
+    yield verdict.case("the right one again", room.begun(), WELL)
     os.remove(room.mark)
     os.mkdir(room.mark)
-    yield "a folder in its place", room.begun() == ([], ["store fault"], 3)
+    yield verdict.case("a folder in its place", room.begun(), ([], ["store fault"], 3))
 
 
 def changed_cases(program, folder):
     """A tree of the same number with other words is told, and goes on where the rows fit."""
     room = Room(program, folder, "changed")
     node = nodes.Node(room.program, room.words() + ["--turns", nodes.SOME])
-    yield "an order", node.ask("order ANN take DCS") == "told ANN take DCS 0"
+    yield verdict.case("an order", node.ask("order ANN take DCS"), "told ANN take DCS 0")
     node.kill()
     renamed = changed(room.lines, "ANN", "EVE")
-    yield "another name for an operator", room.begun(renamed) == CHANGED
-    yield "it is told again", room.begun(renamed) == CHANGED
-    yield "the mark stays", read(room.mark) == mark_of(room.lines)
+    yield verdict.case("another name for an operator", room.begun(renamed), CHANGED)
+    yield verdict.case("it is told again", room.begun(renamed), CHANGED)
+    yield verdict.case("the mark stays", read(room.mark), mark_of(room.lines))
     more = room.lines + ["device LV TPC DEV"]
-    yield "a device more", room.begun(more) == CHANGED
+    yield verdict.case("a device more", room.begun(more), CHANGED)
     moved = changed(changed(room.lines, "operator ANN A", "operator ANN B"), "operator BOB B", "operator BOB A")
     told = room.begun(moved)
     yield "a row that does not fit", told[0] == [] and told[1][:1] == CHANGED[1] and told[1][1].startswith("row 1 ") and (
         told[2] == 1)
     os.remove(room.mark)
-    yield "the mark removed", room.begun(renamed) == WELL and read(room.mark) == mark_of(renamed)
+    yield verdict.case("the mark removed", [room.begun(renamed), read(room.mark)], [WELL, mark_of(renamed)])
 
 
 def gone_cases(program, folder):
@@ -141,8 +146,9 @@ def gone_cases(program, folder):
         told = [node.ask("order ANN take DCS")]
         away(room.store)
         told += [node.ask("order ANN ask DCS")]
-        yield "a store that is %s: what saves nothing goes on" % name, told == [
-            "told ANN take DCS 0", "told ANN ask DCS ANN 1 0 settled 0"]
+        yield verdict.case(
+            "a store that is %s: what saves nothing goes on" % name, told,
+            ["told ANN take DCS 0", "told ANN ask DCS ANN 1 0 settled 0"])
         node.say("order ANN drop DCS")
         ended = node.end()
         yield "a store that is %s stops the station" % name, ended is not None and ended[1:] == (STOPPED, 3)

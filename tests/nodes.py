@@ -24,6 +24,7 @@ import growths
 import pages
 import stores
 import trees
+import verdict
 import wires
 
 PATIENCE = 30
@@ -136,17 +137,18 @@ def three_case(program, folder):
     for name in "CBA":
         nodes[name] = Node(program, [tree, name, os.path.join(folder, name), "--turns", 2000])
     told = [nodes["A"].ask("order ANN " + order) for order in orders]
-    yield "three nodes: the crew is told", told == ["told ANN %s 0" % order for order in orders]
+    yield verdict.case("three nodes: the crew is told", told, ["told ANN %s 0" % order for order in orders])
     ends = [nodes[name].end(60) for name in "ABC"]
-    yield "three nodes: how they end", ends == [(told, [], 0), ([], [], 0), ([], [], 0)]
-    yield "three nodes: under a minute", time.monotonic() - nodes["C"].begun < 60
+    yield verdict.case("three nodes: how they end", ends, [(told, [], 0), ([], [], 0), ([], [], 0)])
+    yield verdict.case("three nodes: under a minute", time.monotonic() - nodes["C"].begun, 60, "<")
     rows = dict(row for name in "ABC" for row in stores.rows_in(os.path.join(folder, name)))
     # DCS is at epoch 1, held by ANN, its third command settled; both children are held by it, at epoch 1.
     held = "020100010000000000000001000000030000000000000002" + "".join(
         "%04x02000000000000000001000000010000" % child + "0000" for child in (2, 3))
-    yield "three nodes: what the top has saved", rows[(1, 1, 0)] == held
-    yield "three nodes: what the halves have saved", [rows[(station, station, 0)] for station in (2, 3)] == [
-        "020200010000000000000001000000010000000000000000"] * 2
+    yield verdict.case("three nodes: what the top has saved", rows[(1, 1, 0)], held)
+    yield verdict.case(
+        "three nodes: what the halves have saved", [rows[(station, station, 0)] for station in (2, 3)],
+        ["020200010000000000000001000000010000000000000000"] * 2)
 
 
 def killed_case(program, folder):
@@ -159,9 +161,10 @@ def killed_case(program, folder):
     told += [node.ask("order ANN " + order) for order in ("take DCS", "do DCS START", "ask DCS", "drop DCS")]
     wanted = ["take DCS 0", "do DCS CONFIGURE 0", "take DCS 23", "do DCS START 0", "ask DCS ANN 1 2 settled 0",
               "drop DCS 0"]
-    yield "a killed node goes on", told == ["told ANN " + line for line in wanted]
-    yield "a killed node ends well", node.end() == (["told ANN " + line for line in wanted[2:]], [], 0)
-    yield "a killed node has started twice", ((1, 0, 0), "0200000000000002") in stores.rows_in(words[2])
+    yield verdict.case("a killed node goes on", told, ["told ANN " + line for line in wanted])
+    yield verdict.case("a killed node ends well", node.end(), (["told ANN " + line for line in wanted[2:]], [], 0))
+    yield verdict.case(
+        "a killed node has started twice", ((1, 0, 0), "0200000000000002"), stores.rows_in(words[2]), "in")
 
 
 LINES = [
@@ -230,13 +233,15 @@ def line_cases(program, folder):
     faults = [line for line in answers if line.startswith("line")]
     told = [line for line in answers if not line.startswith("line")], faults, 0
     given = "\n".join(line for line, _ in LINES)
-    yield "lines of a crew", ran(program, [tree, "A", os.path.join(folder, "store"), "--turns", 300], given) == told
+    yield verdict.case(
+        "lines of a crew", ran(program, [tree, "A", os.path.join(folder, "store"), "--turns", 300], given), told)
     # Of a station with a device, its reports and what it shows of itself: nothing, for it watches no object of its own.
     given = "report HV READY\nreport HV ERROR\norder BOB take TPC\norder BOB do TPC CONFIGURE\nshow HV\nshow TPC"
     wanted = ["told report HV READY 0", "told report HV ERROR 0", "told BOB take TPC 0", "told BOB do TPC CONFIGURE 0",
               "board HV none", "board TPC none"]
-    yield "lines with reports", ran(program, [tree, "B", os.path.join(folder, "other"), "--turns", 300],
-                                    given) == (wanted, [], 0)
+    yield verdict.case(
+        "lines with reports", ran(program, [tree, "B", os.path.join(folder, "other"), "--turns", 300], given),
+        (wanted, [], 0))
 
 
 def shown_case(program, folder):
@@ -244,7 +249,7 @@ def shown_case(program, folder):
     tree = write_tree(folder, free_ports(2))
     keeper = Node(program, [tree, "B", os.path.join(folder, "B"), "--turns", SOME])
     other = Node(program, [tree, "A", os.path.join(folder, "A"), "--turns", SOME])
-    seen = []
+    seen, shown = [], []
     for line, wanted in [("show TPC", "board TPC 1.0 OFF"), ("report HV READY", "told report HV READY 0"),
                          ("show TPC", "board TPC 1.1 READY"), ("report HV RUNNING", "told report HV RUNNING 0"),
                          ("show TPC", "board TPC 1.2 RUNNING")]:
@@ -253,8 +258,8 @@ def shown_case(program, folder):
         while answer != wanted and line.startswith("show") and time.monotonic() < until:
             time.sleep(0.02)
             answer = node.ask(line)
-        seen.append(answer == wanted)
-    yield "a board of another station's objects", all(seen)
+        seen, shown = seen + [answer], shown + [wanted]
+    yield verdict.case("a board of another station's objects", seen, shown)
     keeper.kill()
     keeper = Node(program, [tree, "B", os.path.join(folder, "B"), "--turns", SOME])
     answers = [other.ask("show TPC")]
@@ -265,8 +270,8 @@ def shown_case(program, folder):
     keeper.kill()
     other.kill()
     boards = ["board TPC 1.2 RUNNING", "board TPC 2.0 OFF"]
-    yield "a board of a station that was started again", sorted(set(answers)) == boards \
-        and answers == sorted(answers)
+    yield verdict.case(
+        "a board of a station that was started again", [sorted(set(answers)), answers], [boards, sorted(answers)])
 
 
 STORE_FAULT = ([], ["store fault"], 3)
@@ -283,23 +288,23 @@ def store_cases(program, folder):
         return os.path.join(folder, name)
 
     well = ([], [], 0)
-    yield "a store in no folder", begun(os.path.join(folder, "none", "store")) == STORE_FAULT
-    yield "a store that is a folder", begun(folder) == STORE_FAULT
+    yield verdict.case("a store in no folder", begun(os.path.join(folder, "none", "store")), STORE_FAULT)
+    yield verdict.case("a store that is a folder", begun(folder), STORE_FAULT)
     with open(path("text"), "wb") as file:
         file.write(b"This is no database, and long enough to be seen as none.\n" * 20)
-    yield "a store that is a text", begun(path("text")) == STORE_FAULT
+    yield verdict.case("a store that is a text", begun(path("text")), STORE_FAULT)
     with open(path("text"), "rb") as file:
         text = b"This is no database, and long enough to be seen as none.\n" * 20
-        yield "a store that is a text is left", file.read() == text
+        yield verdict.case("a store that is a text is left", file.read(), text)
     other = stores.store(path("other"), stores.TABLE.replace(" STRICT", ""), stores.ROWS)
-    yield "a store with another table", begun(other) == STORE_FAULT and stores.rows_in(other) == stores.ROWS
+    yield verdict.case("a store with another table", [begun(other), stores.rows_in(other)], [STORE_FAULT, stores.ROWS])
     locked = stores.store(path("locked"), stores.TABLE, [])
     file = sqlite3.connect(locked)
     file.execute("BEGIN EXCLUSIVE")
-    yield "a store that another program writes", begun(locked) == STORE_FAULT
+    yield verdict.case("a store that another program writes", begun(locked), STORE_FAULT)
     file.close()
-    yield "a store that another program has written", begun(locked) == well
-    yield "a store by no text", begun(path("no text \udcff")) == STORE_FAULT
+    yield verdict.case("a store that another program has written", begun(locked), well)
+    yield verdict.case("a store by no text", begun(path("no text \udcff")), STORE_FAULT)
     # As another user, for whom the files may only be read.
     sealed = path("sealed")
     os.mkdir(sealed)
@@ -317,7 +322,7 @@ def store_cases(program, folder):
             if not mode & 0o001:
                 os.chmod(at, mode | 0o055)
             at = os.path.dirname(at)
-    yield "a store that may not be written", begun(kept, **as_other) == STORE_FAULT
+    yield verdict.case("a store that may not be written", begun(kept, **as_other), STORE_FAULT)
     os.chmod(sealed, 0o755)
 
 
@@ -333,11 +338,11 @@ def second_case(program, folder):
     words = [tree, "A", os.path.join(folder, "store"), "--turns", SOME]
     node = Node(program, words)
     told = [node.ask("order ANN take DCS")]
-    yield "a second node on a store", ran(program, words) == STORE_FAULT
+    yield verdict.case("a second node on a store", ran(program, words), STORE_FAULT)
     told += [node.ask("order ANN do DCS CONFIGURE"), node.ask("order ANN drop DCS")]
     node.kill()
-    yield "the first node goes on", told == ["told ANN take DCS 0", "told ANN do DCS CONFIGURE 0",
-                                             "told ANN drop DCS 0"]
+    yield verdict.case(
+        "the first node goes on", told, ["told ANN take DCS 0", "told ANN do DCS CONFIGURE 0", "told ANN drop DCS 0"])
 
 
 BOOT = (1, 0, 0)
@@ -361,16 +366,16 @@ def row_cases(program, folder):
          "row 1 1 1 fault 4"),
         ("two rows that are refused", [((1, 1, 0), ""), ((1, 0, 1), "00")], "row 1 0 1 fault 2"),
     ]:
-        yield name, begun(name, rows) == (([], [told], 1), sorted(rows))
+        yield verdict.case(name, begun(name, rows), (([], [told], 1), sorted(rows)))
     spent = [(BOOT, "02000000ee6b2800")]
-    yield "boots that are spent", begun("spent", spent) == (([], ["boots spent"], 3), spent)
-    yield "the last boot", begun("last", [(BOOT, "02000000ee6b27ff")]) == (([], [], 0), spent)
+    yield verdict.case("boots that are spent", begun("spent", spent), (([], ["boots spent"], 3), spent))
+    yield verdict.case("the last boot", begun("last", [(BOOT, "02000000ee6b27ff")]), (([], [], 0), spent))
     # BOB's row is another station's and is left alone, whatever it says.
     old = [(BOOT, "0100000000000002"), ((1, 1, 0), "010100010000000000000001000000000000000000000000"),
            ((2, 0, 2), "99")]
     new = [(BOOT, "0200000000000003"), ((1, 1, 0), "020100010000000000000001000000000000000000000000"),
            ((2, 0, 2), "99")]
-    yield "rows of the first schema", begun("old", old) == (([], [], 0), new)
+    yield verdict.case("rows of the first schema", begun("old", old), (([], [], 0), new))
 
 
 def address_cases(program, folder):
@@ -379,9 +384,11 @@ def address_cases(program, folder):
     tree, store = write_tree(folder, ports), os.path.join(folder, "store")
     with socket.socket(socket.AF_INET, socket.SOCK_DGRAM) as taken:
         taken.bind(("127.0.0.1", ports[0]))
-        yield "an address in use", ran(program, [tree, "A", store, "--turns", FEW]) == ([], ["link fault"], 3)
+        yield verdict.case(
+            "an address in use", ran(program, [tree, "A", store, "--turns", FEW]), ([], ["link fault"], 3))
         # The socket is opened last: the station has started then.
-        yield "an address in use: the station was opened", stores.rows_in(store) == [(BOOT, "0200000000000001")]
+        yield verdict.case(
+            "an address in use: the station was opened", stores.rows_in(store), [(BOOT, "0200000000000001")])
         nowhere, none = os.path.join(folder, "nowhere"), os.path.join(folder, "none", "store")
         wrong = ([], ["wrong line"], 2)
         for name, words, told in [
@@ -392,11 +399,12 @@ def address_cases(program, folder):
             ("no such store, nor address", [tree, "A", none], STORE_FAULT),
             ("turns before a tree file that is not there", ["--turns", "0", nowhere, "A", store], wrong),
         ]:
-            yield "faults in order: " + name, ran(program, words) == told
+            yield verdict.case("faults in order: " + name, ran(program, words), told)
     path = os.path.join(folder, "faulty")
     with open(path, "w", encoding="ascii") as file:
         file.write("tree 17\nstation A\n")
-    yield "faults in order: a faulty tree file", ran(program, [path, "Z", none]) == ([], ["tree line 2 fault 2"], 1)
+    yield verdict.case(
+        "faults in order: a faulty tree file", ran(program, [path, "Z", none]), ([], ["tree line 2 fault 2"], 1))
     for words in [[], [tree], [tree, "A"], [tree, "A", store, "B"], [tree, "A", store, "--turns"],
                   [tree, "A", store, "--help"],
                   ["help"], [tree, "A", store, "--turns", "5", "--turns", "5"], [tree, "A", store, "--steps", "5"],
@@ -405,10 +413,10 @@ def address_cases(program, folder):
                   [tree, "A", store, "--", "--turns", "5"]] + [
                       [tree, "A", store, "--turns", turns] for turns in ("0", "1000001", "-1", "1.5", "x", "",
                                                                          "00000000001")]:
-        yield "a node's words: %s" % words[1:], ran(program, words) == wrong
+        yield verdict.case("a node's words: %s" % words[1:], ran(program, words), wrong)
     for words in [["--turns", FEW, tree, "A", store], [tree, "--turns=%d" % FEW, "A", store],
                   [tree, "A", store, "--turns", "0000000003"]]:
-        yield "a node's words: %s" % words[-3:-1], ran(program, words) == ([], [], 0)
+        yield verdict.case("a node's words: %s" % words[-3:-1], ran(program, words), ([], [], 0))
 
 
 def console_cases(program, folder):
@@ -420,14 +428,15 @@ def console_cases(program, folder):
         done = subprocess.run(words, stderr=subprocess.PIPE, timeout=PATIENCE, check=False, **how)
         return done.stderr.decode().splitlines(), done.returncode
 
-    yield "no input", end(stdin=subprocess.DEVNULL, stdout=subprocess.DEVNULL) == ([], 0)
+    yield verdict.case("no input", end(stdin=subprocess.DEVNULL, stdout=subprocess.DEVNULL), ([], 0))
     place = os.open(folder, os.O_RDONLY)
-    yield "an input that can't be read", end(stdin=place, stdout=subprocess.DEVNULL) == (["read fault"], 0)
+    yield verdict.case("an input that can't be read", end(stdin=place, stdout=subprocess.DEVNULL), (["read fault"], 0))
     os.close(place)
     with open("/dev/full", "wb") as full:
-        yield "an output that can't be written", end(input=b"show DCS\nshow DCS\n", stdout=full) == (["write fault"], 0)
+        yield verdict.case(
+            "an output that can't be written", end(input=b"show DCS\nshow DCS\n", stdout=full), (["write fault"], 0))
     read, write = os.pipe()
-    yield "an input that never ends", end(stdin=read, stdout=subprocess.DEVNULL) == ([], 0)
+    yield verdict.case("an input that never ends", end(stdin=read, stdout=subprocess.DEVNULL), ([], 0))
     os.close(read)
     os.close(write)
 
@@ -446,8 +455,9 @@ def hostile_case(program, folder):
                 other.sendto(data, ("127.0.0.1", ports[0]))
     told += [node.ask("order ANN do DCS CONFIGURE"), node.ask("order ANN ask DCS")]
     node.kill()
-    yield "bytes that are no datagrams of the node", told == [
-        "told ANN take DCS 0", "told ANN do DCS CONFIGURE 0", "told ANN ask DCS ANN 1 1 settled 0"]
+    yield verdict.case(
+        "bytes that are no datagrams of the node", told,
+        ["told ANN take DCS 0", "told ANN do DCS CONFIGURE 0", "told ANN ask DCS ANN 1 1 settled 0"])
 
 
 def tag_case(program, folder):
@@ -458,7 +468,7 @@ def tag_case(program, folder):
     node.say("show TPC")
     # While the first order waits, DCS may not join it: orders of one operator join each other on one domain alone.
     answers = [(line, node.ask(line)) for line, _ in TAGGED]
-    yield "lines with tags", answers == TAGGED
+    yield verdict.case("lines with tags", answers, TAGGED)
     node.say("@w order ANN take DCS")
     told = [node.ask("@u under way")]
     time.sleep(2)
@@ -467,14 +477,19 @@ def tag_case(program, folder):
     # The seconds of each order are looked at apart from the rest of its line.
     seconds = [int(line.rsplit(" ", 1)[1]) for line in told if " way ANN " in line]
     wanted = ["@u way ANN take TPC", "@u way ANN take DCS", "@u under way"] * 2
-    yield "orders under way", [line.rsplit(" ", 1)[0] for line in told] == wanted and told[2] == told[5] \
-        == "@u under way 2" and all(0 <= first < later for first, later in zip(seconds[:2], seconds[2:]))
+    yield verdict.case(
+        "orders under way",
+        [[line.rsplit(" ", 1)[0] for line in told], told[2] == told[5] == "@u under way 2",
+         all(0 <= first < later for first, later in zip(seconds[:2], seconds[2:]))],
+        [wanted, True, True])
     other = Node(program, [tree, "B", os.path.join(folder, "B"), "--endless"])
     ends = [node.lines.get(timeout=PATIENCE) for _ in range(3)]
     # What the board shows by then is whether a state of the station that came up was faster than its answer.
     boards = ["board TPC none", "board TPC 1.0 OFF"]
-    yield "the order that waited, and the lines that waited for it", ends[0] == "told ANN take TPC 0" \
-        and sorted("board" if it in boards else it for it in ends[1:]) == ["@w told ANN take DCS 0", "board"]
+    yield verdict.case(
+        "the order that waited, and the lines that waited for it",
+        [ends[0], sorted("board" if it in boards else it for it in ends[1:])],
+        ["told ANN take TPC 0", ["@w told ANN take DCS 0", "board"]])
     node.kill()
     other.kill()
 
@@ -490,7 +505,7 @@ def many_tags_case(program, folder):
     told += [node.lines.get(timeout=PATIENCE) for _ in range(40)]
     wanted = ["told ANN take DCS 0"] + ["@%d told ANN do DCS CONFIGURE 0" % place for place in range(40)]
     # A command that a later one has overtaken is told 8: it has ended, and how was not seen.
-    yield "forty commands at once", [line.replace("CONFIGURE 8", "CONFIGURE 0") for line in told] == wanted
+    yield verdict.case("forty commands at once", [line.replace("CONFIGURE 8", "CONFIGURE 0") for line in told], wanted)
     node.kill()
 
 
@@ -508,7 +523,7 @@ def count_cases(program, folder):
     first, begun = counts_of(node), time.monotonic()
     names = ["received", "sent", "unsent", "ticks", "faults", "saved", "unsaved", "unmade"]
     names += ["refused%d" % refusal for refusal in [*range(1, 10), *range(21, 27)]]
-    yield "names of counts", list(first) == names
+    yield verdict.case("names of counts", list(first), names)
     ask = bytes.fromhex("534d01010002000100010000" + "00" * 18 + "0011" + "00" * 12)
     refused = {1: b"x" * 43, 2: b"T" + ask[1:], 3: ask[:2] + b"\x03" + ask[3:], 4: ask[:3] + b"\x09" + ask[4:],
                5: ask[:9] + b"\x00" + ask[10:], 6: ask[:43] + b"\x01", 7: ask[:31] + b"\x12" + ask[32:],
@@ -522,22 +537,26 @@ def count_cases(program, folder):
     time.sleep(0.5)
     later = counts_of(node)
     risen = {name: later[name] - first[name] for name in names}
-    yield "orders that are counted", told == ["told ANN drop DCS 21", "told ANN take DCS 0", "told ANN take DCS 23",
-                                              "told ANN exclude DCS DCS 2"]
+    yield verdict.case(
+        "orders that are counted", told,
+        ["told ANN drop DCS 21", "told ANN take DCS 0", "told ANN take DCS 23", "told ANN exclude DCS DCS 2"])
     # Four orders, and so four wake-ups, of no bytes. Each datagram that is refused is one that came.
-    yield "refused datagrams are counted", [risen["refused%d" % it] for it in range(1, 10)] == [5, *range(2, 10)]
-    yield "refused orders are counted", [risen["refused%d" % it] for it in range(21, 27)] == [1, 0, 1, 0, 0, 0]
+    yield verdict.case(
+        "refused datagrams are counted", [risen["refused%d" % it] for it in range(1, 10)], [5, *range(2, 10)])
+    yield verdict.case(
+        "refused orders are counted", [risen["refused%d" % it] for it in range(21, 27)], [1, 0, 1, 0, 0, 0])
     # The link takes, the record is granted, the link learns it; the command is issued, runs and is heard of.
-    yield "saves are counted", risen["saved"] == 6 and later["unsaved"] == later["unmade"] == 0
+    yield verdict.case("saves are counted", [risen["saved"], later["unsaved"] == later["unmade"] == 0], [6, True])
     # Besides those refused and the wake-ups: the question, and what the station sent to itself, TAKE, TELL, RUN and
     # TELL. A tick between an order and its answer sends once more, and is answered once more.
     more = risen["received"] - sum(refused) - 4 - 1 - 4
-    yield "datagrams that came are counted", more in range(0, 2 * risen["ticks"] + 1, 2)
-    yield "ticks are counted", 10 < risen["ticks"] < 100 * (time.monotonic() - begun) + 10 and later["faults"] == 0
+    yield verdict.case("datagrams that came are counted", more, range(0, 2 * risen["ticks"] + 1, 2), "in")
+    yield verdict.case(
+        "ticks are counted", [10 < risen["ticks"] < 100 * (time.monotonic() - begun) + 10, later["faults"]], [True, 0])
     # Each tick repeats the WATCH of TPC; beside these went four datagrams to itself with those that were sent again,
     # and the TELL to B. Counts that are read one after the other may differ by one.
     went = risen["sent"] + risen["unsent"] - risen["ticks"] - more
-    yield "datagrams that went are counted", went in (4, 5, 6)
+    yield verdict.case("datagrams that went are counted", went, (4, 5, 6), "in")
     node.kill()
 
 
@@ -557,18 +576,21 @@ def endless_case(program, folder):
             begun = time.monotonic()
             counts = counts_of(node)
             took.append(time.monotonic() - begun)
-    yield "two million turns", counts["received"] >= 2_100_000
-    yield "answered in a flood", max(took) < SOON
-    yield "states are kept over all turns", told == ["told report HV READY 0", "told BOB watch HV 0",
-                                                     "told BOB take TPC 0"] \
-        and node.ask("show HV") == "board HV 1.1 READY" and node.ask("order BOB take TPC") == "told BOB take TPC 23"
+    yield verdict.case("two million turns", counts["received"], 2_100_000, ">=")
+    yield verdict.case("answered in a flood", max(took), SOON, "<")
+    yield verdict.case(
+        "states are kept over all turns", [told, node.ask("show HV"), node.ask("order BOB take TPC")],
+        [["told report HV READY 0", "told BOB watch HV 0", "told BOB take TPC 0"], "board HV 1.1 READY",
+         "told BOB take TPC 23"])
     node.child.terminate()
-    yield "ended by a signal", node.end()[2] == -signal.SIGTERM
+    yield verdict.case("ended by a signal", node.end()[2], -signal.SIGTERM)
     node = Node(program, words, preexec_fn=lambda: signal.signal(signal.SIGINT, signal.SIG_DFL))
     node.ask("show HV")
     node.child.send_signal(signal.SIGINT)
-    yield "ended by another signal", node.end()[2] == -signal.SIGINT
-    yield "what was answered is saved", ((2, 2, 0), "020100020000000000000001" + "00" * 12) in stores.rows_in(words[2])
+    yield verdict.case("ended by another signal", node.end()[2], -signal.SIGINT)
+    yield verdict.case(
+        "what was answered is saved", ((2, 2, 0), "020100020000000000000001" + "00" * 12), stores.rows_in(words[2]),
+        "in")
 
 
 # The session of README.md: who types what, and what is printed. Station C comes up while the third line waits.
@@ -632,9 +654,9 @@ def flooded_case(program, folder):
     wanted = list(itertools.islice(itertools.chain(SESSION, itertools.cycle(GIVEN_BACK)), len(told)))
     if told != wanted:
         print("answered %s in place of %s" % (told[-1], wanted[-1]), file=sys.stderr)
-    yield "a flooded node: each order is answered", len(told) >= len(SESSION) and told == wanted
+    yield verdict.case("a flooded node: each order is answered", [len(told) >= len(SESSION), told], [True, wanted])
     yield "a flooded node: it runs on, and so does the flood", is_whole
-    yield "a flooded node: how much comes", speed > 2_000
+    yield verdict.case("a flooded node: how much comes", speed, 2_000, ">")
 
 
 def rest_case(program, folder):
@@ -650,7 +672,7 @@ def rest_case(program, folder):
 
     before, begun = used(), time.monotonic()
     time.sleep(3)
-    yield "a node at rest", (used() - before) / (time.monotonic() - begun) < 0.05
+    yield verdict.case("a node at rest", (used() - before) / (time.monotonic() - begun), 0.05, "<")
     took = []
     for _ in range(50):
         time.sleep(0.003)
@@ -659,7 +681,7 @@ def rest_case(program, folder):
         took.append(time.monotonic() - begun)
     node.kill()
     # A turn of a node that nobody wakes takes ten milliseconds. An order to watch saves nothing.
-    yield "an order to a node at rest", sorted(took)[len(took) // 2] < 0.005
+    yield verdict.case("an order to a node at rest", sorted(took)[len(took) // 2], 0.005, "<")
 
 
 def is_without_memory(ran, whole):
@@ -682,7 +704,7 @@ def growth_cases(program, folder):
         return ["node", tree, "A", os.path.join(folder, "store%d-%d" % (place, turns)), "--turns", str(turns)]
 
     count, whole = growths.counted(program, words(0, 200), given, refusing, folder)
-    yield "growths of a node: all %d" % count, whole == (b"told ANN take DCS 0\nboard TPC none\n", b"", 0)
+    yield verdict.case("growths of a node: all %d" % count, whole, (b"told ANN take DCS 0\nboard TPC none\n", b"", 0))
     told = 0
     for growth in range(1, count + 1, 8):
         # on a machine that is busy a node may have served its few turns before its console has printed
@@ -691,8 +713,8 @@ def growth_cases(program, folder):
             if is_without_memory(ran, whole):
                 break
         told += ran != whole
-        yield "growths of a node: %d" % growth, is_without_memory(ran, whole)
-    yield "growths of a node: %d of them needed" % told, told > 0
+        yield verdict.case("growths of a node: %d" % growth, whole if is_without_memory(ran, whole) else ran, whole)
+    yield verdict.case("growths of a node: %d of them needed" % told, told, 0, ">")
 
 
 # These run side by side, and those after them.
@@ -732,12 +754,7 @@ def main():
         done = cases(program, folder, only)
     finally:
         shutil.rmtree(folder, ignore_errors=True)
-    for name, held in done:
-        if not held:
-            print("FAILED " + name)
-    passed = sum(held for _, held in done)
-    print("%d passed, %d failed" % (passed, len(done) - passed))
-    sys.exit(1 if passed < len(done) or not done else 0)
+    verdict.end(done)
 
 
 if __name__ == "__main__":

@@ -75,26 +75,28 @@ def page_cases():
     if has("man"):
         with open(os.devnull, "wb") as nowhere:
             done = subprocess.run(words, stdout=nowhere, stderr=subprocess.PIPE, check=False)
-        yield "the page has no warning", (done.stderr, done.returncode) == (b"", 0)
+        yield verdict.case("the page has no warning", (done.stderr, done.returncode), (b"", 0))
     rows = documents.tables(documents.section(documents.read("README.md"), "The commands"))
     # a bar in a cell of a table stands behind a backslash, and cuts the cell in two
     told = re.findall(r"`bin/(smi [^`]+)`", "\n".join(" | ".join(row) for row in rows).replace("\\ | ", "| "))
     for form in told:
-        yield "the page has the form %s" % form, form in page
-    yield "the page has all forms", len(told) == 7
+        yield verdict.case("the page has the form %s" % form, form, page, "in")
+    yield verdict.case("the page has all forms", len(told), 7)
     numbers = documents.read("docs", "NUMBERS.md")
     orders = [row[0] for row in documents.tables(documents.section(numbers, "How an order ends"))]
     listed = re.findall(r"^(\d+)  +\S", page, flags=re.M)
     # 32 is never told to an operator
-    yield "the page has the ends of orders", listed == [it for it in orders if it != "32"]
+    yield verdict.case("the page has the ends of orders", listed, [it for it in orders if it != "32"])
     for row in documents.tables(documents.section(numbers, "Lines on standard error")):
-        yield "the page has %s" % row[0], row[0].strip("`") in page
+        yield verdict.case("the page has %s" % row[0], row[0].strip("`"), page, "in")
     kit = re.search(r"proved with `(.*?)`", documents.read("README.md"))[1]
-    yield "the page has the version and its toolchain", "Version %s, proved with %s." % (deb.version(), kit) in page
-    yield "the page is of that version", 'Lunskaf %s' % deb.version() in page.splitlines()[1]
+    yield verdict.case(
+        "the page has the version and its toolchain", "Version %s, proved with %s." % (deb.version(), kit), page, "in")
+    yield verdict.case("the page is of that version", 'Lunskaf %s' % deb.version(), page.splitlines()[1], "in")
     log = documents.section(documents.read("CHANGELOG.md"), deb.version())
-    yield "CHANGELOG.md has the version and its toolchain", "Proved with `%s`." % kit in log
-    yield "README.md has the version", "Version %s, proved with" % deb.version() in documents.read("README.md")
+    yield verdict.case("CHANGELOG.md has the version and its toolchain", "Proved with `%s`." % kit, log, "in")
+    yield verdict.case(
+        "README.md has the version", "Version %s, proved with" % deb.version(), documents.read("README.md"), "in")
 
 
 # What is installed
@@ -106,11 +108,11 @@ def installed(folder):
 
 
 def install_cases(folder):
-    yield "make install", installed(folder) == ("", 0)
+    yield verdict.case("make install", installed(folder), ("", 0))
     top = os.path.join(folder, "usr")
     found = [os.path.relpath(path, "usr") for path in deb.files_of(folder)]
     for path in INSTALLED + ["share/doc/lunskaf/" + it for it in documents.documents() if it.startswith("docs/")]:
-        yield "there is %s" % path, path in found
+        yield verdict.case("there is %s" % path, path, found, "in")
     modes = {path: os.stat(os.path.join(top, path)).st_mode & 0o777 for path in found}
     yield "the program alone may be run", all(mode == (0o755 if path == "bin/smi" else 0o644)
                                              for path, mode in modes.items())
@@ -122,24 +124,24 @@ def install_cases(folder):
     yield "the page names what is installed", "/usr/share/smi/examples" in page and "@SHARE@" not in page \
         and "/usr/share/doc/lunskaf" in page and "@DOC@" not in page
     told = ran([sys.executable, "rows.py"], cwd=os.path.join(top, "share/smi/tools"))
-    yield "a tool runs where it is installed", told[0].startswith("usage: rows.py") and told[1] == 1
+    yield verdict.case("a tool runs where it is installed", [told[0].startswith("usage: rows.py"), told[1]], [True, 1])
     yield from console_cases(unit)
     if has("systemd-analyze"):
         path = os.path.join(folder, "smi-node@TRACKER.service")
         # the program need not be on this machine
         with open(path, "w", encoding="ascii") as file:
             file.write(unit.replace("/usr/bin/smi", "/bin/true"))
-        yield "systemd takes the unit", ran(["systemd-analyze", "verify", "--man=no", path]) == ("", 0)
+        yield verdict.case("systemd takes the unit", ran(["systemd-analyze", "verify", "--man=no", path]), ("", 0))
         os.remove(path)
 
 
 def console_cases(unit):
     """The unit's console: in a folder of its own, for its user and group alone."""
     run = re.search(r"^ExecStart=(.*)$", unit, flags=re.M)[1].split()
-    yield "the unit has a console", run[run.index("--console") + 1] == "/run/smi-%i/console"
-    yield "the unit's folder is there and goes", "RuntimeDirectory=smi-%i" in unit.splitlines()
+    yield verdict.case("the unit has a console", run[run.index("--console") + 1], "/run/smi-%i/console")
+    yield verdict.case("the unit's folder is there and goes", "RuntimeDirectory=smi-%i", unit.splitlines(), "in")
     mask = int(re.search(r"^UMask=(.*)$", unit, flags=re.M)[1], 8)
-    yield "its group may give orders, and nobody else", 0o777 & ~mask == 0o770
+    yield verdict.case("its group may give orders, and nobody else", 0o777 & ~mask, 0o770)
 
 
 # Completion
@@ -174,9 +176,10 @@ def completion_cases():
     script = os.path.join(ROOT, "package", "smi.bash")
     for words, wanted in COMPLETED:
         told = ran(["bash", "-c", COMPLETE, "bash", script, *words], cwd=os.path.join(ROOT, "examples"))
-        yield "bash completes %s" % " ".join(words), (told[0].split(), told[1]) == (wanted, 0)
+        yield verdict.case("bash completes %s" % " ".join(words), (told[0].split(), told[1]), (wanted, 0))
     if has("zsh"):
-        yield "zsh reads its completion", ran(["zsh", "-n", os.path.join(ROOT, "package", "_smi")]) == ("", 0)
+        yield verdict.case(
+            "zsh reads its completion", ran(["zsh", "-n", os.path.join(ROOT, "package", "_smi")]), ("", 0))
 
 
 # The package
@@ -205,35 +208,38 @@ def package_cases(folder):
     if not has("dpkg-deb"):
         return
     made = deb.made(os.path.join(folder, "made"))
-    yield "the package has its version", os.path.basename(made) == "lunskaf_%s_amd64.deb" % deb.version()
+    yield verdict.case("the package has its version", os.path.basename(made), "lunskaf_%s_amd64.deb" % deb.version())
     with open(made, "rb") as file:
         first = file.read()
     deb.made(os.path.join(folder, "made"))
     with open(made, "rb") as file:
-        yield "the package is made alike again", file.read() == first
+        yield verdict.case("the package is made alike again", file.read(), first)
     if not has("dpkg"):
         return
     root = a_root(os.path.join(folder, "root"))
     told, status = dpkg(root, "-i", made)
-    yield "the package is installed", status == 0
+    yield verdict.case("the package is installed", status, 0)
     if status:
         print(told)
     found = found_in(root)
     page = "usr/share/man/man1/smi.1.gz"
-    yield "the package has the program, its page and its unit", {
+    yield verdict.case(
+        "the package has the program, its page and its unit",
+        {
         "usr/bin/smi", page, "usr/lib/systemd/system/smi-node@.service", "usr/lib/sysusers.d/smi.conf",
-        "usr/share/zsh/vendor-completions/_smi", "usr/share/doc/lunskaf/copyright"} <= set(found)
+        "usr/share/zsh/vendor-completions/_smi", "usr/share/doc/lunskaf/copyright"},
+        set(found), "<=")
     yield "the package has the place of the tree file", os.path.isdir(os.path.join(root, "etc", "smi"))
     answer = ran([os.path.join(root, "usr/bin/smi"), "check", os.path.join(ROOT, "examples", "three.tree")])
-    yield "the packed program runs", answer == ("tree 17 stations 3 operators 3 domains 3 devices 2\n", 0)
+    yield verdict.case("the packed program runs", answer, ("tree 17 stations 3 operators 3 domains 3 devices 2\n", 0))
     with open(os.path.join(root, "etc", "passwd"), encoding="ascii") as file:
         yield "the user is made", re.search(r"^smi:.*:/var/lib/smi:\S*nologin$", file.read(), flags=re.M)
     os.makedirs(os.path.join(root, "var/lib/smi"))
     with open(os.path.join(root, "var/lib/smi/TRACKER.store"), "w", encoding="ascii") as file:
         file.write("grants")
-    yield "the package is removed", dpkg(root, "-P", "lunskaf")[1] == 0
+    yield verdict.case("the package is removed", dpkg(root, "-P", "lunskaf")[1], 0)
     left = [path for path in found_in(root) if not path.startswith("etc/")]
-    yield "stores alone are left", left == ["var/lib/smi/TRACKER.store"]
+    yield verdict.case("stores alone are left", left, ["var/lib/smi/TRACKER.store"])
     if has("lintian"):
         told = ran(["lintian", "--fail-on", "error", "--allow-root", made])
         yield "lintian has no error", told[1] == 0 and not re.search(r"^E:", told[0], flags=re.M)
@@ -245,23 +251,29 @@ def tool_cases():
     tree = hierarchy.read(os.path.join(ROOT, "examples", "detector.tree"))
     table = firewall.table_of(tree, "MUON")
     inside = re.search(r"elements = \{ (.*) \}", table)[1].split(", ")
-    yield "the firewall lets all stations in", inside == ["10.20.0.%d . 9000" % last for last in range(11, 17)]
-    yield "the firewall is about the station alone", re.findall(r"daddr (\S+) udp dport (\d+)", table) == \
-        [("10.20.0.14", "9000")] * 3
+    yield verdict.case(
+        "the firewall lets all stations in", inside, ["10.20.0.%d . 9000" % last for last in range(11, 17)])
+    yield verdict.case(
+        "the firewall is about the station alone", re.findall(r"daddr (\S+) udp dport (\d+)", table),
+        [("10.20.0.14", "9000")] * 3)
     yield "the firewall lets nobody else in", table.splitlines()[-3].endswith("dport 9000 drop")
     if has("nft") and os.geteuid() == 0:
         told = ran(["nft", "-c", "-f", "-"], input=table.encode())
         yield "nft takes the table", told[1] == 0 or "Operation not permitted" in told[0]
     reports = lines.lines(tree, "report", "PIXEL", "OFF")
-    yield "lines for all devices below a domain", len(reports) == 6 + 12 + 8 and reports[6] == "report PIXEL_HV1 OFF"
-    yield "lines for all devices of a station", len(lines.lines(tree, "report", "TRIGGER", "OFF")) == 12
-    yield "lines for a state that is none", lines.lines(tree, "report", "PIXEL", "PURPLE") == []
-    yield "lines for an operator that is none", lines.lines(tree, "include", "TRACKER", "TRK") == []
-    yield "lines that include", lines.lines(tree, "include", "TRG_EXPERT", "TRG") == [
-        "order TRG_EXPERT " + it for it in ("take TRG", "include TRG LEVEL_ONE", "include TRG CLOCK", "drop TRG")]
-    yield "lines that exclude", lines.lines(tree, "exclude", "SAFETY", "INFRA") == [
+    yield verdict.case(
+        "lines for all devices below a domain", [len(reports), reports[6]], [6 + 12 + 8, "report PIXEL_HV1 OFF"])
+    yield verdict.case("lines for all devices of a station", len(lines.lines(tree, "report", "TRIGGER", "OFF")), 12)
+    yield verdict.case("lines for a state that is none", lines.lines(tree, "report", "PIXEL", "PURPLE"), [])
+    yield verdict.case("lines for an operator that is none", lines.lines(tree, "include", "TRACKER", "TRK"), [])
+    yield verdict.case(
+        "lines that include", lines.lines(tree, "include", "TRG_EXPERT", "TRG"),
+        ["order TRG_EXPERT " + it for it in ("take TRG", "include TRG LEVEL_ONE", "include TRG CLOCK", "drop TRG")])
+    yield verdict.case(
+        "lines that exclude", lines.lines(tree, "exclude", "SAFETY", "INFRA"),
+        [
         "order SAFETY " + it for it in ("exclude INFRA COOLING", "exclude INFRA GAS", "exclude INFRA MAGNET",
-                                        "exclude INFRA RACKS", "drop INFRA")]
+                                        "exclude INFRA RACKS", "drop INFRA")])
 
 
 def cases():

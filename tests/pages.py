@@ -4,6 +4,7 @@ import os
 import sqlite3
 
 import stores
+import verdict
 
 WELL = ([], [], 0)
 # The boot of station 1, once it has begun and once it has begun again.
@@ -33,18 +34,19 @@ def cases(begun, folder):
     def path(name):
         return os.path.join(folder, name)
 
-    def becomes(name, rows, size):
-        return begun(path(name)) == WELL and stores.rows_in(path(name)) == rows and pages_of(path(name)) == [size, "wal"]
+    def becomes(told, name, rows, size):
+        return verdict.case(told, (begun(path(name)), stores.rows_in(path(name)), pages_of(path(name))),
+                            (WELL, rows, [size, "wal"]))
 
-    yield "a new store: short pages", becomes("new", FIRST, SHORT)
+    yield becomes("a new store: short pages", "new", FIRST, SHORT)
     # The schema, the rows, and the index of their keys.
-    yield "a new store: three pages", os.path.getsize(path("new")) == 3 * SHORT
-    yield "a new store: begun again", becomes("new", SECOND, SHORT)
+    yield verdict.case("a new store: three pages", os.path.getsize(path("new")), 3 * SHORT)
+    yield becomes("a new store: begun again", "new", SECOND, SHORT)
     for name, length in [("empty", 0), ("zeros", SHORT), ("some zeros", 100)]:
         with open(path(name), "wb") as file:
             file.write(bytes(length))
-        yield "a file with nothing but %d zeros: short pages" % length, becomes(name, FIRST, SHORT)
+        yield becomes("a file with nothing but %d zeros: short pages" % length, name, FIRST, SHORT)
     for size in [SHORT, 1024, 4096, 65536]:
         name = "of%d" % size
         other_store(path(name), size)
-        yield "a store with pages of %d bytes" % size, becomes(name, FIRST, size)
+        yield becomes("a store with pages of %d bytes" % size, name, FIRST, size)

@@ -7,6 +7,7 @@ import threading
 
 import stores
 import trees
+import verdict
 
 # What no form of a command line has: a word that is not UTF-8, or that ends the options.
 ODD = b"\xff\xfe"
@@ -32,27 +33,29 @@ def word_cases(program, folder):
     for words in [[ODD], [b"answer", ODD], [b"check", tree, ODD], [b"check", ODD, tree], [b"check", b"-" + ODD],
                   [b"rows", b"--" + ODD], [ODD, b"answer"], [b"--"], [b"--", b"answer"], [b"answer", b"--"],
                   [b"check", b"--", tree], [b"check", tree, b"--"], [b"rows", b"--", ODD]]:
-        yield "words %s" % words, run(program, *words) == wrong
+        yield verdict.case("words %s" % words, run(program, *words), wrong)
     path = os.path.join(folder.encode(), b"tree " + ODD)
-    yield "a tree file that is not there, by no text", run(program, "check", path) == (b"", b"read fault\n", 3)
+    yield verdict.case(
+        "a tree file that is not there, by no text", run(program, "check", path), (b"", b"read fault\n", 3))
     with open(path, "w", encoding="ascii") as file:
         file.write(trees.WORKED)
     counts = b"tree 17 stations 2 operators 2 domains 2 devices 1\n"
-    yield "a tree file by no text", run(program, "check", path) == (counts, b"", 0)
+    yield verdict.case("a tree file by no text", run(program, "check", path), (counts, b"", 0))
     # Two paths that read the same, and are not.
     play = os.path.join(folder.encode(), b"tree " + ODD[::-1])
     with open(play, "wb") as file:
         file.write(b"order BOB take TPC\n")
     trace = b"booted A 1\npassed DCS 1.0 OFF\nbooted B 1\npassed TPC 1.0 OFF\npassed HV 1.0 OFF\nsent 1 TAKE B B TPC\n"
-    yield "a tree file and a schedule by no text", run(program, "sim", path, play) == (trace, b"", 0)
-    yield "a schedule that is not there, by no text", run(program, "sim", path, play + ODD) == (b"", b"read fault\n", 3)
+    yield verdict.case("a tree file and a schedule by no text", run(program, "sim", path, play), (trace, b"", 0))
+    yield verdict.case(
+        "a schedule that is not there, by no text", run(program, "sim", path, play + ODD), (b"", b"read fault\n", 3))
     # A name that has the sign for what is no text is another file's.
     other = os.path.join(folder, "tree \ufffd\ufffd")
-    yield "a tree file by another name", run(program, "check", other) == (b"", b"read fault\n", 3)
+    yield verdict.case("a tree file by another name", run(program, "check", other), (b"", b"read fault\n", 3))
     path = os.path.join(folder.encode(), b"store " + ODD)
-    yield "a store that is not there, by no text", run(program, "rows", path) == (b"", b"store fault\n", 3)
+    yield verdict.case("a store that is not there, by no text", run(program, "rows", path), (b"", b"store fault\n", 3))
     os.rename(stores.store(os.path.join(folder, "text"), stores.TABLE, stores.ROWS), path)
-    yield "a store by no text", run(program, "rows", path) == (stores.listing(stores.ROWS).encode(), b"", 0)
+    yield verdict.case("a store by no text", run(program, "rows", path), (stores.listing(stores.ROWS).encode(), b"", 0))
 
 
 def contents(folder):
@@ -65,8 +68,8 @@ def contents(folder):
     return found
 
 
-def is_listed_alone(program, path, rows):
-    """Whether a store is listed, and neither it nor its folder changes; both may not be written."""
+def listed_alone(name, program, path, rows):
+    """A case: that a store is listed, and neither it nor its folder changes; both may not be written."""
     folder = os.path.dirname(path)
     before = contents(folder)
     for name in before:
@@ -74,7 +77,7 @@ def is_listed_alone(program, path, rows):
     os.chmod(folder, 0o555)
     done = run(program, "rows", path)
     os.chmod(folder, 0o755)
-    return done == (stores.listing(rows).encode(), b"", 0) and contents(folder) == before
+    return verdict.case(name, (done, contents(folder)), ((stores.listing(rows).encode(), b"", 0), before))
 
 
 def store_in(folder, name):
@@ -85,13 +88,13 @@ def store_in(folder, name):
 def reading_cases(program, folder):
     """Each store that is only read: a name, and whether it is listed and left as it was."""
     path = stores.store(store_in(folder, "alone"), stores.TABLE, stores.ROWS)
-    yield "a store that may not be written", is_listed_alone(program, path, stores.ROWS)
+    yield listed_alone("a store that may not be written", program, path, stores.ROWS)
     link = os.path.join(folder, "link")
     os.symlink(path, link)
-    yield "a store by a link", run(program, "rows", link) == (stores.listing(stores.ROWS).encode(), b"", 0)
+    yield verdict.case("a store by a link", run(program, "rows", link), (stores.listing(stores.ROWS).encode(), b"", 0))
     path = store_in(folder, "blank")
     open(path, "wb").close()
-    yield "a file with nothing in it", is_listed_alone(program, path, [])
+    yield listed_alone("a file with nothing in it", program, path, [])
     # Two rows of three stand in the log alone.
     path, there = store_in(folder, "logged"), store_in(folder, "there")
     with sqlite3.connect(there) as file:
@@ -104,14 +107,15 @@ def reading_cases(program, folder):
             with open(there + more, "rb") as source, open(path + more, "wb") as copy:
                 copy.write(source.read())
     file.close()
-    yield "a store with a log", os.path.getsize(path + "-wal") > 0 and is_listed_alone(program, path, stores.ROWS)
+    yield verdict.case("a store with a log: it has one", os.path.getsize(path + "-wal"), 0, ">")
+    yield listed_alone("a store with a log", program, path, stores.ROWS)
     fifo = os.path.join(folder, "fifo")
     os.mkfifo(fifo)
-    yield "a pipe with a name", run(program, "rows", fifo) == (b"", b"store fault\n", 3)
+    yield verdict.case("a pipe with a name", run(program, "rows", fifo), (b"", b"store fault\n", 3))
     path = stores.store(store_in(folder, "journal"), stores.TABLE, stores.ROWS)
     with open(path + "-journal", "wb") as file:
         file.write(b"\xd9\xd5\x05\xf9\x20\xa1\x63\xd7")
-    yield "a store to be played back", run(program, "rows", path) == (b"", b"store fault\n", 3)
+    yield verdict.case("a store to be played back", run(program, "rows", path), (b"", b"store fault\n", 3))
 
 
 def row(place):
@@ -146,12 +150,14 @@ def crowd_case(program, folder):
     after = written[0] + 1
     is_over.set()
     writer.join()
-    held = after > before + 1
+    yield verdict.case("forty listings beside a writer: it wrote meanwhile", after, before + 1, ">")
+    wrong = []
     for (out, err), status in done:
         count = out.count(b"\n")
         wanted = stores.listing([row(place) for place in range(1, count + 1)]).encode()
-        held = held and (out, err, status) == (wanted, b"", 0) and before <= count <= after
-    yield "forty listings beside a writer", held
+        is_so = (out, err, status) == (wanted, b"", 0) and before <= count <= after
+        wrong += [] if is_so else [(out[-200:], err, status, before, count, after)]
+    yield verdict.case("forty listings beside a writer", wrong, [])
 
 
 def cases(program, folder):

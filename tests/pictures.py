@@ -118,13 +118,15 @@ def tree_cases():
             yield head + "boxes are apart", are_apart(boxes.values()) and len(boxes) > 1
             yield head + "texts are inside", inside(picture)
             counted = sum(int(number) for text in texts for number in re.findall(r"(\d+) devices?$", text))
-            yield head + "every device is counted once", counted == devices
+            yield verdict.case(head + "every device is counted once", counted, devices)
             folded = sum(int(number) for text in texts for number in re.findall(r"(\d+) domains?\b", text))
-            yield head + "every domain is drawn or counted once", len(boxes) + folded == len(domains)
+            yield verdict.case(head + "every domain is drawn or counted once", len(boxes) + folded, len(domains))
             if levels == 8:
-                yield head + "every domain is drawn", [text.split(",")[0] for text in boxes] == [
-                    it.name for root in tree.children(None) for it in draw.Branch(tree, root, 1, 8).all()] and sorted(
-                        text.split(",")[0] for text in boxes) == sorted(domains)
+                yield verdict.case(
+                    head + "every domain is drawn",
+                    [[text.split(",")[0] for text in boxes], sorted(text.split(",")[0] for text in boxes)],
+                    [[it.name for root in tree.children(None) for it in draw.Branch(tree, root, 1, 8).all()],
+                     sorted(domains)])
             stations = [words[1:] for words in lines if words[0] == "station"]
             yield head + "every station is in the legend", all("%s  %s" % tuple(it) in texts for it in stations)
 
@@ -133,12 +135,12 @@ def moment_cases(program, folder):
     """The detector while the tracker runs alone: two operators command, and one of them not the tracker."""
     picture = xml.fromstring(pictures(program, folder)["detector.svg"])
     held = boxes_of(picture, " holds ")
-    yield "who holds what", sorted(held) == ["SHIFT_LEADER holds EXPERIMENT", "TRK_EXPERT holds TRK"]
+    yield verdict.case("who holds what", sorted(held), ["SHIFT_LEADER holds EXPERIMENT", "TRK_EXPERT holds TRK"])
     loose = [it for it in picture.iter(SVG + "path") if it.get("stroke-dasharray")]
     # one line to a sub-detector that is not held, and the one that explains such lines
-    yield "what is not held", len(loose) == 2
+    yield verdict.case("what is not held", len(loose), 2)
     yield "texts of the detector are inside", inside(picture)
-    yield "every part runs", sum(text.startswith("RUNNING") for text in texts_of(picture)) == 17
+    yield verdict.case("every part runs", sum(text.startswith("RUNNING") for text in texts_of(picture)), 17)
 
 
 def crosses_of(picture):
@@ -154,8 +156,8 @@ def trace_cases(program):
     trace = [line for line in lines if not line.startswith("# ")]
     words = [program, "sim", example("worked.tree"), example("worked.schedule")]
     whole = subprocess.run(words, stdout=subprocess.PIPE, check=True).stdout.decode().splitlines()
-    yield "a play has its schedule", [line[2:] for line in lines if line.startswith("# ")] == schedule
-    yield "a play has its trace", trace == whole
+    yield verdict.case("a play has its schedule", [line[2:] for line in lines if line.startswith("# ")], schedule)
+    yield verdict.case("a play has its trace", trace, whole)
     # worked out from the rules
     with tempfile.TemporaryDirectory() as folder:
         path = os.path.join(folder, "schedule")
@@ -165,29 +167,29 @@ def trace_cases(program):
                 file.write(text)
             words = [sys.executable, os.path.join(ROOT, "tools", "play.py"), program, example("worked.tree"), path]
             done = subprocess.run(words, stdout=subprocess.PIPE, stderr=subprocess.STDOUT, check=False)
-            yield "a play of %d lines" % text.count("\n"), done.stdout.decode().splitlines() == wanted
+            yield verdict.case("a play of %d lines" % text.count("\n"), done.stdout.decode().splitlines(), wanted)
     sent = sum(line.startswith("sent ") for line in trace)
     came = [words[words.index("deliver") + 1] if "deliver" in words else "recent" for words in map(str.split, schedule)
             if "deliver" in words or "recent" in words]
     picture = xml.fromstring(str(draw.draw_trace(lines)))
     paths = list(picture.iter(SVG + "path"))
-    yield "an arrow for each delivery", sum(it.get("marker-end") is not None for it in paths) == len(came)
+    yield verdict.case("an arrow for each delivery", sum(it.get("marker-end") is not None for it in paths), len(came))
     yield "a cross for each datagram that never came", crosses_of(picture) == sent - len(set(came)) > 0
     grants = [line.split()[1:] for line in trace if line.startswith("granted ")]
     bars = boxes_of(picture, ": granted to ")
     told = ["%s: granted to %s at epoch %s" % (domain, holder, epoch) for domain, epoch, holder in grants]
-    yield "a bar for each grant", sorted(bars) == sorted(told)
+    yield verdict.case("a bar for each grant", sorted(bars), sorted(told))
     yield "bars are apart", are_apart(bars.values())
     starts = sum(line.startswith("booted ") for line in trace)
-    yield "a mark for each start", len(boxes_of(picture, " has started, ")) == starts
+    yield verdict.case("a mark for each start", len(boxes_of(picture, " has started, ")), starts)
     yield "every line of the trace is told", all(
         line in texts_of(picture) for line in trace if not line.startswith("sent "))
     yield "texts of the trace are inside", inside(picture)
     # Here every datagram that came was answered or brought something about, and no other one.
     alone = xml.fromstring(str(draw.draw_trace(trace)))
     labels = [text for text in texts_of(alone) if re.fullmatch(r"\d+ [A-Z]+ \w+", text)]
-    yield "a trace alone has all its datagrams", len(labels) == sent
-    yield "a trace alone has its crosses", crosses_of(alone) == sent - len(set(came))
+    yield verdict.case("a trace alone has all its datagrams", len(labels), sent)
+    yield verdict.case("a trace alone has its crosses", crosses_of(alone), sent - len(set(came)))
 
 
 RECORDED = [
@@ -228,7 +230,7 @@ def shift_cases():
     plan, schedule = lines_of(example("shift.plan")), lines_of(example("shift.schedule"))
     stops = [line for line in schedule if line.startswith("stop ")]
     given = [line for line in schedule if not line.startswith(("deliver ", "stop "))]
-    yield "the shift is its plan", given == outline(plan, hierarchy.read(example("detector.tree")))
+    yield verdict.case("the shift is its plan", given, outline(plan, hierarchy.read(example("detector.tree"))))
     yield "the shift has its stops", len(stops) == sum(line.startswith("stop ") for line in plan) > 0
     numbers = [line.split()[-1] for line in schedule if line.startswith(("deliver ", "stop "))]
     yield "the shift delivers no datagram twice", len(set(numbers)) == len(numbers) > 1000
@@ -240,7 +242,7 @@ def record_cases(program, folder):
         path = os.path.join(folder, "plan")
         with open(path, "w", encoding="ascii") as file:
             file.write("\n".join(plan) + "\n")
-        yield "recorded: " + name, record.schedule(program, example("worked.tree"), path) == schedule
+        yield verdict.case("recorded: " + name, record.schedule(program, example("worked.tree"), path), schedule)
 
 
 LINK = "0002" "03" "00" "0000000000000001" "00000001" "0001" "0001"
@@ -266,16 +268,16 @@ def row_cases():
     """Rows in words."""
     tree = hierarchy.read(example("worked.tree"))
     for row, words in SAID:
-        yield "rows: " + row[:28], rows.lines_of(tree, row + "\n") == words
+        yield verdict.case("rows: " + row[:28], rows.lines_of(tree, row + "\n"), words)
 
 
 def kept_cases(program, folder):
     """The pictures of docs/pictures/ are those that are made now."""
     made = pictures(program, folder)
-    yield "the pictures of docs/pictures/", sorted(os.listdir(PICTURES)) == sorted(made)
+    yield verdict.case("the pictures of docs/pictures/", sorted(os.listdir(PICTURES)), sorted(made))
     for name, text in made.items():
         with open(os.path.join(PICTURES, name), encoding="ascii") as file:
-            yield "docs/pictures/%s is as it is drawn now" % name, file.read() == text
+            yield verdict.case("docs/pictures/%s is as it is drawn now" % name, file.read(), text)
 
 
 def write(program, folder):

@@ -9,15 +9,17 @@ import os
 import subprocess
 
 import schedules
+import verdict
 
 # Seeds and counts of items that are drawn, over each of these trees.
 DRAWN = [(1, 1500), (2, 500), (3, 500)]
 TREES = [schedules.TREE, schedules.DETECTOR]
 
 
-def is_whole(trial, words):
+def played(name, trial, words):
+    """A case: that they are played so."""
     done = subprocess.run([trial, "plays"] + words, stdout=subprocess.PIPE, check=False)
-    return (done.stdout, done.returncode) == (b"whole\n", 0)
+    return verdict.case(name, (done.stdout, done.returncode), (b"whole\n", 0))
 
 
 def cases(trial, folder, only=""):
@@ -28,9 +30,9 @@ def cases(trial, folder, only=""):
         path = os.path.join(folder, "schedule")
         with open(path, "w", encoding="ascii") as file:
             file.write("".join(item + "\n" for item, _ in items))
-        yield "stations play " + name, is_whole(trial, [schedules.TREE, path])
+        yield played("stations play " + name, trial, [schedules.TREE, path])
     for tree in TREES:
         for seed, count in DRAWN:
             name = "stations play %d items of seed %d over %s" % (count, seed, os.path.basename(tree))
             if only in name:
-                yield name, is_whole(trial, [tree, str(seed), str(count)])
+                yield played(name, trial, [tree, str(seed), str(count)])

@@ -4,6 +4,7 @@ no memory is used wrongly, and all of it is given back."""
 import re
 import shutil
 import subprocess
+import verdict
 
 # So many calls are made.
 CALLS = 1_000_000
@@ -15,11 +16,13 @@ VALGRIND = ["valgrind", "--quiet", "--leak-check=full", "--show-leak-kinds=all",
             "--error-exitcode=9"]
 
 
-def is_whole(words):
-    """Whether the run ends well and says that each call was answered so, and that each kind of answer came."""
+def whole(name, words):
+    """A case: that the run ends well and says that each call was answered so, and that each kind of answer came."""
     done = subprocess.run(words, stdout=subprocess.PIPE, stderr=subprocess.PIPE, check=False)
     told = WHOLE.fullmatch(done.stdout)
-    return done.returncode == 0 and told is not None and all(int(count) > 0 for count in told.groups())
+    is_so = told is not None and all(int(count) > 0 for count in told.groups())
+    return verdict.case(name, (done.returncode, "each kind of answer" if is_so else done.stdout + done.stderr),
+                        (0, "each kind of answer"))
 
 
 def cases(trial, only=""):
@@ -27,11 +30,11 @@ def cases(trial, only=""):
     words = [trial, "random", str(CALLS)]
     name = "random calls: %d" % CALLS
     if only in name:
-        yield name, is_whole(words)
+        yield whole(name, words)
     name += " under valgrind"
     if only not in name:
         return
     if shutil.which(VALGRIND[0]) is None:
         print("left out, as there is no valgrind: " + name)
         return
-    yield name, is_whole(VALGRIND + words)
+    yield whole(name, VALGRIND + words)

@@ -6,6 +6,7 @@ before it, since it runs line after line.
 
 import os
 import subprocess
+import verdict
 
 HERE = os.path.dirname(os.path.abspath(__file__))
 TREE = os.path.join(HERE, "..", "examples", "worked.tree")
@@ -45,28 +46,29 @@ def sim(program, words, folder=None, text=None):
 
 
 def as_said(lines, said):
-    """Whether a line of a schedule left what is said."""
+    """What of these lines is spoken of, and what is said of a line of a schedule."""
     if said == "nothing":
-        return not lines
+        return lines, []
     is_whole = said.startswith("only ")
     wanted = (said[5:] if is_whole else said).split("; ")
     if not is_whole:
         sent = [it for it in wanted if it.startswith("sent ")]
         lines = [it for it in lines if not it.startswith("sent ") or it in sent]
-    return lines == wanted
+    return lines, wanted
 
 
-def play_case(program, folder, items):
-    """Whether each line of a play leaves what is said of it."""
-    before, text, held = OPENING, b"", True
+def play_case(program, folder, name, items):
+    """A case: that each line of a play leaves what is said of it. Those that do not are told."""
+    before, text, came, wanted = OPENING, b"", [], []
     for item, said in items:
         text += item.encode("ascii") + b"\n"
         out, err, status = sim(program, [], folder, text)
-        held = held and out.startswith(before) and (err, status) == (b"", 0)
-        if said is not None:
-            held = held and as_said(out[len(before):].decode("ascii").splitlines(), said)
+        left, is_longer = out[len(before):].decode("ascii").splitlines(), out.startswith(before)
+        pairs = [((err, status, is_longer), (b"", 0, True))] + ([as_said(left, said)] if said is not None else [])
+        came += [(item, one) for one, other in pairs if one != other]
+        wanted += [(item, other) for one, other in pairs if one != other]
         before = out
-    return held
+    return verdict.case(name, came, wanted)
 
 
 def text_cases(program, folder):
@@ -95,7 +97,8 @@ def text_cases(program, folder):
     ]
     table += [("the fault of `%s`" % line.decode(), line + b"\n", OPENING, b"schedule line 1 fault %d\n" % code, 1)
               for line, code in faults]
-    return [(name, sim(program, [], folder, text) == (out, err, status)) for name, text, out, err, status in table]
+    return [verdict.case(name, sim(program, [], folder, text), (out, err, status))
+            for name, text, out, err, status in table]
 
 
 def words_cases(program, folder):
@@ -114,20 +117,22 @@ def words_cases(program, folder):
     wrong += [["--settle"], [schedule, "--settle", "--settle"], [schedule, "--settle=1"], ["--settle", "--seed", "1"]]
     right = [["--seed", "0", "--steps", "0"], ["--steps", "00", "--seed", "18446744073709551615"],
              ["--seed=1", "--steps=0"]]
-    cases = [("sim with the words %s" % words, sim(program, words) == (b"", b"wrong line\n", 2)) for words in wrong]
-    cases += [("sim with the words %s" % words, sim(program, words) == (OPENING, b"", 0)) for words in right]
     settled = OPENING + b"settled after 0 items\n"
-    cases += [("sim with the words %s" % words, sim(program, words) == (settled, b"", 0))
-              for words in ([schedule, "--settle"], ["--settle", "--seed", "0", "--steps", "0"])]
-    cases.append(("sim of a schedule that is nowhere", sim(program, [os.path.join(folder, "no such file")])
-                  == (b"", b"read fault\n", 3)))
-    cases.append(("sim of a schedule that is a folder", sim(program, [folder]) == (OPENING, b"read fault\n", 3)))
+    settling = [[schedule, "--settle"], ["--settle", "--seed", "0", "--steps", "0"]]
+    cases = [verdict.case("sim with the words %s" % words, sim(program, words), told)
+             for listed, told in [(wrong, (b"", b"wrong line\n", 2)), (right, (OPENING, b"", 0)),
+                                  (settling, (settled, b"", 0))] for words in listed]
+    cases.append(verdict.case("sim of a schedule that is nowhere",
+                              sim(program, [os.path.join(folder, "no such file")]), (b"", b"read fault\n", 3)))
+    cases.append(verdict.case("sim of a schedule that is a folder", sim(program, [folder]),
+                              (OPENING, b"read fault\n", 3)))
     options_first = subprocess.run([program, "sim", "--seed", "0", TREE, "--steps", "0"], stdout=subprocess.PIPE,
                                    check=False)
-    cases.append(("options before the tree", (options_first.stdout, options_first.returncode) == (OPENING, 0)))
+    cases.append(verdict.case("options before the tree", (options_first.stdout, options_first.returncode),
+                              (OPENING, 0)))
     with open("/dev/full", "wb") as full:
         done = subprocess.run([program, "sim", TREE, schedule], stdout=full, stderr=subprocess.PIPE, check=False)
-    cases.append(("sim on a device that is full", (done.stderr, done.returncode) == (b"write fault\n", 3)))
+    cases.append(verdict.case("sim on a device that is full", (done.stderr, done.returncode), (b"write fault\n", 3)))
     return cases
 
 
@@ -171,7 +176,7 @@ def settled_cases(program, folder):
         with open(path, "wb") as file:
             file.write(text)
         told = (b"", 0) if printed.endswith(b"items\n") else (b"schedule line 2 fault 1\n", 1)
-        found.append(("settled: " + name, sim(program, [path, "--settle"]) == (OPENING + printed, *told)))
+        found.append(verdict.case("settled: " + name, sim(program, [path, "--settle"]), (OPENING + printed, *told)))
     return found
 
 
@@ -182,7 +187,7 @@ def long_cases(program, folder):
     out, err, status = sim(program, [], folder, text)
     # each of them asks for the state of the child's unit
     asked = b"".join(b"sent %d WATCH A B TPC\n" % number for number in range(1, 43001))
-    cases = [("43,000 ticks", (out, err, status) == (OPENING + asked, b"", 0))]
+    cases = [verdict.case("43,000 ticks", (out, err, status), (OPENING + asked, b"", 0))]
     # words of drawn items say what they are: the first so many of one seed are a prefix of more of them
     some, many = (sim(program, ["--seed", "1", "--steps", steps])[0] for steps in ("1000", "2000"))
     cases.append(("drawn items are a prefix of more", some.startswith(OPENING) and many.startswith(some)
@@ -194,15 +199,15 @@ def long_cases(program, folder):
     begun = child.stdout.read(1000)
     child.stdout.close()
     told = child.stderr.read()
-    cases.append(("a reader that goes away", begun.startswith(OPENING) and (told, child.wait())
-                  == (b"write fault\n", 3)))
+    cases.append(verdict.case("a reader that goes away", (begun.startswith(OPENING), told, child.wait()),
+                              (True, b"write fault\n", 3)))
     return cases
 
 
 def cases(program, folder, only=""):
     """All of them, by name."""
     found = [("play " + name, items) for name, items in read_plays().items() if only in "play " + name]
-    done = [(name, play_case(program, folder, items)) for name, items in found]
+    done = [play_case(program, folder, name, items) for name, items in found]
     for part in (text_cases, words_cases, settled_cases, long_cases):
-        done += [(name, held) for name, held in part(program, folder) if only in name]
+        done += [found for found in part(program, folder) if only in found[0]]
     return done

@@ -60,10 +60,10 @@ def line_cases(program, folder):
 
     store = screens.store_of(folder, "lines")
     wrong = ("", "wrong line\n", 2)
-    yield "lines: so many turns", ran(tree, "SCREEN", store, "--http", http, "--turns", 3) == ("", "", 0)
+    yield verdict.case("lines: so many turns", ran(tree, "SCREEN", store, "--http", http, "--turns", 3), ("", "", 0))
     for name, where in [("a console that is not there", os.path.join(folder, "none")), ("an address", "127.0.0.1:1")]:
         told = ran(tree, "SCREEN", store, "--http", http, "--orders", where, "--turns", 3)
-        yield "lines: " + name, told == ("", "", 0)
+        yield verdict.case("lines: " + name, told, ("", "", 0))
     for name, words in [
             ("no address", [tree, "SCREEN", store]),
             ("two consoles", [tree, "SCREEN", store, "--http", http, "--orders", "a", "--orders", "b", "--turns", 1]),
@@ -76,15 +76,17 @@ def line_cases(program, folder):
             ("no turns", [tree, "SCREEN", store, "--http", http, "--turns", 0]),
             ("an unknown station", [tree, "SCREAM", store, "--http", http, "--turns", 1]),
             ("no operator", [bare, "SCREEN", screens.store_of(folder, "bare"), "--http", http, "--turns", 1])]:
-        yield "lines: " + name, ran(*words) == wrong
-    yield "lines: no tree", ran(tree + "x", "SCREEN", store, "--http", http) == ("", "read fault\n", 3)
-    yield "lines: no store", ran(tree, "SCREEN", folder, "--http", http) == ("", "store fault\n", 3)
+        yield verdict.case("lines: " + name, ran(*words), wrong)
+    yield verdict.case("lines: no tree", ran(tree + "x", "SCREEN", store, "--http", http), ("", "read fault\n", 3))
+    yield verdict.case("lines: no store", ran(tree, "SCREEN", folder, "--http", http), ("", "store fault\n", 3))
     with socket.create_server(("127.0.0.1", 0)) as taken:
         at = "127.0.0.1:%d" % taken.getsockname()[1]
-        yield "lines: an address that is taken", ran(tree, "SCREEN", store, "--http", at) == ("", "screen fault\n", 3)
+        yield verdict.case(
+            "lines: an address that is taken", ran(tree, "SCREEN", store, "--http", at), ("", "screen fault\n", 3))
     with socket.socket(socket.AF_INET, socket.SOCK_DGRAM) as taken:
         taken.bind(("127.0.0.1", ports[2]))
-        yield "lines: a socket that is taken", ran(tree, "SCREEN", store, "--http", http) == ("", "link fault\n", 3)
+        yield verdict.case(
+            "lines: a socket that is taken", ran(tree, "SCREEN", store, "--http", http), ("", "link fault\n", 3))
 
 
 def request(head, host=None, body=b""):
@@ -100,23 +102,25 @@ def answer_cases(program, folder):
         own, local = screen.host, "localhost:%d" % screen.port
         with open(os.path.join(os.path.dirname(nodes.__file__), "..", "crates", "smi_page", "page.html"), "rb") as file:
             page = file.read()
-        yield "answers: the page", screen.get("/") == (200, page)
-        yield "answers: by the name of this machine", screen.get("/", host=local) == (200, page)
-        yield "answers: a head alone", screen.get("/", "HEAD")[0] == 200
-        yield "answers: nothing else is there", screen.get("/index.html") == (404, b"there is no such page")
-        yield "answers: a query changes no place", screen.get("/?x=1") == (200, page)
+        yield verdict.case("answers: the page", screen.get("/"), (200, page))
+        yield verdict.case("answers: by the name of this machine", screen.get("/", host=local), (200, page))
+        yield verdict.case("answers: a head alone", screen.get("/", "HEAD")[0], 200)
+        yield verdict.case("answers: nothing else is there", screen.get("/index.html"), (404, b"there is no such page"))
+        yield verdict.case("answers: a query changes no place", screen.get("/?x=1"), (200, page))
         for host in ("evil.example", own + "0", "127.0.0.1", "localhost", "127.0.0.1:80"):
-            yield "answers: to %s, no" % host, screen.get("/api/picture", host=host) == (421, b"this is another host")
+            yield verdict.case(
+                "answers: to %s, no" % host, screen.get("/api/picture", host=host), (421, b"this is another host"))
         for method in ("POST", "PUT", "DELETE", "OPTIONS", "PATCH", "TRACE"):
-            yield "answers: %s, no" % method, screen.get("/", method) == (405, b"this screen only shows")
-        yield "answers: POST to a foreign host", screen.get("/", "POST", "evil.example")[0] == 421
+            yield verdict.case("answers: %s, no" % method, screen.get("/", method), (405, b"this screen only shows"))
+        yield verdict.case("answers: POST to a foreign host", screen.get("/", "POST", "evil.example")[0], 421)
         whole = request("GET http://%s/ HTTP/1.1" % own, own)
-        yield "answers: a target with a host, no", screens.answers(screen.exchange(whole))[0][0] == 421
-        yield "answers: no host", screens.answers(screen.exchange(request("GET / HTTP/1.1")))[0][0] == 400
-        yield "answers: the tree", json.loads(screen.get("/api/tree")[1]) == shape_wanted()
+        yield verdict.case("answers: a target with a host, no", screens.answers(screen.exchange(whole))[0][0], 421)
+        yield verdict.case("answers: no host", screens.answers(screen.exchange(request("GET / HTTP/1.1")))[0][0], 400)
+        yield verdict.case("answers: the tree", json.loads(screen.get("/api/tree")[1]), shape_wanted())
         picture = screen.picture()
         status, body = screen.get("/api/picture?after=%d" % (picture["frame"] - 1000))
-        yield "answers: another picture is sent", status == 200 and json.loads(body)["frame"] >= picture["frame"]
+        yield verdict.case(
+            "answers: another picture is sent", [status, json.loads(body)["frame"] >= picture["frame"]], [200, True])
         yield "answers: the same is not sent again", any(
             screen.get("/api/picture?after=%d" % screen.picture()["frame"]) == (204, b"") for _ in range(20))
         head = screen.exchange(request("GET / HTTP/1.0", own)).split(b"\r\n\r\n")[0].lower()
@@ -151,27 +155,28 @@ def picture_cases(program, folder):
         yield "picture: it is up", screen.is_up()
         told = [crews["B"].ask("report HV OFF"), crews["A"].ask("order ANN take DCS"),
                 crews["A"].ask("order ANN include DCS TPC"), crews["A"].ask("order ANN do DCS CONFIGURE")]
-        yield "picture: the crew is told", [line and line.rsplit(" ", 1)[1] for line in told] == ["0"] * 4
+        yield verdict.case("picture: the crew is told", [line and line.rsplit(" ", 1)[1] for line in told], ["0"] * 4)
         wanted = {"DCS": "READY", "TPC": "READY", "HV": "READY"}
-        yield "picture: states", screen.waits_for(lambda picture: screens.states_of(picture) == wanted)
+        yield screen.comes("picture: states", screens.states_of, wanted)
         held = {"DCS": "ANN", "TPC": "DCS"}
-        yield "picture: holders", screen.waits_for(lambda picture: screens.holders_of(picture) == held)
+        yield screen.comes("picture: holders", screens.holders_of, held)
         record = screens.by_name(screen.picture()["domains"])["DCS"]["told"]
-        yield "picture: the record", [record[key] for key in ("holder", "epoch", "last", "busy", "outcome")] == [
-            {"operator": "ANN"}, 1, 2, False, 0]
+        yield verdict.case(
+            "picture: the record", [record[key] for key in ("holder", "epoch", "last", "busy", "outcome")],
+            [{"operator": "ANN"}, 1, 2, False, 0])
         yield from freshness(screen, ("DCS", "TPC"))
         yield from figures(screen)
         screen.end()
         screen = screens.Screen(program, tree, screens.store_of(folder, "screen"))
         yield "picture: a screen that begins again", screen.is_up() and screen.waits_for(
-            lambda picture: screens.states_of(picture) == wanted and screens.holders_of(picture) == held)
+            screens.states_of == wanted and screens.holders_of(picture) == held)
         crews["B"].kill()
         before = screens.by_name(screen.picture()["domains"])["TPC"]["told"]["heard"]
         time.sleep(2.5)
         picture = screen.picture()
         rows = screens.by_name(picture["domains"])
-        yield "picture: one that is gone is not heard", rows["TPC"]["told"]["heard"] <= before + 300
-        yield "picture: others are", picture["now"] - rows["DCS"]["told"]["heard"] < 2000
+        yield verdict.case("picture: one that is gone is not heard", rows["TPC"]["told"]["heard"], before + 300, "<=")
+        yield verdict.case("picture: others are", picture["now"] - rows["DCS"]["told"]["heard"], 2000, "<")
         crews["B"] = nodes.Node(program, [tree, "B", screens.store_of(folder, "B"), "--endless"])
         yield "picture: one that comes back is heard", screen.waits_for(
             lambda picture: picture["now"] - screens.by_name(picture["domains"])["TPC"]["told"]["heard"] < 1000)
@@ -190,7 +195,7 @@ def freshness(screen, names):
         rows = screens.by_name(picture["domains"])
         oldest = max([oldest] + [picture["now"] - rows[name]["told"]["heard"] for name in names])
         time.sleep(0.05)
-    yield "picture: nothing is older than two seconds (%d ms)" % oldest, oldest < 2000
+    yield verdict.case("picture: nothing is older than two seconds (%d ms)" % oldest, oldest, 2000, "<")
 
 
 def figures(screen):
@@ -201,17 +206,17 @@ def figures(screen):
     wanted = {'smi_object_state{object="DCS",state="READY"}': "1", 'smi_object_state{object="HV",state="READY"}': "1",
               'smi_domain_held{domain="DCS"}': "1", 'smi_domain_busy{domain="TPC"}': "0",
               'smi_domain_epoch{domain="DCS"}': "1", 'smi_domain_outcome{domain="TPC"}': "0", "smi_screen_domains": "2"}
-    yield "figures: what they say", status == 200 and wanted.items() <= samples.items()
+    yield verdict.case("figures: what they say", [status, wanted.items() <= samples.items()], [200, True])
     ages = [float(value) for name, value in samples.items() if name.startswith("smi_domain_heard_age_seconds")]
-    yield "figures: ages in seconds", len(ages) == 2 and all(0 <= value < 5 for value in ages)
+    yield verdict.case("figures: ages in seconds", [len(ages), all(0 <= value < 5 for value in ages)], [2, True])
     names = {name.split("{")[0] for name in samples}
     told = {line.split()[2] for line in lines if line.startswith("# HELP")}
-    yield "figures: each is told what it is", names == told
+    yield verdict.case("figures: each is told what it is", names, told)
     tool = shutil.which("promtool")
     if tool:
         done = subprocess.run([tool, "check", "metrics"], input=body, stdout=subprocess.PIPE,
                               stderr=subprocess.STDOUT, check=False)
-        yield "figures: promtool finds nothing", (done.returncode, done.stdout) == (0, b"")
+        yield verdict.case("figures: promtool finds nothing", (done.returncode, done.stdout), (0, b""))
     else:
         print("skipped: promtool is not here (Debian's prometheus)")
 
@@ -259,24 +264,27 @@ def hostile_cases(program, folder):
                 ("two lengths", request("POST / HTTP/1.1\r\nContent-Length: 1\r\nContent-Length: 2", own), {400}),
                 ("CONNECT", request("CONNECT evil.example:443 HTTP/1.1", own), {400, 405, 421})]:
             status = screens.answers(screen.exchange(sent))[0][0]
-            yield "hostile: %s (%d)" % (name, status), status in wanted
-            yield "hostile: after %s others are answered" % name, screen.get("/api/tree")[0] == 200
+            yield verdict.case("hostile: %s (%d)" % (name, status), status, wanted, "in")
+            yield verdict.case("hostile: after %s others are answered" % name, screen.get("/api/tree")[0], 200)
         piped = request("GET /api/tree HTTP/1.1", own) * PIPED + request("GET / HTTP/1.1\r\nConnection: close", own)
         found = screens.answers(screen.exchange(piped, 60))
-        yield "hostile: a pipeline is answered in order (%d)" % len(found), [
-            status for status, _ in found] == [200] * (PIPED + 1)
+        yield verdict.case(
+            "hostile: a pipeline is answered in order (%d)" % len(found), [status for status, _ in found],
+            [200] * (PIPED + 1))
         for name, count, sent in [("slow", SLOW, b"GET / HTTP/1.1\r\nHost: "), ("that say nothing", SLOW, b""),
                                   ("that never read", DEAF, request("GET / HTTP/1.1", own) * 50)]:
             held = connections(screen, count, sent)
             worst = others_are_answered(screen)
-            yield "hostile: %d connections %s: another waits %.2f s" % (count, name, worst), worst < SOON
+            yield verdict.case(
+                "hostile: %d connections %s: another waits %.2f s" % (count, name, worst), worst, SOON, "<")
             for one in held:
                 one.close()
         time.sleep(1)
         more = screen.memory() - before
-        yield "hostile: memory: %d KiB more" % more, more < MORE
-        yield "hostile: it still runs", screen.child.poll() is None and screen.get("/")[0] == 200
-        yield "hostile: and a node's order is obeyed", crews["A"].ask("order ANN take DCS") == "told ANN take DCS 0"
+        yield verdict.case("hostile: memory: %d KiB more" % more, more, MORE, "<")
+        yield verdict.case("hostile: it still runs", [screen.child.poll() is None, screen.get("/")[0]], [True, 200])
+        yield verdict.case(
+            "hostile: and a node's order is obeyed", crews["A"].ask("order ANN take DCS"), "told ANN take DCS 0")
     finally:
         close(crews, screen)
 
@@ -357,7 +365,8 @@ def order_cases(program, folder):
         yield "orders: the console is there", screen.has_console()
         key = screen.key()
         page = screen.get("/")[1]
-        yield "orders: the page has the key once", page.count(key.encode()) == 1 and len(key) == len("Bearer ") + 32
+        yield verdict.case(
+            "orders: the page has the key once", [page.count(key.encode()), len(key)], [1, len("Bearer ") + 32])
         give, good = screen.give, "order ANN take DCS"
         for name, how in [("no Origin", {"origin": None}), ("a foreign Origin", {"origin": "http://evil.example"}),
                           ("an Origin that begins so", {"origin": "http://%s.evil.example" % own}),
@@ -367,23 +376,27 @@ def order_cases(program, folder):
                           ("no key", {"key": None}), ("a wrong key", {"key": "Bearer " + "0" * 32}),
                           ("part of the key", {"key": key[:-1]}), ("an empty key", {"key": ""}),
                           ("more than the key", {"key": key + "0"})]:
-            yield "orders: %s, no" % name, give(good, **how) == STRANGER
-        yield "orders: the key in a cookie, no", give(good, key=None, more="Cookie: " + key) == STRANGER
-        yield "orders: a foreign Host, no", give(good, host="evil.example", origin="http://evil.example") == (
-            421, b"this is another host")
+            yield verdict.case("orders: %s, no" % name, give(good, **how), STRANGER)
+        yield verdict.case("orders: the key in a cookie, no", give(good, key=None, more="Cookie: " + key), STRANGER)
+        yield verdict.case(
+            "orders: a foreign Host, no", give(good, host="evil.example", origin="http://evil.example"),
+            (421, b"this is another host"))
         for line in NO_ORDERS:
-            yield "orders: %r, no" % line, give(line) == NO_ORDER
-        yield "orders: a body too long, no", give("order ANN take DCS" + " " * 50)[0] == 413
-        yield "orders: GET gives none", give(good, method="GET")[0] == 200
+            yield verdict.case("orders: %r, no" % line, give(line), NO_ORDER)
+        yield verdict.case("orders: a body too long, no", give("order ANN take DCS" + " " * 50)[0], 413)
+        yield verdict.case("orders: GET gives none", give(good, method="GET")[0], 200)
         for method in ("PUT", "DELETE", "PATCH", "OPTIONS"):
-            yield "orders: %s, no" % method, give(good, method=method) == SHOWN
-        yield "orders: nor at another place", give(good, target="/api/picture") == SHOWN
-        yield "orders: nothing of all that was sent", console.hears_nothing() and screen.orders() == []
-        yield "orders: one that may be given", give(good) == GIVEN
-        yield "orders: is sent behind a tag", console.hear() == "@1 " + good
+            yield verdict.case("orders: %s, no" % method, give(good, method=method), SHOWN)
+        yield verdict.case("orders: nor at another place", give(good, target="/api/picture"), SHOWN)
+        yield verdict.case(
+            "orders: nothing of all that was sent", [console.hears_nothing(), screen.orders()], [True, []])
+        yield verdict.case("orders: one that may be given", give(good), GIVEN)
+        yield verdict.case("orders: is sent behind a tag", console.hear(), "@1 " + good)
         yield "orders: and once", console.hears_nothing()
-        yield "orders: by the other name of the screen", give("order BOB take TPC", host=local, origin="http://" + local
-                                                              ) == GIVEN and console.hear() == "@2 order BOB take TPC"
+        yield verdict.case(
+            "orders: by the other name of the screen",
+            [give("order BOB take TPC", host=local, origin="http://" + local), console.hear()],
+            [GIVEN, "@2 order BOB take TPC"])
         yield from answered_cases(console, screen)
     finally:
         console.end()
@@ -399,49 +412,53 @@ def answered_cases(console, screen):
     """Answers out of order go to their orders, and what answers none changes nothing."""
     first, second = "order ANN take DCS", "order BOB take TPC"
     waiting = [(first, True, None, None, None), (second, True, None, None, None)]
-    yield "answers of orders: both wait", screen.waits_for_orders(lambda: fates(screen) == waiting)
+    yield verdict.comes("answers of orders: both wait", lambda: fates(screen), waiting, nodes.PATIENCE)
     for text in ["@3 told ANN take DCS 0", "@12 told ANN take DCS 0", "@ told", "told ANN take DCS 0", "", "@1",
                  "x" * 500, "@1told", "\xff"]:
         console.say(text)
     time.sleep(1)
-    yield "answers of orders: strange ones change nothing", fates(screen) == waiting
+    yield verdict.case("answers of orders: strange ones change nothing", fates(screen), waiting)
     console.say("@2 told BOB take TPC 5")
     ended = (second, False, "told BOB take TPC 5", 5, "another one holds the domain")
-    yield "answers of orders: the second first", screen.waits_for_orders(lambda: fates(screen) == [waiting[0], ended])
+    yield verdict.comes("answers of orders: the second first", lambda: fates(screen), [waiting[0], ended], nodes.PATIENCE)
     console.say("@2 told BOB take TPC 0")
     console.say("@1 fault 5: \"a\\b\"")
     odd = (first, False, "?", None, None)
-    yield "answers of orders: one with quotes", screen.waits_for_orders(lambda: fates(screen) == [odd, ended])
+    yield verdict.comes("answers of orders: one with quotes", lambda: fates(screen), [odd, ended], nodes.PATIENCE)
     yield from broken_cases(console, screen, [odd, ended])
 
 
 def broken_cases(console, screen, before):
     """A console that goes: what waits is lost, nothing is given meanwhile, and nothing is sent later."""
     third, give = "order ANN do DCS CONFIGURE", screen.give
-    yield "broken: one more is given", give(third) == GIVEN and console.hear() == "@3 " + third
+    yield verdict.case("broken: one more is given", [give(third), console.hear()], [GIVEN, "@3 " + third])
     seconds = [it["seconds"] for it in screen.orders() if it["waits"]]
     time.sleep(1.2)
-    yield "broken: its seconds go on", [it["seconds"] for it in screen.orders() if it["waits"]] > seconds
+    yield verdict.case(
+        "broken: its seconds go on", [it["seconds"] for it in screen.orders() if it["waits"]], seconds, ">")
     console.leave()
     lost = (third, False, None, None, None)
     yield "broken: it is told", screen.waits_for_orders(lambda: not screen.told_orders()["console"])
-    yield "broken: what waited is lost", fates(screen) == before + [lost]
-    yield "broken: none is taken", give("order ANN drop DCS") == AWAY
+    yield verdict.case("broken: what waited is lost", fates(screen), before + [lost])
+    yield verdict.case("broken: none is taken", give("order ANN drop DCS"), AWAY)
     console.meet()
     yield "broken: it comes back", screen.has_console()
     yield "broken: nothing is sent again", console.hears_nothing()
     console.say("@3 told ANN do DCS CONFIGURE 0")
     time.sleep(0.6)
-    yield "broken: an answer of before is nobody's", fates(screen) == before + [lost]
+    yield verdict.case("broken: an answer of before is nobody's", fates(screen), before + [lost])
     lines = ["order ANN ask DCS", "order BOB ask TPC"] * 32
     given = [give(line) for line in lines]
-    yield "broken: as many as can wait", given == [GIVEN] * len(lines) and [
-        console.hear() for _ in lines] == ["@%d %s" % (number, line) for number, line in enumerate(lines, 4)]
-    yield "broken: one more, no", give("order ANN ask DCS") == (429, b"too many orders wait")
+    yield verdict.case(
+        "broken: as many as can wait", [given, [console.hear() for _ in lines]],
+        [[GIVEN] * len(lines), ["@%d %s" % (number, line) for number, line in enumerate(lines, 4)]])
+    yield verdict.case("broken: one more, no", give("order ANN ask DCS"), (429, b"too many orders wait"))
     console.say("@20 told ANN ask DCS free 0 0 settled 0")
-    yield "broken: where one has ended, one more", screen.waits_for_orders(
-        lambda: give("order ANN drop DCS") == GIVEN) and console.hear() == "@68 order ANN drop DCS"
-    yield "broken: it still shows", screen.get("/api/tree")[0] == 200
+    yield verdict.case(
+        "broken: where one has ended, one more",
+        [screen.waits_for_orders(lambda: give("order ANN drop DCS") == GIVEN), console.hear()],
+        [True, "@68 order ANN drop DCS"])
+    yield verdict.case("broken: it still shows", screen.get("/api/tree")[0], 200)
 
 
 def shut_cases(program, folder):
@@ -450,11 +467,11 @@ def shut_cases(program, folder):
     try:
         yield "shut: it is up", screen.is_up()
         own = "http://" + screen.host
-        yield "shut: the page has no key", b"Bearer" not in screen.get("/")[1]
-        yield "shut: no orders are told", screen.get("/api/orders") == (404, b"there is no such page")
+        yield verdict.case("shut: the page has no key", b"Bearer", screen.get("/")[1], "not in")
+        yield verdict.case("shut: no orders are told", screen.get("/api/orders"), (404, b"there is no such page"))
         for key in (None, "", "Bearer "):
             told = screen.give("order ANN take DCS", key=key, origin=own)
-            yield "shut: none is given with the key %r" % key, told == SHOWN
+            yield verdict.case("shut: none is given with the key %r" % key, told, SHOWN)
         yield "shut: nor done", crews["A"].ask("order ANN ask DCS").startswith("told ANN ask DCS free")
     finally:
         close(crews, screen)
@@ -475,13 +492,13 @@ def node_cases(program, folder):
         yield "node: the console is there", screen.is_up() and screen.has_console()
         for order, code in [("ANN take DCS", 0), ("ANN take DCS", 23), ("ANN include DCS TPC", 0),
                             ("ANN drop TPC", 21)]:
-            yield "node: %s ends with %d" % (order, code), screen.order(order) == code
-        yield "node: the picture has it", screen.waits_for(
-            lambda picture: screens.holders_of(picture) == {"DCS": "ANN", "TPC": "DCS"})
+            yield verdict.case("node: %s ends with %d" % (order, code), screen.order(order), code)
+        yield screen.comes("node: the picture has it", screens.holders_of, {"DCS": "ANN", "TPC": "DCS"})
         screen.give("order BOB take TPC")
         fault = "fault 5: BOB is no operator of this station"
-        yield "node: an operator of another", screen.waits_for_orders(
-            lambda: fates(screen)[-1] == ("order BOB take TPC", False, fault, None, None))
+        yield verdict.comes(
+            "node: an operator of another", lambda: fates(screen)[-1], ("order BOB take TPC", False, fault, None, None),
+            nodes.PATIENCE)
         crews["A"].kill()
         yield "node: it goes", screen.waits_for_orders(lambda: not screen.told_orders()["console"])
         crews["A"] = node("A", "--console", where)

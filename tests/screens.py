@@ -8,6 +8,7 @@ import subprocess
 import time
 
 import nodes
+import verdict
 
 # The station of a screen and its operator, who asks and watches.
 STATION, OPERATOR = "SCREEN", "WATCHER"
@@ -85,6 +86,13 @@ class Screen:
                 return True
             time.sleep(0.05)
         return False
+
+    def comes(self, name, look, wanted):
+        """A case: that what is looked at in the picture comes to be what is wanted."""
+        def seen():
+            picture = self.picture()
+            return look(picture) if picture else "no picture"
+        return verdict.comes(name, seen, wanted, nodes.PATIENCE)
 
     def key(self):
         """The key that stands in its page, for orders."""

@@ -9,6 +9,7 @@ import collections
 import os
 import re
 import subprocess
+import verdict
 
 HERE = os.path.dirname(os.path.abspath(__file__))
 EXAMPLES = os.path.join(HERE, "..", "examples")
@@ -87,4 +88,4 @@ def cases(program, only=""):
             tree = os.path.join(EXAMPLES, name)
             names = names_of(tree)
             wrong = [seed for seed in range(count) if not case(program, tree, names, seed)]
-            yield told + ("" if not wrong else ", but not those of the seeds %s" % wrong[:9]), not wrong
+            yield verdict.case(told + ": the seeds of those that do not", wrong, [])

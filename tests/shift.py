@@ -201,26 +201,28 @@ def runs_of(lines):
     return found
 
 
-def states_hold(tree, place, trace):
-    """Whether every unit is in the state that it must be in at a place."""
+def states_of(tree, trace):
+    """The state of every unit at the end of a trace."""
     passed = last(trace, ["passed"], 1)
-    return {unit: passed.get(unit) for unit in tree.domains} == place.states
+    return {unit: passed.get(unit) for unit in tree.domains}
 
 
 def cases(program):
     """Each place with what is looked at there: a name, and whether it is so."""
     tree, found = hierarchy.read(TREE), list(traces(program, TREE))
     before = []
-    yield "the places of the schedule", [name for name, _ in found] == [place.name for place in PLACES]
+    yield verdict.case("the places of the schedule", [name for name, _ in found], [place.name for place in PLACES])
     for place, (name, trace) in zip(PLACES, found):
         shown, new = last(trace, ["showed", "CONTROL"], 2), trace[len(before):]
-        yield name + ": it goes on", trace[:len(before)] == before and len(trace) > len(before)
-        yield name + ": states", states_hold(tree, place, trace)
+        yield verdict.case(name + ": it goes on", [trace[:len(before)], len(trace) > len(before)], [before, True])
+        yield verdict.case(name + ": states", states_of(tree, trace), place.states)
         wanted = {top: place.shown.get(top, place.states[top]) for top in TOPS}
-        yield name + ": what the control room sees", {top: shown.get(top) for top in TOPS} == wanted
-        yield name + ": grants", [line for line in new if line.startswith(("granted", "freed"))] == place.grants
-        yield name + ": what the crew is told", [line[5:] for line in new if line.startswith("told")] == place.told
-        yield name + ": what ran", runs_of(new) == place.runs
+        yield verdict.case(name + ": what the control room sees", {top: shown.get(top) for top in TOPS}, wanted)
+        yield verdict.case(
+            name + ": grants", [line for line in new if line.startswith(("granted", "freed"))], place.grants)
+        yield verdict.case(
+            name + ": what the crew is told", [line[5:] for line in new if line.startswith("told")], place.told)
+        yield verdict.case(name + ": what ran", runs_of(new), place.runs)
         before = trace
 
 
@@ -234,9 +236,10 @@ def blind_case(program):
         path = os.path.join(folder, "blind.tree")
         with open(path, "w", encoding="ascii") as file:
             file.write(blind)
-        held = {name: states_hold(hierarchy.read(path), places[name], trace)
+        held = {name: states_of(hierarchy.read(path), trace) == places[name].states
                 for name, trace in traces(program, path, ("a run", "a trip"))}
-    yield "a tree that does not see a trip", blind != text and held == {"a run": True, "a trip": False}
+    yield verdict.case(
+        "a tree that does not see a trip", [blind != text, held], [True, {"a run": True, "a trip": False}])
 
 
 ACTIONS = ("GO_STANDBY", "CONFIGURE", "START", "STOP", "RECOVER", "SWITCH_OFF")
@@ -273,8 +276,9 @@ def move_cases(program):
     """What has to hold of every class: what switches off, what recovers, and what nothing moves."""
     for name, (device, domain, operator, states) in SAMPLES.items():
         to = moved(program, device, domain, operator, states)
-        yield name + ": every action is tried", sorted(to) == sorted((s, a) for s in states for a in ACTIONS)
-        yield name + ": a device goes where its class may be", set(to.values()) <= set(states)
+        yield verdict.case(
+            name + ": every action is tried", sorted(to), sorted((s, a) for s in states for a in ACTIONS))
+        yield verdict.case(name + ": a device goes where its class may be", set(to.values()), set(states), "<=")
         yield name + ": nothing moves what is unknown", all(to.get(("UNKNOWN", it)) == "UNKNOWN" for it in ACTIONS)
         yield name + ": RECOVER alone ends a fault", all(
             (to.get(("ERROR", it)) == "ERROR") == (it != "RECOVER") for it in ACTIONS)
@@ -286,11 +290,13 @@ def move_cases(program):
         yield name + ": SWITCH_OFF switches off", all(to.get((it, "SWITCH_OFF")) == "OFF" for it in on)
         # however far each is, the ones that are on come together, so that a group is in one state again
         calm = [it for it in on if it != "RUNNING"]
-        yield name + ": GO_STANDBY brings them together", len({to.get((it, "GO_STANDBY")) for it in calm}) == 1
+        yield verdict.case(
+            name + ": GO_STANDBY brings them together", len({to.get((it, "GO_STANDBY")) for it in calm}), 1)
         again = {to.get((to.get(("ERROR", "RECOVER")), "GO_STANDBY")), to.get(("OFF", "GO_STANDBY"))}
-        yield name + ": and what has recovered with them", len(again) == 1
+        yield verdict.case(name + ": and what has recovered with them", len(again), 1)
         running = [it for it in states if to.get((it, "START")) == "RUNNING"]
-        yield name + ": a run begins from READY", running == (["READY", "RUNNING"] if name == "READOUT" else [])
+        yield verdict.case(
+            name + ": a run begins from READY", running, ["READY", "RUNNING"] if name == "READOUT" else [])
         yield name + ": STOP ends a run and nothing else", all(
             to.get((it, "STOP")) == ("READY" if it == "RUNNING" else it) for it in states)
 

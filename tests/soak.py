@@ -29,6 +29,7 @@ import threading
 import time
 
 import nodes
+import verdict
 
 STATIONS = "ABC"
 OPERATORS = {"A": ["ANN", "DAN"], "B": ["BOB"], "C": ["CAT"]}
@@ -349,13 +350,14 @@ def unknown_grants(rows):
 def cases(soak):
     """What is to be seen of a soak: a name, and whether it was so."""
     seconds = soak.said.seconds
-    yield "soak: no violation", not soak.violations
-    yield "soak: orders were told", soak.told > seconds
-    yield "soak: nodes were killed", soak.kills > seconds // 10 or not soak.said.kills
-    yield "soak: datagrams were passed on", soak.proxy.count["passed on"] > seconds
+    yield verdict.case("soak: violations", soak.violations, [])
+    yield verdict.case("soak: orders were told", soak.told, seconds, ">")
+    yield verdict.case("soak: nodes were killed", soak.kills, seconds // 10 if soak.said.kills else -1, ">")
+    yield verdict.case("soak: datagrams were passed on", soak.proxy.count["passed on"], seconds, ">")
     for what, rate in [("lost", "loss"), ("repeated", "repeat"), ("delayed", "delay")]:
-        yield "soak: datagrams were " + what, soak.proxy.count[what] > seconds // 10 or not soak.proxy.rates[rate]
-    yield "soak: rows were read", soak.samples > seconds
+        most = seconds // 10 if soak.proxy.rates[rate] else -1
+        yield verdict.case("soak: datagrams were " + what, soak.proxy.count[what], most, ">")
+    yield verdict.case("soak: rows were read", soak.samples, seconds, ">")
 
 
 def arguments(given):
@@ -380,13 +382,7 @@ def main():
         soak.report()
     finally:
         shutil.rmtree(folder, ignore_errors=True)
-    done = list(cases(soak))
-    for name, held in done:
-        if not held:
-            print("FAILED " + name)
-    passed = sum(held for _, held in done)
-    print("%d passed, %d failed" % (passed, len(done) - passed))
-    sys.exit(1 if passed < len(done) else 0)
+    verdict.end(list(cases(soak)))
 
 
 if __name__ == "__main__":

@@ -10,7 +10,6 @@ import shutil
 import subprocess
 import sys
 import tempfile
-import time
 
 import nodes
 import screens
@@ -25,51 +24,46 @@ def told(*words):
     return done.stdout.splitlines(), done.returncode
 
 
-def comes(holds):
-    """What comes to hold, within the patience of a case, and at last whether it did."""
-    end = time.monotonic() + nodes.PATIENCE
-    while time.monotonic() < end:
-        if holds():
-            return True
-        time.sleep(0.1)
-    return False
-
-
 def cells(lines):
     """The table's rows by domain, each as its words."""
     return {line.split()[0]: line.split() for line in lines[2:]}
 
 
 def cases(program, folder):
-    yield "no screen", told("127.0.0.1:1")[1] == 3
+    yield verdict.case("no screen", told("127.0.0.1:1")[1], 3)
     *ports, port = nodes.free_ports(4)
     tree = nodes.write_tree(folder, None, screens.with_screen(nodes.tree_lines(ports), port))
     running = {name: nodes.Node(program, [tree, name, os.path.join(folder, name), "--endless"]) for name in "ABC"}
     screen = screens.Screen(program, tree, os.path.join(folder, "screen"))
     try:
         yield "a screen is up", screen.is_up()
-        yield "all is well", comes(lambda: told(screen.host)[1] == 0)
+        yield verdict.comes("all is well", lambda: told(screen.host)[1], 0, nodes.PATIENCE)
         orders = ["take DCS", "include DCS TPC", "do DCS CONFIGURE"]
-        yield "orders", [running["A"].ask("order ANN " + it) for it in orders] == ["told ANN %s 0" % it for it in orders]
+        yield verdict.case(
+            "orders", [running["A"].ask("order ANN " + it) for it in orders], ["told ANN %s 0" % it for it in orders])
         wanted = {"DCS": ["ANN", "done", "A"], "TPC": ["ANN", "done", "B"], "MUON": ["free", "-", "C"]}
-        yield "who commands what", comes(lambda: {name: row[2:5] for name, row in cells(told(screen.host)[0]).items()
-                                                  } == wanted)
+        yield verdict.comes(
+            "who commands what", lambda: {name: row[2:5] for name, row in cells(told(screen.host)[0]).items()}, wanted,
+            nodes.PATIENCE)
         lines, status = told(screen.host)
-        yield "the summary", (lines[0], status) == ("OK: 3 domains, 1 devices", 0)
+        yield verdict.case("the summary", (lines[0], status), ("OK: 3 domains, 1 devices", 0))
         yield "a child stands below its parent", lines[3].startswith("  TPC ") and lines[2].startswith("DCS ")
-        yield "the summary alone", told(screen.host, "--brief") == (lines[:1], 0)
-        yield "another alarm", comes(lambda: told(screen.host, "--alarm", "^READY$")[1] == 2)
-        yield "a report", running["B"].ask("report HV ERROR") == "told report HV ERROR 0"
-        yield "a trip is critical", comes(lambda: told(screen.host)[1] == 2)
+        yield verdict.case("the summary alone", told(screen.host, "--brief"), (lines[:1], 0))
+        yield verdict.comes("another alarm", lambda: told(screen.host, "--alarm", "^READY$")[1], 2, nodes.PATIENCE)
+        yield verdict.case("a report", running["B"].ask("report HV ERROR"), "told report HV ERROR 0")
+        yield verdict.comes("a trip is critical", lambda: told(screen.host)[1], 2, nodes.PATIENCE)
         lines, _ = told(screen.host)
-        yield "it is told", lines[0].startswith("CRITICAL: in alarm: ") and lines[-1] == "HV of TPC is ERROR"
-        yield "another report", running["B"].ask("report HV READY") == "told report HV READY 0"
-        yield "all is well again", comes(lambda: told(screen.host)[1] == 0)
+        yield verdict.case(
+            "it is told", [lines[0].startswith("CRITICAL: in alarm: "), lines[-1]], [True, "HV of TPC is ERROR"])
+        yield verdict.case("another report", running["B"].ask("report HV READY"), "told report HV READY 0")
+        yield verdict.comes("all is well again", lambda: told(screen.host)[1], 0, nodes.PATIENCE)
         running["C"].kill()
-        yield "a silent station is a warning", comes(lambda: told(screen.host)[1] == 1)
+        yield verdict.comes("a silent station is a warning", lambda: told(screen.host)[1], 1, nodes.PATIENCE)
         lines, _ = told(screen.host)
-        yield "it is named", lines[0] == "WARNING: silent: C; 3 domains, 1 devices" and lines[4].endswith(" silent")
-        yield "patience", told(screen.host, "--silent", "1000")[1] == 0
+        yield verdict.case(
+            "it is named", [lines[0], [line.endswith(" silent") for line in lines[4:5]]],
+            ["WARNING: silent: C; 3 domains, 1 devices", [True]])
+        yield verdict.case("patience", told(screen.host, "--silent", "1000")[1], 0)
     finally:
         for node in running.values():
             node.kill()

@@ -4,6 +4,7 @@ import os
 import shutil
 import sqlite3
 import subprocess
+import verdict
 
 TABLE = ("CREATE TABLE stable_rows (station INTEGER NOT NULL, domain INTEGER NOT NULL, operator INTEGER NOT NULL, "
          "bytes BLOB NOT NULL, PRIMARY KEY (station, domain, operator)) STRICT")
@@ -45,14 +46,14 @@ def ours(program, trial, folder):
     path = os.path.join(folder, "ours")
     subprocess.run([trial, "store", path], check=True)
     listed = subprocess.run([program, "rows", path], stdout=subprocess.PIPE, check=False).stdout.decode()
-    yield "our store: listed", listed == listing(ROWS)
-    yield "our store: read by Python's sqlite3", rows_in(path) == ROWS
+    yield verdict.case("our store: listed", listed, listing(ROWS))
+    yield verdict.case("our store: read by Python's sqlite3", rows_in(path), ROWS)
     line = shutil.which("sqlite3")
     if line:
         query = "SELECT station, domain, operator, lower(hex(bytes)) FROM stable_rows ORDER BY 1, 2, 3"
         read = subprocess.run([line, "-separator", " ", path, query], stdout=subprocess.PIPE,
                               check=False).stdout.decode()
-        yield "our store: read by the command line of sqlite3", read == listing(ROWS)
+        yield verdict.case("our store: read by the command line of sqlite3", read, listing(ROWS))
 
 
 def all_stores(folder):

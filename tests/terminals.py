@@ -3,6 +3,7 @@
 import os
 import pty
 import subprocess
+import verdict
 
 WRONG, HELP = b"wrong line\n", b"help: man smi\n"
 PATIENCE = 30
@@ -38,12 +39,13 @@ def cases(program, folder, tree, nowhere):
     for words in [[], ["help"], ["--help"], ["check"], ["answer", "more"], ["node", tree, "NOBODY", store],
                   ["screen", tree, "NOBODY", store, "--http", "127.0.0.1:1"]]:
         name = "a terminal: a wrong line: " + " ".join(os.path.basename(word) for word in words)
-        yield name, at_terminal(program, words) == (WRONG + HELP, 2)
-        yield name + ", elsewhere", elsewhere(program, words) == (WRONG, 2)
+        yield verdict.case(name, at_terminal(program, words), (WRONG + HELP, 2))
+        yield verdict.case(name + ", elsewhere", elsewhere(program, words), (WRONG, 2))
     ours, theirs = pty.openpty()
     told = elsewhere(program, [], stdout=theirs)
-    yield "a terminal: one at the standard output alone is none", told == (WRONG, 2)
+    yield verdict.case("a terminal: one at the standard output alone is none", told, (WRONG, 2))
     os.close(ours)
     os.close(theirs)
-    yield "a terminal: another fault has no help", at_terminal(program, ["check", nowhere]) == (b"read fault\n", 3)
-    yield "a terminal: nor has what goes well", at_terminal(program, ["check", tree]) == (b"", 0)
+    yield verdict.case(
+        "a terminal: another fault has no help", at_terminal(program, ["check", nowhere]), (b"read fault\n", 3))
+    yield verdict.case("a terminal: nor has what goes well", at_terminal(program, ["check", tree]), (b"", 0))

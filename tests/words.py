@@ -9,7 +9,8 @@ and in documents (docs/GLOSSARY.md, "Ordinary words"). The last line is 'N passe
 import glob
 import os
 import re
-import sys
+
+import verdict
 
 ROOT = os.path.join(os.path.dirname(os.path.abspath(__file__)), "..")
 WIDTH = 120
@@ -21,8 +22,6 @@ UNUSUAL = re.compile(r"\b(growths?|want of memory|(?:stays?|is|are|stayed) as (?
                      r"|behind the (?:save|others|first|next|last|opening))\b", re.IGNORECASE)
 # The glossary names them to say what stands in their place.
 GLOSSARY = "docs/GLOSSARY.md"
-
-
 # What stands between backquotes is a name.
 NAME = re.compile(r"`[^`]*`")
 
@@ -66,8 +65,8 @@ def main():
             for number, what in faults:
                 print("%s:%d: %s" % (path, number, what))
             passed, failed = passed + (not faults), failed + bool(faults)
-    print("%d passed, %d failed" % (passed, failed))
-    sys.exit(1 if failed else 0)
+    verdict.end_of(passed, failed)
 
 
-main()
+if __name__ == "__main__":
+    main()

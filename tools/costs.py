@@ -93,4 +93,5 @@ def main():
     write_table()
 
 
-main()
+if __name__ == "__main__":
+    main()

@@ -5,14 +5,16 @@ usage: gate.py [--all | --record CRATE..]
 It runs `rt ci`; on the programs that this has built the cases of tests/command_lines.py, tests/nodes.py,
 tests/marks.py, tests/full.py and tests/consoles.py, the shift of the examples (tests/shift.py), the tools beside the
 program (tests/pictures.py, tests/standing.py), the screen and its page (tests/screen.py, tests/browser.py,
-tools/page.py), the bridge to TANGO (tests/bridge.py), the documents (tests/documents.py), what is installed and packed
-(tests/package.py), a crowd of nodes (tests/crowd.py) and a short soak (tests/soak.py); the edits of definitions below a
-law (tools/below.py); and the edits in crates/CRATE/edits/ (tools/edits.py) of each crate whose sum is not in the record
-edits.ok: a line of it says that all edits of the crate were seen refused, with the same toolchain, tools, sources,
-specs, proofs and edits, and the same contracts, definitions and lemmas of the crates below it. What is not tried for
-that is counted apart and not as passed. --all reads no record, tries the edits of every crate, and writes the record.
---record tries the edits of these crates alone, and writes the lines of those of which all are refused; the lines of
-other crates stay. Each toolchain has lines of its own, and none touches those of another.
+tools/page.py), the bridge to TANGO (tests/bridge.py), the documents (tests/documents.py), what is installed and
+packed (tests/package.py), a crowd of nodes (tests/crowd.py) and a short soak (tests/soak.py); beside these lines and
+words (tests/words.py) and the tools that say whether a change is sound (tests/tools_test.py); the edits of
+definitions below a law (tools/below.py); and the edits in crates/CRATE/edits/ (tools/edits.py) of each crate whose
+sum is not in the record edits.ok: a line of it says that all edits of the crate were seen refused, with the same
+toolchain, tools, sources, specs, proofs and edits, and the same contracts, definitions and lemmas of the crates below
+it. What is not tried for that is counted apart and not as passed. --all reads no record, tries the edits of every
+crate, and writes the record. --record tries the edits of these crates alone, and writes the lines of those of which
+all are refused; the lines of other crates stay. Each toolchain has lines of its own, and none touches those of
+another.
 
 The last line is 'N passed, M failed'.
 """
@@ -221,6 +223,7 @@ def main():
     if not parts[0].failed:
         take_programs(since)
         for name, words in [("lines and words", ["tests/words.py"]),
+                            ("tools of the gate", ["tests/tools_test.py"]),
                             ("command lines", ["tests/command_lines.py", "bin/smi", "bin/smi_trial"]),
                             ("nodes", ["tests/nodes.py", "bin/smi"]),
                             ("marks of stores", ["tests/marks.py", "bin/smi"]),

@@ -63,4 +63,5 @@ def main():
     print("status %d" % run.returncode)
 
 
-main()
+if __name__ == "__main__":
+    main()

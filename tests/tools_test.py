@@ -1,0 +1,494 @@
+"""The tools that say whether a change is sound: the gate, the sums of edits, the order in which libraries are built,
+what crates cost, the soak's eyes, and how a test script ends; and whether all is there that they borrow of the
+toolchain.
+
+usage: tools_test.py [TEXT]
+
+Nothing is proved and no node runs. With a TEXT only the tests are run whose name has it. The last line is 'N passed, M
+failed'.
+"""
+
+import ast
+import collections
+import contextlib
+import glob
+import io
+import os
+import re
+import sys
+import tempfile
+import threading
+import time
+import unittest
+from unittest import mock
+
+HERE = os.path.dirname(os.path.abspath(__file__))
+ROOT = os.path.dirname(HERE)
+sys.path.insert(0, os.path.join(ROOT, "tools"))
+
+import costs  # noqa: E402 (these stand in tools/)
+import gate  # noqa: E402
+import kit  # noqa: E402
+import libraries  # noqa: E402
+import soak  # noqa: E402
+import verdict  # noqa: E402
+
+# A crate as the tools see it: its name, what it stands on, and where its files are.
+Crate = collections.namedtuple("Crate", "name deps folder", defaults=((), ""))
+
+
+def printed(call, *given):
+    """What a call prints, and what it gives; where it ends the program, the status."""
+    said = io.StringIO()
+    with contextlib.redirect_stdout(said):
+        try:
+            came = call(*given)
+        except SystemExit as end:
+            came = end.code
+    return said.getvalue(), came
+
+
+class Runs(unittest.TestCase):
+    """What the gate reads off a command."""
+
+    def run_of(self, code):
+        return printed(gate.run, [sys.executable, "-c", code])[1]
+
+    def test_last_line(self):
+        for said, wanted in [("3 passed, 1 failed", (3, 1)), ("one\n3 passed, 0 failed", (3, 0)),
+                             ("3 passed, 0 failed\nand more", (0, 1)), ("3 passed", (0, 1)), ("", (0, 1)),
+                             (" 3 passed, 0 failed", (0, 1)), ("3 passed, 0 failed.", (0, 1)),
+                             ("1 passed, 9 failed\n3 passed, 0 failed", (3, 0))]:
+            with self.subTest(said):
+                self.assertEqual(self.run_of("print(%r)" % said), wanted)
+
+    def test_status(self):
+        end = "print('3 passed, 0 failed'); raise SystemExit(1)"
+        self.assertEqual(self.run_of(end), (3, 1))
+        self.assertEqual(self.run_of(end.replace("0 failed", "2 failed")), (3, 2))
+        self.assertEqual(self.run_of("import os; print('3 passed, 0 failed', flush=True); os.abort()"), (3, 1))
+
+    def test_what_is_said_stands_in_the_log(self):
+        said, _ = printed(gate.run, [sys.executable, "-c", "print('one'); print('1 passed, 0 failed')"])
+        self.assertEqual(said, "one\n1 passed, 0 failed\n")
+
+    def test_failed_crates_are_told_again(self):
+        told = gate.Told()
+        for line in ["== one\n", "well\n", "rt: one PROVED\n", "== two\n", "bad\n", "rt: two NOT PROVED\n",
+                     "== three: its tests\n", "worse\n", "rt: three: its tests are NOT proved\n",
+                     "rt: four is kept: an earlier run proved it\n"]:
+            told.take(line)
+        self.assertEqual(told.failed, ["two", "three"])
+        self.assertEqual(told.kept, 1)
+        said, _ = printed(told.tell)
+        self.assertEqual(said, "== two failed, and said last:\nbad\n== three failed, and said last:\nworse\n")
+
+
+class Gates(unittest.TestCase):
+    """The whole gate, with commands that do nothing."""
+
+    def gate(self, failing, words=(), changed=False):
+        """What the gate prints at its end, its status, and the scripts that it runs, where those with a text fail."""
+        ran, sums = [], iter("ab" if changed else "aa")
+
+        def run(given, _told=None):
+            name = " ".join(given[-1:] if given[0] == "rt" else given[1:])
+            ran.append(name)
+            return (1, 1) if any(it in name for it in failing) else (2, 0)
+
+        with contextlib.ExitStack() as stack:
+            for of, name, how in [(gate, "run", run), (gate, "take_programs", lambda since: None),
+                                  (gate, "try_edits", lambda is_whole, since: gate.Part("edits").end(5, 0)),
+                                  (kit, "crates", lambda names=(): [Crate("one")]),
+                                  (kit, "own_sum", lambda crate: next(sums)), (sys, "argv", ["gate.py", *words])]:
+                stack.enter_context(mock.patch.object(of, name, how))
+            said, status = printed(gate.main)
+        return said.splitlines(), status, ran
+
+    def test_all_is_well(self):
+        lines, status, ran = self.gate([])
+        self.assertEqual((lines[-1], status), ("%d passed, 0 failed" % (2 * len(ran) + 5), 0))
+
+    def test_each_script_that_is_named_is_there(self):
+        for name in self.gate([])[2][1:]:
+            self.assertTrue(os.path.isfile(os.path.join(ROOT, name.split()[0])), name)
+
+    def test_where_a_part_fails_the_others_run(self):
+        lines, status, ran = self.gate(["nodes.py"])
+        self.assertEqual(ran, self.gate([])[2])
+        self.assertEqual((lines[-1], status), ("%d passed, 1 failed" % (2 * len(ran) - 1 + 5), 1))
+        self.assertIn("nodes: 1 passed, 1 failed", "\n".join(lines))
+
+    def test_where_the_proofs_fail_nothing_else_runs(self):
+        lines, status, ran = self.gate(["ci"])
+        self.assertEqual((ran, lines[-1], status), (["ci"], "1 passed, 1 failed", 1))
+
+    def test_a_crate_that_changes_meanwhile(self):
+        lines, status, _ = self.gate([], changed=True)
+        self.assertEqual((lines[-1].split(", ")[1], status), ("1 failed", 1))
+        self.assertIn("changed while the gate ran", lines[-2])
+
+    def test_words_that_it_does_not_know(self):
+        _, status, ran = self.gate([], words=["--everything"])
+        self.assertEqual((status.split(" ")[0], ran), ("usage:", []))
+
+
+class Records(unittest.TestCase):
+    """The record of edits that were seen refused."""
+
+    def setUp(self):
+        folder = tempfile.TemporaryDirectory()
+        self.addCleanup(folder.cleanup)
+        self.path = os.path.join(folder.name, "edits.ok")
+        for of, name, how in [(gate, "RECORD", self.path), (gate, "toolchain", lambda: "kit-b"),
+                              (kit, "crates", lambda names=(): [Crate("one"), Crate("two")])]:
+            patch = mock.patch.object(of, name, how)
+            patch.start()
+            self.addCleanup(patch.stop)
+
+    def test_no_record(self):
+        self.assertEqual(gate.recorded(), {})
+
+    def test_lines_of_another_toolchain_stay(self):
+        with open(self.path, "w", encoding="ascii") as file:
+            file.write("# a head\none kit-a 11\none kit-b 12\ngone kit-a 13\n")
+        self.assertEqual(gate.recorded(), {"one": "12"})
+        gate.write_record({"two": "22"})
+        self.assertEqual(gate.lines_of_record(), {("one", "kit-a"): "11", ("two", "kit-b"): "22"})
+
+
+class Sums(unittest.TestCase):
+    """What the sum of a crate's edits rests on."""
+
+    def sums(self, *changes):
+        """The crate's own sum, and after each of these changes of a file."""
+        found = []
+        with tempfile.TemporaryDirectory() as folder, mock.patch.object(kit, "ROOT", folder):
+            crate = Crate("one", folder=os.path.join(folder, "crates", "one"))
+            for path, text in [("src/lib.rt", "// said\nfn one() {}\n"), ("proofs/One.antt", "-- said\none = 1\n"),
+                               ("edits/one.edit", "function: one\n"), *changes]:
+                at = os.path.join(crate.folder, path)
+                os.makedirs(os.path.dirname(at), exist_ok=True)
+                with open(at, "w", encoding="utf-8") as file:
+                    file.write(text)
+                found.append(kit.own_sum(crate))
+        return found[2:]
+
+    def test_a_comment_leaves_it(self):
+        for path, text in [("src/lib.rt", "    // another\nfn one() {}\n"), ("proofs/One.antt", "-- another\none = 1\n")]:
+            before, after = self.sums((path, text))
+            self.assertEqual(before, after, path)
+
+    def test_all_else_changes_it(self):
+        for path, text in [("src/lib.rt", "// said\nfn two() {}\n"), ("src/lib.rt", "// said\nfn one() {} // more\n"),
+                           ("proofs/One.antt", "-- said\none = 2\n"), ("proofs/One.antt", "// said\none = 1\n"),
+                           ("edits/one.edit", "function: two\n"), ("src/two.rt", ""), ("specs/One.antt", "one = 1\n")]:
+            before, after = self.sums((path, text))
+            self.assertNotEqual(before, after, (path, text))
+
+    def test_what_is_none_of_its_parts_leaves_it(self):
+        before, after = self.sums(("out/one.rt", "fn one() {}\n"))
+        self.assertEqual(before, after)
+
+    def test_what_other_crates_can_read(self):
+        seen = "pub fn one ( ) -> u16\n    ensures { result ≡ 1 } ;\n"
+        hidden = "fn two ( ) -> u16\n    ensures { result ≡ 2 } ;\n"
+        trait = "pub trait Link {\nfn send ( & self ) ;\n}\n"
+        for text, wanted in [
+                (seen, seen), (hidden, ""), (seen + hidden + seen, seen + seen), (trait, trait),
+                ("# [ inline ( never ) ] " + hidden, ""), ("# [ inline ( always ) ] " + seen, "# [ inline ( always ) ] " + seen),
+                ("pub ( crate ) " + trait[4:], "pub ( crate ) " + trait[4:]), (trait + hidden, trait),
+                ("simpl Wire {\n%s%s}\n" % (seen, hidden), "simpl Wire {\n%s}\n" % seen),
+                ("pub const MOST : u16 = ( 8_u16 ) ;\n", "pub const MOST : u16 = ( 8_u16 ) ;\n")]:
+            with self.subTest(text):
+                self.assertEqual(kit.public(text), wanted)
+
+
+class Libraries(unittest.TestCase):
+    """In which order libraries are built, and how long they are said to take."""
+
+    def crates(self):
+        one = Crate("one")
+        two, three = Crate("two", (one,)), Crate("three", (one,))
+        return [one, two, three, Crate("four", (two,)), Crate("five")]
+
+    def pace(self, crates, lanes, **seconds):
+        with mock.patch.object(kit, "costs", lambda: {name: kit.Cost(it) for name, it in seconds.items()}):
+            return libraries.Pace(crates, lanes)
+
+    def test_heights(self):
+        found = libraries.heights(self.crates())
+        self.assertEqual([found[it.name] for it in self.crates()], [2, 1, 0, 0, 0])
+
+    def test_estimate(self):
+        seconds = {"one": 60, "two": 120, "three": 60, "four": 240, "five": 60}
+        self.assertEqual(self.pace(self.crates(), 1, **seconds).minutes(), 9)
+        # the longest chain takes as long in however many lanes: one, two, four
+        self.assertEqual(self.pace(self.crates(), 4, **seconds).minutes(), 7)
+        self.assertEqual(self.pace(self.crates(), 1).minutes(), 5 * libraries.UNKNOWN // 60)
+
+    def test_estimate_follows_the_pace(self):
+        pace = self.pace(self.crates(), 1, one=120, two=120, three=60, four=60, five=60)
+        pace.done(Crate("one"), 240)
+        self.assertEqual(pace.minutes(), 10)
+        self.assertEqual(pace.told(), "; some 10 minutes left")
+        for name in ("two", "three", "four", "five"):
+            pace.done(Crate(name), 60)
+        self.assertEqual(pace.told(), "")
+
+    def built(self, lanes, failing=(), slow=()):
+        """Which libraries are begun, in their order, whether all are there, and whether each had all below it. Those
+        that are slow end after others."""
+        begun, done, sound, lock = [], set(), [], threading.Lock()
+
+        def build(crate):
+            with lock:
+                begun.append(crate.name)
+                sound.append(all(it.name in done for it in crate.deps))
+            time.sleep(0.2 if crate.name in slow else 0.01)
+            with lock:
+                done.update([] if crate.name in failing else [crate.name])
+            return crate.name not in failing, "why\n", 1
+
+        with mock.patch.object(libraries, "build", build), mock.patch.object(kit, "costs", dict):
+            _, well = printed(libraries.build_all, self.crates(), lanes)
+        return begun, well, all(sound)
+
+    def test_each_after_those_that_it_stands_on(self):
+        for lanes in (1, 2, 4):
+            begun, well, is_sound = self.built(lanes)
+            self.assertEqual((sorted(begun), well, is_sound), (sorted(it.name for it in self.crates()), True, True))
+
+    def test_long_chains_first(self):
+        self.assertEqual(self.built(1)[0][:2], ["one", "two"])
+
+    def test_the_first_that_fails_ends_it(self):
+        self.assertEqual(self.built(1, ["two"]), (["one", "two"], False, True))
+        # also where one beside it ends well after it
+        begun, well, _ = self.built(2, ["one"], ["five"])
+        self.assertEqual((sorted(begun), well), (["five", "one"], False))
+
+
+class Costs(unittest.TestCase):
+    """The table of what crates cost."""
+
+    FOUND = {"one": kit.Cost(1000, 20, 3, 40), "two": kit.Cost(7, None, None, None)}
+
+    def test_table(self):
+        self.assertEqual(costs.table(self.FOUND).splitlines()[2:], [
+            "| `one` | 1,000 | 20 | 3 in 40 |", "| `two` | 7 | - | - |", "| all | 1,007 | 20 | 3 in 40 |"])
+
+    def test_record(self):
+        with tempfile.TemporaryDirectory() as folder, \
+                mock.patch.object(kit, "COSTS", os.path.join(folder, "costs.txt")), \
+                mock.patch.object(kit, "crates", lambda names=(): [Crate("two"), Crate("one"), Crate("three")]):
+            self.assertEqual(kit.costs(), {})
+            kit.write_costs(self.FOUND)
+            self.assertEqual(kit.costs(), self.FOUND)
+            self.assertEqual(list(kit.costs()), ["two", "one"])
+
+
+def record_row(kind, holder, epoch, last, busy, links=b""):
+    """The row of a domain (docs/FORMATS.md, "Stable rows")."""
+    return (bytes([2, kind]) + holder.to_bytes(2, "big") + epoch.to_bytes(8, "big") + last.to_bytes(4, "big")
+            + bytes([busy]) + bytes(5) + (1 if links else 0).to_bytes(2, "big") + links)
+
+
+def link_of(domain, form, epoch, number=0, pending=0):
+    """A link in a row, with so many commands pending."""
+    more = (pending - 1).to_bytes(2, "big") + bytes(4 * (pending - 1)) if form == 5 else b""
+    return domain.to_bytes(2, "big") + bytes([form, 0]) + epoch.to_bytes(8, "big") + number.to_bytes(4, "big") \
+        + bytes(4) + more
+
+
+def operator_row(*links):
+    return bytes([3, 0]) + len(links).to_bytes(2, "big") + b"".join(links)
+
+
+class Soak(unittest.TestCase):
+    """Violations that are planted are seen, and a sound soak has none."""
+
+    def events(self, *told):
+        return [(at, *event) for at, event in enumerate(told)]
+
+    def test_one_commander(self):
+        took = [("told", "ANN", "take DCS", "0"), ("ordered", "ANN", "drop DCS"), ("told", "ANN", "drop DCS", "0"),
+                ("told", "BOB", "take DCS", "0")]
+        self.assertEqual(soak.commanders(self.events(*took)), [])
+        self.assertEqual(soak.commanders(self.events(took[0], took[0])), [])
+        self.assertEqual(soak.commanders(self.events(took[0], ("told", "BOB", "take DCS", "5"))), [])
+        self.assertEqual(soak.commanders(self.events(took[0], ("told", "BOB", "take TPC", "0"))), [])
+
+    def test_two_commanders(self):
+        for between in [[], [("ordered", "BOB", "drop DCS")], [("ordered", "ANN", "drop TPC")]]:
+            found = soak.commanders(self.events(("told", "ANN", "take DCS", "0"), *between,
+                                                ("told", "BOB", "take DCS", "0")))
+            self.assertEqual(found, ["BOB was told to have DCS, which ANN has"])
+
+    def test_what_is_told_by_its_moment(self):
+        late = [(2, "told", "BOB", "take DCS", "0"), (0, "told", "ANN", "take DCS", "0"),
+                (1, "ordered", "ANN", "drop DCS")]
+        self.assertEqual(soak.commanders(late), [])
+
+    def gone_back(self, key, before, after):
+        """What a reading of a row finds after another one."""
+        seen = eyes()
+        soak.Soak.look_at(seen, {key: before})
+        soak.Soak.look_at(seen, {key: after})
+        return seen.violations
+
+    def test_rows_that_go_back(self):
+        boots = [bytes([2, 0, 0, 0]) + it.to_bytes(4, "big") for it in (1, 2)]
+        records = [record_row(1, 1, 1, 0, 0), record_row(1, 1, 1, 1, 1), record_row(1, 1, 1, 1, 0),
+                   record_row(0, 0, 2, 0, 0)]
+        links = [operator_row(link_of(1, 2, epoch)) for epoch in (1, 3)]
+        for key, rows in [((1, 0, 0), boots), ((1, 1, 0), records), ((1, 0, 1), links)]:
+            for before, after in zip(rows, rows[1:]):
+                self.assertEqual(self.gone_back(key, before, after), [])
+                self.assertEqual(self.gone_back(key, before, before), [])
+                self.assertEqual(len(self.gone_back(key, after, before)), 1, key)
+
+    def grants(self, record, *links):
+        return soak.unknown_grants({(1, 1, 0): record, (1, 0, 1): operator_row(*links)})
+
+    def test_grants_that_are_known(self):
+        held = record_row(1, 1, 3, 2, 0)
+        for link in [link_of(1, 2, 3, 2), link_of(1, 3, 3, 3, 1), link_of(1, 5, 3, 4, 2), link_of(1, 4, 3)]:
+            self.assertEqual(self.grants(held, link), [])
+        self.assertEqual(self.grants(record_row(1, 1, 3, 0, 0), link_of(1, 1, 2)), [])
+        self.assertEqual(self.grants(record_row(0, 0, 4, 0, 0), link_of(1, 0, 4)), [])
+
+    def test_grants_that_are_not(self):
+        held = record_row(1, 1, 3, 2, 0)
+        for record, link in [
+                (held, link_of(1, 0, 3)), (held, link_of(1, 1, 3)), (held, link_of(1, 2, 5, 2)),
+                (held, link_of(1, 2, 3, 1)), (held, link_of(1, 2, 3, 3)),
+                (record_row(1, 1, 3, 1, 1), link_of(1, 3, 3, 2, 1)), (record_row(1, 2, 3, 2, 0), link_of(1, 2, 3, 2)),
+                (record_row(0, 0, 4, 0, 0), link_of(1, 2, 3, 2))]:
+            self.assertNotEqual(self.grants(record, link), [], (record, link))
+        self.assertEqual(len(soak.unknown_grants({(1, 1, 0): held})), 1)
+        links = operator_row(link_of(1, 2, 3, 2))
+        found = soak.unknown_grants({(1, 1, 0): held, (1, 0, 1): links, (1, 0, 2): links})
+        self.assertEqual(found, ["(1, 2) holds domain 1 at epoch 3, whose record is (1, 1, 3)"])
+
+
+def eyes():
+    """What a soak has seen, and its violations, without nodes."""
+    made = mock.Mock(spec=["samples", "seen", "lock", "violations", "violated"])
+    made.samples, made.seen, made.lock, made.violations = 0, {}, threading.Lock(), []
+    made.violated = made.violations.append
+    return made
+
+
+class Verdicts(unittest.TestCase):
+    """How a test script ends, and what it says of a case that failed."""
+
+    def test_ends(self):
+        for done, only, wanted in [
+                ([("one", True), ("two", 1)], "", ("2 passed, 0 failed\n", 0)),
+                ([("one", True), ("two", None)], "", ("FAILED two\n1 passed, 1 failed\n", 1)),
+                ([("one", True), ("two", False)], "one", ("1 passed, 0 failed\n", 0)),
+                ([("one", True)], "three", ("0 passed, 0 failed\n", 1)), ([], "", ("0 passed, 0 failed\n", 1))]:
+            self.assertEqual(printed(verdict.end, done, only), wanted)
+
+    def test_wanted_and_came(self):
+        said, status = printed(verdict.end, [verdict.case("one", [1, 2], [1, 3]), verdict.case("two", 2, 2)])
+        self.assertEqual((said, status), (
+            "FAILED one\n    wanted [1, 3]\n    came   [1, 2]\n1 passed, 1 failed\n", 1))
+
+    def test_how(self):
+        for came, how, wanted, holds in [
+                (1, "<", 2, True), (2, "<", 2, False), (2, "<=", 2, True), (1, ">=", 2, False), (3, ">", 2, True),
+                (1, "in", [1], True), (2, "in", [1], False), (2, "not in", [1], True), (None, "is", None, True),
+                (0, "is not", None, True), (1, "!=", 1, False)]:
+            self.assertEqual(verdict.case("one", came, wanted, how), ("one", holds), (came, how, wanted))
+        self.assertEqual(verdict.told(verdict.case("one", 3, 2, "<")), "FAILED one\n    wanted < 2\n    came     3")
+
+    def test_long_values_are_told_where_they_differ(self):
+        long = "x" * 1000
+        said = verdict.told(verdict.case("one", long + "a" + long, long + "b" + long))
+        self.assertIn("xbx", said)
+        self.assertIn("xax", said)
+        self.assertLess(len(said), 3 * verdict.TOLD)
+
+    def test_what_comes_in_time(self):
+        seen = iter([1, 2, 3, 4])
+        self.assertEqual(verdict.comes("one", lambda: next(seen), 3, 10), ("one", True))
+        late = verdict.comes("one", lambda: 1, 2, 0)
+        self.assertEqual((late, late.came), (("one", False), 1))
+
+
+class Scripts(unittest.TestCase):
+    """No script does anything where it is imported, and each tells of its end in one way."""
+
+    def paths(self):
+        return sorted(glob.glob(os.path.join(ROOT, "tools", "*.py")) + glob.glob(os.path.join(HERE, "*.py")))
+
+    def test_nothing_runs_where_it_is_imported(self):
+        for path in self.paths():
+            with open(path, encoding="utf-8") as file:
+                body = ast.parse(file.read()).body
+            calls = [ast.unparse(it) for it in body if isinstance(it, ast.Expr) and isinstance(it.value, ast.Call)]
+            self.assertEqual([it for it in calls if not it.startswith("sys.path.insert(")], [], path)
+
+    def test_one_way_to_end(self):
+        for path in self.paths():
+            with open(path, encoding="utf-8") as file:
+                own = "passed, %d failed" in file.read()
+            if path.startswith(HERE) and path != __file__:
+                self.assertEqual(own, os.path.basename(path) == "verdict.py", path)
+
+
+class Borrowed(unittest.TestCase):
+    """What the tools take of the toolchain's own script is there, and stands in docs/GATE.md."""
+
+    def rows(self):
+        with open(os.path.join(ROOT, "docs", "GATE.md"), encoding="utf-8") as file:
+            text = file.read().split("## What is borrowed of the toolchain")[1].split("\n## ")[0]
+        return re.findall(r"^\| `([\w.]+)` \| (.*) \|$", text, flags=re.M)
+
+    def holder(self, name):
+        """What has a borrowed name: the script, its library, or a crate."""
+        of, _, what = name.rpartition(".")
+        return {"rt": kit.rt, "rtlib": kit.rtlib, "crate": kit.crates()[0]}[of], what
+
+    def test_each_is_there(self):
+        self.assertGreater(len(self.rows()), 15)
+        for name, what_for in self.rows():
+            with self.subTest(name):
+                of, what = self.holder(name)
+                self.assertTrue(hasattr(of, what) or "some toolchains" in what_for, name)
+
+    def test_each_that_is_taken_is_listed(self):
+        told, taken = {name for name, _ in self.rows()}, set()
+        for path in glob.glob(os.path.join(ROOT, "tools", "*.py")):
+            with open(path, encoding="utf-8") as file:
+                text = file.read()
+            if re.search(r"^import kit$", text, flags=re.M) or path.endswith("kit.py"):
+                taken |= {"%s.%s" % it for it in re.findall(r"\b(rt|rtlib)\.([A-Za-z_]\w*)", text) if it[1] != "rtlib"}
+                taken |= {"rt." + it for it in re.findall(r'getattr\(kit\.rt, "(\w+)"', text)}
+                taken |= {"crate." + it for it in re.findall(r"\bcrate\.(\w+)", text)}
+        self.assertEqual(sorted(taken - told), [])
+        self.assertEqual(sorted(name for name in told - taken if not name.startswith("crate.")), [])
+
+
+def main():
+    only = sys.argv[1] if len(sys.argv) > 1 else ""
+    os.chdir(ROOT)
+    found = unittest.TestSuite()
+
+    def gather(suite):
+        for it in suite:
+            if isinstance(it, unittest.TestSuite):
+                gather(it)
+            elif only in it.id():
+                found.addTest(it)
+
+    gather(unittest.defaultTestLoader.loadTestsFromModule(sys.modules[__name__]))
+    ran = unittest.TextTestRunner(stream=sys.stdout, verbosity=0).run(found)
+    failed = len({test.id().split(" ")[0] for test, _ in ran.failures + ran.errors})
+    verdict.end_of(ran.testsRun - failed, failed)
+
+
+if __name__ == "__main__":
+    main()
