@@ -53,7 +53,14 @@ impl<H: Wait + Drop> Herald<H> {
         Ok(herald)
     }
 
-    /// A state is to be told.
+    /// A state is told, or owed where there is no room for it, or where others are owed.
+    fn tell(&mut self, shown: Shown) {
+        if self.owes || !self.dispatch.tell(News::Showed(shown)) {
+            self.owe(shown);
+        }
+    }
+
+    /// A state is to be told later.
     fn owe(&mut self, shown: Shown) {
         let Some(place) = usize::from(shown.object).checked_sub(1) else {
             return;
@@ -116,13 +123,13 @@ impl<H: Wait + Drop> Witness for Herald<H> {
             self.dispatch.wake();
         }
         self.dispatch.go_on();
+        self.tell_owed();
         if let Some(shown) = out.shown() {
-            self.owe(shown);
+            self.tell(shown);
         }
         for shown in out.passed().as_slice() {
-            self.owe(*shown);
+            self.tell(*shown);
         }
-        self.tell_owed();
         self.tell_done(station, event, made);
     }
 }
