@@ -11,7 +11,8 @@ use Rattle.smi_protocol.specs.Ordering.{commands, order_comes}
 use Rattle.smi_protocol.specs.Refusals.{command_refusal, is_order_of, refusal_by_link}
 use Rattle.smi_protocol.specs.Request.{has_named}
 
-pub command_named : (h : Hierarchy) (d : ℕ) (c : Command) → is_order_of h (order_of d c) ≡ (has_domain h d && has_named h c)
+pub command_named : (h : Hierarchy) (d : ℕ) (c : Command)
+    → is_order_of h (order_of d c) ≡ (has_domain h d && has_named h c)
 command_named h d (Do a) = refl
 command_named h d (Include t) = refl
 command_named h d (Exclude t) = refl

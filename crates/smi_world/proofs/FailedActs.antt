@@ -58,7 +58,8 @@ module _ (h : Hierarchy) (number : ℕ) (s : Station) (p : Post) (is : IsPost h 
   after_makes next made l what runs out station of leaves stored started handed = record {
     post = saved_halts h number s p is next what runs out station of stored;
     entries = rw (started, handed)
-        (append-nil (made.out.kept ++ []) ∙ append-nil made.out.kept ∙ saved_kept h number s p is made what runs leaves);
+        (append-nil (made.out.kept ++ []) ∙ append-nil made.out.kept
+        ∙ saved_kept h number s p is made what runs leaves);
     sends = ap (λ (z : Out). z.datagrams) handed;
   }
 
