@@ -8,6 +8,7 @@ the trace that it leaves without them.
 
 import os
 import subprocess
+
 import verdict
 
 HERE = os.path.dirname(os.path.abspath(__file__))
@@ -23,7 +24,8 @@ def library(folder):
     each space."""
     path = os.path.join(folder, "interrupts.so")
     subprocess.run(["cc", "-shared", "-fPIC", "-O1", "-o", path, os.path.join(HERE, "interrupts.c")], check=True)
-    return {"LD_PRELOAD": os.path.basename(path), "LD_LIBRARY_PATH": folder}
+    return {"LD_PRELOAD": os.path.basename(path), "LD_LIBRARY_PATH": folder,
+            "INTERRUPTED": os.path.join(folder, "interrupted")}
 
 
 def ran(program, words, given, settings=None):
@@ -43,6 +45,7 @@ def interrupted_cases(program, folder):
     answers = ran(program, ["answer"], datagrams)
     yield verdict.case("interrupted: there are answers", (len(answers[0]) // 44 > 0, *answers[1:]), (True, b"", 0))
     yield verdict.case("interrupted: answer", ran(program, ["answer"], datagrams, interrupted), answers)
+    yield verdict.case("interrupted: its reads were", os.path.exists(interrupted["INTERRUPTED"]), True)
     many = datagrams * 5_000
     yield verdict.case(
         "interrupted: answer, of many", ran(program, ["answer"], many, interrupted), ran(program, ["answer"], many))
