@@ -169,7 +169,7 @@ def picture_cases(program, folder):
         screen.end()
         screen = screens.Screen(program, tree, screens.store_of(folder, "screen"))
         yield "picture: a screen that begins again", screen.is_up() and screen.waits_for(
-            screens.states_of == wanted and screens.holders_of(picture) == held)
+            lambda picture: screens.states_of(picture) == wanted and screens.holders_of(picture) == held)
         crews["B"].kill()
         before = screens.by_name(screen.picture()["domains"])["TPC"]["told"]["heard"]
         time.sleep(2.5)

@@ -126,10 +126,8 @@ impl<'a> Displayed<'a> {
             Request::Ask(domain) => self.ask(out, operator, domain),
             Request::Watch(object) => self.watch(out, operator, object),
             Request::Unwatch(object) => self.unwatch(out, operator, object),
-            Request::Take(_)
-            | Request::Drop(_)
-            | Request::Command(_, _)
-            | Request::Report(_, _) => {}
+            Request::Take(_) | Request::Drop(_) | Request::Command(_, _) | Request::Report(_, _) =>
+                {}
         }
     }
 

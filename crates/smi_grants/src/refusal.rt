@@ -82,7 +82,9 @@ fn is_order_of(tree: &Tree, order: &Order) -> bool
     ensures { result ≡ spec.is_order_of tree.now order.now }
 {
     match order.request() {
-        Request::Take(domain) | Request::Drop(domain) | Request::Ask(domain) => has_domain(tree, domain),
+        Request::Take(domain) | Request::Drop(domain) | Request::Ask(domain) => has_domain(
+            tree, domain,
+        ),
         Request::Command(domain, command) => has_domain(tree, domain) && has_named(tree, command),
         Request::Watch(object) | Request::Unwatch(object) => has_object(tree, object),
         Request::Report(_, _) => false,
@@ -149,10 +151,8 @@ impl<'a> Kept<'a> {
                 domain,
             ))),
             Request::Command(domain, command) => self.command_refusal(operator, domain, command),
-            Request::Ask(_)
-            | Request::Watch(_)
-            | Request::Unwatch(_)
-            | Request::Report(_, _) => None,
+            Request::Ask(_) | Request::Watch(_) | Request::Unwatch(_) | Request::Report(_, _) =>
+                None,
         }
     }
 

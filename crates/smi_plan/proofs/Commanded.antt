@@ -15,7 +15,7 @@ use Rattle.smi_protocol.specs.Grants.{Grants}
 use Rattle.smi_protocol.specs.Happening.{Orders, order_of}
 use Rattle.smi_protocol.specs.Refusals.{is_order_here, refusal_by_link, refusal_of}
 use Rattle.smi_protocol.specs.Request.{has_named}
-use Rattle.smi_protocol.specs.Sound.{IsCommand, IsLink, IsSound}
+use Rattle.smi_protocol.specs.Sound.{IsLink, IsSound}
 use Rattle.smi_protocol.proofs.Requests.{command_named}
 use Rattle.smi_protocol.proofs.SoundLinks.{sound_issued}
 use Rattle.smi_protocol.proofs.SoundOrders.{command_known}

@@ -102,9 +102,7 @@ pub fn order(out: &mut Out, kept: &Kept<'_>, operator: u16, order: &Order) -> Ch
             let issued = issue(&kept.link(holder, domain), command);
             obey(out, kept, operator, domain, Some(command), issued)
         }
-        Request::Ask(_)
-        | Request::Watch(_)
-        | Request::Unwatch(_)
-        | Request::Report(_, _) => Change::Nothing,
+        Request::Ask(_) | Request::Watch(_) | Request::Unwatch(_) | Request::Report(_, _) =>
+            Change::Nothing,
     }
 }

@@ -197,7 +197,6 @@ fn tell_operator(
 ghost use Rattle.smi_grant.specs.Record.{is_record};
 ghost use Rattle.smi_grants.specs.Plans.{MayOrder, Plans};
 ghost use Rattle.smi_protocol.specs.Sound.{IsSound};
-
 ghost use Rattle.std.specs.Prelude.{unwrap_or};
 ghost use Rattle.smi_grant.specs.Record as record_spec;
 ghost use Rattle.smi_roles.specs.Roles.{holder_station};

@@ -7,9 +7,9 @@ ghost use Rattle.smi_observer.specs.Looking.{Looks, view};
 ghost use Rattle.smi_screen.specs.Ending.{has_stopped};
 
 use crate::console::Console;
+use crate::gate::Gate;
 use crate::running::Ended;
 use crate::stage::Stage;
-use crate::gate::Gate;
 use smi_link::DatagramLink;
 use smi_observer::{Came, Pace, look};
 use smi_out::Out;

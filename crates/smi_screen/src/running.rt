@@ -1,10 +1,10 @@
 //! A screen begins, looks, and ends.
 
 use crate::console::Place;
+use crate::gate::Gate;
 use crate::post::Post;
 use crate::stage::staged;
 use bytes::Bytes;
-use crate::gate::Gate;
 use smi_link::UdpLink;
 use smi_observer::Pace;
 use smi_protocol::OpenFault;

@@ -157,9 +157,9 @@ module _ (k : Kept) (d0 d1 d2 : Displayed) (device state d : ℕ) (before : List
       ∙ ap (λ n. (accepted k.tree n s (Reports device state)).station) halves.number
 
   pub reported_out : (out : Out) → out ≡ record nothing_out {
-        datagrams = sent_after [] (flat_map (shown_to_all d1.tree d1.number d1.watchers) second);
-        passed = second;
-      }
+    datagrams = sent_after [] (flat_map (shown_to_all d1.tree d1.number d1.watchers) second);
+    passed = second;
+  }
       → out ≡ (accepted k.tree k.number s (Reports device state)).out
   reported_out out is =
       is

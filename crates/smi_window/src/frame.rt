@@ -3,13 +3,13 @@
 ghost use Rattle.std.specs.Prelude.{◌≡◌, IfOk};
 ghost use Rattle.smi_window.specs.Frame.{mark_of};
 
-use bytes::Bytes;
-use smi_picture::Picture;
 use crate::figures::spell_figures;
 use crate::relay::Relay;
 use crate::scene::spell_picture;
 use crate::shape::spell_tree;
 use crate::told::spell_orders;
+use bytes::Bytes;
+use smi_picture::Picture;
 use smi_tree::Tree;
 use std::alloc::{AllocError, Global};
 use std::io::Write;

@@ -2,8 +2,8 @@
 
 ghost use Rattle.std.specs.Prelude.{◌≡◌, OnErr, OnOk};
 
-use bytes::Bytes;
 use crate::relay::Relay;
+use bytes::Bytes;
 use smi_tree::Tree;
 use std::alloc::AllocError;
 

@@ -15,11 +15,11 @@ ghost use Rattle.smi_window.specs.Orders.{
   waiting_text,
 };
 
-use crate::listed::{Listing, put_list};
-use crate::words::{put, put_flag, put_number, put_text};
 use crate::ending::{code_of, words_of};
 use crate::errand::{Answer, Errand};
+use crate::listed::{Listing, put_list};
 use crate::relay::Relay;
+use crate::words::{put, put_flag, put_number, put_text};
 use std::alloc::{AllocError, Global};
 
 /// When an errand was answered; now, where it was not.
