@@ -407,7 +407,7 @@ def code_cases():
 
 def meaning_cases():
     """What a code means is said with the same words by the screen, by tools/lunskaf.py and in docs/NUMBERS.md."""
-    meanings = dict(re.findall(r'^ +(\d+) => b"(.*)",$', read("crates", "smi_relay", "src", "ending.rt"), flags=re.M))
+    meanings = dict(re.findall(r'^ +(\d+) => b"(.*)",$', read("crates", "smi_window", "src", "ending.rt"), flags=re.M))
     rows = {row[0]: row[1] for row in tables(section(read("docs", "NUMBERS.md"), "How an order ends"))}
     yield "codes: the same three times", list(meanings) == list(map(str, lunskaf.CODES)) == list(rows) and len(rows) > 15
     for code, said in meanings.items():

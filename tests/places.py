@@ -1,11 +1,13 @@
 """Where things stand in the repository: which files have a text, as docs/CHANGING.md lists them, and where a proof is.
 
-tests/documents.py looks at both.
+tests/documents.py looks at both. With --write the lists that a pattern tells are made anew.
 """
 
 import glob
+import itertools
 import os
 import re
+import sys
 
 ROOT = os.path.dirname(os.path.dirname(os.path.abspath(__file__)))
 # Code that tests alone run.
@@ -62,6 +64,25 @@ def lists_in(text):
         yield where, pattern, files_in(files)
 
 
+def gathered(paths):
+    """The paths as a list names them: those of one folder and one kind together, in braces."""
+    found = []
+    for (folder, kind), group in itertools.groupby(sorted(paths), lambda it: (os.path.dirname(it), it.rsplit(".", 1)[1])):
+        names = [os.path.basename(it)[:-len(kind) - 1] for it in group]
+        found.append("`%s/%s.%s`" % (folder, names[0] if len(names) == 1 else "{%s}" % ",".join(names), kind))
+    return ", ".join(found)
+
+
+def renewed(text):
+    """The text of the lists, where each row with a pattern lists what has it."""
+    def row(found):
+        where, pattern, files = found[1], found[2], files_in(found[3])
+        if where == "proofs" or "(" in found[3] or sorted(files) == sorted(having(where, pattern)):
+            return found[0]
+        return "| %s | `%s` | %s |" % (where, pattern, gathered(having(where, pattern)))
+    return re.sub(r"^\| (\w+) \| `([^`]+)` \|(.*)\|$", row, text, flags=re.M)
+
+
 def faults_of(where, pattern, files):
     """What is wrong with such a row: files that are not there, left out, or listed though they lack the pattern."""
     gone = ["no such file: " + it for it in files if not os.path.isfile(os.path.join(ROOT, it))]
@@ -115,3 +136,14 @@ def stands_right(path):
         return free
     declared = is_declared(crate, module, of_type) and (has_function(crate, "", method) or method.startswith("The"))
     return declared or is_derived(crate, module, of_type, method)
+
+
+def main():
+    if sys.argv[1:] == ["--write"]:
+        text = read(LISTS)
+        with open(os.path.join(ROOT, LISTS), "w", encoding="utf-8") as file:
+            file.write(renewed(text))
+
+
+if __name__ == "__main__":
+    main()

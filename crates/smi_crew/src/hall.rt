@@ -3,7 +3,7 @@
 use crate::doors::{Door, Place, Stream};
 use crate::guest::Guest;
 use crate::reading::Ending;
-use mio::{Events, Poll, Token, Waker};
+use mio::{Events, Poll, Registry, Token, Waker};
 use smi_front::{Answered, Caller, Front, Manners};
 use smi_tree::Tree;
 use smi_view::BoardId;
@@ -57,7 +57,47 @@ pub(crate) struct Hall {
     events: Events<Global>,
 }
 
+/// The entrances of a hall at these places, each known to the poll by its number.
+fn entrances_at<R: Files + Net>(
+    rt: &R,
+    alloc: Global,
+    places: &[Place],
+    registry: &Registry,
+) -> io::Result<Vec<Entrance>> {
+    let mut entrances = Vec::new(alloc);
+    for (place, number) in places.iter().zip(FIRST_DOOR..) {
+        let mut door = Door::open(rt, place)?;
+        door.register(registry, number)?;
+        entrances.push(Entrance {
+            door,
+            is_called: true,
+        })?;
+    }
+    Ok(entrances)
+}
+
 impl Hall {
+    /// A hall with these entrances, in which nobody is.
+    fn over(alloc: Global, poll: Poll, entrances: Vec<Entrance>) -> Result<Box<Hall>, AllocError> {
+        let plain = Caller::new(alloc, 0, Manners::Terse)?;
+        let events = Events::with_capacity(alloc, EVENTS)?;
+        let hall = Hall {
+            alloc,
+            plain,
+            ending: None,
+            is_plain_lost: false,
+            guests: Vec::new(alloc),
+            entrances,
+            next: FIRST_GUEST,
+            poll,
+            events,
+        };
+        match Box::new(alloc, hall) {
+            Ok(hall) => Ok(hall),
+            Err(_refused) => Err(AllocError),
+        }
+    }
+
     /// A hall with a door at each of these places, and a waker for it.
     pub(crate) fn open<R: Files + Net>(
         rt: &R,
@@ -66,30 +106,8 @@ impl Hall {
     ) -> io::Result<(Box<Hall>, Waker)> {
         let poll = Poll::new(rt)?;
         let waker = Waker::new(poll.registry(), Token(WAKER))?;
-        let mut entrances = Vec::new(alloc);
-        for (place, number) in places.iter().zip(FIRST_DOOR..) {
-            let mut door = Door::open(rt, place)?;
-            door.register(poll.registry(), number)?;
-            entrances.push(Entrance {
-                door,
-                is_called: true,
-            })?;
-        }
-        let hall = Hall {
-            alloc,
-            plain: Caller::new(alloc, 0, Manners::Terse)?,
-            ending: None,
-            is_plain_lost: false,
-            guests: Vec::new(alloc),
-            entrances,
-            next: FIRST_GUEST,
-            poll,
-            events: Events::with_capacity(alloc, EVENTS)?,
-        };
-        match Box::new(alloc, hall) {
-            Ok(hall) => Ok((hall, waker)),
-            Err(_) => Err(io::Error::from(AllocError)),
-        }
+        let entrances = entrances_at(rt, alloc, places, poll.registry())?;
+        Ok((Hall::over(alloc, poll, entrances)?, waker))
     }
 
     /// Whether nobody else than the standard input can talk to the node.

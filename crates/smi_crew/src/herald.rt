@@ -10,12 +10,11 @@ use smi_protocol::{Event, Heard, StepFault};
 use smi_rows::Stable;
 use smi_station::Station;
 use smi_tree::Tree;
-use smi_view::is_newer;
 use std::alloc::{AllocError, Global};
 use std::sync::{Arc, Wait};
 
-/// Tells of the states of what its station keeps, of those that the station takes, and of the actions that it does; it
-/// also counts.
+/// Tells of the states that the objects of its station pass through, of those that the station takes, and of the
+/// actions that it does; it also counts.
 ///
 /// A state for which there is no room is told at a later step, as the newest of its object by then.
 #[derive(Drop)]
@@ -23,28 +22,9 @@ pub(crate) struct Herald<H: Drop> {
     tree: Arc<Tree, Global>,
     counter: Counter,
     dispatch: Dispatch<H>,
-    /// What the station keeps, each with the state that was told last.
-    kept: Vec<Kept>,
-    /// The states that the station took and that are not told yet, by object, and whether there are any.
-    taken: Vec<Option<Shown>>,
-    owes_taken: bool,
-}
-
-/// An object that a station keeps, and the state of it that was told last.
-#[derive(Clone, Copy)]
-struct Kept {
-    object: u16,
-    told: Option<Shown>,
-}
-
-impl Kept {
-    /// Whether this state was not told.
-    fn is_news(&self, shown: Shown) -> bool {
-        match self.told {
-            Some(told) => is_newer(shown.version, told.version),
-            None => true,
-        }
-    }
+    /// The states that are not told yet, by object, and whether there are any.
+    owed: Vec<Option<Shown>>,
+    owes: bool,
 }
 
 impl<H: Wait + Drop> Herald<H> {
@@ -58,60 +38,51 @@ impl<H: Wait + Drop> Herald<H> {
         counter: Counter,
         dispatch: Dispatch<H>,
     ) -> Result<Herald<H>, AllocError> {
-        let mut kept = Vec::new(alloc);
-        let mut taken = Vec::new(alloc);
+        let mut owed = Vec::new(alloc);
         for object in 1..=tree.object_count() {
-            if station.current(object).is_some() {
-                kept.push(Kept { object, told: None })?;
-            }
-            taken.push(None)?;
+            owed.push(station.current(object))?;
         }
         let mut herald = Herald {
             tree,
             counter,
             dispatch,
-            kept,
-            taken,
-            owes_taken: false,
+            owed,
+            owes: true,
         };
-        herald.tell_kept(station);
+        herald.tell_owed();
         Ok(herald)
     }
 
-    /// Tells of each object that the station keeps whose state is news.
-    fn tell_kept<S: Stable>(&mut self, station: &Station<'_, S>) {
-        for kept in self.kept.iter_mut() {
-            if let Some(shown) = station.current(kept.object) {
-                if kept.is_news(shown) && self.dispatch.tell(News::Showed(shown)) {
-                    kept.told = Some(shown);
-                }
-            }
+    /// A state is told, or owed where there is no room for it, or where others are owed.
+    fn tell(&mut self, shown: Shown) {
+        if self.owes || !self.dispatch.tell(News::Showed(shown)) {
+            self.owe(shown);
         }
     }
 
-    /// A state that the station took is to be told.
-    fn take(&mut self, shown: Shown) {
+    /// A state is to be told later.
+    fn owe(&mut self, shown: Shown) {
         let Some(place) = usize::from(shown.object).checked_sub(1) else {
             return;
         };
-        if let Some(taken) = self.taken.get_mut(place) {
-            *taken = Some(shown);
-            self.owes_taken = true;
+        if let Some(owed) = self.owed.get_mut(place) {
+            *owed = Some(shown);
+            self.owes = true;
         }
     }
 
-    /// Tells of the states that the station took, as far as there is room.
-    fn tell_taken(&mut self) {
-        if !self.owes_taken {
+    /// Tells of the states that are not told yet, as far as there is room.
+    fn tell_owed(&mut self) {
+        if !self.owes {
             return;
         }
-        self.owes_taken = false;
-        for taken in self.taken.iter_mut() {
-            if let Some(shown) = *taken {
+        self.owes = false;
+        for owed in self.owed.iter_mut() {
+            if let Some(shown) = *owed {
                 if self.dispatch.tell(News::Showed(shown)) {
-                    *taken = None;
+                    *owed = None;
                 } else {
-                    self.owes_taken = true;
+                    self.owes = true;
                 }
             }
         }
@@ -139,14 +110,6 @@ impl<H: Wait + Drop> Herald<H> {
     }
 }
 
-/// Whether a step may have moved what its station keeps. What is not looked at here is at the next tick.
-fn may_have_moved(event: &Event<'_>, made: &Result<Heard, StepFault>) -> bool {
-    match event {
-        Event::Datagram(_) => matches!(made, Ok(Heard::Done)),
-        Event::Order(_, _) | Event::Report(_, _) | Event::Tick => made.is_ok(),
-    }
-}
-
 impl<H: Wait + Drop> Witness for Herald<H> {
     fn saw<S: Stable>(
         &mut self,
@@ -160,12 +123,12 @@ impl<H: Wait + Drop> Witness for Herald<H> {
             self.dispatch.wake();
         }
         self.dispatch.go_on();
+        self.tell_owed();
         if let Some(shown) = out.shown() {
-            self.take(shown);
+            self.tell(shown);
         }
-        self.tell_taken();
-        if may_have_moved(event, made) {
-            self.tell_kept(station);
+        for shown in out.passed().as_slice() {
+            self.tell(*shown);
         }
         self.tell_done(station, event, made);
     }

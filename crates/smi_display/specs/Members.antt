@@ -11,7 +11,7 @@ pub record Listed : Type 0 where
   pub objects : List ℕ
   pub states : List ℕ
 
--- so many members a domain may have: sixteen devices and sixteen children
+-- so many members a domain may have: its devices and its children
 abbrev pub most_members : ℕ
 most_members = MOST_MEMBERS
 

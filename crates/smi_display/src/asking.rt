@@ -5,7 +5,7 @@ ghost use Rattle.std.specs.Prelude.{◌≡◌};
 use crate::displayed::Displayed;
 use smi_grant::Record;
 use smi_out::{Out, ask, object_home, unwatch, watch};
-use smi_protocol::{Answer, Order, Told};
+use smi_protocol::{Answer, Order, Request, Told};
 use smi_tables::entry_of;
 
 /// An operator is told the code of an order.
@@ -122,18 +122,14 @@ impl<'a> Displayed<'a> {
         ensures rest { KeepsTheRest self.old self.new }
     {
         let _tree = self.tree();
-        match *order {
-            Order::Ask(domain) => self.ask(out, operator, domain),
-            Order::Watch(object) => self.watch(out, operator, object),
-            Order::Unwatch(object) => self.unwatch(out, operator, object),
-            Order::Take(_)
-            | Order::Drop(_)
-            | Order::Do(_, _)
-            | Order::Include(_, _)
-            | Order::Exclude(_, _)
-            | Order::Manual(_, _)
-            | Order::Ignore(_, _)
-            | Order::Report(_, _) => {}
+        match order.request() {
+            Request::Ask(domain) => self.ask(out, operator, domain),
+            Request::Watch(object) => self.watch(out, operator, object),
+            Request::Unwatch(object) => self.unwatch(out, operator, object),
+            Request::Take(_)
+            | Request::Drop(_)
+            | Request::Command(_, _)
+            | Request::Report(_, _) => {}
         }
     }
 

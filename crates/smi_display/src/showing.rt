@@ -25,6 +25,7 @@ impl<'a> Displayed<'a> {
     ghost use Rattle.std.specs.Prelude.{◌≡◌, ◌≤◌, ◌+◌, ◌<◌, ◌++◌, ◌∷◌, [], length, IfSome};
     ghost use Rattle.std.specs.List.{AllByRecursion, flat_map};
     ghost use Rattle.smi_grants.specs.Kept.{grants_of};
+    ghost use Rattle.smi_limits.specs.declared.trees.TheConstants.{MOST_DEVICES_OF_A_DOMAIN};
     ghost use Rattle.smi_out.specs.Handed.{sent_after};
     ghost use Rattle.smi_protocol.specs.Showing.{child_members, device_members, is_member, members_of, shown_to_all};
     ghost use Rattle.smi_protocol.specs.SoundDisplay.{IsShown, MayChange};
@@ -65,7 +66,7 @@ impl<'a> Displayed<'a> {
         requires room { length members.old.objects ≡ 0 }
         ensures members { members.new ≡ added members.old
             (device_members self.now.tree (display_of self.now).conditions domain) }
-        ensures few { length members.new.objects ≤ 16 }
+        ensures few { length members.new.objects ≤ MOST_DEVICES_OF_A_DOMAIN }
     {
         let domains = self.tree.domain_count();
         let devices = self.tree.devices(domain);
@@ -79,7 +80,7 @@ impl<'a> Displayed<'a> {
     fn add_children(&self, members: &mut Members, kept: &Kept<'_>, domain: u16)
         requires least { 1 ≤ domain }
         requires most { domain ≤ domain_count self.now.tree }
-        requires room { length members.old.objects ≤ 16 }
+        requires room { length members.old.objects ≤ MOST_DEVICES_OF_A_DOMAIN }
         ensures { members.new
             ≡ added members.old (child_members self.now.tree (grants_of kept.now) (display_of self.now).shown domain) }
     {

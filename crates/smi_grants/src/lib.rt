@@ -10,7 +10,6 @@ mod hearing;
 mod kept;
 mod links;
 mod opening;
-mod ordering;
 mod refusal;
 mod room;
 mod row;

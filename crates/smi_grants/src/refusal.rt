@@ -8,7 +8,7 @@ use smi_command::{Link, begin_drop, begin_take, issue};
 use smi_grant::{Command, Holder};
 use smi_limits::MOST_LINKS;
 use smi_message::{Body, Datagram};
-use smi_protocol::Order;
+use smi_protocol::{Order, Request};
 use smi_roles::{
     has_domain, has_object, is_at, is_command_of, is_holder_of, is_keeper, is_kept_by,
 };
@@ -62,21 +62,30 @@ pub fn speaks_for(tree: &Tree, from: u16, domain: u16, holder: Holder) -> bool
     is_holder_of(tree, domain, holder) && is_at(tree, holder, from)
 }
 
+/// Whether the tree has what a command names beside its domain.
+fn has_named(tree: &Tree, command: Command) -> bool
+    ensures { result ≡ has_named tree.now command }
+{
+    match command {
+        Command::Do(action) => 1 <= action && action <= tree.action_count(),
+        Command::Include(target)
+        | Command::Exclude(target)
+        | Command::Manual(target)
+        | Command::Ignore(target) => has_domain(tree, target),
+    }
+}
+
+ghost use Rattle.smi_protocol.specs.Request.{has_named};
+
 /// Whether the tree has what an order names.
 fn is_order_of(tree: &Tree, order: &Order) -> bool
     ensures { result ≡ spec.is_order_of tree.now order.now }
 {
-    match *order {
-        Order::Take(domain) | Order::Drop(domain) | Order::Ask(domain) => has_domain(tree, domain),
-        Order::Do(domain, action) => {
-            has_domain(tree, domain) && 1 <= action && action <= tree.action_count()
-        }
-        Order::Include(domain, target)
-        | Order::Exclude(domain, target)
-        | Order::Manual(domain, target)
-        | Order::Ignore(domain, target) => has_domain(tree, domain) && has_domain(tree, target),
-        Order::Watch(object) | Order::Unwatch(object) => has_object(tree, object),
-        Order::Report(_, _) => false,
+    match order.request() {
+        Request::Take(domain) | Request::Drop(domain) | Request::Ask(domain) => has_domain(tree, domain),
+        Request::Command(domain, command) => has_domain(tree, domain) && has_named(tree, command),
+        Request::Watch(object) | Request::Unwatch(object) => has_object(tree, object),
+        Request::Report(_, _) => false,
     }
 }
 
@@ -133,38 +142,17 @@ impl<'a> Kept<'a> {
         requires { is_number (operator_station_of self.now.tree operator) self.now.number ≡ true }
         ensures { result ≡ spec.refusal_by_link self.now.tree (grants_of self.now) operator order.now }
     {
-        match *order {
-            Order::Take(domain) => self.take_refusal(operator, domain),
-            Order::Drop(domain) => why_not(begin_drop(&self.link(
+        match order.request() {
+            Request::Take(domain) => self.take_refusal(operator, domain),
+            Request::Drop(domain) => why_not(begin_drop(&self.link(
                 Holder::Operator(operator),
                 domain,
             ))),
-            Order::Do(domain, action) => self.command_refusal(
-                operator,
-                domain,
-                Command::Do(action),
-            ),
-            Order::Include(domain, target) => self.command_refusal(
-                operator,
-                domain,
-                Command::Include(target),
-            ),
-            Order::Exclude(domain, target) => self.command_refusal(
-                operator,
-                domain,
-                Command::Exclude(target),
-            ),
-            Order::Manual(domain, target) => self.command_refusal(
-                operator,
-                domain,
-                Command::Manual(target),
-            ),
-            Order::Ignore(domain, target) => self.command_refusal(
-                operator,
-                domain,
-                Command::Ignore(target),
-            ),
-            Order::Ask(_) | Order::Watch(_) | Order::Unwatch(_) | Order::Report(_, _) => None,
+            Request::Command(domain, command) => self.command_refusal(operator, domain, command),
+            Request::Ask(_)
+            | Request::Watch(_)
+            | Request::Unwatch(_)
+            | Request::Report(_, _) => None,
         }
     }
 

@@ -5,7 +5,7 @@ ghost use Rattle.std.specs.List.{list_all};
 ghost use Rattle.smi_operator.specs.Working as spec;
 
 use smi_grant::Record;
-use smi_protocol::{Mark, Order, Told};
+use smi_protocol::{Mark, Order, Request, Told};
 
 /// How many orders of a seat may be in work at a time.
 pub(crate) const MOST_WORK: usize = 8;
@@ -113,18 +113,14 @@ pub(crate) fn mark_newest(work: &mut [Entry], mark: Mark)
 fn commanded(order: Order) -> Option<u16>
     ensures { result ≡ spec.commanded order }
 {
-    match order {
-        Order::Do(domain, _)
-        | Order::Include(domain, _)
-        | Order::Exclude(domain, _)
-        | Order::Manual(domain, _)
-        | Order::Ignore(domain, _) => Some(domain),
-        Order::Take(_)
-        | Order::Drop(_)
-        | Order::Ask(_)
-        | Order::Watch(_)
-        | Order::Unwatch(_)
-        | Order::Report(_, _) => None,
+    match order.request() {
+        Request::Command(domain, _) => Some(domain),
+        Request::Take(_)
+        | Request::Drop(_)
+        | Request::Ask(_)
+        | Request::Watch(_)
+        | Request::Unwatch(_)
+        | Request::Report(_, _) => None,
     }
 }
 

@@ -1,6 +1,7 @@
 -- What a step hands out, one after the other, in places of its own.
 use Rattle.std.specs.Prelude.{ℕ, ◌≡◌, ◌≤◌, ◌&&◌, nat_le, nat_lt, Bool, List, [], ◌∷◌, length, ◌++◌, if◌then◌else◌}
 use Rattle.std.specs.Option.{option_or}
+use Rattle.smi_out.specs.declared.entries.TheConstants.{MOST_ENTRIES}
 use Rattle.smi_out.specs.declared.handed.TheConstants.{MOST_ANSWERS}
 use Rattle.smi_grant.specs.Command as command
 use Rattle.smi_grant.specs.Record.{last_epoch, last_number}
@@ -12,10 +13,15 @@ use Rattle.smi_protocol.specs.Step.{Out}
 use Rattle.smi_protocol.specs.Ticking.{most_sent}
 use Rattle.smi_protocol.specs.Watching.{Notice}
 use Rattle.smi_protocol.specs.declared.Answer.{Answer}
+use Rattle.smi_protocol.specs.declared.entry.Entry.{Entry}
 
 -- a step is answered at most so often: eight commands of one operator, or as many questions as operators
 abbrev pub most_answers : ℕ
 most_answers = MOST_ANSWERS
+
+-- a step leaves at most so much by its save: that a command ran, what became of its target, and that it has ended
+abbrev pub most_entries : ℕ
+most_entries = MOST_ENTRIES
 
 -- so many places, of which the first hold something
 pub record IsStored {X : Type 0} (most : ℕ) (places : List X) (count : ℕ) : Type 0 where
@@ -36,6 +42,11 @@ abbrev pub answered_after : List Answer → List Answer → List Answer
 answered_after before [] = before
 answered_after before (a ∷ more) = answered_after (before ++ a ∷ []) more
 
+-- what a save leaves takes the place of what there was, where it leaves anything
+abbrev pub kept_after : List Entry → List Entry → List Entry
+kept_after [] before = before
+kept_after (e ∷ more) before = e ∷ more
+
 -- a notice is handed out: what it sends, whom it answers, and what it shows
 abbrev pub with_notice : Out → Notice → Out
 with_notice out n = record {
@@ -43,6 +54,8 @@ with_notice out n = record {
   answers = answered_after out.answers n.answers;
   issued = out.issued;
   shown = option_or n.showed out.shown;
+  kept = out.kept;
+  passed = out.passed;
 }
 
 -- what is due can be said in a datagram

@@ -1,7 +1,9 @@
+use crate::entries::Entries;
 use smi_grant::Shown;
 use smi_limits::MOST_SENT;
 use smi_message::{Body, Datagram};
 use smi_protocol::{Answer, Mark, Order, Told};
+use smi_publish::Changes;
 use std::marker::Model;
 
 /// How many answers one step gives at most.
@@ -16,6 +18,8 @@ pub struct Out {
     answered: usize,
     issued: Option<Mark>,
     shown: Option<Shown>,
+    kept: Entries,
+    passed: Changes,
 }
 
 impl Model for Out {
@@ -31,6 +35,8 @@ impl Model for Out {
       answers = take o.answered o.answers;
       issued = o.issued;
       shown = o.shown;
+      kept = o.kept;
+      passed = o.passed;
     } };
 
     ghost invariant = { λ o. IsStored most_sent o.datagrams o.sent × IsStored most_answers o.answers o.answered };
@@ -40,7 +46,7 @@ impl Out {
     ghost use Rattle.std.specs.Prelude.{◌≡◌, ◌<◌, ◌≤◌, ◌++◌, ◌∷◌, [], length, Some};
     ghost use Rattle.smi_protocol.specs.Ticking.{most_sent};
     ghost use Rattle.smi_protocol.specs.Step.{nothing_out};
-    ghost use Rattle.smi_out.specs.Handed.{most_answers, sent_after};
+    ghost use Rattle.smi_out.specs.Handed.{kept_after, most_answers, sent_after};
 
     /// Nothing is handed out.
     pub fn new() -> Out
@@ -68,6 +74,8 @@ impl Out {
             answered: 0,
             issued: None,
             shown: None,
+            kept: Entries::new(),
+            passed: Changes::new(),
         }
     }
 
@@ -100,14 +108,37 @@ impl Out {
         self.shown
     }
 
+    /// What the save of the step leaves in a trace.
+    pub fn kept(&self) -> &Entries
+        ensures { result.now ≡ self.now.kept }
+    {
+        &self.kept
+    }
+
+    /// The states that objects of the station pass through: what they show anew, devices by number, then the unit.
+    pub fn passed(&self) -> &Changes
+        ensures { result.now ≡ self.now.passed }
+    {
+        &self.passed
+    }
+
     /// Nothing is handed out any more.
     pub fn clear(&mut self)
         ensures { self.new ≡ nothing_out }
+    {
+        self.clear_but_kept();
+        self.kept.clear();
+    }
+
+    /// Nothing is handed out any more but what the save leaves.
+    pub fn clear_but_kept(&mut self)
+        ensures { self.new ≡ record nothing_out { kept = self.old.kept } }
     {
         self.sent = 0;
         self.answered = 0;
         self.issued = None;
         self.shown = None;
+        self.passed.clear();
     }
 
     /// One more datagram, unless there are 64.
@@ -141,5 +172,19 @@ impl Out {
         ensures { self.new ≡ record self.old { shown = Some shown } }
     {
         self.shown = Some(shown);
+    }
+
+    /// The save of the step leaves this, where it leaves anything.
+    pub fn keep(&mut self, entries: Entries)
+        ensures { self.new ≡ record self.old { kept = kept_after entries self.old.kept } }
+    {
+        self.kept.renew(entries);
+    }
+
+    /// Objects of the station pass through these states.
+    pub fn pass(&mut self, passed: Changes)
+        ensures { self.new ≡ record self.old { passed = passed } }
+    {
+        self.passed = passed;
     }
 }

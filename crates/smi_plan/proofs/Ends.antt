@@ -14,7 +14,7 @@ use Rattle.smi_roles.specs.Roles.{is_parent, holder_station}
 use Rattle.smi_tree.specs.Hierarchy.{Hierarchy}
 use Rattle.smi_tree.specs.Lawful.{IsBetween, IsTree}
 use Rattle.smi_tree.specs.Lookups.{station_count}
-use Rattle.smi_out.specs.Handed.{sent_after}
+use Rattle.smi_out.specs.Handed.{kept_after, sent_after}
 use Rattle.smi_out.proofs.Sending.{sent_twice}
 use Rattle.smi_protocol.specs.Grants.{Grants}
 use Rattle.smi_protocol.specs.Hearing.{ended, ended_record, ended_sends, ends, hears, is_ahead, is_heard}
@@ -22,6 +22,7 @@ use Rattle.smi_protocol.specs.Hearing.{parent_heard, parent_told}
 use Rattle.smi_protocol.specs.Messages.{requests_due, tells_holder}
 use Rattle.smi_protocol.specs.Sound.{IsLink, IsSound, most_handed_on}
 use Rattle.smi_protocol.specs.Step.{Out}
+use Rattle.smi_protocol.specs.declared.entry.Entry.{Entry}
 use Rattle.smi_protocol.proofs.Ranges.{holder_there}
 use Rattle.smi_protocol.proofs.SendsInRange.{working_held}
 use Rattle.smi_protocol.proofs.SoundLinks.{sound_told}
@@ -57,23 +58,34 @@ module _ (h : Hierarchy) (number : ℕ) (g : Grants) (p d : ℕ) (r : Standing) 
       by false = refl
 
   -- what is sent
-  pub parent_sends : (out : Out)
+  pub parent_sends : (out : Out) (es : List Entry) → es ≡ (parent_told h number g p d r).entries
       → record out {
         datagrams = sent_after (sent_after out.datagrams (told_end h number p (g.records p) after))
             (requests_due h number (Domain p) d (told_link (g.links (Domain p) d) (Domain p) r));
+        kept = kept_after es out.kept;
       }
       ≡ with_step out (parent_told h number g p d r)
-  parent_sends out =
-      ap (λ (ms : List Message). record out {
+  parent_sends out es left =
+      ap (λ (xs : List Entry). record out {
+        datagrams = sent_after (sent_after out.datagrams (told_end h number p (g.records p) after))
+            (requests_due h number (Domain p) d (told_link (g.links (Domain p) d) (Domain p) r));
+        kept = kept_after xs out.kept;
+      }) left
+      ∙ ap (λ (ms : List Message). record out {
         datagrams = sent_after (sent_after out.datagrams ms)
             (requests_due h number (Domain p) d (told_link (g.links (Domain p) d) (Domain p) r));
+        kept = kept_after (parent_told h number g p d r).entries out.kept;
       })
       (end_told (ends h on p) refl)
       ∙ ap (λ (l : Link). record out {
         datagrams = sent_after
             (sent_after out.datagrams (ended_sends h number (ends h on p) on p)) (requests_due h number (Domain p) d l);
+        kept = kept_after (parent_told h number g p d r).entries out.kept;
       }) (sym (put_link_here g.links (Domain p) d (told_link (g.links (Domain p) d) (Domain p) r)))
-      ∙ ap (λ (ms : List Message). record out { datagrams = ms })
+      ∙ ap (λ (ms : List Message). record out {
+        datagrams = ms;
+        kept = kept_after (parent_told h number g p d r).entries out.kept;
+      })
       (sent_twice out.datagrams (ended_sends h number (ends h on p) on p)
       (requests_due h number (Domain p) d (on.links (Domain p) d)))
 

@@ -1,5 +1,5 @@
 -- What a keeper hands out is how the domain stands after it.
-use Rattle.std.proofs.Common.{ℕ, ◌≡◌, Bool, true, false, [], ◌∷◌, refl, sym, ap, ◌∙◌, subst}
+use Rattle.std.proofs.Common.{ℕ, ◌≡◌, Bool, true, false, List, [], ◌∷◌, refl, sym, ap, ◌∙◌, subst}
 use Rattle.std.specs.Prelude.{◌==◌, if◌then◌else◌}
 use Rattle.std.proofs.lemmas.Bool.{and_parts}
 use Rattle.smi_grant.specs.Holder.{same_holder}
@@ -15,7 +15,7 @@ use Rattle.smi_rows.specs.Ranges.{is_standing}
 use Rattle.smi_grants.specs.Change.{changed}
 use Rattle.smi_grants.specs.Plans.{Plans}
 use Rattle.smi_grants.specs.declared.Change.{Change}
-use Rattle.smi_out.specs.Handed.{sent_after}
+use Rattle.smi_out.specs.Handed.{kept_after, sent_after}
 use Rattle.smi_protocol.specs.declared.Entry.{Entry}
 use Rattle.smi_protocol.specs.Children.{own_code}
 use Rattle.smi_protocol.specs.Grants.{Grants}
@@ -39,16 +39,24 @@ abbrev pub telling : Out → Message → Out
 telling out m = record out { datagrams = sent_after out.datagrams (m ∷ []) }
 
 module _ (h : Hierarchy) (number : ℕ) (g : Grants) (from d : ℕ) (out : Out) where
+  -- and so much is left by the save
+  abbrev pub leaving : Message → List Entry → Out
+  leaving m es = record (telling out m) { kept = kept_after es out.kept }
+
   decided_tells : (note : Entry) (v : Verdict)
-      → telling out (tells h number from d ((decided h number g from d note v).grants.records d))
-      ≡ with_step out (decided h number g from d note v)
-  decided_tells note (New r) = ap (λ (z : Standing). telling out (tells h number from d z)) (put_here g.records d r)
+      → leaving (tells h number from d ((decided h number g from d note v).grants.records d))
+      (decided h number g from d note v).entries ≡ with_step out (decided h number g from d note v)
+  decided_tells note (New r) = ap (λ (z : Standing). leaving (tells h number from d z) (note ∷ []))
+      (put_here g.records d r)
   decided_tells note Same = refl
 
-  pub decided_told : (note : Entry) (v : Verdict) (c : Change) (r : Standing)
+  pub decided_told : (note : Entry) (v : Verdict) (c : Change) (r : Standing) (es : List Entry)
       → Plans h number g (decided h number g from d note v) c → r ≡ (changed h g c).records d
-      → telling out (tells h number from d r) ≡ with_step out (decided h number g from d note v)
-  decided_told note v c r plans is = ap (λ (z : Standing). telling out (tells h number from d z))
+      → es ≡ (decided h number g from d note v).entries
+      → leaving (tells h number from d r) es ≡ with_step out (decided h number g from d note v)
+  decided_told note v c r es plans is left =
+      ap (λ (xs : List Entry). leaving (tells h number from d r) xs) left
+      ∙ ap (λ (z : Standing). leaving (tells h number from d z) (decided h number g from d note v).entries)
       (is ∙ ap (λ (a : Grants). a.records d) (sym plans.grants)) ∙ decided_tells note v
 
   module _ (who : Holder) (e n : ℕ) (c : Command) where
@@ -59,19 +67,29 @@ module _ (h : Hierarchy) (number : ℕ) (g : Grants) (from d : ℕ) (out : Out) 
     own = own_code h g d c
 
     -- a command that runs
-    pub run_told : (change : Change) (r : Standing) → Plans h number g (run_comes h number g from d who e n c) change
-        → r ≡ (changed h g change).records d → admits (g.records d) who e n ≡ true
+    pub run_told : (change : Change) (r : Standing) (es : List Entry)
+        → Plans h number g (run_comes h number g from d who e n c) change
+        → r ≡ (changed h g change).records d → es ≡ (run_comes h number g from d who e n c).entries
+        → admits (g.records d) who e n ≡ true
         → record out {
           datagrams = sent_after (telling out (tells h number from d r)).datagrams
               (child_requests h number g d c);
+          kept = kept_after es out.kept;
         } ≡ with_step out (run_comes h number g from d who e n c)
-    run_told change r plans is runs =
+    run_told change r es plans is left runs =
         let here : (run_comes h number g from d who e n c).grants.records d ≡ started (g.records d) busy own =
         ap (λ b. (if b then ran h number g from d e n c busy own else answered h number g from d).grants.records d)
         runs ∙ put_here g.records d (started (g.records d) busy own) in
-        ap (λ (z : Standing). record out {
+        ap (λ (xs : List Entry). record out {
+          datagrams = sent_after (telling out (tells h number from d r)).datagrams
+              (child_requests h number g d c);
+          kept = kept_after xs out.kept;
+        }) (left ∙ ap (λ b. (if b then ran h number g from d e n c busy own
+        else answered h number g from d).entries) runs)
+        ∙ ap (λ (z : Standing). record out {
           datagrams = sent_after (telling out (tells h number from d z)).datagrams
               (child_requests h number g d c);
+          kept = kept_after (ran h number g from d e n c busy own).entries out.kept;
         }) (is ∙ ap (λ (a : Grants). a.records d) (sym plans.grants) ∙ here)
         ∙ sym (ap (λ b. with_step out (if b then ran h number g from d e n c busy own
         else answered h number g from d)) runs)

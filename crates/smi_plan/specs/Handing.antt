@@ -13,15 +13,17 @@ use Rattle.smi_protocol.specs.Happening.{answer, answer_command}
 use Rattle.smi_protocol.specs.Step as step
 use Rattle.smi_protocol.specs.declared.Answer.{Answer}
 use Rattle.smi_protocol.specs.declared.Order.TheVariants as order
-use Rattle.smi_out.specs.Handed.{answered_after, sent_after}
+use Rattle.smi_out.specs.Handed.{answered_after, kept_after, sent_after}
 
--- a step of the grants is handed out: what it sends, whom it answers, and what was issued
+-- a step of the grants is handed out: what it sends, whom it answers, what was issued, and what its save leaves
 abbrev pub with_step : step.Out → GrantStep → step.Out
 with_step out g = record {
   datagrams = sent_after out.datagrams g.sends;
   answers = answered_after out.answers g.answers;
   issued = option_or g.issued out.issued;
   shown = out.shown;
+  kept = kept_after g.entries out.kept;
+  passed = out.passed;
 }
 
 -- what is answered for the settlement at a place: the order is read off the link as it was

@@ -13,6 +13,7 @@ ghost use Rattle.smi_tree.specs.Lawful.{IsBetween};
 ghost use Rattle.smi_tree.specs.Lookups.{domain_count, station_count};
 ghost use Rattle.smi_plan.specs.Handing.{with_step};
 
+use crate::leaving::{freed, granted};
 use smi_grant::{Holder, Record};
 use smi_grants::{After, Change, Kept};
 use smi_out::{Out, tell};
@@ -77,6 +78,7 @@ pub fn take(
     let change = kept.take_comes(domain, holder, seen);
     let standing = record_after(kept, &change, domain);
     send_record(out, kept, from, domain, standing);
+    out.keep(granted(kept, domain, holder, seen));
     change
 }
 
@@ -104,5 +106,6 @@ pub fn drop_grant(
     let change = kept.drop_comes(domain, holder, epoch);
     let standing = record_after(kept, &change, domain);
     send_record(out, kept, from, domain, standing);
+    out.keep(freed(kept, domain, holder, epoch));
     change
 }

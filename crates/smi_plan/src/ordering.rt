@@ -14,11 +14,12 @@ ghost use Rattle.smi_roles.specs.Roles.{is_number};
 ghost use Rattle.smi_plan.specs.Handing.{with_step};
 
 use crate::due::send_newest;
+use crate::leaving::ordered;
 use smi_command::{Link, begin_drop, begin_take, issue};
 use smi_grant::{Command, Holder};
 use smi_grants::{Change, Kept};
-use smi_out::Out;
-use smi_protocol::{Mark, Order};
+use smi_out::{Entries, Out};
+use smi_protocol::{Mark, Order, Request};
 
 /// Which command of which grant was issued, where one was.
 fn issued(domain: u16, command: Option<Command>, link: &Link) -> Option<Mark>
@@ -34,19 +35,21 @@ fn issued(domain: u16, command: Option<Command>, link: &Link) -> Option<Mark>
     }
 }
 
-/// The link's newest request is sent, where the link allows the order, and a command is issued.
-fn hand_out(
+/// Where the link allows the order, its newest request is sent, and a command is issued.
+fn obey(
     out: &mut Out,
     kept: &Kept<'_>,
     operator: u16,
     domain: u16,
     command: Option<Command>,
     link: Result<Link, u16>,
-)
+) -> Change
     requires operator { is_number (operator_station_of kept.now.tree operator) kept.now.number ≡ true }
     requires domain { IsBetween 1 (domain_count kept.now.tree) domain }
     requires link { IfOk link (IsLink kept.now.tree most_pending) }
-    ensures { out.new
+    ensures plan { Plans kept.now.tree kept.now.number (grants_of kept.now)
+        (ordering.obeyed kept.now.tree kept.now.number (grants_of kept.now) operator domain command link) result }
+    ensures sent { out.new
         ≡ with_step out.old (ordering.obeyed kept.now.tree kept.now.number (grants_of kept.now) operator domain
         command link) }
 {
@@ -60,96 +63,18 @@ fn hand_out(
                 domain,
                 &link,
             );
+            out.keep(Entries::one(ordered(operator, domain, command, &link)));
             match issued(domain, command, &link) {
                 Some(mark) => out.issue(mark),
                 None => {}
             }
+            Change::Linked(operator, domain, link)
         }
-        Err(_) => {}
+        Err(_) => Change::Nothing,
     }
 }
 
 ghost use Rattle.std.specs.Prelude.{IfOk, None};
-
-/// A command is ordered.
-fn command(out: &mut Out, kept: &Kept<'_>, operator: u16, domain: u16, command: Command)
-    requires operator { is_number (operator_station_of kept.now.tree operator) kept.now.number ≡ true }
-    requires domain { IsBetween 1 (domain_count kept.now.tree) domain }
-    requires command { IsCommand kept.now.tree command }
-    requires link { IsLink kept.now.tree most_pending ((grants_of kept.now).links (Operator operator) domain) }
-    ensures { out.new
-        ≡ with_step out.old (ordering.commands kept.now.tree kept.now.number (grants_of kept.now) operator domain
-        command) }
-{
-    let link = kept.link(Holder::Operator(operator), domain);
-    hand_out(
-        out,
-        kept,
-        operator,
-        domain,
-        Some(command),
-        issue(&link, command),
-    );
-}
-
-ghost use Rattle.smi_grant.specs.declared.Holder.TheVariants.{Operator};
-ghost use Rattle.smi_protocol.specs.Sound.{IsCommand};
-
-/// What an order asks of its domain is sent.
-fn send_order(out: &mut Out, kept: &Kept<'_>, operator: u16, order: &Order)
-    requires sound { IsSound kept.now.tree (grants_of kept.now) }
-    requires accepted { refusal_of kept.now.tree kept.now.number (grants_of kept.now) (Orders operator order.now)
-        ≡ None }
-    ensures { out.new
-        ≡ with_step out.old (ordering.order_comes kept.now.tree kept.now.number (grants_of kept.now) operator
-        order.now) }
-{
-    let _tree = kept.tree();
-    let holder = Holder::Operator(operator);
-    match *order {
-        Order::Take(domain) => {
-            let link = kept.link(holder, domain);
-            hand_out(out, kept, operator, domain, None, begin_take(&link));
-        }
-        Order::Drop(domain) => {
-            let link = kept.link(holder, domain);
-            hand_out(out, kept, operator, domain, None, begin_drop(&link));
-        }
-        Order::Do(domain, action) => command(out, kept, operator, domain, Command::Do(action)),
-        Order::Include(domain, target) => command(
-            out,
-            kept,
-            operator,
-            domain,
-            Command::Include(target),
-        ),
-        Order::Exclude(domain, target) => command(
-            out,
-            kept,
-            operator,
-            domain,
-            Command::Exclude(target),
-        ),
-        Order::Manual(domain, target) => command(
-            out,
-            kept,
-            operator,
-            domain,
-            Command::Manual(target),
-        ),
-        Order::Ignore(domain, target) => command(
-            out,
-            kept,
-            operator,
-            domain,
-            Command::Ignore(target),
-        ),
-        Order::Ask(_) => {}
-        Order::Watch(_) => {}
-        Order::Unwatch(_) => {}
-        Order::Report(_, _) => {}
-    }
-}
 
 /// An order to take or to drop a domain, or to command it, comes and is not refused: its link's newest request is
 /// sent. Other orders leave the grants alone.
@@ -162,6 +87,24 @@ pub fn order(out: &mut Out, kept: &Kept<'_>, operator: u16, order: &Order) -> Ch
     ensures sent { out.new ≡ with_step out.old
         (ordering.order_comes kept.now.tree kept.now.number (grants_of kept.now) operator order.now) }
 {
-    send_order(out, kept, operator, order);
-    kept.order_comes(operator, order)
+    let _tree = kept.tree();
+    let holder = Holder::Operator(operator);
+    match order.request() {
+        Request::Take(domain) => {
+            let taken = begin_take(&kept.link(holder, domain));
+            obey(out, kept, operator, domain, None, taken)
+        }
+        Request::Drop(domain) => {
+            let dropped = begin_drop(&kept.link(holder, domain));
+            obey(out, kept, operator, domain, None, dropped)
+        }
+        Request::Command(domain, command) => {
+            let issued = issue(&kept.link(holder, domain), command);
+            obey(out, kept, operator, domain, Some(command), issued)
+        }
+        Request::Ask(_)
+        | Request::Watch(_)
+        | Request::Unwatch(_)
+        | Request::Report(_, _) => Change::Nothing,
+    }
 }

@@ -17,6 +17,7 @@ ghost use Rattle.smi_plan.specs.Handing.{with_step};
 
 use crate::asking::{record_after, send_record};
 use crate::due::send_due;
+use crate::leaving::ran;
 use smi_grant::{Command, Holder, admit};
 use smi_grants::{Change, ChildChange, Kept};
 use smi_out::Out;
@@ -98,6 +99,7 @@ pub fn run(
     send_record(out, kept, from, domain, standing);
     if admit(&kept.record(domain), holder, epoch, number) {
         send_to_children(out, kept, domain, command);
+        out.keep(ran(kept, domain, epoch, number, command, standing));
     }
     change
 }

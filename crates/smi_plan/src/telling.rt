@@ -9,10 +9,11 @@ ghost use Rattle.smi_plan.specs.Handing.{with_step};
 
 use crate::asking::{record_after, send_record};
 use crate::due::send_due;
+use crate::leaving::{is_settled, learned, rested};
 use smi_command::{Link, LinkHeard, Settlement, Settlements, told};
-use smi_grant::{Command, Holder, Phase, Record};
+use smi_grant::{Command, Holder, Record};
 use smi_grants::{Change, Kept};
-use smi_out::Out;
+use smi_out::{Entries, Out};
 use smi_protocol::{Answer, Mark, Order, Told};
 use smi_roles::holder_station;
 use smi_tree::Tree;
@@ -189,22 +190,13 @@ fn tell_operator(
     let (link, heard) = told(&old, holder, news);
     send_due(out, kept.tree(), kept.number(), holder, domain, &link);
     answer_heard(out, operator, domain, &old, &heard);
+    out.keep(Entries::one(learned(holder, domain, &old, &link)));
     kept.operator_told(operator, domain, news)
 }
 
 ghost use Rattle.smi_grant.specs.Record.{is_record};
 ghost use Rattle.smi_grants.specs.Plans.{MayOrder, Plans};
 ghost use Rattle.smi_protocol.specs.Sound.{IsSound};
-
-/// Whether nothing is at work.
-fn is_settled(phase: Phase) -> bool
-    ensures { result ≡ record_spec.is_settled phase }
-{
-    match phase {
-        Phase::Settled => true,
-        Phase::Busy => false,
-    }
-}
 
 ghost use Rattle.std.specs.Prelude.{unwrap_or};
 ghost use Rattle.smi_grant.specs.Record as record_spec;
@@ -259,8 +251,13 @@ fn tell_parent(out: &mut Out, kept: &Kept<'_>, parent: u16, child: u16, news: &R
     let change = kept.parent_told(parent, child, news);
     let standing = record_after(kept, &change, parent);
     send_end(out, kept, parent, standing);
-    let (link, _) = told(&kept.link(holder, child), holder, news);
+    let old = kept.link(holder, child);
+    let (link, _) = told(&old, holder, news);
     send_due(out, tree, kept.number(), holder, child, &link);
+    out.keep(Entries::two(
+        learned(holder, child, &old, &link),
+        rested(parent, kept.record(parent), standing),
+    ));
     change
 }
 

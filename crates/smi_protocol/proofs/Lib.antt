@@ -17,4 +17,5 @@ pub mod SoundDisplay
 pub mod DisplayStays
 pub mod ShowsInRange
 pub mod RowsRead
+pub mod Requests
 pub mod RowsMean

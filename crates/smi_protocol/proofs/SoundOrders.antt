@@ -28,6 +28,7 @@ use Rattle.smi_protocol.specs.GrantsOf.{grant_step}
 use Rattle.smi_protocol.specs.Happening.{Orders}
 use Rattle.smi_protocol.specs.Ordering.{obeyed, order_comes}
 use Rattle.smi_protocol.specs.Refusals.{links_in_use, most_links, is_order_here, is_order_of}
+use Rattle.smi_protocol.specs.Request.{has_named}
 use Rattle.smi_protocol.specs.Refusals.{refusal_by_link, refusal_of, why_not}
 use Rattle.smi_protocol.specs.Sound.{IsCommand, IsLink, IsSound, most_handed_on}
 use Rattle.smi_protocol.specs.declared.order.Order.{Order}
@@ -189,6 +190,14 @@ target_range h t tree is =
   where
     within : (t : ℕ) → t ≤ MOST_DOMAINS → nat_le t MOST_DOMAINS ≡ true
     within t few = grind (arith, nat_tests)
+
+-- a command whose names are there
+pub command_known : (h : Hierarchy) (c : Command) → IsTree h → has_named h c ≡ true → IsCommand h c
+command_known h (Do a) tree is = action_command h a tree is
+command_known h (Include t) tree is = let r = target_range h t tree is in record { range = r.0; known = r.1 }
+command_known h (Exclude t) tree is = let r = target_range h t tree is in record { range = r.0; known = r.1 }
+command_known h (Manual t) tree is = let r = target_range h t tree is in record { range = r.0; known = r.1 }
+command_known h (Ignore t) tree is = let r = target_range h t tree is in record { range = r.0; known = r.1 }
 
 module _ (h : Hierarchy) (tree : IsTree h) (number : ℕ) (g : Grants) (sound : IsSound h g) (o : ℕ) where
   order_sound : (what : Order) → is_order_of h what ≡ true → refusal_by_link h g o what ≡ None

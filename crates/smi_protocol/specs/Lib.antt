@@ -12,6 +12,7 @@ pub mod Opening
 pub mod Ordering
 pub mod Played
 pub mod Refusals
+pub mod Request
 pub mod SavedRows
 pub mod Schedule
 pub mod Sending

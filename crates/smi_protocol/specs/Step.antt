@@ -34,16 +34,19 @@ use Rattle.smi_protocol.specs.declared.order.Order.TheVariants as order
 use Rattle.smi_protocol.specs.declared.entry.Entry.{Entry}
 use Rattle.smi_protocol.specs.declared.entry.Entry.TheVariants as entry
 
--- what a step hands out
+-- what a step hands out: beside what is sent, answered, issued and shown, what its save leaves in the trace, and the
+-- states that the station's objects pass through
 pub record Out : Type 0 where
   pub datagrams : List Message
   pub answers : List Answer
   pub issued : Option Mark
   pub shown : Option Shown
+  pub kept : List Entry
+  pub passed : List Shown
 
 -- nothing is handed out
 abbrev pub nothing_out : Out
-nothing_out = record { datagrams = []; answers = []; issued = None; shown = None }
+nothing_out = record { datagrams = []; answers = []; issued = None; shown = None; kept = []; passed = [] }
 
 -- what a step is: the station afterwards, what it made of the event, the row that it saved, what it hands out,
 -- and what it leaves in the trace: by the save, and after it
@@ -135,6 +138,8 @@ put_together h number s g n conditions passed = record {
     answers = g.answers ++ n.answers;
     issued = g.issued;
     shown = n.showed;
+    kept = g.entries;
+    passed = passed;
   };
   kept = g.entries;
   after = showed_entries number n.showed ++ map entry.Passed passed ++ told_entries (g.answers ++ n.answers);

@@ -1,4 +1,4 @@
-use smi_grant::Record;
+use smi_grant::{Command, Record};
 
 /// What an operator may order, or a device report. Domains, objects, devices, actions and states
 /// have their numbers of the tree.
@@ -26,6 +26,49 @@ pub enum Order {
     Unwatch(u16),
     /// The device, by its number among the devices, is in this state.
     Report(u16, u16),
+}
+
+/// What an order asks for: an action, and each change of a mode, is a command.
+#[derive(Clone, Copy, Debug, PartialEq, Eq)]
+pub enum Request {
+    /// To take the domain.
+    Take(u16),
+    /// To give the domain back.
+    Drop(u16),
+    /// To have the domain run the command.
+    Command(u16, Command),
+    /// To be told how the domain stands.
+    Ask(u16),
+    /// To watch the object.
+    Watch(u16),
+    /// To watch the object no longer.
+    Unwatch(u16),
+    /// To know the device, by its number among the devices, in this state.
+    Report(u16, u16),
+}
+
+impl Order {
+    ghost use Rattle.std.specs.Prelude.{◌≡◌};
+    ghost use Rattle.smi_protocol.specs.Request.{order_asking};
+
+    /// What the order asks for. No other order asks for that.
+    pub fn request(self) -> Request
+        ensures { self ≡ order_asking result }
+    {
+        match self {
+            Order::Take(domain) => Request::Take(domain),
+            Order::Drop(domain) => Request::Drop(domain),
+            Order::Do(domain, action) => Request::Command(domain, Command::Do(action)),
+            Order::Include(domain, target) => Request::Command(domain, Command::Include(target)),
+            Order::Exclude(domain, target) => Request::Command(domain, Command::Exclude(target)),
+            Order::Manual(domain, target) => Request::Command(domain, Command::Manual(target)),
+            Order::Ignore(domain, target) => Request::Command(domain, Command::Ignore(target)),
+            Order::Ask(domain) => Request::Ask(domain),
+            Order::Watch(object) => Request::Watch(object),
+            Order::Unwatch(object) => Request::Unwatch(object),
+            Order::Report(device, state) => Request::Report(device, state),
+        }
+    }
 }
 
 /// An order and how it ended.

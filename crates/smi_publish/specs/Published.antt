@@ -5,6 +5,7 @@ use Rattle.std.specs.List.{filter_map}
 use Rattle.smi_limits.specs.declared.numbers.TheConstants.{LAST_SEQUENCE}
 use Rattle.smi_grant.specs.declared.state.Shown.{Shown}
 use Rattle.smi_tree.specs.Hierarchy.{entry}
+use Rattle.smi_publish.specs.declared.changes.TheConstants.{MOST_CHANGES}
 use Rattle.smi_publish.specs.declared.condition.Condition.{Condition}
 
 abbrev pub condition : ℕ → ℕ → Condition
@@ -57,7 +58,7 @@ changes_at boot old new objects = filter_map (change_at boot old new) objects
 
 -- at most so many objects change in one step
 abbrev pub most_changes : ℕ
-most_changes = 17
+most_changes = MOST_CHANGES
 
 -- so many places, of which the first hold something
 pub record IsStored (places : List Shown) (count : ℕ) : Type 0 where

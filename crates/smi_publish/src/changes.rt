@@ -1,8 +1,9 @@
 use smi_grant::{Shown, Version};
+use smi_limits::MOST_DEVICES_OF_A_DOMAIN;
 use std::marker::Model;
 
-/// How many objects may change in one step: the sixteen devices of a domain and its unit.
-pub const MOST_CHANGES: usize = 17;
+/// How many objects may change in one step: the devices of a domain and its unit.
+pub const MOST_CHANGES: usize = MOST_DEVICES_OF_A_DOMAIN + 1;
 
 /// What a step shows anew: devices by number, then the unit.
 ///
@@ -47,7 +48,7 @@ impl Changes {
         }
     }
 
-    /// How many objects show something anew, at most 17.
+    /// How many objects show something anew, at most [`MOST_CHANGES`].
     pub fn len(&self) -> usize
         ensures value { result ≡ length self.now }
         ensures within { result ≤ most_changes }
@@ -76,5 +77,12 @@ impl Changes {
     {
         self.shown[self.count] = shown;
         self.count += 1;
+    }
+
+    /// Nothing is shown anew any more.
+    pub fn clear(&mut self)
+        ensures { self.new ≡ [] }
+    {
+        self.count = 0;
     }
 }

@@ -2,7 +2,7 @@
 
 use mio::net::{TcpStream, UnixStream};
 use smi_front::Cutter;
-use smi_relay::Relay;
+use smi_window::Relay;
 use std::alloc::{AllocError, Global};
 use std::io::{self, ErrorKind, Read, Write};
 use std::net::{Net, SocketAddr};

@@ -9,7 +9,7 @@ ghost use Rattle.smi_screen.specs.Ending.{has_stopped};
 use crate::console::Console;
 use crate::running::Ended;
 use crate::stage::Stage;
-use smi_gate::Gate;
+use crate::gate::Gate;
 use smi_link::DatagramLink;
 use smi_observer::{Came, Pace, look};
 use smi_out::Out;

@@ -4,7 +4,7 @@ use crate::console::Place;
 use crate::post::Post;
 use crate::stage::staged;
 use bytes::Bytes;
-use smi_gate::Gate;
+use crate::gate::Gate;
 use smi_link::UdpLink;
 use smi_observer::Pace;
 use smi_protocol::OpenFault;

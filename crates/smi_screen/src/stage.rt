@@ -4,9 +4,8 @@ use crate::console::Console;
 use crate::running::{Giving, Plan};
 use bytes::Bytes;
 use smi_picture::Picture;
-use smi_relay::Relay;
 use smi_tree::Tree;
-use smi_window::{Frame, Orders, Window};
+use smi_window::{Frame, Orders, Relay, Window};
 use std::alloc::{AllocError, Global};
 use std::mem::replace;
 

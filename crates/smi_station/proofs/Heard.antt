@@ -143,6 +143,7 @@ module _ (k0 k2 : Kept) (d0 d1 d2 : Displayed) (m : Message) (domain action : Op
         ≡ record before_sends {
           datagrams = sent_after before_sends.datagrams
               (shown_anew d1.tree d1.number d1.published.boot (display_of d1) (display_of d2).conditions domain);
+          passed = passed_in d1.tree d1.published.boot (display_of d1).conditions (display_of d2).conditions domain;
         }
         → after_sends ≡ (accepted h k0.number s (Comes m)).out
     heard_out before_sends after_sends told sent =
@@ -150,7 +151,10 @@ module _ (k0 k2 : Kept) (d0 d1 d2 : Displayed) (m : Message) (domain action : Op
         ∙ ap (λ (o : Out). record o {
           datagrams = sent_after o.datagrams
               (shown_anew d1.tree d1.number d1.published.boot (display_of d1) (display_of d2).conditions domain);
+          passed = passed_in d1.tree d1.published.boot (display_of d1).conditions (display_of d2).conditions domain;
         })
         (told ∙ ap (with_notice (with_step nothing_out g)) noticed_same)
         ∙ parts_together h k0.number s g n defined passed
-        (shown_anew d1.tree d1.number d1.published.boot (display_of d1) (display_of d2).conditions domain) sends_same
+        (shown_anew d1.tree d1.number d1.published.boot (display_of d1) (display_of d2).conditions domain)
+        (passed_in d1.tree d1.published.boot (display_of d1).conditions (display_of d2).conditions domain) sends_same
+        passed_same

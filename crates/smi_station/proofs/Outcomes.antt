@@ -33,7 +33,7 @@ use Rattle.smi_protocol.specs.Watching.{Notice, is_watched, noticed, showed_if, 
 use Rattle.smi_view.specs.Accepting.{acceptance}
 use Rattle.smi_protocol.specs.declared.order.Answer.{Answer}
 use Rattle.smi_protocol.specs.declared.order.Mark.{Mark}
-use Rattle.smi_out.specs.Handed.{answered_after, sent_after, with_notice}
+use Rattle.smi_out.specs.Handed.{answered_after, kept_after, sent_after, with_notice}
 use Rattle.smi_out.proofs.Sending.{sent_first, sent_twice}
 use Rattle.smi_plan.specs.Handing.{with_step}
 use Rattle.smi_display.specs.Members.{Listed, are_same, followed_by, listed_of, same_numbers}
@@ -45,44 +45,72 @@ answered_first : (before more : List Answer) → answered_after before more ≡ 
 answered_first before [] = sym (append-nil before)
 answered_first before (a ∷ more) = answered_first (before ++ a ∷ []) more ∙ append_assoc before (a ∷ []) more
 
+kept_first : (es : List Entry) → kept_after es [] ≡ es
+kept_first [] = refl
+kept_first (e ∷ more) = refl
+
 or_none : {X : Type 0} (o : Option X) → option_or o None ≡ o
 or_none None = refl
 or_none (Some x) = refl
 
 -- the parts of a step, handed out one after the other, are what the step hands out
 pub parts_together : (h : Hierarchy) (number : ℕ) (s : Station) (g : GrantStep) (n : Notice)
-    (conditions : ℕ → Option Condition) (passed : List Shown) (sends : List Message)
-    → sends ≡ flat_map (shown_to_all h number n.display.watchers) passed
+    (conditions : ℕ → Option Condition) (passed : List Shown) (sends : List Message) (stirred : List Shown)
+    → sends ≡ flat_map (shown_to_all h number n.display.watchers) passed → stirred ≡ passed
     → record (with_notice (with_step nothing_out g) n) {
       datagrams = sent_after
           (with_notice (with_step nothing_out g) n).datagrams sends;
+      passed = stirred;
     } ≡ (put_together h number s g n conditions passed).out
-parts_together h number s g n conditions passed sends is =
+parts_together h number s g n conditions passed sends stirred is passes =
     ap (λ (xs : List Message). record {
       datagrams = xs;
       answers = answered_after (answered_after [] g.answers) n.answers;
       issued = option_or g.issued None;
-      shown =
-          option_or n.showed None;
+      shown = option_or n.showed None;
+      kept = kept_after g.entries [];
+      passed = stirred;
     }) datagrams
     ∙ ap (λ (xs : List Answer). record {
       datagrams = all;
       answers = xs;
       issued = option_or g.issued None;
       shown = option_or n.showed None;
+      kept = kept_after g.entries [];
+      passed = stirred;
     }) answers
     ∙ ap (λ (o : Option Mark). record {
       datagrams = all;
       answers = g.answers ++ n.answers;
       issued = o;
       shown = option_or n.showed None;
+      kept = kept_after g.entries [];
+      passed = stirred;
     }) (or_none g.issued)
     ∙ ap (λ (o : Option Shown). record {
       datagrams = all;
       answers = g.answers ++ n.answers;
       issued = g.issued;
       shown = o;
+      kept = kept_after g.entries [];
+      passed = stirred;
     }) (or_none n.showed)
+    ∙ ap (λ (es : List Entry). record {
+      datagrams = all;
+      answers = g.answers ++ n.answers;
+      issued = g.issued;
+      shown = n.showed;
+      kept = es;
+      passed = stirred;
+    }) (kept_first g.entries)
+    ∙ ap (λ (xs : List Shown). record {
+      datagrams = all;
+      answers = g.answers ++ n.answers;
+      issued = g.issued;
+      shown = n.showed;
+      kept = g.entries;
+      passed = xs;
+    }) passes
   where
     shows : List Message
     shows = flat_map (shown_to_all h number n.display.watchers) passed

@@ -44,7 +44,7 @@ module _ (h : Hierarchy) (number : ℕ) (s : Station) (g : GrantStep) (n : Notic
       (b ∙ ap (λ (cs : ℕ → Option Condition). record n.display { conditions = cs }) same) refl
 
   pub quiet_out : with_notice (with_step nothing_out g) n ≡ (put_together h number s g n s.display.conditions []).out
-  quiet_out = parts_together h number s g n s.display.conditions [] [] refl
+  quiet_out = parts_together h number s g n s.display.conditions [] [] [] refl refl
 
 -- whoever could change still may
 pub quiet_room : (s t : Display) → t.conditions ≡ s.conditions → MayChange s → MayChange t

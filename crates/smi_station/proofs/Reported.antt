@@ -156,17 +156,20 @@ module _ (k : Kept) (d0 d1 d2 : Displayed) (device state d : ℕ) (before : List
       ∙ ap (λ (h : Hierarchy). (accepted h d0.number s (Reports device state)).station) halves.tree
       ∙ ap (λ n. (accepted k.tree n s (Reports device state)).station) halves.number
 
-  pub reported_out : (out : Out) → out ≡ record
-      nothing_out { datagrams = sent_after [] (flat_map (shown_to_all d1.tree d1.number d1.watchers) second) }
+  pub reported_out : (out : Out) → out ≡ record nothing_out {
+        datagrams = sent_after [] (flat_map (shown_to_all d1.tree d1.number d1.watchers) second);
+        passed = second;
+      }
       → out ≡ (accepted k.tree k.number s (Reports device state)).out
   reported_out out is =
       is
       ∙ parts_together d0.tree d0.number s (unchanged (grants_of k) []) (unnoticed (display_of d0)) defined passed
-      (flat_map (shown_to_all d1.tree d1.number d1.watchers) second)
+      (flat_map (shown_to_all d1.tree d1.number d1.watchers) second) second
       (shown_sends d0 d1 d2 (grants_of k) before mid d first second within rest reports
       (reported_first (conditions_of d0.published) (device_objects d0.tree d) object state among) shown_first
       follows more
       ∙ ap (flat_map (shown_to_all d0.tree d0.number d0.watchers)) passed_then)
+      (passed_all ∙ passed_then)
       ∙ ap (λ (h : Hierarchy). (accepted h d0.number s (Reports device state)).out) halves.tree
       ∙ ap (λ n. (accepted k.tree n s (Reports device state)).out) halves.number
 

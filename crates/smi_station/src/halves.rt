@@ -10,7 +10,7 @@ use smi_display::Displayed;
 use smi_grants::{Kept, is_report_here, refusal_of_message};
 use smi_message::{Body, Datagram, decode};
 use smi_out::Out;
-use smi_protocol::{Answer, Event, Heard, Order, StepFault, Told};
+use smi_protocol::{Answer, Event, Heard, Order, Request, StepFault, Told};
 use smi_rows::Stable;
 use std::alloc::AllocError;
 use std::marker::Model;
@@ -91,18 +91,14 @@ pub(crate) fn reported_in(order: &Order) -> Option<Reported>
     ensures other { (operator : ℕ) → result ≡ None
         → ordered_or_reported operator order.now ≡ Orders operator order.now }
 {
-    match *order {
-        Order::Report(device, state) => Some(Reported { device, state }),
-        Order::Take(_) => None,
-        Order::Drop(_) => None,
-        Order::Do(_, _) => None,
-        Order::Include(_, _) => None,
-        Order::Exclude(_, _) => None,
-        Order::Manual(_, _) => None,
-        Order::Ignore(_, _) => None,
-        Order::Ask(_) => None,
-        Order::Watch(_) => None,
-        Order::Unwatch(_) => None,
+    match order.request() {
+        Request::Report(device, state) => Some(Reported { device, state }),
+        Request::Take(_)
+        | Request::Drop(_)
+        | Request::Command(_, _)
+        | Request::Ask(_)
+        | Request::Watch(_)
+        | Request::Unwatch(_) => None,
     }
 }
 

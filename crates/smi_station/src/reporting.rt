@@ -74,6 +74,7 @@ pub(crate) fn report(
     let before = display.members(kept, domain);
     let mut changes = changes_of(display.report(device, state));
     let is_spent = display.show_anew(out, kept, domain, &before, &mut changes);
+    out.pass(changes);
     let _tree = display.tree();
     is_spent
 }

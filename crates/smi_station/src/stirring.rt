@@ -166,6 +166,8 @@ pub(crate) fn stir(
           datagrams = sent_after out.old.datagrams
               (shown_anew display.old.tree display.old.number display.old.published.boot (display_of display.old)
               (display_of display.new).conditions found.now.domain);
+          passed = showing.passed_in display.old.tree display.old.published.boot
+              (display_of display.old).conditions (display_of display.new).conditions found.now.domain;
         } }
     ensures spent { result
         ≡ showing.is_spent (showing.passed_in display.old.tree display.old.published.boot
@@ -175,7 +177,10 @@ pub(crate) fn stir(
 {
     match found.domain {
         Some(domain) => stir_domain(display, kept, out, found, domain),
-        None => false,
+        None => {
+            out.pass(Changes::new());
+            false
+        }
     }
 }
 
@@ -199,6 +204,8 @@ fn stir_domain(
           datagrams = sent_after out.old.datagrams
               (shown_anew display.old.tree display.old.number display.old.published.boot (display_of display.old)
               (display_of display.new).conditions (Some domain));
+          passed = showing.passed_in display.old.tree display.old.published.boot
+              (display_of display.old).conditions (display_of display.new).conditions (Some domain);
         } }
     ensures spent { result
         ≡ showing.is_spent (showing.passed_in display.old.tree display.old.published.boot
@@ -208,6 +215,7 @@ fn stir_domain(
 {
     let mut changes = act(display, domain, found.action);
     let is_spent = display.show_anew(out, kept, domain, &found.before, &mut changes);
+    out.pass(changes);
     let _tree = display.tree();
     is_spent
 }

@@ -8,9 +8,9 @@ use Rattle.http_server.specs.declared.response.Response.{Response}
 use Rattle.smi_window.specs.declared.question.Asked.{Asked}
 use Rattle.smi_window.specs.declared.question.Asked.TheVariants as asked
 use Rattle.smi_window.specs.declared.frame.Frame.{Frame}
-use Rattle.smi_relay.specs.declared.relay.Verdict.{Verdict}
-use Rattle.smi_relay.specs.declared.relay.Verdict.TheVariants as verdict
-use Rattle.smi_relay.specs.Relay.{given, verdict_of}
+use Rattle.smi_window.specs.declared.relay.Verdict.{Verdict}
+use Rattle.smi_window.specs.declared.relay.Verdict.TheVariants as verdict
+use Rattle.smi_window.specs.Relay.{given, verdict_of}
 use Rattle.smi_window.specs.Frame.{with_orders}
 use Rattle.smi_window.specs.declared.orders.Orders.{Orders}
 use Rattle.smi_window.specs.declared.window.Window.{Window}

@@ -3,11 +3,11 @@ use Rattle.std.specs.Prelude.{ℕ, ◌++◌, List, [], codes}
 use Rattle.std.specs.Fmt.{decimal}
 use Rattle.smi_tree.specs.Hierarchy.{Hierarchy}
 use Rattle.smi_picture.specs.Pictured.{Pictured}
-use Rattle.smi_scene.specs.Figures.{figures_text}
-use Rattle.smi_relay.specs.Relay.{Relaying}
-use Rattle.smi_scene.specs.Orders.{orders_text}
-use Rattle.smi_scene.specs.Scene.{picture_text}
-use Rattle.smi_scene.specs.Shape.{tree_text}
+use Rattle.smi_window.specs.Figures.{figures_text}
+use Rattle.smi_window.specs.Relay.{Relaying}
+use Rattle.smi_window.specs.Orders.{orders_text}
+use Rattle.smi_window.specs.Scene.{picture_text}
+use Rattle.smi_window.specs.Shape.{tree_text}
 use Rattle.smi_window.specs.declared.frame.Frame.{Frame}
 
 -- the query of one who has the picture of this number

@@ -1,3 +1,12 @@
 pub mod Answers
 pub mod Asking
 pub mod Frame
+pub mod Ending
+pub mod Errand
+pub mod Line
+pub mod Relay
+pub mod Figures
+pub mod Orders
+pub mod Scene
+pub mod Shape
+pub mod Words

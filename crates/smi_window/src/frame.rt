@@ -5,8 +5,11 @@ ghost use Rattle.smi_window.specs.Frame.{mark_of};
 
 use bytes::Bytes;
 use smi_picture::Picture;
-use smi_relay::Relay;
-use smi_scene::{spell_figures, spell_orders, spell_picture, spell_tree};
+use crate::figures::spell_figures;
+use crate::relay::Relay;
+use crate::scene::spell_picture;
+use crate::shape::spell_tree;
+use crate::told::spell_orders;
 use smi_tree::Tree;
 use std::alloc::{AllocError, Global};
 use std::io::Write;

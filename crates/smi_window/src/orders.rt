@@ -3,7 +3,7 @@
 ghost use Rattle.std.specs.Prelude.{◌≡◌, OnErr, OnOk};
 
 use bytes::Bytes;
-use smi_relay::Relay;
+use crate::relay::Relay;
 use smi_tree::Tree;
 use std::alloc::AllocError;
 

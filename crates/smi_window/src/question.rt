@@ -5,7 +5,7 @@ ghost use Rattle.std.specs.List.{list_any};
 ghost use Rattle.smi_window.specs.Answers as spec;
 
 use crate::orders::Orders;
-use smi_relay::Verdict;
+use crate::relay::Verdict;
 use std::marker::Model;
 
 /// What a request says that matters here.

@@ -163,7 +163,7 @@ module _ (h : Hierarchy) (number : ℕ) (s : Station) (p : Post) (is : IsPost h 
   -- and what the save has left is what is defined
   pub saved_kept : (l : Left) (what : Happening) → (p.station.core.is_stopped || p.is_out) ≡ false
       → Leaves (tree_of p.station.core) l (after (tree_of p.station.core) (number_of p.station.core)
-      (station_of p.station.core) what) → l.kept ≡ (after h number s what).kept
+      (station_of p.station.core) what) → l.out.kept ≡ (after h number s what).kept
   saved_kept l what runs leaves = leaves.kept ∙ ap (λ (o : Outcome). o.kept) (same_step what runs)
 
   -- one whose step was not made stays
@@ -194,10 +194,10 @@ module _ (h : Hierarchy) (number : ℕ) (s : Station) (p : Post) (is : IsPost h 
       is.of_tree.tree starts))
 
   -- what is left of a step that is over: what it has kept, and the start
-  module _ (next : Post) (l : Left) (kept : List Entry) (own : l.station ≡ number) (keeps : l.kept ≡ kept)
-      (passes : l.passed ≡ []) (out : l.out ≡ nothing_out) where
+  module _ (next : Post) (l : Left) (kept : List Entry) (own : l.station ≡ number)
+      (out : l.out ≡ record nothing_out { kept = kept }) where
     left_over : (started : Option ℕ) → l.started ≡ started → entries_left h l ≡ kept ++ start_entries h number started
-    left_over started is_started = rw (own, keeps, is_started, passes, out)
+    left_over started is_started = rw (own, is_started, out)
         (append-nil (kept ++ start_entries h number started))
 
     nothing_sent : l.out.datagrams ≡ []

@@ -19,7 +19,7 @@ use Rattle.smi_world.proofs.Acts.{or_true, same_step, saved_halts, saved_kept}
 
 module _ (h : Hierarchy) (number : ℕ) (s : Station) (p : Post) (is : IsPost h number p s) where
   -- the order is told so, and nothing else is left
-  pub device_makes : (l : Left) (what : Happening) → l.kept ≡ [] → l.started ≡ None → l.passed ≡ []
+  pub device_makes : (l : Left) (what : Happening) → l.out.kept ≡ [] → l.started ≡ None → l.out.passed ≡ []
       → l.out.shown ≡ None → told_entries l.out.answers ≡ not_stored what → l.out.datagrams ≡ []
       → Makes h number p l (failed_act h number plan.Device what s)
   device_makes l what kept started passed shown told sends =
@@ -27,9 +27,9 @@ module _ (h : Hierarchy) (number : ℕ) (s : Station) (p : Post) (is : IsPost h 
 
   -- it stops
   pub before_makes : (next : Post) (l : Left) (what : Happening) → next.station ≡ p.station → next.is_out ≡ true
-      → l.kept ≡ [] → l.started ≡ None → l.passed ≡ [] → l.out ≡ nothing_out
+      → l.started ≡ None → l.out ≡ nothing_out
       → Makes h number next l (failed_act h number plan.Before what s)
-  before_makes next l what same out kept started passed handed = record {
+  before_makes next l what same out started handed = record {
     post = record {
       of_tree = record {
         tree = ap (λ x. tree_of x.core) same ∙ is.of_tree.tree;
@@ -40,7 +40,7 @@ module _ (h : Hierarchy) (number : ℕ) (s : Station) (p : Post) (is : IsPost h 
       display = λ running. absurd cc;
       stored = subst (λ x. IsStoredIn (found_in x.store.list) x.core) (sym same) is.stored;
     };
-    entries = rw (kept, started, passed, handed) refl;
+    entries = rw (started, handed) refl;
     sends = ap (λ (z : Out). z.datagrams) handed;
   }
 
@@ -53,12 +53,13 @@ module _ (h : Hierarchy) (number : ℕ) (s : Station) (p : Post) (is : IsPost h 
       → Leaves (tree_of p.station.core) made (after (tree_of p.station.core) (number_of p.station.core)
       (station_of p.station.core) what)
       → IsStoredIn (found_in next.station.store.list) next.station.core
-      → l.kept ≡ made.kept → l.started ≡ None → l.passed ≡ [] → l.out ≡ nothing_out
+      → l.started ≡ None → l.out ≡ record nothing_out { kept = made.out.kept }
       → Makes h number next l (failed_act h number plan.After what s)
-  after_makes next made l what runs out station of leaves stored kept started passed handed = record {
+  after_makes next made l what runs out station of leaves stored started handed = record {
     post = saved_halts h number s p is next what runs out station of stored;
-    entries = rw (kept, started, passed, handed)
-        (append-nil (made.kept ++ []) ∙ append-nil made.kept ∙ saved_kept h number s p is made what runs leaves);
+    entries = rw (started, handed)
+        (append-nil (made.out.kept ++ []) ∙ append-nil made.out.kept
+        ∙ saved_kept h number s p is made what runs leaves);
     sends = ap (λ (z : Out). z.datagrams) handed;
   }
 

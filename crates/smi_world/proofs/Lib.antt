@@ -1,5 +1,4 @@
-pub mod Asked
-pub mod Passes
+pub mod Messages
 pub mod Starting
 pub mod Stepped
 pub mod Acts

@@ -14,13 +14,11 @@ use Rattle.smi_protocol.specs.declared.item.Line.{Line}
 use Rattle.smi_protocol.specs.declared.item.Line.TheVariants as line
 use Rattle.smi_protocol.specs.Schedule.{sent_lines}
 
--- At one station: what its save left; whether it has started, and with which boot; which of its objects changed
--- their states; what it handed out; and how many datagrams were sent before.
+-- At one station: whether it has started, and with which boot; what it handed out, with what its save left and which
+-- of its objects changed their states; and how many datagrams were sent before.
 pub record Left : Type 0 where
   pub station : ℕ
-  pub kept : List Entry
   pub started : Option ℕ
-  pub passed : List Shown
   pub out : Out
   pub before : ℕ
 
@@ -35,11 +33,11 @@ start_entries h number (Some boot) = entry.Booted number boot ∷ map entry.Pass
 
 -- what the step leaves after its save
 abbrev pub step_entries : Left → List Entry
-step_entries l = showed_entries l.station l.out.shown ++ map entry.Passed l.passed ++ told_entries l.out.answers
+step_entries l = showed_entries l.station l.out.shown ++ map entry.Passed l.out.passed ++ told_entries l.out.answers
 
 -- all that is left in the trace
 abbrev pub entries_left : Hierarchy → Left → List Entry
-entries_left h l = l.kept ++ start_entries h l.station l.started ++ step_entries l
+entries_left h l = l.out.kept ++ start_entries h l.station l.started ++ step_entries l
 
 -- and then what is sent, by its numbers
 abbrev pub lines_left : Hierarchy → Left → List Line
@@ -49,9 +47,7 @@ lines_left h l = map line.Entry (entries_left h l) ++ sent_lines (l.before + 1) 
 abbrev pub nothing_left : ℕ → ℕ → Left
 nothing_left number before = record {
   station = number;
-  kept = [];
   started = None;
-  passed = [];
   out = nothing_out;
   before = before;
 }

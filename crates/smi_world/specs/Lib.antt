@@ -1,8 +1,6 @@
 pub mod Coming
 pub mod Left
 pub mod Turning
-pub mod Noting
-pub mod Passing
 pub mod Made
 pub mod Posts
 pub mod Tasks

@@ -13,6 +13,6 @@ pub record Steps (before next : Core) (o : Outcome) (handed : Out) : Type 0 wher
 
 -- and leaves what is defined
 pub record Leaves (h : Hierarchy) (l : Left) (o : Outcome) : Type 0 where
-  pub kept : l.kept ≡ o.kept
+  pub kept : l.out.kept ≡ o.kept
   pub entries : entries_left h l ≡ o.kept ++ o.after
   pub sends : l.out.datagrams ≡ o.out.datagrams

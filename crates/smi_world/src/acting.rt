@@ -12,9 +12,7 @@ use crate::coming::Coming;
 use crate::left::Left;
 use crate::post::Post;
 use crate::stepping::make;
-use smi_entries::Entries;
 use smi_protocol::OpenFault;
-use smi_publish::Changes;
 use std::alloc::{AllocError, Global};
 
 /// Whether the station makes no step.
@@ -42,14 +40,13 @@ pub(crate) fn arrive(post: &mut Post<'_>, what: &Coming, left: &mut Left) -> Res
 /// The station starts again, after its save has left what it has; where its boots are spent, it stops.
 fn start_again(alloc: Global, post: &mut Post<'_>, left: &mut Left) -> Result<(), AllocError>
     ensures makes { (h : Hierarchy) (number : ℕ) (s : Defined) → IsPost h number post.old s
-        → OnOk result (Makes h number post.new left.new (restart_act h number left.old.kept s)) }
+        → OnOk result (Makes h number post.new left.new (restart_act h number left.old.out.kept s)) }
     ensures same { (h : Hierarchy) (number : ℕ) (s : Defined) → IsPost h number post.old s
         → OnErr result (IsPost h number post.new s) }
     ensures before { left.new.before ≡ left.old.before }
 {
     left.station = post.station.grants().number();
-    left.passed = Changes::new();
-    left.out.clear();
+    left.out.clear_but_kept();
     match post.station.restart(alloc) {
         Ok(()) => {
             post.is_out = false;
@@ -73,7 +70,7 @@ pub(crate) fn restart(alloc: Global, post: &mut Post<'_>, left: &mut Left) -> Re
         → OnErr result (IsPost h number post.new s) }
     ensures before { left.new.before ≡ left.old.before }
 {
-    left.kept = Entries::new();
+    left.out.clear();
     start_again(alloc, post, left)
 }
 

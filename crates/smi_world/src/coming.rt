@@ -9,7 +9,7 @@ ghost use Rattle.smi_world.specs.Coming.{arrival_in};
 ghost use Rattle.smi_schedule.specs.Naming.{has_deed};
 
 use smi_message::Datagram;
-use smi_protocol::{Deed, Order};
+use smi_protocol::{Deed, Order, Request};
 use smi_tree::Tree;
 
 /// What comes to a station.
@@ -99,7 +99,7 @@ fn order_of(tree: &Tree, operator: u16, order: &Order) -> Option<Arrival>
         ≡ schedule.arrival_at tree.now (ordered_or_reported operator order.now) }
     ensures within { IfSome result (λ a. IsBetween 1 (station_count tree.now) a.station) }
 {
-    if let Order::Report(device, state) = *order {
+    if let Request::Report(device, state) = order.request() {
         return report_of(tree, device, state);
     }
     if operator < 1 || tree.operator_count() < operator {

@@ -13,7 +13,6 @@ use crate::left::Left;
 use crate::post::Post;
 use crate::stepping::{make, would_save};
 use smi_out::Out;
-use smi_publish::Changes;
 use smi_rows::Plan;
 use std::alloc::AllocError;
 
@@ -26,9 +25,11 @@ fn tell_not_stored(what: &Coming, out: &mut Out)
     ensures told { told_entries out.new.answers ≡ not_stored (happening what.now) }
     ensures sends { out.new.datagrams ≡ [] }
     ensures shown { out.new.shown ≡ None }
+    ensures kept { out.new.kept ≡ [] }
+    ensures passed { out.new.passed ≡ [] }
 {
     if let Coming::Order(operator, order) = what {
-        if let Order::Report(_, _) = order {
+        if let Request::Report(_, _) = order.request() {
             return;
         }
         out.answer(Answer {
@@ -48,7 +49,7 @@ ghost use Rattle.smi_protocol.specs.Schedule.{not_stored};
 ghost use Rattle.smi_protocol.specs.Happening.{told_entries};
 ghost use Rattle.smi_protocol.specs.Step.{nothing_out};
 
-use smi_protocol::{Answer, Order, Told};
+use smi_protocol::{Answer, Order, Request, Told};
 
 /// The row is as before: the order is answered so.
 fn fail_at_device(post: &Post<'_>, what: &Coming, left: &mut Left)
@@ -83,8 +84,7 @@ fn fail_after(post: &mut Post<'_>, what: &Coming, left: &mut Left) -> Result<(),
 {
     make(&mut post.station, what, left)?;
     left.started = None;
-    left.passed = Changes::new();
-    left.out.clear();
+    left.out.clear_but_kept();
     post.is_out = true;
     Ok(())
 }

@@ -1,7 +1,5 @@
-use smi_entries::Entries;
 use smi_grant::{Shown, Version};
 use smi_out::{Out, object_home};
-use smi_publish::Changes;
 use smi_tree::Tree;
 use std::alloc::AllocError;
 use std::marker::Model;
@@ -12,13 +10,9 @@ use std::marker::Model;
 pub struct Left {
     /// The station at which the item was made.
     pub(crate) station: u16,
-    /// What was left by a save.
-    pub(crate) kept: Entries,
     /// The boot with which the station has started, if it has.
     pub(crate) started: Option<u32>,
-    /// What the station's objects show anew.
-    pub(crate) passed: Changes,
-    /// What the step has handed out.
+    /// What the step has handed out, with what its save left and what the station's objects show anew.
     pub(crate) out: Out,
     /// How many datagrams were sent before.
     pub(crate) before: u64,
@@ -32,9 +26,7 @@ impl Model for Left {
 
     ghost view = { λ l. record {
       station = l.station;
-      kept = l.kept;
       started = l.started;
-      passed = l.passed;
       out = l.out;
       before = l.before;
     } };
@@ -162,9 +154,7 @@ impl Left {
     {
         Left {
             station: 0,
-            kept: Entries::new(),
             started: None,
-            passed: Changes::new(),
             out: Out::new(),
             before: 0,
         }
@@ -174,9 +164,7 @@ impl Left {
     pub(crate) fn clear(&mut self)
         ensures { self.new ≡ nothing_left self.old.station self.old.before }
     {
-        self.kept = Entries::new();
         self.started = None;
-        self.passed = Changes::new();
         self.out.clear();
     }
 
@@ -184,7 +172,7 @@ impl Left {
     pub fn push_lines(&self, tree: &Tree, lines: &mut Vec<Line>) -> Result<(), AllocError>
         ensures { OnOk result (lines.new.items ≡ lines.old.items ++ lines_left tree.now self.now) }
     {
-        push_entries(lines, self.kept.as_slice())?;
+        push_entries(lines, self.out.kept().as_slice())?;
         if let Some(boot) = self.started {
             push_start(lines, tree, self.station, boot)?;
         }
@@ -194,7 +182,7 @@ impl Left {
                 shown,
             }))?;
         }
-        push_passed(lines, self.passed.as_slice())?;
+        push_passed(lines, self.out.passed().as_slice())?;
         push_told(lines, self.out.answers())?;
         self.push_sent(lines)
     }

@@ -3,7 +3,7 @@
 ghost use Rattle.std.specs.Prelude.{◌≡◌};
 ghost use Rattle.smi_schedule.specs.Naming as naming;
 
-use smi_protocol::{Deed, Item, Order};
+use smi_protocol::{Deed, Item, Order, Request};
 use smi_tree::Tree;
 
 fn has_station(tree: &Tree, number: u16) -> bool
@@ -27,9 +27,14 @@ fn has_device(tree: &Tree, device: u16) -> bool
 fn has_order(tree: &Tree, order: &Order) -> bool
     ensures { result ≡ naming.has_order tree.now order.now }
 {
-    match order {
-        Order::Report(device, _) => has_device(tree, *device),
-        _ => true,
+    match order.request() {
+        Request::Report(device, _) => has_device(tree, device),
+        Request::Take(_)
+        | Request::Drop(_)
+        | Request::Command(_, _)
+        | Request::Ask(_)
+        | Request::Watch(_)
+        | Request::Unwatch(_) => true,
     }
 }
 

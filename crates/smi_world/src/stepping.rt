@@ -9,8 +9,6 @@ ghost use Rattle.smi_world.specs.Made.{Leaves, Steps};
 
 use crate::coming::Coming;
 use crate::left::Left;
-use crate::noting::foresee;
-use crate::passing::{passed_since, shown_in};
 use smi_message::encode;
 use smi_out::Out;
 use smi_protocol::Event;
@@ -83,13 +81,9 @@ pub(crate) fn make(
     ensures stored { IsStoredIn (found_in station.old.store.list) station.old.core
         → IsStoredIn (found_in station.new.store.list) station.new.core }
 {
-    let foreseen = foresee(station.grants(), what);
-    let old = shown_in(station, foreseen.domain);
     step_with(station, what, &mut left.out)?;
     left.station = station.grants().number();
-    left.kept = foreseen.kept;
     left.started = None;
-    left.passed = passed_since(station, &old);
     Ok(())
 }
 

@@ -1,6 +1,8 @@
-use Rattle.std.proofs.Common.{◌∙◌}
+use Rattle.std.proofs.Common.{◌∙◌, ap}
 use Rattle.smi_grant.specs.Keeper.{drop_after}
 use Rattle.smi_grants.specs.Kept.{grants_of}
+use Rattle.smi_out.specs.Handed.{kept_after}
+use Rattle.smi_protocol.specs.Step.{Out}
 use Rattle.smi_protocol.proofs.SoundRecords.{drop_sound}
 use Rattle.smi_plan.proofs.Handings.{decided_told, told_after}
 use Rattle.smi_plan.proofs.asking.drop_grant.Goals as goal
@@ -20,8 +22,9 @@ returns-clause-plan c = c.drop_comes-change.ensures c.args.from
 pub returns-clause-sent : goal.returns-clause-sent
 returns-clause-sent c =
     let k = c.args.kept.now in
-    c.send_record.ensures
+    c.keep.ensures
+    ∙ ap (λ (o : Out). record o { kept = kept_after c.freed.result o.kept }) c.send_record.ensures
     ∙ decided_told k.tree k.number (grants_of k) c.args.from c.args.domain c.args.out.now _
     (drop_after ((grants_of k).records c.args.domain) c.args.holder c.args.epoch) c.drop_comes-change.result
-    c.record_after-standing.result
-    (c.drop_comes-change.ensures c.args.from) c.record_after-standing.ensures
+    c.record_after-standing.result c.freed.result
+    (c.drop_comes-change.ensures c.args.from) c.record_after-standing.ensures (c.freed.ensures c.args.from)

@@ -1,12 +1,13 @@
 use Rattle.std.proofs.Common.{◌∙◌, sym, ap}
 use Rattle.smi_grant.specs.Keeper.{admits}
 use Rattle.smi_grant.specs.Record.{Standing}
-use Rattle.smi_out.specs.Handed.{sent_after}
+use Rattle.smi_out.specs.Handed.{kept_after, sent_after}
 use Rattle.smi_protocol.specs.Keeping.{child_requests}
 use Rattle.smi_protocol.specs.Step.{Out}
 use Rattle.smi_protocol.proofs.SoundSteps.{run_comes_sound}
 use Rattle.smi_grants.specs.Kept.{grants_of}
 use Rattle.smi_plan.proofs.Handings.{run_told, same_told, settled_there, told_after}
+use Rattle.smi_plan.proofs.Left.{run_left}
 use Rattle.smi_plan.proofs.running.run.Goals as goal
 
 pub send_record-requires-clause-told : goal.send_record-requires-clause-told
@@ -34,14 +35,20 @@ returns-then-admit-clause-sent c =
     let g = grants_of k in
     let runs = ap (λ (r : Standing). admits r c.args.holder c.args.epoch c.args.number) (sym c.record.ensures)
     ∙ sym c.admit.ensures ∙ c.if-admit.true in
-    c.send_to_children.ensures
+    c.keep.ensures
+    ∙ ap (λ (o : Out). record o { kept = kept_after c.ran.result o.kept })
+    (c.send_to_children.ensures
     ∙ ap (λ (o : Out). record o {
       datagrams = sent_after o.datagrams
           (child_requests k.tree k.number g c.args.domain c.args.command);
-    }) c.send_record.ensures
+    }) c.send_record.ensures)
     ∙ run_told k.tree k.number g c.args.from c.args.domain c.args.out.now c.args.holder c.args.epoch c.args.number
-    c.args.command c.run_comes-change.result c.record_after-standing.result
-    (c.run_comes-change.ensures c.args.from) c.record_after-standing.ensures runs
+    c.args.command c.run_comes-change.result c.record_after-standing.result c.ran.result
+    (c.run_comes-change.ensures c.args.from) c.record_after-standing.ensures
+    (c.ran.ensures
+    ∙ run_left k.tree k.number g c.args.from c.args.domain c.args.holder c.args.epoch c.args.number c.args.command
+    c.run_comes-change.result c.record_after-standing.result (c.run_comes-change.ensures c.args.from)
+    c.record_after-standing.ensures runs) runs
 
 pub returns-else-admit-clause-plan : goal.returns-else-admit-clause-plan
 returns-else-admit-clause-plan c = c.run_comes-change.ensures c.args.from

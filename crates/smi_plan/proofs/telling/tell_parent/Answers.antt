@@ -1,4 +1,4 @@
-use Rattle.std.proofs.Common.{◌∙◌, sym, subst, ap}
+use Rattle.std.proofs.Common.{◌∙◌, List, ◌++◌, sym, subst, ap}
 use Rattle.std.specs.Prelude.{unwrap_or}
 use Rattle.smi_command.specs.Hearing.{told_link}
 use Rattle.smi_command.specs.declared.Link.{Link}
@@ -6,19 +6,22 @@ use Rattle.smi_command.specs.declared.LinkHeard.{LinkHeard}
 use Rattle.smi_grant.specs.declared.Holder.TheVariants.{Domain}
 use Rattle.smi_grant.specs.Record.{Standing}
 use Rattle.smi_grants.specs.Kept.{grants_of}
-use Rattle.smi_out.specs.Handed.{sent_after}
+use Rattle.smi_out.specs.Handed.{kept_after, sent_after}
 use Rattle.smi_protocol.specs.Grants.{Grants}
-use Rattle.smi_protocol.specs.Hearing.{parent_told}
+use Rattle.smi_protocol.specs.Hearing.{learned, parent_told}
 use Rattle.smi_roles.specs.Roles.{holder_station}
-use Rattle.smi_protocol.specs.Messages.{requests_due}
+use Rattle.smi_protocol.specs.Messages.{if_any, requests_due}
 use Rattle.smi_protocol.specs.Sound.{IsLink, most_handed_on}
 use Rattle.smi_protocol.specs.Step.{Out}
+use Rattle.smi_protocol.specs.declared.entry.Entry.{Entry}
 use Rattle.smi_tree.specs.Hierarchy.{Hierarchy}
 use Rattle.smi_tree.specs.Lawful.{IsBetween}
 use Rattle.smi_tree.specs.Lookups.{station_count}
 use Rattle.smi_plan.specs.Handing.{told_end}
+use Rattle.smi_plan.specs.Leaving.{came_to_rest}
 use Rattle.smi_plan.proofs.Ends.{holder_known, parent_link, parent_sends, parent_stays}
 use Rattle.smi_plan.proofs.Handings.{told_after}
+use Rattle.smi_plan.proofs.Left.{parent_left}
 use Rattle.smi_plan.proofs.Sends.{link_due}
 use Rattle.smi_plan.proofs.telling.tell_parent.Goals as goal
 
@@ -57,7 +60,7 @@ send_due-requires-clause-link c =
     let d = c.args.child in
     let r = c.args.news.now in
     let same = ap (λ (z : Link × LinkHeard). z.0) c.told-link.ensures
-    ∙ ap (λ (old : Link). told_link old (Domain p) r) c.link.ensures in
+    ∙ ap (λ (old : Link). told_link old (Domain p) r) c.link-old.ensures in
     link_due k.tree most_handed_on c.told-link.result.0
     (subst (IsLink k.tree most_handed_on) (sym same)
     (parent_link k.tree k.number g p d r c.tree-tree.ensures.kept.tree c.requires.sound c.requires.child
@@ -71,12 +74,23 @@ returns-clause-sent c =
     let d = c.args.child in
     let r = c.args.news.now in
     let same = ap (λ (z : Link × LinkHeard). z.0) c.told-link.ensures
-    ∙ ap (λ (old : Link). told_link old (Domain p) r) c.link.ensures in
+    ∙ ap (λ (old : Link). told_link old (Domain p) r) c.link-old.ensures in
     let out = c.args.out.now in
     let new = told_link (g.links (Domain p) d) (Domain p) r in
     let standing = c.record_after-standing.ensures
     ∙ ap (λ (a : Grants). a.records p) (sym c.parent_told-change.ensures.grants) in
-    c.send_due.ensures
+    let z = c.record_after-standing.result in
+    let left = c.two.ensures
+    ∙ ap (λ (es : List Entry). es ++ if_any c.rested.result) c.learned.ensures
+    ∙ ap (λ (es : List Entry). learned (Domain p) d c.link-old.result c.told-link.result.0 ++ es) c.rested.ensures
+    ∙ ap (λ (l : Link). learned (Domain p) d c.link-old.result l ++ came_to_rest p c.record.result z) same
+    ∙ ap (λ (l : Link). learned (Domain p) d l new ++ came_to_rest p c.record.result z) c.link-old.ensures
+    ∙ ap (λ (s : Standing). learned (Domain p) d (g.links (Domain p) d) new ++ came_to_rest p s z) c.record.ensures
+    ∙ parent_left k.tree k.number g p d r c.parent_told-change.result z c.parent_told-change.ensures
+    c.record_after-standing.ensures in
+    c.keep.ensures
+    ∙ ap (λ (o : Out). record o { kept = kept_after c.two.result o.kept })
+    (c.send_due.ensures
     ∙ ap (λ (h : Hierarchy). record c.send_end.new.out {
       datagrams = sent_after c.send_end.new.out.datagrams
           (requests_due h c.number.result (Domain p) d c.told-link.result.0);
@@ -94,5 +108,5 @@ returns-clause-sent c =
     ∙ ap (λ (z : Standing). record out {
       datagrams = sent_after out.datagrams
           (told_end k.tree k.number p (g.records p) z);
-    }) standing)
-    ∙ parent_sends k.tree k.number g p d r out
+    }) standing))
+    ∙ parent_sends k.tree k.number g p d r out c.two.result left

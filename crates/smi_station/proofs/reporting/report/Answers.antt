@@ -46,11 +46,13 @@ returns-clause-out c =
     c.domain_of-domain.ensures.of c.members-before.ensures c.report.ensures.rest c.report.ensures.display
     (c.changes_of-changes.ensures ∙ ap (λ (o : Option Shown). if_any o) c.report.ensures.change)
     c.show_anew-is_spent.ensures.display c.show_anew-is_spent.ensures.changes
-    c.show_anew-is_spent.new.out
-    (c.show_anew-is_spent.ensures.sent
+    c.pass.new.self
+    (c.pass.ensures
+    ∙ ap (λ (o : Out). record o { passed = c.show_anew-is_spent.new.changes }) c.show_anew-is_spent.ensures.sent
     ∙ ap (λ (o : Out). record o {
       datagrams = sent_after o.datagrams
           (flat_map (shown_to_all d1.tree d1.number d1.watchers) c.show_anew-is_spent.new.changes);
+      passed = c.show_anew-is_spent.new.changes;
     }) c.requires.empty)
 
 pub returns-clause-room : goal.returns-clause-room

@@ -7,9 +7,10 @@ use Rattle.smi_publish.specs.Published.{HasRoom, conditions_of}
 use Rattle.smi_out.specs.Handed.{sent_after}
 use Rattle.smi_protocol.specs.Display.{Display}
 use Rattle.smi_protocol.specs.Showing.{is_spent}
+use Rattle.smi_protocol.specs.Step.{Out}
 use Rattle.smi_grants.specs.Kept.{grants_of}
 use Rattle.smi_display.specs.Displayed.{display_of}
-use Rattle.smi_station.specs.Stirring.{acted_by}
+use Rattle.smi_station.specs.Stirring.{acted_by, shown_anew}
 use Rattle.smi_station.proofs.Passing.{acted_first}
 use Rattle.smi_station.proofs.Stirred.{all_shown, shown_sends, stirred_room, unit_room}
 use Rattle.smi_station.proofs.stirring.stir_domain.Goals as goal
@@ -26,9 +27,25 @@ pub returns-clause-sent : goal.returns-clause-sent
 returns-clause-sent c =
     let d0 = c.args.display.now in
     let mid = acted_by d0.tree (conditions_of d0.published) c.args.domain c.args.found.now.action in
-    c.show_anew-is_spent.ensures.sent
-    ∙ ap (λ (xs : List Message). record c.args.out.now { datagrams = sent_after c.args.out.now.datagrams xs })
+    let changes = c.show_anew-is_spent.new.changes in
+    c.pass.ensures
+    ∙ ap (λ (o : Out). record o { passed = changes }) c.show_anew-is_spent.ensures.sent
+    ∙ ap (λ (xs : List Message). record c.args.out.now {
+      datagrams = sent_after c.args.out.now.datagrams xs;
+      passed = changes;
+    })
     (shown_sends d0 c.act-changes.new.display c.show_anew-is_spent.new.self (grants_of c.args.kept.now)
+    c.args.found.now.before mid c.args.domain c.act-changes.result c.show_anew-is_spent.new.changes
+    c.requires.domain.most c.act-changes.ensures.rest c.act-changes.ensures.display
+    (acted_first d0.tree (conditions_of d0.published) c.args.domain c.args.found.now.action)
+    c.act-changes.ensures.changes c.show_anew-is_spent.ensures.display c.show_anew-is_spent.ensures.changes)
+    ∙ ap (λ (xs : List Shown). record c.args.out.now {
+      datagrams = sent_after c.args.out.now.datagrams
+          (shown_anew d0.tree d0.number d0.published.boot (display_of d0)
+          (conditions_of c.show_anew-is_spent.new.self.published) (Some c.args.domain));
+      passed = xs;
+    })
+    (all_shown d0 c.act-changes.new.display c.show_anew-is_spent.new.self (grants_of c.args.kept.now)
     c.args.found.now.before mid c.args.domain c.act-changes.result c.show_anew-is_spent.new.changes
     c.requires.domain.most c.act-changes.ensures.rest c.act-changes.ensures.display
     (acted_first d0.tree (conditions_of d0.published) c.args.domain c.args.found.now.action)

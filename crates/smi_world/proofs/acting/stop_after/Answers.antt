@@ -13,7 +13,7 @@ returns-clause-makes c = λ h number s is.
     let what = happening c.args.what.now in
     let runs = sym c.is_stopped.ensures ∙ c.if-is_stopped.false in
     saved_restarts h number s c.args.post.now is c.start_again.result c.start_again.new.post c.start_again.new.left
-    c.make.new.left.kept what runs (saved_kept h number s c.args.post.now is c.make.new.left what runs
+    c.make.new.left.out.kept what runs (saved_kept h number s c.args.post.now is c.make.new.left what runs
     c.in_ok-make.ensures.leaves)
     (c.start_again.ensures.makes h number (saved_only h number s what)
     (saved_halts h number s c.args.post.now is (record { station = c.make.new.station; is_out = true }) what runs

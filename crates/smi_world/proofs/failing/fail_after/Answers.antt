@@ -1,4 +1,5 @@
-use Rattle.std.proofs.Common.{refl, ap}
+use Rattle.std.proofs.Common.{◌∙◌, refl, ap}
+use Rattle.smi_protocol.specs.Step.{nothing_out}
 use Rattle.smi_world.specs.Coming.{happening}
 use Rattle.smi_world.specs.Left.{Left}
 use Rattle.smi_world.proofs.Acts.{held_err, stays}
@@ -16,4 +17,4 @@ returns-clause-makes c = λ h number s is.
     after_makes h number s c.args.post.now is (record { station = c.make.new.station; is_out = _ }) c.make.new.left _
     (happening c.args.what.now) c.requires.runs refl
     c.in_ok-make.ensures.station c.in_ok-make.ensures.of c.in_ok-make.ensures.leaves (c.make.ensures.stored is.stored)
-    (ap (λ (l : Left). l.kept) c.left.view_is) refl c.new-left-inside.ensures c.clear.ensures
+    refl (c.clear_but_kept.ensures ∙ ap (λ (l : Left). record nothing_out { kept = l.out.kept }) c.left.view_is)

@@ -9,7 +9,7 @@ use Rattle.smi_station.specs.Core.{number_of, station_of, tree_of}
 use Rattle.smi_world.specs.Coming.{happening}
 use Rattle.smi_world.specs.Made.{Steps}
 use Rattle.smi_world.specs.declared.coming.Coming.{Coming}
-use Rattle.smi_world.proofs.Asked.{message_is}
+use Rattle.smi_world.proofs.Messages.{message_is}
 use Rattle.smi_world.proofs.stepping.step_with.Goals as goal
 
 pub returns-in-Datagram-clause-steps : goal.returns-in-Datagram-clause-steps

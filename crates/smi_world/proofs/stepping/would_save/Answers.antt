@@ -8,7 +8,7 @@ use Rattle.smi_protocol.specs.Step.{after, after_reading}
 use Rattle.smi_station.specs.Core.{number_of, station_of, tree_of}
 use Rattle.smi_world.specs.Coming.{happening}
 use Rattle.smi_world.specs.declared.coming.Coming.{Coming}
-use Rattle.smi_world.proofs.Asked.{message_is}
+use Rattle.smi_world.proofs.Messages.{message_is}
 use Rattle.smi_world.proofs.stepping.would_save.Goals as goal
 
 pub returns-in-Datagram : goal.returns-in-Datagram

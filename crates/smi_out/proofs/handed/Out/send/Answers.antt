@@ -18,6 +18,8 @@ returns-then-self-lt-MOST_SENT c =
       answers = take c.self.inside.answered c.self.inside.answers;
       issued = c.self.inside.issued;
       shown = c.self.inside.shown;
+      kept = c.self.inside.kept;
+      passed = c.self.inside.passed;
     })
     (take_more_set c.self.inside.datagrams c.self.inside.sent c.args.datagram (omega (arith, i.all))
     ∙ one_sent (take c.self.inside.sent c.self.inside.datagrams) c.args.datagram room))
@@ -35,5 +37,7 @@ returns-else-self-lt-MOST_SENT c =
       answers = take c.self.inside.answered c.self.inside.answers;
       issued = c.self.inside.issued;
       shown = c.self.inside.shown;
+      kept = c.self.inside.kept;
+      passed = c.self.inside.passed;
     })
     (none_sent (take c.self.inside.sent c.self.inside.datagrams) c.args.datagram full))

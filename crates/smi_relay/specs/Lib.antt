@@ -1,4 +1,0 @@
-pub mod Ending
-pub mod Errand
-pub mod Line
-pub mod Relay
