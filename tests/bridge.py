@@ -191,7 +191,7 @@ class Place:
         def look():
             try:
                 states = self.states()
-            except (OSError, self.lost):
+            except (OSError, *self.lost):
                 return "no answer"
             return {name: states.get(name) for name in wanted}
         return verdict.comes(case, look, wanted, SOON)
