@@ -219,6 +219,26 @@ def crate_cases():
             yield "PROOF.md: what is claimed of %s%s" % (name, ", but " + " ".join(lost) if lost else ""), not lost
 
 
+def weaker_cases():
+    """docs/PROOFS-BY-CRATE.md names edits of the crates beside them, and files and lemmas that are there."""
+    text = read("docs", "PROOFS-BY-CRATE.md")
+    count = 0
+    for of, edits in tables(section(text, "Weaker edits")):
+        crates = re.findall(r"`(\w+)`", of)
+        for name in re.findall(r"`(\w+)`", edits):
+            count += 1
+            yield "PROOFS-BY-CRATE.md: %s has %s" % (of, name), any(
+                is_edit(it, name) or in_code(name, it, "") for it in crates)
+    yield verdict.case("PROOFS-BY-CRATE.md names weaker edits", count, 20, ">")
+    whole = "".join(read(it) for folder in ("src/**/*.rt", "specs/**/*.antt", "proofs/**/*.antt")
+                    for it in places.found_by("crates/*/" + folder))
+    proofs = {os.path.basename(it)[:-len(".antt")] for it in places.found_by("crates/*/*/**/*.antt")}
+    edits = {os.path.basename(it)[:-len(".edit")] for it in places.found_by("crates/*/*/*.edit")}
+    found = set(re.findall(r"\w+", whole)) | proofs | edits
+    for name in sorted({it for it in re.findall(r"`(\w+)`", text) if "_" in it or it[0].isupper()}):
+        yield "PROOFS-BY-CRATE.md: there is %s" % name, name in found
+
+
 def spread_cases():
     """docs/CHANGING.md lists all files in which a thing is spread, and names none that is not there."""
     text = section(read("docs", "CHANGING.md"), "Where a thing is spread")
@@ -657,6 +677,7 @@ def cases(program, only):
     yield from worked_cases()
     yield from local_cases()
     yield from crate_cases()
+    yield from weaker_cases()
     yield from spread_cases()
     yield from proof_cases()
     yield from planted_cases()

@@ -168,8 +168,9 @@ def picture_cases(program, folder):
         yield from figures(screen)
         screen.end()
         screen = screens.Screen(program, tree, screens.store_of(folder, "screen"))
-        yield "picture: a screen that begins again", screen.is_up() and screen.waits_for(
-            lambda picture: screens.states_of(picture) == wanted and screens.holders_of(picture) == held)
+        yield "picture: a screen that begins again is up", screen.is_up()
+        yield screen.comes("picture: what it then shows",
+                           lambda picture: (screens.states_of(picture), screens.holders_of(picture)), (wanted, held))
         crews["B"].kill()
         before = screens.by_name(screen.picture()["domains"])["TPC"]["told"]["heard"]
         time.sleep(2.5)
