@@ -165,7 +165,11 @@ fn found_over<S: OnDisks<Disks = Disks>>(alloc: Global, tree: &Tree, store: S) -
 }
 
 /// The rows that the next open finds, once the machine is back.
-fn rows_after<S: OnDisks<Disks = Disks>>(alloc: Global, tree: &Tree, disks: Disks) -> Option<Found> {
+fn rows_after<S: OnDisks<Disks = Disks>>(
+    alloc: Global,
+    tree: &Tree,
+    disks: Disks,
+) -> Option<Found> {
     match S::open(alloc, back(disks)) {
         Ok(store) => found_over(alloc, tree, store),
         Err(_) => None,

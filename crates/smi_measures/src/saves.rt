@@ -1,6 +1,6 @@
 //! Saves of stable rows, beside plain writes of the same bytes.
 
-use smi_rig::{InFile, opened};
+use smi_rig::{FileStable, InFile};
 use smi_rows::{Key, Stable, StoreFault};
 use std::fs;
 use std::io::{self, Write};
@@ -44,19 +44,15 @@ fn save_all<S: Stable>(store: &mut S, nth: u32, saves: u32, rows: u32) -> Result
     Ok(())
 }
 
-/// How long so many saves take over SQL, in a store that has each of so many keys once.
-fn save_time(rt: &HostRuntime, path: &str, saves: u32, rows: u32) -> io::Result<Duration> {
-    over_store(rt, opened(rt, path)?, saves, rows)
-}
-
+/// How long so many saves take in a store that has each of so many keys once.
 // Over any store, since each function that names the store of SQLite is dear to prove.
-fn over_store<S: InFile>(
+fn save_time<S: InFile>(
     rt: &HostRuntime,
-    store: S,
+    path: &str,
     saves: u32,
     rows: u32,
 ) -> io::Result<Duration> {
-    let mut store = store;
+    let mut store = S::open(rt, path)?;
     let time = timed(rt, &mut store, saves, rows);
     store.close()?;
     time
@@ -99,7 +95,7 @@ pub fn measure(
     saves: u32,
     rows: u32,
 ) -> io::Result<()> {
-    let saved = save_time(rt, store, saves, rows)?;
+    let saved = save_time::<FileStable>(rt, store, saves, rows)?;
     let written = write_time(rt, plain, saves)?;
     println!(rt;
         "{saves} saves: store {} us, plain writes {} us",

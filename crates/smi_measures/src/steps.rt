@@ -3,7 +3,7 @@
 use smi_message::encode;
 use smi_out::Out;
 use smi_protocol::{Event, Heard, Order};
-use smi_rig::{InFile, opened};
+use smi_rig::{FileStable, InFile};
 use smi_rows::{MemoryStable, Stable};
 use smi_station::Station;
 use smi_tree::Tree;
@@ -402,28 +402,19 @@ fn stored_over_tree(
     count: u32,
 ) -> io::Result<(Duration, Counted)> {
     match Tree::read(rt.alloc(), bytes) {
-        Ok(tree) => stored_in_file(rt, &tree, path, count),
+        Ok(tree) => stored_in_file::<FileStable>(rt, &tree, path, count),
         Err(_) => Err(io::Error::other("a faulty tree")),
     }
 }
 
-fn stored_in_file(
+// Over any store, since each function that names the store of SQLite is dear to prove.
+fn stored_in_file<S: InFile>(
     rt: &HostRuntime,
     tree: &Tree,
     path: &str,
     count: u32,
 ) -> io::Result<(Duration, Counted)> {
-    stored_at_station(rt, tree, opened(rt, path)?, count)
-}
-
-// Over any store, since each function that names the store of SQLite is dear to prove.
-fn stored_at_station<S: InFile>(
-    rt: &HostRuntime,
-    tree: &Tree,
-    store: S,
-    count: u32,
-) -> io::Result<(Duration, Counted)> {
-    match Station::open(rt.alloc(), tree, 1, store) {
+    match Station::open(rt.alloc(), tree, 1, S::open(rt, path)?) {
         Ok(mut station) => {
             let time = stored_at_desk(rt, tree, &mut station, count);
             station.into_stable().close()?;

@@ -178,9 +178,7 @@ fn opened<'a>(
 
 fn has_boot(rows: &[SavedRow]) -> bool {
     rows.len() == 1
-        && rows
-            .iter()
-            .all(|row| row.key == key(1, 0, 0) && row.bytes.as_slice() == BOOT)
+        && rows.iter().all(|row| row.key == key(1, 0, 0) && row.bytes.as_slice() == BOOT)
 }
 
 /// The boot is as before, and the station opens.

@@ -5,7 +5,7 @@ ghost use Rattle.sqlite_disk.specs.Memory.{memory_bytes, memory_is_usable};
 
 use smi_rows::Stable;
 use smi_stable::SqliteStable;
-use sqlite::{Connection, FileStore, Options};
+use sqlite::{Alter, Connection, FileStore, Options};
 use sqlite_disk::{Crash, Disk, Files, Memory};
 use std::alloc::Global;
 
@@ -25,31 +25,49 @@ pub trait OnDisks: Stable + Sized {
     fn close(self) -> Self::Disks;
 }
 
-impl<D: Disk + Drop> OnDisks for SqliteStable<FileStore<D>> {
+/// A database on disks. All that is done with its store is done over any, since each function that names one is dear to
+/// prove.
+pub trait Database: Alter + Drop + Sized {
+    /// What it lies on.
+    type Disks: Drop;
+
+    /// A connection to the database on the disks, or the disks.
+    fn connect(alloc: Global, disks: Self::Disks) -> Result<Connection<Self>, Self::Disks>;
+
+    /// Its disks.
+    fn into_disks(self) -> Self::Disks;
+}
+
+impl<D: Disk + Drop> Database for FileStore<D> {
     type Disks = Files<D>;
 
-    fn open(alloc: Global, disks: Files<D>) -> Result<SqliteStable<FileStore<D>>, Files<D>> {
+    fn connect(alloc: Global, disks: Files<D>) -> Result<Connection<FileStore<D>>, Files<D>> {
         if !disks.may_be_used() {
             return Err(disks);
         }
         match Connection::open_files(alloc, disks, Options::new(1)) {
-            Ok(connection) => adopted(connection),
+            Ok(connection) => Ok(connection),
             Err((_, left)) => Err(left.into_files()),
         }
     }
 
-    fn close(self) -> Files<D> {
-        self.release().into_store().close()
+    fn into_disks(self) -> Files<D> {
+        self.close()
     }
 }
 
-/// The store over a connection, or the disks.
-fn adopted<D: Disk + Drop>(
-    connection: Connection<FileStore<D>>,
-) -> Result<SqliteStable<FileStore<D>>, Files<D>> {
-    match SqliteStable::adopt(connection) {
-        Ok(store) => Ok(store),
-        Err((_, connection)) => Err(connection.into_store().close()),
+impl<S: Database> OnDisks for SqliteStable<S> {
+    type Disks = S::Disks;
+
+    fn open(alloc: Global, disks: S::Disks) -> Result<SqliteStable<S>, S::Disks> {
+        match SqliteStable::adopt(S::connect(alloc, disks)?) {
+            Ok(store) => Ok(store),
+            Err((_, connection)) => Err(connection.into_store().into_disks()),
+        }
+    }
+
+    fn close(self) -> S::Disks {
+        self.release().into_store().into_disks()
     }
 }
 

@@ -10,6 +10,6 @@ mod file;
 mod rows;
 
 pub use alike::{are_handed_out, are_same};
-pub use disks::{OnDisks, OverSql, back, blank};
-pub use file::{InFile, opened, save_rows};
+pub use disks::{Database, OnDisks, OverSql, back, blank};
+pub use file::{FileStable, InFile, ToFile, save_rows};
 pub use rows::written;
