@@ -44,9 +44,13 @@ fn save_all<S: Stable>(store: &mut S, nth: u32, saves: u32, rows: u32) -> Result
     Ok(())
 }
 
-/// How long so many saves take in a store that has each of so many keys once.
-// Over any store, since each function that names the store of SQLite is dear to prove.
-fn save_time<S: InFile>(
+/// How long so many saves take over SQL, in a store that has each of so many keys once.
+fn save_time(rt: &HostRuntime, path: &str, saves: u32, rows: u32) -> io::Result<Duration> {
+    save_time_over::<FileStable>(rt, path, saves, rows)
+}
+
+// Over any store, since whatever names the store of SQLite is dear to prove.
+fn save_time_over<S: InFile>(
     rt: &HostRuntime,
     path: &str,
     saves: u32,
@@ -95,7 +99,7 @@ pub fn measure(
     saves: u32,
     rows: u32,
 ) -> io::Result<()> {
-    let saved = save_time::<FileStable>(rt, store, saves, rows)?;
+    let saved = save_time(rt, store, saves, rows)?;
     let written = write_time(rt, plain, saves)?;
     println!(rt;
         "{saves} saves: store {} us, plain writes {} us",

@@ -402,13 +402,22 @@ fn stored_over_tree(
     count: u32,
 ) -> io::Result<(Duration, Counted)> {
     match Tree::read(rt.alloc(), bytes) {
-        Ok(tree) => stored_in_file::<FileStable>(rt, &tree, path, count),
+        Ok(tree) => stored_in_file(rt, &tree, path, count),
         Err(_) => Err(io::Error::other("a faulty tree")),
     }
 }
 
-// Over any store, since each function that names the store of SQLite is dear to prove.
-fn stored_in_file<S: InFile>(
+fn stored_in_file(
+    rt: &HostRuntime,
+    tree: &Tree,
+    path: &str,
+    count: u32,
+) -> io::Result<(Duration, Counted)> {
+    stored_at_station::<FileStable>(rt, tree, path, count)
+}
+
+// Over any store, since whatever names the store of SQLite is dear to prove.
+fn stored_at_station<S: InFile>(
     rt: &HostRuntime,
     tree: &Tree,
     path: &str,
