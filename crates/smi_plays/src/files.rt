@@ -2,10 +2,12 @@
 
 use crate::playing::are_played;
 use crate::store::{Closing, Played};
-use smi_rig::OverSql;
+use smi_rig::Database;
 use smi_schedule::{draw_schedule, read_schedule};
+use smi_stable::SqliteStable;
 use smi_tree::Tree;
-use sqlite_disk::Memory;
+use sqlite::FileStore;
+use sqlite_disk::{Files as Disks, Memory};
 use std::alloc::Global;
 use std::rt::Files;
 use std::{fs, io};
@@ -46,9 +48,17 @@ fn are_whole<Q: Played + Drop>(alloc: Global, tree: &[u8], items: Items<'_>) -> 
     }
 }
 
+fn are_whole_over<S: Database<Disks = Disks<Memory>>>(
+    alloc: Global,
+    tree: &[u8],
+    items: Items<'_>,
+) -> bool {
+    are_whole::<Closing<SqliteStable<S>>>(alloc, tree, items)
+}
+
 // Whatever names the store of SQLite is dear to prove too, so it does nothing else.
 fn are_whole_over_sql(alloc: Global, tree: &[u8], items: Items<'_>) -> bool {
-    are_whole::<Closing<OverSql<Memory>>>(alloc, tree, items)
+    are_whole_over::<FileStore<Memory>>(alloc, tree, items)
 }
 
 /// The same of the tree in a file.
