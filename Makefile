@@ -160,15 +160,9 @@ tools-test:
 costs:
 	@python3 tools/costs.py $(CRATE)
 
-bench: bin/smi bin/smi_bench bin/smi_trial
-	python3 tests/bench.py bin/smi bin/smi_bench bin/smi_trial
+bench: bin/smi bin/smi_trial
+	python3 tests/bench.py bin/smi bin/smi_trial
 	python3 tests/bench_nodes.py bin/smi
-
-bin/smi_bench: $(SOURCES)
-	@python3 tools/libraries.py --lanes $(LANES) smi_bench
-	cd crates/smi_bench && rt run < /dev/null
-	mkdir -p bin
-	cp crates/smi_bench/out/smi_bench bin/smi_bench
 
 bin/smi_trial: $(SOURCES)
 	@python3 tools/libraries.py --lanes $(LANES) smi_trial

@@ -46,8 +46,9 @@ LOOKS = (" show ", "tools/rows.py", "tools/status.py")
 UNSEEN = 8
 # A part of a document, as others name it.
 QUOTED = re.compile(r"(docs/[\w-]+\.md|README\.md), \"([^\"]+)\"")
-# How the names of crates end that are no part of the program.
-NO_PROGRAM = ("_tests", "_samples", "_bench", "_trial")
+# How the names of crates end that are no part of the program: tests, and trials.
+OF_TESTS = ("_tests", "_samples")
+NO_PROGRAM = (*OF_TESTS, "_bounds", "_lists", "_measures", "_plays", "_refused", "_rig", "_trial")
 # Where a page has its screen.
 SCREEN = "127.0.0.1:8080"
 # How often a page is played in one folder.
@@ -197,10 +198,11 @@ def crate_cases():
     rows = tables(section(architecture, "The crates"))
     yield verdict.case(
         "ARCHITECTURE.md has the crates, in the order of crates.txt", [it[0].strip("`") for it in rows], list(crates))
-    layers = re.search(r"^```\n(the program.*?)^```$", architecture, flags=re.M | re.S)
-    heights = {name: -place for place, line in enumerate(layers[1].splitlines() if layers else [])
+    # the second picture stands above the first
+    layers = "".join(reversed(re.findall(r"^```\n(the (?:program|trials) .*?)^```$", architecture, flags=re.M | re.S)))
+    heights = {name: -place for place, line in enumerate(layers.splitlines())
                for name in re.findall(r"\bsmi\w*", line[18:])}
-    beside = {name for name in crates if name.endswith(NO_PROGRAM)}
+    beside = {name for name in crates if name.endswith(OF_TESTS)}
     yield verdict.case("ARCHITECTURE.md draws the crates", set(heights), set(crates) - beside)
     yield "ARCHITECTURE.md: layers stand on lower ones", all(
         heights[name] > heights[it] for name in heights for it in crates.get(name, ()) if it in heights)

@@ -1,7 +1,7 @@
 """Schedules played on stations over three stores, beside the world: the plays of schedules.txt, and drawn ones.
 
 What smi_trial says of each: whether the stations over the three stores hear, hand out and save the same at every item,
-and leave what the world leaves (crates/smi_trial/src/plays.rt). What the world leaves is what `smi sim` prints, which
+and leave what the world leaves (crates/smi_plays). What the world leaves is what `smi sim` prints, which
 schedules.py holds against what is written down.
 """
 
