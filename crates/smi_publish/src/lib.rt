@@ -2,7 +2,7 @@
 //!
 //! A [`Publisher`] is made when a station starts: every unit and device that the station keeps is in
 //! its class's first state, at sequence 0 of the station's boot. After that an object changes in three
-//! ways: a device is told its state ([`Publisher::report`]), the devices of a domain move by an action
+//! ways: a device reports its state ([`Publisher::report`]), the devices of a domain move by an action
 //! ([`Publisher::run_action`]), and a unit follows the states of its members
 //! ([`Publisher::evaluate`]). What a step shows anew is gathered in [`Changes`].
 //!

@@ -34,7 +34,7 @@ impl Fault {
 /// Why a row was not read.
 #[derive(Clone, Copy, Debug, PartialEq, Eq, Error)]
 pub enum RowFault {
-    /// The [number](Fault::number) of the first test that the row fails.
+    /// The [code](Fault::code) of the first test that the row fails.
     #[error("a row has fault {0}")]
     Code(u16),
     /// Memory ran out.

@@ -15,7 +15,7 @@ use thiserror::Error;
 /// Why a schedule was not read.
 #[derive(Clone, Copy, Debug, PartialEq, Eq, Error)]
 pub enum ScheduleFault {
-    /// The line of this number, counting all lines from 1, has the [fault](Fault::number) of the second. Line 0 is
+    /// The line of this number, counting all lines from 1, has the [fault](Fault::code) of the second. Line 0 is
     /// the schedule itself.
     #[error("schedule line {0} fault {1}")]
     Line(u64, u16),

@@ -106,7 +106,7 @@ impl<T: Drop> From<AllocFailed<T>> for Refusal {
 /// Why a tree file was not read.
 #[derive(Clone, Copy, Debug, PartialEq, Eq, Error)]
 pub enum TreeFault {
-    /// The line of this number, counting all lines from 1, has the [fault](Fault::number) of the second. Line 0 is
+    /// The line of this number, counting all lines from 1, has the [fault](Fault::code) of the second. Line 0 is
     /// the file itself.
     #[error("tree line {0} fault {1}")]
     Line(u64, u16),

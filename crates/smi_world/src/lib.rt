@@ -1,6 +1,6 @@
 //! A simulated world: the stations of a tree, each over a store in memory, and the traces of schedules.
 //!
-//! What an item of a schedule makes of the world, and what it leaves, is defined in `smi_law` (specs/Schedule). A
+//! What an item of a schedule makes of the world, and what it leaves, is defined in `smi_protocol` (specs/Schedule). A
 //! [`World`] makes one item after the other, and [`run`] makes those of a whole schedule; every trace is safe at every
 //! moment.
 //!

@@ -24,7 +24,7 @@ use std::io::{Read, Write};
 pub enum Streamed {
     /// All lines of the schedule are made and written.
     Ended,
-    /// All lines before the one of this number, from 1, are; it has the [fault](Fault::number) of the second.
+    /// All lines before the one of this number, from 1, are; it has the [fault](Fault::code) of the second.
     Faulty(u64, u16),
     /// A read failed. The lines before are made and written.
     ReadFault,
