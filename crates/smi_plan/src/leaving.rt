@@ -1,4 +1,4 @@
-//! What a step leaves in a trace by its save, from what was found out to plan it.
+//! What a step leaves in a trace by its save, where the step is planned.
 
 ghost use Rattle.std.specs.Prelude.{◌≡◌, false, ℕ};
 ghost use Rattle.smi_grant.specs.Holder.{is_free};
