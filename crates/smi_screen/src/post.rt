@@ -147,7 +147,8 @@ impl Post {
         station: &mut Station<'_, S>,
         link: &mut L,
     ) -> Result<Came, Ended>
-        ensures looks { Looks (StepsTo S.is_honest S.is_open S.rows S.may_find S.saves S.failures) self.old.operator
+        ensures looks { Looks (StepsTo S.is_honest S.is_open S.rows S.may_find S.saves S.failures S.doubts)
+            self.old.operator
             (view station.old (shown_by L.received L.handed L.failures link.old) self.old.picture)
             (view station.new (shown_by L.received L.handed L.failures link.new) self.new.picture)
             (has_stopped result) }
@@ -207,7 +208,8 @@ impl Post {
         station: &mut Station<'_, S>,
         link: &mut L,
     ) -> Result<(), Ended>
-        ensures looks { Looks (StepsTo S.is_honest S.is_open S.rows S.may_find S.saves S.failures) self.old.operator
+        ensures looks { Looks (StepsTo S.is_honest S.is_open S.rows S.may_find S.saves S.failures S.doubts)
+            self.old.operator
             (view station.old (shown_by L.received L.handed L.failures link.old) self.old.picture)
             (view station.new (shown_by L.received L.handed L.failures link.new) self.new.picture)
             (has_stopped result) }
@@ -227,7 +229,8 @@ impl Post {
         link: &mut L,
         turns: u32,
     ) -> Result<(), Ended>
-        ensures looks { Looks (StepsTo S.is_honest S.is_open S.rows S.may_find S.saves S.failures) self.old.operator
+        ensures looks { Looks (StepsTo S.is_honest S.is_open S.rows S.may_find S.saves S.failures S.doubts)
+            self.old.operator
             (view station.old (shown_by L.received L.handed L.failures link.old) self.old.picture)
             (view station.new (shown_by L.received L.handed L.failures link.new) self.new.picture)
             (has_stopped result) }
@@ -251,7 +254,7 @@ impl Post {
         link: &mut L,
         turns: Option<u32>,
     ) -> Result<(), Ended>
-        ensures { Looks (StepsTo S.is_honest S.is_open S.rows S.may_find S.saves S.failures) self.old.operator
+        ensures { Looks (StepsTo S.is_honest S.is_open S.rows S.may_find S.saves S.failures S.doubts) self.old.operator
             (view station.old (shown_by L.received L.handed L.failures link.old) self.old.picture)
             (view station.new (shown_by L.received L.handed L.failures link.new) self.new.picture)
             (has_stopped result) }

@@ -10,7 +10,8 @@ use std::alloc::Global;
 impl<'a> Core<'a> {
     ghost use Rattle.std.specs.Prelude.{◌≡◌, ◌≤◌, ◌<◌, ◌+◌, IfErr, OnErr, OnOk};
     ghost use Rattle.smi_rows.specs.Store.{IsSame};
-    ghost use Rattle.smi_load.specs.Starting.{IfStoreFailed, IfUnchanged, IsToldAsMemory};
+    ghost use Rattle.smi_load.specs.Starting.{IfCertain, IfInDoubt, IfStoreFailed, IfStoreUnfailed};
+    ghost use Rattle.smi_load.specs.Starting.{IfUnchanged, IsToldAsMemory};
     ghost use Rattle.smi_load.specs.Stored.{Restarts};
     ghost use Rattle.smi_station.specs.Core.{IsOf, IsStoredIn, begun, number_of, station_of, tree_of};
     ghost use Rattle.smi_station.specs.Readers.{restarted};
@@ -30,6 +31,9 @@ impl<'a> Core<'a> {
         ensures saves { S.saves store.new ≤ S.saves store.old + 1 }
         ensures failures { S.failures store.old ≤ S.failures store.new }
         ensures cause { IfStoreFailed result (S.failures store.old < S.failures store.new) }
+        ensures calm { IfStoreUnfailed result (S.failures store.new ≡ S.failures store.old) }
+        ensures doubt { IfInDoubt result (S.doubts store.old < S.doubts store.new) }
+        ensures sure { IfCertain result (S.doubts store.new ≡ S.doubts store.old) }
         ensures fault { IfErr result IsToldAsMemory }
     {
         match start(alloc, self.kept.tree(), self.kept.number(), store) {
@@ -45,7 +49,8 @@ impl<'a> Core<'a> {
 impl<'a, S: Stable> Station<'a, S> {
     ghost use Rattle.std.specs.Prelude.{◌≡◌, ◌≤◌, ◌<◌, ◌+◌, IfErr, OnErr, OnOk};
     ghost use Rattle.smi_rows.specs.Store.{IsSame};
-    ghost use Rattle.smi_load.specs.Starting.{IfStoreFailed, IfUnchanged, IsToldAsMemory};
+    ghost use Rattle.smi_load.specs.Starting.{IfCertain, IfInDoubt, IfStoreFailed, IfStoreUnfailed};
+    ghost use Rattle.smi_load.specs.Starting.{IfUnchanged, IsToldAsMemory};
     ghost use Rattle.smi_load.specs.Stored.{Restarts};
     ghost use Rattle.smi_station.specs.Core.{IsOf, IsStoredIn, begun, number_of, station_of, tree_of};
     ghost use Rattle.smi_station.specs.Readers.{restarted};
@@ -71,6 +76,9 @@ impl<'a, S: Stable> Station<'a, S> {
         ensures saves { S.saves self.new.store ≤ S.saves self.old.store + 1 }
         ensures failures { S.failures self.old.store ≤ S.failures self.new.store }
         ensures cause { IfStoreFailed result (S.failures self.old.store < S.failures self.new.store) }
+        ensures calm { IfStoreUnfailed result (S.failures self.new.store ≡ S.failures self.old.store) }
+        ensures doubt { IfInDoubt result (S.doubts self.old.store < S.doubts self.new.store) }
+        ensures sure { IfCertain result (S.doubts self.new.store ≡ S.doubts self.old.store) }
         ensures fault { IfErr result IsToldAsMemory }
     {
         self.core.restart(alloc, &mut self.store)

@@ -112,8 +112,9 @@ impl<'a, S> Station<'a, S> {
 impl<'a, S: Stable> Station<'a, S> {
     ghost use Rattle.std.specs.Prelude.{◌≤◌, ◌<◌, ◌+◌, ◌⊎◌, IfErr, IfOk, OnOk};
     ghost use Rattle.smi_rows.specs.Store.{Rows, IsSame};
-    ghost use Rattle.smi_protocol.specs.Loading.{Opens};
-    ghost use Rattle.smi_load.specs.Starting.{IfInDoubt, IfStoreFailed, IfUnchanged, IsToldAsMemory, after_start};
+    ghost use Rattle.smi_protocol.specs.Loading.{IsStation, Opens};
+    ghost use Rattle.smi_load.specs.Starting.{IfCertain, IfInDoubt, IfStoreFailed, IfStoreUnfailed};
+    ghost use Rattle.smi_load.specs.Starting.{IfUnchanged, IsToldAsMemory, after_start};
     ghost use Rattle.smi_station.specs.Core.{IsOf, IsStoredIn, begun};
     ghost use Rattle.smi_station.specs.Readers.{core_in, store_in};
     ghost use Rattle.std.specs.Prelude.{◌≡◌, true, false, Err};
@@ -141,6 +142,9 @@ impl<'a, S: Stable> Station<'a, S> {
     ) -> Result<Station<'a, S>, (OpenFault, S)>
         ensures opens { S.is_honest (store_in result) → Opens tree.now number (S.rows store) (begun (core_in result)) }
         ensures of { IfOk (core_in result) (IsOf tree.now number) }
+        // Whatever the store is, it is given back as it was where the tree has no such station.
+        ensures stranger { IsStation tree.now number false
+            → (core_in result ≡ Err OpenFault.NoSuchStation) × (store_in result ≡ store) }
         // They then say all that the station keeps.
         ensures stored { S.is_honest (store_in result) → IfOk (core_in result) (IsStoredIn (S.rows (store_in result))) }
         ensures saved { S.is_honest (store_in result)
@@ -159,6 +163,9 @@ impl<'a, S: Stable> Station<'a, S> {
         ensures saves { S.saves (store_in result) ≤ S.saves store + 1 }
         ensures failures { S.failures store ≤ S.failures (store_in result) }
         ensures cause { IfStoreFailed (core_in result) (S.failures store < S.failures (store_in result)) }
+        ensures calm { IfStoreUnfailed (core_in result) (S.failures (store_in result) ≡ S.failures store) }
+        ensures doubt { IfInDoubt (core_in result) (S.doubts store < S.doubts (store_in result)) }
+        ensures sure { IfCertain (core_in result) (S.doubts (store_in result) ≡ S.doubts store) }
         ensures fault { IfErr (core_in result) IsToldAsMemory }
     {
         let mut store = store;
@@ -183,7 +190,8 @@ impl<'a, S: Stable> Station<'a, S> {
             → Steps self.old.core self.new.core (after_event (tree_of self.old.core) (number_of self.old.core)
             (station_of self.old.core) event.entry) out.new result }
         ensures store { self.old.core.is_stopped ≡ false
-            → Leaves S.is_honest S.is_open S.rows S.may_find S.saves S.failures self.old.store self.new.store result
+            → Leaves S.is_honest S.is_open S.rows S.may_find S.saves S.failures S.doubts self.old.store self.new.store
+                result
             (after_event (tree_of self.old.core) (number_of self.old.core) (station_of self.old.core)
             event.entry).saved }
         // Memory is wanted for a row that is saved, or for a new watcher, and for nothing else.
