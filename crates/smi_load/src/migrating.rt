@@ -22,7 +22,8 @@ use std::alloc::Global;
 /// many they were. A row of another station is left alone, and so is one in its newest schema.
 ///
 /// `NoSuchStation` comes first, then the fault of the least key whose row is refused, both before anything is saved.
-/// A fault of the store, and `Memory`, come where they come, and leave rows that say what they said.
+/// A fault of the store, and `Memory`, come where they come, and leave rows that say what they said. The store failed
+/// where its fault is answered, and nowhere else; that memory was refused where `Memory` is, tests alone see.
 pub fn migrate<S: Stable>(
     alloc: Global,
     tree: &Tree,

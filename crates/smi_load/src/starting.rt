@@ -22,7 +22,7 @@ use std::alloc::Global;
 /// be saved.
 ///
 /// The faults stand in the order of [`kept_of_rows`]; a fault of the store, and `Memory`, come where they come. The
-/// rows stay.
+/// rows stay. That memory was refused where `Memory` is answered, tests alone see.
 pub fn loaded_kept<'a, S: Stable>(
     alloc: Global,
     tree: &'a Tree,

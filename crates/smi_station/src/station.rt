@@ -132,8 +132,9 @@ impl<'a, S: Stable> Station<'a, S> {
     /// A fault gives the store back. They are found in this order: `NoSuchStation`, where the tree has no such
     /// station; `Row`, with the least key whose row is refused and the code of the test that it fails; `BootsSpent`,
     /// where the station has started 4,000,000,000 times. `Store`, where the store failed, and `Memory`, where memory
-    /// was refused, come where they come. After each the rows are as before, but that after an unsure save the boot
-    /// may be one higher.
+    /// was refused, come where they come; that it was refused then, tests alone see. After each the rows are as before,
+    /// but that after an unsure save the boot may be one higher. The store failed where `Store` is answered, and
+    /// nowhere else.
     pub fn open(
         alloc: Global,
         tree: &'a Tree,
@@ -183,8 +184,9 @@ impl<'a, S: Stable> Station<'a, S> {
     /// rows are unchanged; `Memory` comes only where a row is saved, or where a watch adds an entry, so ticks, reports
     /// and all that is refused never answer it. `Stopped` is answered by a station that has stopped, before all other
     /// tests, and where the store answered `Unsure`: the station has then stopped, and its rows are as before or as
-    /// after the step. After each of the three nothing is handed out. A stop at any moment of a step leaves the rows
-    /// as before or as after it.
+    /// after the step. The store failed where `NotStored` is answered, or `Stopped` by a station that ran, and nowhere
+    /// else; that memory was refused where `Memory` is, tests alone see. After each of the three nothing is handed out.
+    /// A stop at any moment of a step leaves the rows as before or as after it.
     pub fn step(&mut self, event: Event<'_>, out: &mut Out) -> Result<Heard, StepFault>
         ensures step { self.old.core.is_stopped ≡ false
             → Steps self.old.core self.new.core (after_event (tree_of self.old.core) (number_of self.old.core)
