@@ -112,8 +112,10 @@ fn housed<R: Net<Listener = TcpListener, Stream = TcpStream> + AllocGlobal>(
         window,
         console,
     } = Box::into_inner(stage);
-    let house = Box::new(alloc, House::new(alloc, window, gate, console))?;
-    Ok((picture, house))
+    match Box::new(alloc, House::new(alloc, window, gate, console)) {
+        Ok(house) => Ok((picture, house)),
+        Err(_) => Err(Ended::Memory),
+    }
 }
 
 /// What a screen works with, in a box, since whoever drops one is dear to prove.
@@ -130,7 +132,10 @@ fn posted<R: Net<Listener = TcpListener, Stream = TcpStream> + Wait + Clock + Al
     let (picture, house) = housed(rt, tree, keys, plan)?;
     let pace = Pace::new(tree.object_count(), tree.domain_count());
     let post = Post::new(operator, start, pace, picture, house);
-    Ok(Box::new(rt.alloc(), post)?)
+    match Box::new(rt.alloc(), post) {
+        Ok(post) => Ok(post),
+        Err(_) => Err(Ended::Memory),
+    }
 }
 
 /// The link of a station, which takes its peers out of the plan.
