@@ -145,7 +145,7 @@ pub rests : {T X : Type 0} (is_honest is_open : T → Type 0) (rows : T → Rows
     (saves failures doubts : T → ℕ)
     → ((store : T) → is_honest store → is_open store → (x : Rows) → may_find store x → IsSame x (rows store))
     → (store : T) (r : Result X StepFault) → IsRest r → Leaves is_honest is_open rows may_find saves failures doubts
-        store
+    store
     store r None
 rests is_honest is_open rows may_find saves failures doubts finds store (Ok x) rest = record {
   saved = λ honest opened. (opened, λ k. refl);

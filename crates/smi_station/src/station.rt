@@ -193,7 +193,7 @@ impl<'a, S: Stable> Station<'a, S> {
             (station_of self.old.core) event.entry) out.new result }
         ensures store { self.old.core.is_stopped ≡ false
             → Leaves S.is_honest S.is_open S.rows S.may_find S.saves S.failures S.doubts self.old.store self.new.store
-                result
+            result
             (after_event (tree_of self.old.core) (number_of self.old.core) (station_of self.old.core)
             event.entry).saved }
         // Memory is wanted for a row that is saved, or for a new watcher, and for nothing else.

@@ -63,7 +63,8 @@ steps_on : (front : List Shown) (row : Shown) (o : ℕ)
 steps_on front row o newer =
     subst (λ (x : Option Shown). IsReadAfter (last_row o front) x) (sym (last_more front row o))
     (placed (last_row o front) row (row.object == o)
-    (λ is. subst (λ (n : ℕ). is_newer_than_last (last_row n front) row.version ≡ true) (eqb-true row.object o is) newer))
+    (λ is. subst (λ (n : ℕ). is_newer_than_last (last_row n front) row.version ≡ true) (eqb-true row.object o is)
+    newer))
 
 -- more rows after a beginning
 goes_on : (front more rest : List Shown) (o : ℕ) → IsRising (front ++ (more ++ rest))

@@ -17,7 +17,8 @@ pub fn readings_rise<J: BoardId>(
     glance: &mut Glance<J>,
     object: u16,
 ) -> Result<Option<(Option<Shown>, Option<Shown>)>, NoReading>
-    ensures { IsRising board.now.publications → IfOk result (λ found. IfSome found (λ both. IsReadAfter both.0 both.1)) }
+    ensures { IsRising board.now.publications
+        → IfOk result (λ found. IfSome found (λ both. IsReadAfter both.0 both.1)) }
 {
     let first = glance.read(object)?;
     let second = glance.read(object)?;
