@@ -1,7 +1,7 @@
 -- What the state that a step showed leaves of the board.
-use Rattle.std.specs.Prelude.{◌≡◌, ◌⊎◌, ◌<◌, ◌++◌, ◌∷◌, [], Option, Some, None}
+use Rattle.std.specs.Prelude.{◌≡◌, ◌⊎◌, ◌++◌, ◌∷◌, [], Option, Some, None}
 use Rattle.smi_grant.specs.declared.Shown.{Shown}
-use Rattle.smi_view.specs.Shows.{BoardShows}
+use Rattle.smi_view.specs.Shows.{BoardShows, IsRefused}
 
 -- it is published after all that was pending; where none was shown, nothing is
 abbrev pub Publishes : Option Shown → BoardShows → BoardShows → Type 0
@@ -17,4 +17,4 @@ abbrev pub Refuses : Option Shown → BoardShows → BoardShows → Type 0
 Refuses None before after = ⊥
 Refuses (Some s) before after = (after.publications ≡ before.publications)
     × ((after.pending ≡ before.pending) ⊎ (after.pending ≡ before.pending ++ s ∷ []))
-    × (before.refusals < after.refusals)
+    × IsRefused before.refusals after.refusals

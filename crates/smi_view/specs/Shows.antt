@@ -1,5 +1,5 @@
 -- What the ends of a board show.
-use Rattle.std.specs.Prelude.{ℕ, ◌≡◌, List, []}
+use Rattle.std.specs.Prelude.{ℕ, ◌≡◌, ◌⊎◌, ◌<◌, ◌+◌, ◌^◌, List, []}
 use Rattle.smi_grant.specs.declared.state.Shown.{Shown}
 
 -- all rows that were published, in their order, those that were put since, and how often it was refused memory
@@ -7,6 +7,14 @@ pub record BoardShows : Type 0 where
   pub publications : List Shown
   pub pending : List Shown
   pub refusals : ℕ
+
+-- how often something was refused
+pub record Refusals : Type 0 where
+  pub count : ℕ
+
+-- a refusal was counted; a count that is as great as it can be stays
+abbrev pub IsRefused : ℕ → ℕ → Type 0
+IsRefused before after = (before < after) ⊎ (after + 1 ≡ 2 ^ 64)
 
 -- the publications that a glance has seen, and the longest that it was told of
 pub record GlanceShows : Type 0 where

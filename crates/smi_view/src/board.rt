@@ -8,7 +8,7 @@ ghost use Rattle.left_right.specs.Sides.{view};
 ghost use Rattle.smi_view.specs.declared.page.Page.{Page};
 ghost use Rattle.smi_view.specs.Entries.{entries_of};
 ghost use Rattle.smi_view.specs.Pages.{name_of, page_of, turned};
-ghost use Rattle.smi_view.specs.Shows.{HasSeenNothing};
+ghost use Rattle.smi_view.specs.Shows.{HasSeenNothing, IsRefused};
 
 use crate::glance::{Glance, News};
 use crate::growth::BoardGrowth;
@@ -75,7 +75,7 @@ fn hand_over(
         ≡ drop writer.old.behind writer.old.log.items ++ waiting.old.items }
     ensures all { OnOk result (waiting.new.items ≡ []) }
     ensures grown { OnOk result (growth.new.count ≡ growth.old.count) }
-    ensures refused { OnErr result (growth.new.count ≡ growth.old.count + 1) }
+    ensures refused { OnErr result (IsRefused growth.old.count growth.new.count) }
 {
     while let Some(entry) = waiting.pop_front() {
         if let Err(entry) = growth.append(writer, entry) {
@@ -114,7 +114,7 @@ impl<J: BoardId> Board<J> {
         ensures ok { OnOk result (self.new.pending ≡ self.old.pending ++ shown ∷ []) }
         ensures err { OnErr result (self.new.pending ≡ self.old.pending) }
         ensures grown { OnOk result (self.new.refusals ≡ self.old.refusals) }
-        ensures refused { OnErr result (self.old.refusals < self.new.refusals) }
+        ensures refused { OnErr result (IsRefused self.old.refusals self.new.refusals) }
     {
         self.growth.reserve(&mut self.waiting)?;
         let rows = self.growth.with(&self.rows, &self.counter, shown)?;
@@ -137,7 +137,7 @@ impl<J: BoardId> Board<J> {
         ensures unpublished { OnErr result (self.new.publications ≡ self.old.publications) }
         ensures kept { OnErr result (self.new.pending ≡ self.old.pending) }
         ensures grown { OnOk result (self.new.refusals ≡ self.old.refusals) }
-        ensures refused { OnErr result (self.old.refusals < self.new.refusals) }
+        ensures refused { OnErr result (IsRefused self.old.refusals self.new.refusals) }
     {
         hand_over(&mut self.growth, &mut self.writer, &mut self.waiting)?;
         self.growth.publish(rt, &mut self.writer)

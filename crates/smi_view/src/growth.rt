@@ -11,49 +11,53 @@ use crate::history::{BoardId, Counter, Rows};
 use crate::sheet::Entry;
 use core::mem::replace_with;
 use smi_grant::Shown;
-use smi_tally::Tally;
 use std::alloc::AllocError;
 use std::collections::VecDeque;
 use std::marker::Model;
 use std::sync::Wait;
 
-/// How often a board was refused memory, or its history the count of one more row, which contracts alone read.
-/// Nothing else counts.
+/// How often a board was refused memory, or its history the count of one more row. Nothing else counts.
 #[derive(Drop)]
 pub(crate) struct BoardGrowth {
-    refusals: Tally,
+    refusals: u64,
 }
 
 impl Model for BoardGrowth {
-    ghost use Rattle.smi_tally.specs.Count.{Count};
+    ghost use Rattle.smi_view.specs.Shows.{Refusals};
 
-    ghost Value = { Count };
+    ghost Value = { Refusals };
 
-    ghost view = { λ g. record { count = g.refusals.count } };
+    ghost view = { λ g. record { count = g.refusals } };
 }
 
 impl BoardGrowth {
-    ghost use Rattle.std.specs.Prelude.{◌+◌, ◌<◌};
+    ghost use Rattle.std.specs.Prelude.{◌<◌};
     ghost use Rattle.std.proofs.Common.{deque_capacity, deque_len};
+    ghost use Rattle.smi_view.specs.Shows.{IsRefused};
 
     /// Nothing was refused yet.
     pub(crate) fn new() -> BoardGrowth
         ensures { result.count ≡ 0 }
     {
-        BoardGrowth {
-            refusals: Tally::zero(),
-        }
+        BoardGrowth { refusals: 0 }
+    }
+
+    /// Counts one refusal more.
+    fn raise(&mut self)
+        ensures { IsRefused self.old.count self.new.count }
+    {
+        self.refusals = self.refusals.saturating_add(1);
     }
 
     /// Makes room for one more entry that waits.
     pub(crate) fn reserve(&mut self, waiting: &mut VecDeque<Entry>) -> Result<(), AllocError>
         ensures unchanged { waiting.new.items ≡ waiting.old.items }
         ensures grown { OnOk result (self.new.count ≡ self.old.count) }
-        ensures refused { OnErr result (self.new.count ≡ self.old.count + 1) }
+        ensures refused { OnErr result (IsRefused self.old.count self.new.count) }
         ensures room { OnOk result (deque_len waiting.new < deque_capacity waiting.new) }
     {
         if waiting.reserve(1).is_err() {
-            self.refusals.raise();
+            self.raise();
             return Err(AllocError);
         }
         Ok(())
@@ -68,12 +72,12 @@ impl BoardGrowth {
     ) -> Result<Rows<J>, AllocError>
         ensures more { IfOk result (λ more. more ≡ rows.now ++ row ∷ []) }
         ensures grown { OnOk result (self.new.count ≡ self.old.count) }
-        ensures refused { OnErr result (self.new.count ≡ self.old.count + 1) }
+        ensures refused { OnErr result (IsRefused self.old.count self.new.count) }
     {
         match rows.with(counter, row) {
             Some(more) => Ok(more),
             None => {
-                self.refusals.raise();
+                self.raise();
                 Err(AllocError)
             }
         }
@@ -87,12 +91,12 @@ impl BoardGrowth {
             (λ x. (x ≡ entry) × (drop writer.new.behind writer.new.log.items
             ≡ drop writer.old.behind writer.old.log.items)) }
         ensures grown { OnOk result (self.new.count ≡ self.old.count) }
-        ensures refused { OnErr result (self.new.count ≡ self.old.count + 1) }
+        ensures refused { OnErr result (IsRefused self.old.count self.new.count) }
     {
         match writer.append(entry) {
             Ok(()) => Ok(()),
             Err(entry) => {
-                self.refusals.raise();
+                self.raise();
                 Err(entry)
             }
         }
@@ -119,12 +123,12 @@ impl BoardGrowth {
             ≡ drop writer.old.behind writer.old.log.items) }
         ensures same { OnErr result (view writer.new.desk.place ≡ view writer.old.desk.place) }
         ensures grown { OnOk result (self.new.count ≡ self.old.count) }
-        ensures refused { OnErr result (self.new.count ≡ self.old.count + 1) }
+        ensures refused { OnErr result (IsRefused self.old.count self.new.count) }
     {
         match replace_with(writer, rt, |writer, rt| publish(rt, writer)) {
             Ok(()) => Ok(()),
             Err(_) => {
-                self.refusals.raise();
+                self.raise();
                 Err(AllocError)
             }
         }
