@@ -1,12 +1,14 @@
 -- What a node does to its store, and how it ends.
-use Rattle.std.specs.Prelude.{ℕ, ◌≡◌, ◌<◌, ◌≤◌, ◌+◌, ◌⊎◌, Result, Ok, Err, IfOk, IfErr, OnOk}
+use Rattle.std.specs.Prelude.{ℕ, ◌≡◌, ◌<◌, ◌≤◌, ◌+◌, ◌⊎◌, false, Result, Ok, Err, IfOk, IfErr, OnOk}
 use Rattle.smi_tree.specs.Hierarchy.{Hierarchy}
 use Rattle.smi_cli.specs.declared.status.Status.{Status}
 use Rattle.smi_rows.specs.Store.{IsSame, Rows}
-use Rattle.smi_protocol.specs.Loading.{Opens}
+use Rattle.smi_protocol.specs.Loading.{IsStation, Opens}
 use Rattle.smi_protocol.specs.declared.fault.OpenFault.{OpenFault}
+use Rattle.smi_protocol.specs.declared.fault.OpenFault.TheVariants as open_fault
 use Rattle.smi_load.specs.Migrating.{Counts, IfRefused, IsPartly, Migrates, in_newest}
-use Rattle.smi_load.specs.Starting.{IfCertain, IfInDoubt, IfStoreFailed, IfUnchanged, IsToldAsMemory, after_start}
+use Rattle.smi_load.specs.Starting.{IfCertain, IfInDoubt, IfStoreFailed, IfStoreUnfailed, IfUnchanged}
+use Rattle.smi_load.specs.Starting.{IsToldAsMemory, after_start}
 use Rattle.smi_station.specs.Core.{IsOf, IsStoredIn, begun}
 use Rattle.smi_station.specs.Readers.{Whole, core_in, store_in}
 use Rattle.smi_node.specs.declared.serving.ServeFault.{ServeFault}
@@ -17,8 +19,10 @@ use Rattle.smi_crew.specs.Serving.{IsCrewed, Serving, serving}
 
 -- The rows of a station are brought into their newest schema, or not: all that is said of `migrate`.
 pub record MigratesOn {S : Type 0} (is_honest is_open : S → Type 0) (rows : S → Rows) (may_find : S → Rows → Type 0)
-    (saves failures : S → ℕ) (h : Hierarchy) (number : ℕ) (before after : S) (r : Result ℕ OpenFault) : Type 0 where
+    (saves failures doubts : S → ℕ) (h : Hierarchy) (number : ℕ) (before after : S) (r : Result ℕ OpenFault)
+    : Type 0 where
   pub migrates : is_honest after → Migrates h number (rows before) r
+  pub stranger : IsStation h number false → (r ≡ Err open_fault.NoSuchStation) × (after ≡ before)
   pub newest : is_honest after → OnOk r (is_open after × IsSame (rows after) (in_newest h number (rows before)))
   pub count : is_honest after → IfOk r (λ n. Counts number (rows before) n)
   pub partly : is_honest after → is_open before → is_open after → IsPartly h number (rows before) (rows after)
@@ -31,14 +35,18 @@ pub record MigratesOn {S : Type 0} (is_honest is_open : S → Type 0) (rows : S 
   pub honest : is_honest after → is_honest before
   pub failed : failures before ≤ failures after
   pub cause : IfStoreFailed r (failures before < failures after)
+  pub calm : IfStoreUnfailed r (failures after ≡ failures before)
+  pub doubt : IfInDoubt r (doubts before < doubts after)
+  pub sure : IfCertain r (doubts after ≡ doubts before)
   pub fault : IfErr r IsToldAsMemory
 
 -- A station opens on its store, or gives it back with a fault: all that is said of `Station::open`.
 pub record OpensOn {S : Type 0} (is_honest is_open : S → Type 0) (rows : S → Rows) (may_find : S → Rows → Type 0)
-    (saves failures : S → ℕ) (h : Hierarchy) (number : ℕ) (before : S) (r : Result (Whole S) (OpenFault × S))
+    (saves failures doubts : S → ℕ) (h : Hierarchy) (number : ℕ) (before : S) (r : Result (Whole S) (OpenFault × S))
     : Type 0 where
   pub opens : is_honest (store_in r) → Opens h number (rows before) (begun (core_in r))
   pub of : IfOk (core_in r) (IsOf h number)
+  pub stranger : IsStation h number false → (core_in r ≡ Err open_fault.NoSuchStation) × (store_in r ≡ before)
   pub stored : is_honest (store_in r) → IfOk (core_in r) (IsStoredIn (rows (store_in r)))
   pub saved : is_honest (store_in r)
       → OnOk r (is_open (store_in r) × IsSame (rows (store_in r)) (after_start h number (rows before)))
@@ -53,6 +61,9 @@ pub record OpensOn {S : Type 0} (is_honest is_open : S → Type 0) (rows : S →
   pub once : saves (store_in r) ≤ saves before + 1
   pub failed : failures before ≤ failures (store_in r)
   pub cause : IfStoreFailed (core_in r) (failures before < failures (store_in r))
+  pub calm : IfStoreUnfailed (core_in r) (failures (store_in r) ≡ failures before)
+  pub doubt : IfInDoubt (core_in r) (doubts before < doubts (store_in r))
+  pub sure : IfCertain (core_in r) (doubts (store_in r) ≡ doubts before)
   pub fault : IfErr (core_in r) IsToldAsMemory
 
 -- with its status a node gives back the store of its station, which was served or not; or that on which none opened
@@ -65,24 +76,24 @@ EndsWith V turns (Err e) r = (r.0 ≡ status_of e.0) × (r.1 ≡ e.1)
 
 -- a station of this number opens on a store, is served and ends
 abbrev pub Begins : {S : Type 0} (is_honest is_open : S → Type 0) (rows : S → Rows) (may_find : S → Rows → Type 0)
-    (saves failures : S → ℕ) → Hierarchy → ℕ → Turns → S → Status × S → Type 0
-Begins {S} is_honest is_open rows may_find saves failures h number turns store r =
+    (saves failures doubts : S → ℕ) → Hierarchy → ℕ → Turns → S → Status × S → Type 0
+Begins {S} is_honest is_open rows may_find saves failures doubts h number turns store r =
     (opened : Result (Whole S) (OpenFault × S))
-    × OpensOn is_honest is_open rows may_find saves failures h number store opened
-    × EndsWith (serving is_honest is_open rows may_find saves failures) turns opened r
+    × OpensOn is_honest is_open rows may_find saves failures doubts h number store opened
+    × EndsWith (serving is_honest is_open rows may_find saves failures doubts) turns opened r
 
 -- it does so where its rows were brought into their newest schema; else it ends with that fault, and that store
 abbrev pub GoesOn : {S : Type 0} (is_honest is_open : S → Type 0) (rows : S → Rows) (may_find : S → Rows → Type 0)
-    (saves failures : S → ℕ) → Hierarchy → ℕ → Turns → Result ℕ OpenFault → S → Status × S → Type 0
-GoesOn is_honest is_open rows may_find saves failures h number turns (Ok renewed) store r =
-    Begins is_honest is_open rows may_find saves failures h number turns store r
-GoesOn is_honest is_open rows may_find saves failures h number turns (Err fault) store r =
+    (saves failures doubts : S → ℕ) → Hierarchy → ℕ → Turns → Result ℕ OpenFault → S → Status × S → Type 0
+GoesOn is_honest is_open rows may_find saves failures doubts h number turns (Ok renewed) store r =
+    Begins is_honest is_open rows may_find saves failures doubts h number turns store r
+GoesOn is_honest is_open rows may_find saves failures doubts h number turns (Err fault) store r =
     (r.0 ≡ status_of fault) × (r.1 ≡ store)
 
 -- A node runs on a store.
 abbrev pub Runs : {S : Type 0} (is_honest is_open : S → Type 0) (rows : S → Rows) (may_find : S → Rows → Type 0)
-    (saves failures : S → ℕ) → Hierarchy → ℕ → Turns → S → Status × S → Type 0
-Runs {S} is_honest is_open rows may_find saves failures h number turns store r =
+    (saves failures doubts : S → ℕ) → Hierarchy → ℕ → Turns → S → Status × S → Type 0
+Runs {S} is_honest is_open rows may_find saves failures doubts h number turns store r =
     (between : S) × (migrated : Result ℕ OpenFault)
-    × MigratesOn is_honest is_open rows may_find saves failures h number store between migrated
-    × GoesOn is_honest is_open rows may_find saves failures h number turns migrated between r
+    × MigratesOn is_honest is_open rows may_find saves failures doubts h number store between migrated
+    × GoesOn is_honest is_open rows may_find saves failures doubts h number turns migrated between r

@@ -16,9 +16,9 @@ Serving T = ℕ → Node T → Node T → Result (Unit {0}) ServeFault → Type 
 
 -- as a station on a store is served
 abbrev pub serving : {S : Type 0} (is_honest is_open : S → Type 0) (rows : S → Rows) (may_find : S → Rows → Type 0)
-    (saves failures : S → ℕ) → Serving (Whole S)
-serving is_honest is_open rows may_find saves failures turns before after r =
-    Serves (carrying (StepsTo is_honest is_open rows may_find saves failures) (operators_in before.station.core))
+    (saves failures doubts : S → ℕ) → Serving (Whole S)
+serving is_honest is_open rows may_find saves failures doubts turns before after r =
+    Serves (carrying (StepsTo is_honest is_open rows may_find saves failures doubts) (operators_in before.station.core))
     (operators_in before.station.core) turns before after r
 
 -- as many turns as are made at once, so often, and each time all of them

@@ -54,8 +54,8 @@ fn crewed<
     glance: Glance<J>,
     console: Console<I, O, E>,
 ) -> Result<Result<(), ServeFault>, Halt>
-    ensures { IsCrewed (serving S.is_honest S.is_open S.rows S.may_find S.saves S.failures) plan.now.turns station.old
-        station.new result }
+    ensures { IsCrewed (serving S.is_honest S.is_open S.rows S.may_find S.saves S.failures S.doubts) plan.now.turns
+        station.old station.new result }
 {
     match fitted(rt, plan, station, glance, console) {
         Ok(service) => {
@@ -88,8 +88,8 @@ fn over_board<
     console: Console<I, O, E>,
 ) -> Result<Result<(), ServeFault>, Halt>
     requires { blank.seen.book ≡ J.book }
-    ensures { IsCrewed (serving S.is_honest S.is_open S.rows S.may_find S.saves S.failures) plan.now.turns station.old
-        station.new result }
+    ensures { IsCrewed (serving S.is_honest S.is_open S.rows S.may_find S.saves S.failures S.doubts) plan.now.turns
+        station.old station.new result }
 {
     let (mut board, glances) = open_board::<J, H>(rt, rt.alloc(), blank, 1)?;
     let served = match only(glances) {
@@ -109,7 +109,7 @@ fn opened<
     E: Write + Drop + Send + 'static,
     F: Write,
 >(rt: &H, plan: &Plan, store: S, console: Console<I, O, E>, faults: &mut F) -> (Status, S)
-    ensures { Begins S.is_honest S.is_open S.rows S.may_find S.saves S.failures (arc_value plan.now.tree)
+    ensures { Begins S.is_honest S.is_open S.rows S.may_find S.saves S.failures S.doubts (arc_value plan.now.tree)
         plan.now.station plan.now.turns store result }
 {
     match Station::open(rt.alloc(), &plan.tree, plan.station, store) {
@@ -145,7 +145,7 @@ pub fn run<
     E: Write + Drop + Send + 'static,
     F: Write,
 >(rt: &H, plan: &Plan, store: S, console: Console<I, O, E>, faults: &mut F) -> (Status, S)
-    ensures { Runs S.is_honest S.is_open S.rows S.may_find S.saves S.failures (arc_value plan.now.tree)
+    ensures { Runs S.is_honest S.is_open S.rows S.may_find S.saves S.failures S.doubts (arc_value plan.now.tree)
         plan.now.station plan.now.turns store result }
 {
     let mut store = store;

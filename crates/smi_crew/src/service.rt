@@ -36,7 +36,7 @@ fn served<S: Stable, L: DatagramLink, J: BoardId, V: Witness, R: Wait>(
     board: &mut Board<J>,
     witness: &mut V,
 ) -> Result<(), ServeFault>
-    ensures { ServesFor (serving S.is_honest S.is_open S.rows S.may_find S.saves S.failures) turns
+    ensures { ServesFor (serving S.is_honest S.is_open S.rows S.may_find S.saves S.failures S.doubts) turns
         (node station.old (edges (shown_by L.received L.handed L.failures link.old) desk.old board.old))
         (node station.new (edges (shown_by L.received L.handed L.failures link.new) desk.new board.new)) result }
 {
@@ -94,8 +94,8 @@ impl<L: DatagramLink + Drop, V: Witness + Drop> Service<L, V> {
         station: &mut Station<'_, S>,
         board: &mut Board<J>,
     ) -> Result<(), ServeFault>
-        ensures { IsServed (serving S.is_honest S.is_open S.rows S.may_find S.saves S.failures) turns station.old
-            station.new result }
+        ensures { IsServed (serving S.is_honest S.is_open S.rows S.may_find S.saves S.failures S.doubts) turns
+            station.old station.new result }
     {
         let Parts {
             link,

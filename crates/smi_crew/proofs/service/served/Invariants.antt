@@ -10,6 +10,6 @@ invariant-loop g l =
     let s = g.S.Stable in
     let shows = shown_by g.L.DatagramLink.received g.L.DatagramLink.handed g.L.DatagramLink.failures in
     (times : ℕ)
-    × ServesOn (serving {S = g.row.S.Denot} s.is_honest s.is_open s.rows s.may_find s.saves s.failures) times
+    × ServesOn (serving {S = g.row.S.Denot} s.is_honest s.is_open s.rows s.may_find s.saves s.failures s.doubts) times
     (node l.initial.station (edges (shows l.initial.link) l.initial.desk l.initial.board))
     (node l.station (edges (shows l.link) l.desk l.board))
