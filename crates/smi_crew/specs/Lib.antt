@@ -1,1 +1,4 @@
 pub mod Faults
+pub mod Peers
+pub mod Running
+pub mod Serving

@@ -3,8 +3,9 @@
 use crate::doors::{Door, Place, Stream};
 use crate::guest::Guest;
 use crate::reading::Ending;
+use mio::event::Event;
 use mio::{Events, Poll, Registry, Token, Waker};
-use smi_front::{Answered, Caller, Front, Manners};
+use smi_front::{Answered, Caller, Front, Manners, boxed};
 use smi_tree::Tree;
 use smi_view::BoardId;
 use std::alloc::{AllocError, Global};
@@ -57,23 +58,47 @@ pub(crate) struct Hall {
     events: Events<Global>,
 }
 
-/// The entrances of a hall at these places, each known to the poll by its number.
-fn entrances_at<R: Files + Net>(
+/// An entrance at this place, known to the poll by this number.
+fn entrance_at<R: Files + Net>(
     rt: &R,
-    alloc: Global,
+    place: &Place,
+    registry: &Registry,
+    number: usize,
+) -> io::Result<Entrance> {
+    let mut door = Door::open(rt, place)?;
+    door.register(registry, number)?;
+    Ok(Entrance {
+        door,
+        is_called: true,
+    })
+}
+
+/// The entrances of a hall at these places are added to others, each known to the poll by its number.
+fn open_entrances<R: Files + Net>(
+    rt: &R,
     places: &[Place],
     registry: &Registry,
-) -> io::Result<Vec<Entrance>> {
-    let mut entrances = Vec::new(alloc);
+    entrances: &mut Vec<Entrance>,
+) -> io::Result<()> {
     for (place, number) in places.iter().zip(FIRST_DOOR..) {
-        let mut door = Door::open(rt, place)?;
-        door.register(registry, number)?;
-        entrances.push(Entrance {
-            door,
-            is_called: true,
-        })?;
+        entrances.push(entrance_at(rt, place, registry, number)?)?;
     }
-    Ok(entrances)
+    Ok(())
+}
+
+/// Somebody may wait at the entrance of this number, or a guest may be heard or told.
+fn hear_of(entrances: &mut [Entrance], guests: &mut [Guest], event: &Event) {
+    let Token(number) = event.token();
+    if let Some(place) = number.checked_sub(FIRST_DOOR) {
+        if let Some(entrance) = entrances.get_mut(place) {
+            entrance.is_called = true;
+        }
+    }
+    for guest in guests.iter_mut() {
+        if usize::try_from(guest.number()) == Ok(number) {
+            guest.hear_of(event);
+        }
+    }
 }
 
 impl Hall {
@@ -92,10 +117,7 @@ impl Hall {
             poll,
             events,
         };
-        match Box::new(alloc, hall) {
-            Ok(hall) => Ok(hall),
-            Err(_refused) => Err(AllocError),
-        }
+        boxed(alloc, hall)
     }
 
     /// A hall with a door at each of these places, and a waker for it.
@@ -106,7 +128,8 @@ impl Hall {
     ) -> io::Result<(Box<Hall>, Waker)> {
         let poll = Poll::new(rt)?;
         let waker = Waker::new(poll.registry(), Token(WAKER))?;
-        let entrances = entrances_at(rt, alloc, places, poll.registry())?;
+        let mut entrances = Vec::new(alloc);
+        open_entrances(rt, places, poll.registry(), &mut entrances)?;
         Ok((Hall::over(alloc, poll, entrances)?, waker))
     }
 
@@ -237,24 +260,9 @@ impl Hall {
     pub(crate) fn wait<J: BoardId>(&mut self, front: &Front<J>, has_more: bool) -> bool {
         let patience = self.patience(front, has_more);
         let has_waited = self.poll.poll(&mut self.events, patience).is_ok();
-        let Hall {
-            guests,
-            entrances,
-            events,
-            ..
-        } = self;
-        for event in events.iter() {
-            let Token(number) = event.token();
-            if let Some(place) = number.checked_sub(FIRST_DOOR) {
-                if let Some(entrance) = entrances.get_mut(place) {
-                    entrance.is_called = true;
-                }
-            }
-            for guest in guests.iter_mut() {
-                if usize::try_from(guest.number()) == Ok(number) {
-                    guest.hear_of(event);
-                }
-            }
+        let (entrances, guests) = (&mut self.entrances, &mut self.guests);
+        for event in self.events.iter() {
+            hear_of(entrances.as_mut_slice(), guests.as_mut_slice(), event);
         }
         has_waited
     }

@@ -14,7 +14,7 @@ const MOST: u64 = 1 << 32;
 const AT_ONCE: usize = 512;
 
 /// How the input ended.
-#[derive(Clone, Copy, Debug, PartialEq, Eq)]
+#[derive(Clone, Copy)]
 pub(crate) enum Ending {
     End,
     ReadFault,
@@ -22,7 +22,7 @@ pub(crate) enum Ending {
 }
 
 /// What the input gives: a line, and at last how it ended.
-#[derive(Debug, Drop)]
+#[derive(Drop)]
 pub(crate) enum Input {
     Line(Vec<u8>),
     Ended(Ending),

@@ -156,12 +156,6 @@ pub(crate) fn begin_console<
     lobby: Lobby<J>,
     console: Console<I, O, E>,
 ) -> Result<Sender<News>, AllocError> {
-    let Ways {
-        line_sender,
-        lines,
-        news_sender,
-        news,
-    } = open_ways(rt.alloc())?;
     let tree = Arc::try_clone(&plan.tree)?;
     let Console {
         input,
@@ -169,6 +163,12 @@ pub(crate) fn begin_console<
         faults,
     } = console;
     let outlet = begin_writing(rt, output, &lobby.chime)?;
+    let Ways {
+        line_sender,
+        lines,
+        news_sender,
+        news,
+    } = open_ways(rt.alloc())?;
     let (post, chime) = post_of(lobby, outlet, lines, news);
     begin_attending(rt, tree, post, faults)?;
     begin_reading(rt, input, line_sender, chime)?;

@@ -10,6 +10,10 @@ pub record Wicketed : Type 0 where
   pub seat : Seat
   pub given : List Given
 
+-- the wicket of an operator's seat, or of nobody's, at which nothing was given
+abbrev pub unasked : Option ℕ → Seat → Wicketed
+unasked operator seat = record { operator = operator; seat = seat; given = [] }
+
 -- the order is submitted at this seat, once, behind those that were, and stands last among those not answered
 abbrev pub GaveAt : Given → Wicketed → Wicketed → Type 0
 GaveAt given a b = (submitted b.seat ≡ submitted a.seat ++ given.order ∷ []) × (b.given ≡ a.given ++ given ∷ [])

@@ -12,7 +12,7 @@ use smi_protocol::Order;
 use smi_tree::{Fault, Tree, first_word};
 
 /// What a line asks at a front desk.
-#[derive(Clone, Copy, Debug, PartialEq, Eq)]
+#[derive(Clone, Copy)]
 pub enum Asked {
     /// An order of an operator, or a report of nobody.
     Seat(Option<u16>, Order),

@@ -18,7 +18,7 @@ pub const MOST_UNSENT: usize = 64 * 1024;
 const MANY_UNSENT: usize = 16 * 1024;
 
 /// How a caller is spoken with.
-#[derive(Clone, Copy, Debug, PartialEq, Eq)]
+#[derive(Clone, Copy)]
 pub enum Manners {
     /// Questions of the whole node stand behind a tag alone, and a fault of a line is told apart, by its number.
     Terse,

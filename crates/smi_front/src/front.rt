@@ -4,6 +4,7 @@ ghost use Rattle.std.specs.Prelude.{◌≡◌, OnOk};
 ghost use Rattle.smi_front.specs.News.{heard_of};
 
 use crate::asked::{Asked, asked_in};
+use crate::boxes::boxed;
 use crate::caller::Caller;
 use crate::faults::tell_fault;
 use crate::news::{News, spell_news};
@@ -102,10 +103,7 @@ impl<J: BoardId> Front<J> {
             text: Vec::new(alloc),
             alloc,
         };
-        match Box::new(alloc, front) {
-            Ok(front) => Ok(front),
-            Err(_) => Err(AllocError),
-        }
+        boxed(alloc, front)
     }
 
     /// Whether an order was given since this was last asked: then the station is to look at its seats.

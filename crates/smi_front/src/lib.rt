@@ -14,6 +14,7 @@
 #![tactic(auto)]
 
 mod asked;
+mod boxes;
 mod caller;
 mod cutter;
 mod done;
@@ -29,6 +30,7 @@ mod whole;
 mod wicket;
 
 pub use asked::{Asked, asked_in};
+pub use boxes::boxed;
 pub use caller::{Caller, Held, MOST_UNSENT, Manners, Numbered, Wish};
 pub use cutter::Cutter;
 pub use done::{Done, done_by};

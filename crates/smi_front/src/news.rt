@@ -14,14 +14,14 @@ use std::alloc::AllocError;
 use std::io::Write;
 
 /// An action that was done at a device, whether it moved or not, and the device as it is then.
-#[derive(Clone, Copy, Debug, PartialEq, Eq)]
+#[derive(Clone, Copy)]
 pub struct Act {
     pub action: u16,
     pub shown: Shown,
 }
 
 /// What a station tells of its own accord, in the order in which it happens.
-#[derive(Clone, Copy, Debug, PartialEq, Eq)]
+#[derive(Clone, Copy)]
 pub enum News {
     /// An object has come into a state.
     Showed(Shown),

@@ -1,7 +1,8 @@
 //! All wickets of a station.
 
-ghost use Rattle.std.specs.Prelude.{◌≡◌, ◌≤◌, ◌==◌, length};
+ghost use Rattle.std.specs.Prelude.{◌≡◌, ◌≤◌, ◌==◌, ◌++◌, ◌∷◌, [], OnOk, length};
 ghost use Rattle.std.specs.List.{position_or_len};
+ghost use Rattle.smi_front.specs.Wicket.{unasked};
 
 use crate::caller::{Caller, Held};
 use crate::tag::Tag;
@@ -56,6 +57,20 @@ fn place_among(operators: &[u16], operator: u16) -> usize
     operators.len()
 }
 
+/// One more wicket behind others: of an operator's seat, or of nobody's, at which nothing was given.
+fn add_wicket(
+    alloc: Global,
+    wickets: &mut Vec<Wicket>,
+    operator: Option<u16>,
+    seat: Seat,
+) -> Result<(), AllocError>
+    ensures { OnOk result (wickets.new.items ≡ wickets.old.items ++ unasked operator seat ∷ []) }
+{
+    let wicket = Wicket::new(alloc, operator, seat)?;
+    wickets.push(wicket)?;
+    Ok(())
+}
+
 impl Office {
     ghost use Rattle.std.specs.Prelude.{◌≡◌, ◌<◌, None, IfOk, IfSome, IfNone, false, length};
     ghost use Rattle.smi_front.specs.Caller.{beginning};
@@ -74,13 +89,13 @@ impl Office {
     ) -> Result<Office, AllocError>
         ensures { IfOk result IsOpened }
     {
-        let mut own = Vec::with_capacity(alloc, operators.len())?;
-        let mut wickets = Vec::with_capacity(alloc, operators.len())?;
+        let mut own = Vec::new(alloc);
+        let mut wickets = Vec::new(alloc);
         for (operator, seat) in operators.iter().copied().zip(seats) {
             own.push(operator)?;
-            wickets.push(Wicket::new(alloc, Some(operator), seat)?)?;
+            add_wicket(alloc, &mut wickets, Some(operator), seat)?;
         }
-        wickets.push(Wicket::new(alloc, None, reports)?)?;
+        add_wicket(alloc, &mut wickets, None, reports)?;
         Ok(Office {
             operators: own,
             wickets,

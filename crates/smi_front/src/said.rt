@@ -11,7 +11,7 @@ use smi_schedule::read_item;
 use smi_tree::{Fault, Tree, first_word, is_comment, one_name};
 
 /// What a line asks of a node.
-#[derive(Clone, Copy, Debug, PartialEq, Eq)]
+#[derive(Clone, Copy)]
 pub enum Request {
     /// The operator of the node's station orders.
     Order(u16, Order),
@@ -68,20 +68,23 @@ fn request_as_item(tree: &Tree, operators: &[u16], line: &[u8]) -> Result<Option
 
 /// What a line is, by the word that it begins with.
 #[derive(Clone, Copy)]
-enum Kind {
+pub(crate) enum Kind {
     Show,
     Order,
     Report,
 }
 
-fn kind_of(word: &[u8]) -> Option<Kind>
+pub(crate) fn kind_of(word: &[u8]) -> Option<Kind>
     ensures { result ≡ spec.kind_of word.now }
 {
-    match word {
-        b"show" => Some(Kind::Show),
-        b"order" => Some(Kind::Order),
-        b"report" => Some(Kind::Report),
-        _ => None,
+    if word == b"show".as_slice() {
+        Some(Kind::Show)
+    } else if word == b"order".as_slice() {
+        Some(Kind::Order)
+    } else if word == b"report".as_slice() {
+        Some(Kind::Report)
+    } else {
+        None
     }
 }
 

@@ -1,9 +1,11 @@
 //! Which name of a line is not known.
 
+use crate::said::{Kind, kind_of};
+use crate::whole::{Whole, named_by};
 use smi_tree::{Tree, first_word};
 
 /// What a name stands for.
-#[derive(Clone, Copy, Debug, PartialEq, Eq)]
+#[derive(Clone, Copy)]
 enum Sort {
     Operator,
     Domain,
@@ -43,14 +45,23 @@ impl Sort {
     }
 }
 
+/// Whether a word is one of these.
+fn is_one_of(word: &[u8], words: &[&[u8]]) -> bool {
+    words.iter().any(|other| *other == word)
+}
+
 /// What the names behind the verb of an order stand for.
 fn sorts_of_order(verb: &[u8]) -> &'static [Sort] {
-    match verb {
-        b"take" | b"drop" | b"ask" => &[Sort::Domain],
-        b"do" => &[Sort::Domain, Sort::Action],
-        b"include" | b"exclude" | b"manual" | b"ignore" => &[Sort::Domain, Sort::Domain],
-        b"watch" | b"unwatch" => &[Sort::Object],
-        _ => &[],
+    if is_one_of(verb, &[b"take", b"drop", b"ask"]) {
+        &[Sort::Domain]
+    } else if is_one_of(verb, &[b"include", b"exclude", b"manual", b"ignore"]) {
+        &[Sort::Domain, Sort::Domain]
+    } else if is_one_of(verb, &[b"watch", b"unwatch"]) {
+        &[Sort::Object]
+    } else if verb == b"do".as_slice() {
+        &[Sort::Domain, Sort::Action]
+    } else {
+        &[]
     }
 }
 
@@ -119,11 +130,14 @@ pub(crate) fn unknown_in<'a>(
     text: &'a [u8],
 ) -> Option<Unknown<'a>> {
     let (first, rest) = first_word(text)?;
-    match first.text() {
-        b"order" => unknown_of_order(tree, operators, rest),
-        b"report" => unknown_of(tree, operators, &[Sort::Device, Sort::State], rest),
-        b"show" | b"follow" => unknown_among(tree, operators, Sort::Object, rest),
-        b"actions" => unknown_among(tree, operators, Sort::Device, rest),
-        _ => None,
+    match kind_of(first.text()) {
+        Some(Kind::Order) => unknown_of_order(tree, operators, rest),
+        Some(Kind::Report) => unknown_of(tree, operators, &[Sort::Device, Sort::State], rest),
+        Some(Kind::Show) => unknown_among(tree, operators, Sort::Object, rest),
+        None => match named_by(first.text()) {
+            Some(Whole::Follow) => unknown_among(tree, operators, Sort::Object, rest),
+            Some(Whole::Actions) => unknown_among(tree, operators, Sort::Device, rest),
+            _ => None,
+        },
     }
 }

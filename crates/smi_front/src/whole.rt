@@ -7,7 +7,7 @@ ghost use Rattle.smi_front.specs.Whole as spec;
 use smi_tree::{Fault, first_word};
 
 /// What a line asks of the whole node.
-#[derive(Clone, Copy, Debug, PartialEq, Eq)]
+#[derive(Clone, Copy)]
 pub enum Whole {
     /// The numbers of the node.
     Counts,
@@ -24,17 +24,23 @@ pub enum Whole {
 }
 
 /// What a first word asks.
-fn named_by(word: &[u8]) -> Option<Whole>
+pub(crate) fn named_by(word: &[u8]) -> Option<Whole>
     ensures { result ≡ spec.named_by word.now }
 {
-    match word {
-        b"counts" => Some(Whole::Counts),
-        b"under" => Some(Whole::UnderWay),
-        b"states" => Some(Whole::States),
-        b"follow" => Some(Whole::Follow),
-        b"actions" => Some(Whole::Actions),
-        b"help" => Some(Whole::Help),
-        _ => None,
+    if word == b"counts".as_slice() {
+        Some(Whole::Counts)
+    } else if word == b"under".as_slice() {
+        Some(Whole::UnderWay)
+    } else if word == b"states".as_slice() {
+        Some(Whole::States)
+    } else if word == b"follow".as_slice() {
+        Some(Whole::Follow)
+    } else if word == b"actions".as_slice() {
+        Some(Whole::Actions)
+    } else if word == b"help".as_slice() {
+        Some(Whole::Help)
+    } else {
+        None
     }
 }
 
