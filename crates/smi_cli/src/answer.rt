@@ -1,6 +1,6 @@
 //! A keeper over a reader and a writer.
 
-ghost use Rattle.std.specs.Prelude.{◌≡◌, ◌≤◌, ◌<◌, ◌+◌, ◌*◌, ◌++◌, List, ℕ, OnOk, IfSome, None, Some, Err, take};
+ghost use Rattle.std.specs.Prelude.{◌≡◌, ◌≢◌, ◌≤◌, ◌<◌, ◌+◌, ◌*◌, ◌++◌, List, ℕ, OnOk, IfSome, None, Some, Err, take};
 ghost use Rattle.std.specs.Prelude.{drop, length};
 ghost use Rattle.std.specs.Io.KnownBytes.{Appends};
 ghost use Rattle.smi_grant.specs.Record.{fresh};
@@ -91,6 +91,8 @@ fn answer_all<R: Read, W: Write>(reader: &mut R, writer: &mut W) -> Answered
     ensures read { IfSome (R.remaining reader.old) (λ input. result ≡ Answered.ReadFault
         → IfSome (R.remaining reader.new) (λ left. AnswersWhole input left (W.contents writer.old)
         (W.contents writer.new))) }
+    // It takes no memory.
+    ensures memory { result ≢ Answered.Memory }
 {
     let mut keeper = Keeper::new();
     let mut block = [0; BLOCK];
@@ -149,6 +151,8 @@ pub fn answer<R: Read, W: Write>(reader: &mut R, writer: &mut W) -> Answered
     ensures read { IfSome (R.remaining reader.old) (λ input. result ≡ Answered.ReadFault
         → IfSome (R.remaining reader.new) (λ left. AnswersWhole input left (W.contents writer.old)
         (W.contents writer.new))) }
+    // It takes no memory.
+    ensures memory { result ≢ Answered.Memory }
 {
     let answered = answer_all(reader, writer);
     match writer.flush() {
@@ -162,6 +166,7 @@ fn unflushed(answered: Answered) -> Answered
     ensures first { result ≡ first_fault answered }
     ensures read { result ≡ Answered.ReadFault → answered ≡ Answered.ReadFault }
     ensures not_done { IsDone result → ⊥ }
+    ensures memory { answered ≢ Answered.Memory → result ≢ Answered.Memory }
 {
     match answered {
         Answered::Ended | Answered::Refused(..) => Answered::WriteFault,

@@ -117,6 +117,8 @@ pub fn rows<S: Stable, W: Write>(stable: &mut S, writer: &mut W) -> Listed
         (list : List Saved) × IsListing (S.rows stable.old) list
         × Appends (W.contents writer.old) (W.contents writer.new) (rows_text list) }
     ensures failed { result ≡ Listed.StoreFault → S.failures stable.old < S.failures stable.new }
+    // A store that failed is told as nothing else.
+    ensures calm { result ≢ Listed.StoreFault → S.failures stable.new ≡ S.failures stable.old }
 {
     list(stable.load(), writer, &mut Losses::new())
 }

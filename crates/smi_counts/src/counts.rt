@@ -90,7 +90,8 @@ impl Counts {
 
     /// Puts the line of all numbers into a buffer, in place of what was there (docs/FORMATS.md, "A node's lines").
     ///
-    /// Out of memory is answered only where the buffer was refused more, and then the buffer is empty.
+    /// Out of memory is answered only where the buffer was refused more, which tests alone see, and
+    /// then the buffer is empty.
     pub fn spell(&self, text: &mut Vec<u8>) -> Result<(), AllocError> {
         text.clear();
         let spelled = self.spell_all(text);

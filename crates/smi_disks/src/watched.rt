@@ -94,6 +94,8 @@ impl<S: Stable, P: Presence> Stable for Watched<S, P> {
 
     ghost failures = { λ w. S.failures w.store + w.missed.count };
 
+    ghost doubts = { λ w. S.doubts w.store + w.missed.count };
+
     ghost saves = { λ w. w.saves.count };
 
     ghost rests = { λ w. S.rests w.store };

@@ -40,6 +40,20 @@ IfCounted (Err NotStored) P = P
 IfCounted (Err Stopped) P = P
 IfCounted (Err Memory) P = Unit {0}
 
+-- the store did not fail
+abbrev pub IfUnfailed : {X : Type 0} → Result X StepFault → Type 0 → Type 0
+IfUnfailed (Ok x) P = P
+IfUnfailed (Err NotStored) P = Unit {0}
+IfUnfailed (Err Stopped) P = Unit {0}
+IfUnfailed (Err Memory) P = P
+
+-- it is known whether the row was saved
+abbrev pub IfKnown : {X : Type 0} → Result X StepFault → Type 0 → Type 0
+IfKnown (Ok x) P = P
+IfKnown (Err NotStored) P = P
+IfKnown (Err Stopped) P = Unit {0}
+IfKnown (Err Memory) P = P
+
 -- what a step leaves in its store, which it was given honest and open, where this row is saved
 pub record Leaves (honest before_open after_open : Type 0) (before after : Rows) (r : Result Heard StepFault)
     (row : Option Saved) : Type 0 where

@@ -36,7 +36,7 @@ impl Room {
 
     /// Room for any row of a tree of so many domains.
     ///
-    /// It fails only where memory ran out.
+    /// It fails only where memory ran out, which tests alone see.
     pub fn new(alloc: Global, domains: u16) -> Result<Room, AllocError> {
         let domains = usize::from(domains);
         let links = Vec::with_capacity(alloc, domains)?;

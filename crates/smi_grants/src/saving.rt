@@ -5,7 +5,7 @@ ghost use Rattle.smi_rows.specs.Store.{Rows, IsSame, with_row};
 ghost use Rattle.smi_protocol.specs.Step.{heard_of};
 ghost use Rattle.smi_grants.specs.Kept.{grants_of};
 ghost use Rattle.smi_grants.specs.Change.{changed, saved_by, with_saved, IsChange};
-ghost use Rattle.smi_grants.specs.Save.{IfKept, IfStopped, IfCounted, IfMemory, row_with};
+ghost use Rattle.smi_grants.specs.Save.{IfKept, IfKnown, IfStopped, IfCounted, IfUnfailed, IfMemory, row_with};
 
 use crate::after::After;
 use crate::change::Change;
@@ -32,6 +32,9 @@ pub fn save<S: Stable>(store: &mut S, key: Option<Key>, bytes: &[u8]) -> Result<
     ensures saves { S.saves store.new ≤ S.saves store.old + 1 }
     ensures failures { S.failures store.old ≤ S.failures store.new }
     ensures cause { IfCounted result (S.failures store.old < S.failures store.new) }
+    ensures calm { IfUnfailed result (S.failures store.new ≡ S.failures store.old) }
+    ensures doubt { IfStopped result (S.doubts store.old < S.doubts store.new) }
+    ensures sure { IfKnown result (S.doubts store.new ≡ S.doubts store.old) }
     // Memory is wanted for a row that is saved, and for nothing else.
     ensures memory { IfMemory result (is_some (row_with key bytes.now) ≡ true) }
 {
@@ -75,6 +78,9 @@ pub fn carry_out<S: Stable>(
     ensures saves { S.saves store.new ≤ S.saves store.old + 1 }
     ensures failures { S.failures store.old ≤ S.failures store.new }
     ensures cause { IfCounted result (S.failures store.old < S.failures store.new) }
+    ensures calm { IfUnfailed result (S.failures store.new ≡ S.failures store.old) }
+    ensures doubt { IfStopped result (S.doubts store.old < S.doubts store.new) }
+    ensures sure { IfKnown result (S.doubts store.new ≡ S.doubts store.old) }
     ensures memory { IfMemory result
         (is_some (saved_by kept.old.tree kept.old.number (grants_of kept.old) change.now) ≡ true) }
 {
@@ -118,6 +124,9 @@ fn save_planned<S: Stable>(
     ensures saves { S.saves store.new ≤ S.saves store.old + 1 }
     ensures failures { S.failures store.old ≤ S.failures store.new }
     ensures cause { IfCounted result (S.failures store.old < S.failures store.new) }
+    ensures calm { IfUnfailed result (S.failures store.new ≡ S.failures store.old) }
+    ensures doubt { IfStopped result (S.doubts store.old < S.doubts store.new) }
+    ensures sure { IfKnown result (S.doubts store.new ≡ S.doubts store.old) }
     ensures memory { IfMemory result
         (is_some (saved_by kept.now.tree kept.now.number (grants_of kept.now) change.now) ≡ true) }
 {

@@ -8,7 +8,7 @@ use Rattle.smi_rows.specs.Store.{IsSame, Rows, Saved, with_row}
 use Rattle.smi_protocol.specs.declared.fault.OpenFault.{OpenFault}
 use Rattle.smi_protocol.specs.declared.fault.OpenFault.TheVariants as open_fault
 use Rattle.smi_load.specs.Migrating.{over}
-use Rattle.smi_load.specs.Starting.{IfCertain, IfInDoubt, IfStoreFailed, IfUnchanged}
+use Rattle.smi_load.specs.Starting.{IfCertain, IfInDoubt, IfStoreFailed, IfStoreUnfailed, IfUnchanged}
 
 over_more : (rows : Rows) (xs : List Saved) (r : Saved)
     → over rows (xs ++ r ∷ []) ≡ with_row r.key r.bytes (over rows xs)
@@ -47,6 +47,35 @@ either_way X Y P A B C (open_fault.Store store_fault.Memory) p d f g = f p.1
 either_way X Y P A B C (open_fault.Store store_fault.Device) p d f g = f p.1
 either_way X Y P A B C (open_fault.Store store_fault.Unsure) p d f g = elim d [ inl a ↦ f a | inr b ↦ g b ]
 either_way X Y P A B C open_fault.Memory p d f g = f p.1
+
+-- what is said of the store in a case is said with what follows from it
+pub unfailed_then : (X Y P Q : Type 0) (fault : OpenFault) → (P → Q) → IfStoreUnfailed {X = X} (Err fault) P
+    → IfStoreUnfailed {X = Y} (Err fault) Q
+unfailed_then X Y P Q open_fault.NoSuchStation f p = f p
+unfailed_then X Y P Q (open_fault.Row k code) f p = f p
+unfailed_then X Y P Q open_fault.BootsSpent f p = f p
+unfailed_then X Y P Q (open_fault.Store fault) f p = tt
+unfailed_then X Y P Q open_fault.Memory f p = f p
+
+pub doubt_then : (X Y P Q : Type 0) (fault : OpenFault) → (P → Q) → IfInDoubt {X = X} (Err fault) P
+    → IfInDoubt {X = Y} (Err fault) Q
+doubt_then X Y P Q open_fault.NoSuchStation f p = tt
+doubt_then X Y P Q (open_fault.Row k code) f p = tt
+doubt_then X Y P Q open_fault.BootsSpent f p = tt
+doubt_then X Y P Q (open_fault.Store store_fault.Memory) f p = tt
+doubt_then X Y P Q (open_fault.Store store_fault.Device) f p = tt
+doubt_then X Y P Q (open_fault.Store store_fault.Unsure) f p = f p
+doubt_then X Y P Q open_fault.Memory f p = tt
+
+pub sure_then : (X Y P Q : Type 0) (fault : OpenFault) → (P → Q) → IfCertain {X = X} (Err fault) P
+    → IfCertain {X = Y} (Err fault) Q
+sure_then X Y P Q open_fault.NoSuchStation f p = f p
+sure_then X Y P Q (open_fault.Row k code) f p = f p
+sure_then X Y P Q open_fault.BootsSpent f p = f p
+sure_then X Y P Q (open_fault.Store store_fault.Memory) f p = f p
+sure_then X Y P Q (open_fault.Store store_fault.Device) f p = f p
+sure_then X Y P Q (open_fault.Store store_fault.Unsure) f p = tt
+sure_then X Y P Q open_fault.Memory f p = f p
 
 pub failed_more : (X Y : Type 0) (fault : OpenFault) (a b c : ℕ) → a ≤ b → IfStoreFailed {X = X} (Err fault) (b < c)
     → IfStoreFailed {X = Y} (Err fault) (a < c)

@@ -3,7 +3,7 @@ use Rattle.std.proofs.Common.{ℕ, ◌≡◌, true, List, [], ◌∷◌, Option,
 use mathlib.Core.Path.{fun_ext}
 use Rattle.smi_tree.specs.Hierarchy.{Hierarchy}
 use Rattle.smi_rows.specs.declared.Row.{Row}
-use Rattle.smi_rows.specs.Store.{IsListing, Rows, Saved, found_in, rises}
+use Rattle.smi_rows.specs.Store.{IsListing, Rows, Saved, found_in}
 use Rattle.smi_protocol.specs.Grants.{Grants, no_grants}
 use Rattle.smi_protocol.specs.Loading.{AllRead, IsFirstFault, IsStation}
 use Rattle.smi_protocol.specs.declared.fault.OpenFault.{OpenFault}

@@ -54,6 +54,11 @@ abbrev pub IfStoreFailed : {X : Type 0} → Result X OpenFault → Type 0 → Ty
 IfStoreFailed (Err (open_fault.Store fault)) P = P
 IfStoreFailed _ P = Unit {0}
 
+-- the store did not fail
+abbrev pub IfStoreUnfailed : {X : Type 0} → Result X OpenFault → Type 0 → Type 0
+IfStoreUnfailed (Err (open_fault.Store fault)) P = Unit {0}
+IfStoreUnfailed _ P = P
+
 -- Faults.
 
 -- a fault that comes of a store or of memory

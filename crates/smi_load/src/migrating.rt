@@ -1,12 +1,14 @@
 //! A station's rows of older schemas are saved anew in the newest.
 
-ghost use Rattle.std.specs.Prelude.{◌≡◌, ◌⊎◌, ◌<◌, ◌≤◌, ◌+◌, ◌^◌, length, List, count_by, IfOk, IfErr, OnOk};
+ghost use Rattle.std.specs.Prelude.{◌≡◌, ◌⊎◌, ◌<◌, ◌≤◌, ◌+◌, ◌^◌, length, List, count_by, Err, IfOk, IfErr, OnOk};
+ghost use Rattle.std.specs.Prelude.{false};
+ghost use Rattle.smi_protocol.specs.Loading.{IsStation};
 ghost use Rattle.smi_tree.specs.Lookups.{station_count};
 ghost use Rattle.smi_rows.specs.Store.{Rows, Saved, IsListing, IsSame, with_row};
 ghost use Rattle.smi_load.specs.Migrating.{Counts, IfRefused, IsPartly, IsSavedPartly, IsToRenew, Migrates};
 ghost use Rattle.smi_load.specs.Migrating.{in_newest, is_renewed, over};
-ghost use Rattle.smi_load.specs.Starting.{IfCertain, IfInDoubt, IfStoreFailed, IfUnchanged, IsOfStore};
-ghost use Rattle.smi_load.specs.Starting.{IsToldAsMemory};
+ghost use Rattle.smi_load.specs.Starting.{IfCertain, IfInDoubt, IfStoreFailed, IfStoreUnfailed};
+ghost use Rattle.smi_load.specs.Starting.{IfUnchanged, IsOfStore, IsToldAsMemory};
 
 use crate::reading::has_station;
 use crate::renewing::renewals;
@@ -20,7 +22,8 @@ use std::alloc::Global;
 /// many they were. A row of another station is left alone, and so is one in its newest schema.
 ///
 /// `NoSuchStation` comes first, then the fault of the least key whose row is refused, both before anything is saved.
-/// A fault of the store, and `Memory`, come where they come, and leave rows that say what they said.
+/// A fault of the store, and `Memory`, come where they come, and leave rows that say what they said. The store failed
+/// where its fault is answered, and nowhere else; that memory was refused where `Memory` is, tests alone see.
 pub fn migrate<S: Stable>(
     alloc: Global,
     tree: &Tree,
@@ -28,6 +31,9 @@ pub fn migrate<S: Stable>(
     store: &mut S,
 ) -> Result<u32, OpenFault>
     ensures migrates { S.is_honest store.new → Migrates tree.now number (S.rows store.old) result }
+    // Whatever the store is, it is not touched for a station that the tree does not have.
+    ensures stranger { IsStation tree.now number false
+        → (result ≡ Err OpenFault.NoSuchStation) × (store.new ≡ store.old) }
     ensures newest { S.is_honest store.new → OnOk
         result (S.is_open store.new × IsSame (S.rows store.new) (in_newest tree.now number (S.rows store.old))) }
     ensures count { S.is_honest store.new → IfOk result (λ n. Counts number (S.rows store.old) n) }
@@ -46,6 +52,9 @@ pub fn migrate<S: Stable>(
     ensures honest { S.is_honest store.new → S.is_honest store.old }
     ensures failures { S.failures store.old ≤ S.failures store.new }
     ensures cause { IfStoreFailed result (S.failures store.old < S.failures store.new) }
+    ensures calm { IfStoreUnfailed result (S.failures store.new ≡ S.failures store.old) }
+    ensures doubt { IfInDoubt result (S.doubts store.old < S.doubts store.new) }
+    ensures sure { IfCertain result (S.doubts store.new ≡ S.doubts store.old) }
     ensures fault { IfErr result IsToldAsMemory }
 {
     if !has_station(tree, number) {
@@ -80,6 +89,9 @@ fn loaded_renewals<S: Stable>(
     ensures saves { S.saves store.new ≡ S.saves store.old }
     ensures failures { S.failures store.old ≤ S.failures store.new }
     ensures cause { IfStoreFailed result (S.failures store.old < S.failures store.new) }
+    ensures calm { IfStoreUnfailed result (S.failures store.new ≡ S.failures store.old) }
+    ensures doubt { IfInDoubt result (S.doubts store.old < S.doubts store.new) }
+    ensures sure { IfCertain result (S.doubts store.new ≡ S.doubts store.old) }
     ensures fault { IfErr result IsToldAsMemory }
 {
     let rows = loaded(store)?;
@@ -99,6 +111,9 @@ fn save_all<S: Stable>(store: &mut S, rows: &[SavedRow]) -> Result<(), OpenFault
     ensures saves { OnOk result (S.saves store.new ≡ S.saves store.old + length rows.now) }
     ensures failures { S.failures store.old ≤ S.failures store.new }
     ensures cause { IfStoreFailed result (S.failures store.old < S.failures store.new) }
+    ensures calm { IfStoreUnfailed result (S.failures store.new ≡ S.failures store.old) }
+    ensures doubt { IfInDoubt result (S.doubts store.old < S.doubts store.new) }
+    ensures sure { IfCertain result (S.doubts store.new ≡ S.doubts store.old) }
     ensures fault { IfErr result IsOfStore }
 {
     for row in rows {
@@ -122,6 +137,9 @@ fn save_row<S: Stable>(store: &mut S, row: &SavedRow) -> Result<(), OpenFault>
     ensures saves { S.saves store.new ≡ S.saves store.old + 1 }
     ensures failures { S.failures store.old ≤ S.failures store.new }
     ensures cause { IfStoreFailed result (S.failures store.old < S.failures store.new) }
+    ensures calm { IfStoreUnfailed result (S.failures store.new ≡ S.failures store.old) }
+    ensures doubt { IfInDoubt result (S.doubts store.old < S.doubts store.new) }
+    ensures sure { IfCertain result (S.doubts store.new ≡ S.doubts store.old) }
     ensures fault { IfErr result IsOfStore }
 {
     saved(store, row.key, &row.bytes)

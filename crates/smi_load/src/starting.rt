@@ -7,8 +7,9 @@ ghost use Rattle.smi_rows.specs.Store.{Rows, IsListing, IsSame, with_row};
 ghost use Rattle.smi_protocol.specs.Loading.{Opens};
 ghost use Rattle.smi_protocol.specs.Sound.{IsSound};
 ghost use Rattle.smi_grants.specs.Kept.{grants_of};
-ghost use Rattle.smi_load.specs.Starting.{IfCertain, IfInDoubt, IfStoreFailed, IfUnchanged, IsOfStore};
-ghost use Rattle.smi_load.specs.Starting.{IsToldAsMemory, after_start, beginning_with, with_boot};
+ghost use Rattle.smi_load.specs.Starting.{IfCertain, IfInDoubt, IfStoreFailed, IfStoreUnfailed};
+ghost use Rattle.smi_load.specs.Starting.{IfUnchanged, IsOfStore, IsToldAsMemory};
+ghost use Rattle.smi_load.specs.Starting.{after_start, beginning_with, with_boot};
 
 use crate::restoring::kept_of_rows;
 use smi_grants::Kept;
@@ -21,7 +22,7 @@ use std::alloc::Global;
 /// be saved.
 ///
 /// The faults stand in the order of [`kept_of_rows`]; a fault of the store, and `Memory`, come where they come. The
-/// rows stay.
+/// rows stay. That memory was refused where `Memory` is answered, tests alone see.
 pub fn loaded_kept<'a, S: Stable>(
     alloc: Global,
     tree: &'a Tree,
@@ -47,6 +48,9 @@ pub fn loaded_kept<'a, S: Stable>(
     ensures saves { S.saves store.new ≡ S.saves store.old }
     ensures failures { S.failures store.old ≤ S.failures store.new }
     ensures cause { IfStoreFailed result (S.failures store.old < S.failures store.new) }
+    ensures calm { IfStoreUnfailed result (S.failures store.new ≡ S.failures store.old) }
+    ensures doubt { IfInDoubt result (S.doubts store.old < S.doubts store.new) }
+    ensures sure { IfCertain result (S.doubts store.new ≡ S.doubts store.old) }
     ensures fault { IfErr result IsToldAsMemory }
 {
     let rows = loaded(store)?;
@@ -67,6 +71,9 @@ pub(crate) fn loaded<S: Stable>(store: &mut S) -> Result<Vec<SavedRow>, OpenFaul
     ensures saves { S.saves store.new ≡ S.saves store.old }
     ensures failures { S.failures store.old ≤ S.failures store.new }
     ensures cause { IfStoreFailed result (S.failures store.old < S.failures store.new) }
+    ensures calm { IfStoreUnfailed result (S.failures store.new ≡ S.failures store.old) }
+    ensures doubt { IfInDoubt result (S.doubts store.old < S.doubts store.new) }
+    ensures sure { IfCertain result (S.doubts store.new ≡ S.doubts store.old) }
     ensures fault { IfErr result IsOfStore }
 {
     match store.load() {
@@ -95,6 +102,9 @@ pub fn save_boot<S: Stable>(store: &mut S, kept: &Kept<'_>) -> Result<(), OpenFa
     ensures saves { S.saves store.new ≤ S.saves store.old + 1 }
     ensures failures { S.failures store.old ≤ S.failures store.new }
     ensures cause { IfStoreFailed result (S.failures store.old < S.failures store.new) }
+    ensures calm { IfStoreUnfailed result (S.failures store.new ≡ S.failures store.old) }
+    ensures doubt { IfInDoubt result (S.doubts store.old < S.doubts store.new) }
+    ensures sure { IfCertain result (S.doubts store.new ≡ S.doubts store.old) }
     ensures fault { IfErr result IsOfStore }
 {
     let key = Key {
@@ -123,6 +133,9 @@ pub(crate) fn saved<S: Stable>(store: &mut S, key: Key, bytes: &[u8]) -> Result<
     ensures saves { S.saves store.new ≡ S.saves store.old + 1 }
     ensures failures { S.failures store.old ≤ S.failures store.new }
     ensures cause { IfStoreFailed result (S.failures store.old < S.failures store.new) }
+    ensures calm { IfStoreUnfailed result (S.failures store.new ≡ S.failures store.old) }
+    ensures doubt { IfInDoubt result (S.doubts store.old < S.doubts store.new) }
+    ensures sure { IfCertain result (S.doubts store.new ≡ S.doubts store.old) }
     ensures fault { IfErr result IsOfStore }
 {
     match store.save(key, bytes) {

@@ -29,11 +29,11 @@ outcome_of c e = after_event (tree_of c) (number_of c) (station_of c) e
 
 -- The station and its store go so from before to after in a step: all that is said of `Station::step`.
 pub record StepsTo {S : Type 0} (is_honest is_open : S → Type 0) (rows : S → Rows)
-    (may_find : S → Rows → Type 0) (saves failures : S → ℕ)
+    (may_find : S → Rows → Type 0) (saves failures doubts : S → ℕ)
     (before : Whole S) (e : Event) (after : Whole S) (handed : Out) (r : Result Heard StepFault) : Type 0 where
   pub step : before.core.is_stopped ≡ false → Steps before.core after.core (outcome_of before.core e) handed r
   pub store : before.core.is_stopped ≡ false
-      → Leaves is_honest is_open rows may_find saves failures before.store after.store r (outcome_of before.core
+      → Leaves is_honest is_open rows may_find saves failures doubts before.store after.store r (outcome_of before.core
       e).saved
   pub memory : before.core.is_stopped ≡ false
       → IfMemory r (wants_memory (outcome_of before.core e).saved (adds_by (tree_of before.core)

@@ -74,7 +74,8 @@ fn step<S: Stable>(
     event: Event<'_>,
     out: &mut Out,
 ) -> Result<Heard, StepFault>
-    ensures { StepsTo S.is_honest S.is_open S.rows S.may_find S.saves S.failures station.old event.entry station.new
+    ensures { StepsTo S.is_honest S.is_open S.rows S.may_find S.saves S.failures S.doubts station.old event.entry
+        station.new
         out.new result }
 {
     station.step(event, out)
@@ -136,7 +137,8 @@ pub(crate) fn carry_for<S: Stable, L: DatagramLink, J: BoardId, V: Witness, R: W
     board: &mut Board<J>,
     witness: &mut V,
 ) -> Result<(), CarryFault>
-    ensures { Carries (StepsTo S.is_honest S.is_open S.rows S.may_find S.saves S.failures) operators.now event.entry
+    ensures { Carries (StepsTo S.is_honest S.is_open S.rows S.may_find S.saves S.failures S.doubts) operators.now
+        event.entry
         seat out.new (node station.old (edges (shown_by L.received L.handed L.failures link.old) desk.old board.old))
         (node station.new (edges (shown_by L.received L.handed L.failures link.new) desk.new board.new))
         (fault_in result) }
@@ -180,7 +182,7 @@ pub fn carry<S: Stable, L: DatagramLink, J: BoardId, R: Wait>(
     desk: &mut Desk,
     board: &mut Board<J>,
 ) -> Result<(), CarryFault>
-    ensures { Carries (StepsTo S.is_honest S.is_open S.rows S.may_find S.saves S.failures)
+    ensures { Carries (StepsTo S.is_honest S.is_open S.rows S.may_find S.saves S.failures S.doubts)
         (operators_in station.old.core) event.entry seat out.new (node station.old
         (edges (shown_by L.received L.handed L.failures link.old) desk.old board.old))
         (node station.new (edges (shown_by L.received L.handed L.failures link.new) desk.new board.new))

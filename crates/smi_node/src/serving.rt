@@ -78,7 +78,8 @@ fn obey<S: Stable, L: DatagramLink, J: BoardId, V: Witness, R: Wait>(
     board: &mut Board<J>,
     witness: &mut V,
 ) -> Result<(), CarryFault>
-    ensures { Obeys (carrying (StepsTo S.is_honest S.is_open S.rows S.may_find S.saves S.failures) operators.now) seat
+    ensures { Obeys (carrying (StepsTo S.is_honest S.is_open S.rows S.may_find S.saves S.failures S.doubts)
+        operators.now) seat
         event.entry (node station.old (edges (shown_by L.received L.handed L.failures link.old) desk.old board.old))
         (node station.new (edges (shown_by L.received L.handed L.failures link.new) desk.new board.new))
         (fault_in result) }
@@ -117,7 +118,8 @@ fn serve_seat<S: Stable, L: DatagramLink, J: BoardId, V: Witness, R: Wait>(
     witness: &mut V,
 ) -> Result<(), CarryFault>
     requires { seat < seat_count desk.old }
-    ensures { ServesSeat (carrying (StepsTo S.is_honest S.is_open S.rows S.may_find S.saves S.failures) operators.now)
+    ensures { ServesSeat (carrying (StepsTo S.is_honest S.is_open S.rows S.may_find S.saves S.failures S.doubts)
+        operators.now)
         who seat (node station.old (edges (shown_by L.received L.handed L.failures link.old) desk.old board.old))
         (node station.new (edges (shown_by L.received L.handed L.failures link.new) desk.new board.new))
         (fault_in result) }
@@ -150,7 +152,8 @@ fn serve_seats<S: Stable, L: DatagramLink, J: BoardId, V: Witness, R: Wait>(
     board: &mut Board<J>,
     witness: &mut V,
 ) -> Result<(), CarryFault>
-    ensures { ServesAll (carrying (StepsTo S.is_honest S.is_open S.rows S.may_find S.saves S.failures) operators.now)
+    ensures { ServesAll (carrying (StepsTo S.is_honest S.is_open S.rows S.may_find S.saves S.failures S.doubts)
+        operators.now)
         operators.now (seat_count desk.old) (node station.old
         (edges (shown_by L.received L.handed L.failures link.old) desk.old board.old))
         (node station.new (edges (shown_by L.received L.handed L.failures link.new) desk.new board.new))
@@ -193,7 +196,8 @@ fn hear<S: Stable, L: DatagramLink, J: BoardId, V: Witness, R: Wait>(
     board: &mut Board<J>,
     witness: &mut V,
 ) -> Result<bool, CarryFault>
-    ensures { HearsSo (carrying (StepsTo S.is_honest S.is_open S.rows S.may_find S.saves S.failures) operators.now)
+    ensures { HearsSo (carrying (StepsTo S.is_honest S.is_open S.rows S.may_find S.saves S.failures S.doubts)
+        operators.now)
         (node station.old (edges (shown_by L.received L.handed L.failures link.old) desk.old board.old))
         (node station.new (edges (shown_by L.received L.handed L.failures link.new) desk.new board.new)) result }
 {
@@ -232,7 +236,8 @@ fn turn<S: Stable, L: DatagramLink, J: BoardId, V: Witness, R: Wait>(
     board: &mut Board<J>,
     witness: &mut V,
 ) -> Result<bool, CarryFault>
-    ensures { TurnsSo (carrying (StepsTo S.is_honest S.is_open S.rows S.may_find S.saves S.failures) operators.now)
+    ensures { TurnsSo (carrying (StepsTo S.is_honest S.is_open S.rows S.may_find S.saves S.failures S.doubts)
+        operators.now)
         operators.now
         (node station.old (edges (shown_by L.received L.handed L.failures link.old) desk.old board.old))
         (node station.new (edges (shown_by L.received L.handed L.failures link.new) desk.new board.new)) result }
@@ -274,7 +279,7 @@ pub fn serve_before<S: Stable, L: DatagramLink, J: BoardId, V: Witness, R: Wait>
     witness: &mut V,
     turns: u32,
 ) -> Result<(), ServeFault>
-    ensures { Serves (carrying (StepsTo S.is_honest S.is_open S.rows S.may_find S.saves S.failures)
+    ensures { Serves (carrying (StepsTo S.is_honest S.is_open S.rows S.may_find S.saves S.failures S.doubts)
         (operators_in station.old.core)) (operators_in station.old.core) turns
         (node station.old (edges (shown_by L.received L.handed L.failures link.old) desk.old board.old))
         (node station.new (edges (shown_by L.received L.handed L.failures link.new) desk.new board.new)) result }
@@ -313,7 +318,7 @@ pub fn serve<S: Stable, L: DatagramLink, J: BoardId, R: Wait>(
     board: &mut Board<J>,
     turns: u32,
 ) -> Result<(), ServeFault>
-    ensures { Serves (carrying (StepsTo S.is_honest S.is_open S.rows S.may_find S.saves S.failures)
+    ensures { Serves (carrying (StepsTo S.is_honest S.is_open S.rows S.may_find S.saves S.failures S.doubts)
         (operators_in station.old.core)) (operators_in station.old.core) turns
         (node station.old (edges (shown_by L.received L.handed L.failures link.old) desk.old board.old))
         (node station.new (edges (shown_by L.received L.handed L.failures link.new) desk.new board.new)) result }

@@ -10,7 +10,7 @@ use std::sync::Wait;
 
 /// The state that a step showed, if any, is put on the board and published.
 ///
-/// It fails only where memory ran out: nothing was published then.
+/// It fails only where the board was refused memory: nothing was published then.
 pub(crate) fn publish<J: BoardId, R: Wait>(
     rt: &R,
     board: &mut Board<J>,

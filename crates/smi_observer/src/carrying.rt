@@ -29,7 +29,8 @@ fn step<S: Stable>(
     event: Event<'_>,
     out: &mut Out,
 ) -> Result<Heard, StepFault>
-    ensures { StepsTo S.is_honest S.is_open S.rows S.may_find S.saves S.failures station.old event.entry station.new
+    ensures { StepsTo S.is_honest S.is_open S.rows S.may_find S.saves S.failures S.doubts station.old event.entry
+        station.new
         out.new result }
 {
     station.step(event, out)
@@ -68,7 +69,7 @@ pub fn carry<S: Stable, L: DatagramLink>(
     picture: &mut Picture,
     now: u64,
 ) -> Result<Result<Heard, StepFault>, Stopped>
-    ensures { CarriesSo (StepsTo S.is_honest S.is_open S.rows S.may_find S.saves S.failures) event.entry now
+    ensures { CarriesSo (StepsTo S.is_honest S.is_open S.rows S.may_find S.saves S.failures S.doubts) event.entry now
         (view station.old (shown_by L.received L.handed L.failures link.old) picture.old)
         (view station.new (shown_by L.received L.handed L.failures link.new) picture.new) result }
 {

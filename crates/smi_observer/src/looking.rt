@@ -65,7 +65,7 @@ fn deliver<S: Stable, L: DatagramLink>(
     picture: &mut Picture,
     now: u64,
 ) -> Result<(), Stopped>
-    ensures { Delivers (StepsTo S.is_honest S.is_open S.rows S.may_find S.saves S.failures) bytes.now now
+    ensures { Delivers (StepsTo S.is_honest S.is_open S.rows S.may_find S.saves S.failures S.doubts) bytes.now now
         (view station.old (shown_by L.received L.handed L.failures link.old) picture.old)
         (view station.new (shown_by L.received L.handed L.failures link.new) picture.new) (has_stopped result) }
 {
@@ -97,7 +97,7 @@ fn hear<S: Stable, L: DatagramLink>(
     picture: &mut Picture,
     now: u64,
 ) -> Result<Came, Stopped>
-    ensures { Looks (StepsTo S.is_honest S.is_open S.rows S.may_find S.saves S.failures) operator
+    ensures { Looks (StepsTo S.is_honest S.is_open S.rows S.may_find S.saves S.failures S.doubts) operator
         (view station.old (shown_by L.received L.handed L.failures link.old) picture.old)
         (view station.new (shown_by L.received L.handed L.failures link.new) picture.new) (has_stopped result) }
 {
@@ -121,7 +121,7 @@ fn hear_all<S: Stable, L: DatagramLink>(
     picture: &mut Picture,
     now: u64,
 ) -> Result<Came, Stopped>
-    ensures { Looks (StepsTo S.is_honest S.is_open S.rows S.may_find S.saves S.failures) operator
+    ensures { Looks (StepsTo S.is_honest S.is_open S.rows S.may_find S.saves S.failures S.doubts) operator
         (view station.old (shown_by L.received L.handed L.failures link.old) picture.old)
         (view station.new (shown_by L.received L.handed L.failures link.new) picture.new) (has_stopped result) }
 {
@@ -147,7 +147,7 @@ fn carry_whatever<S: Stable, L: DatagramLink>(
     picture: &mut Picture,
     now: u64,
 ) -> Result<(), Stopped>
-    ensures { Carried (StepsTo S.is_honest S.is_open S.rows S.may_find S.saves S.failures) event.entry now
+    ensures { Carried (StepsTo S.is_honest S.is_open S.rows S.may_find S.saves S.failures S.doubts) event.entry now
         (view station.old (shown_by L.received L.handed L.failures link.old) picture.old)
         (view station.new (shown_by L.received L.handed L.failures link.new) picture.new) (has_stopped result) }
 {
@@ -167,7 +167,7 @@ fn watch<S: Stable, L: DatagramLink>(
     picture: &mut Picture,
     now: u64,
 ) -> Result<(), Stopped>
-    ensures { Looks (StepsTo S.is_honest S.is_open S.rows S.may_find S.saves S.failures) operator
+    ensures { Looks (StepsTo S.is_honest S.is_open S.rows S.may_find S.saves S.failures S.doubts) operator
         (view station.old (shown_by L.received L.handed L.failures link.old) picture.old)
         (view station.new (shown_by L.received L.handed L.failures link.new) picture.new) (has_stopped result) }
 {
@@ -188,7 +188,7 @@ fn ask<S: Stable, L: DatagramLink>(
     picture: &mut Picture,
     now: u64,
 ) -> Result<(), Stopped>
-    ensures { Looks (StepsTo S.is_honest S.is_open S.rows S.may_find S.saves S.failures) operator
+    ensures { Looks (StepsTo S.is_honest S.is_open S.rows S.may_find S.saves S.failures S.doubts) operator
         (view station.old (shown_by L.received L.handed L.failures link.old) picture.old)
         (view station.new (shown_by L.received L.handed L.failures link.new) picture.new) (has_stopped result) }
 {
@@ -209,7 +209,7 @@ fn tick<S: Stable, L: DatagramLink>(
     picture: &mut Picture,
     now: u64,
 ) -> Result<(), Stopped>
-    ensures { Looks (StepsTo S.is_honest S.is_open S.rows S.may_find S.saves S.failures) operator
+    ensures { Looks (StepsTo S.is_honest S.is_open S.rows S.may_find S.saves S.failures S.doubts) operator
         (view station.old (shown_by L.received L.handed L.failures link.old) picture.old)
         (view station.new (shown_by L.received L.handed L.failures link.new) picture.new) (has_stopped result) }
 {
@@ -230,7 +230,7 @@ fn watch_next<S: Stable, L: DatagramLink>(
     picture: &mut Picture,
     now: u64,
 ) -> Result<(), Stopped>
-    ensures { Looks (StepsTo S.is_honest S.is_open S.rows S.may_find S.saves S.failures) operator
+    ensures { Looks (StepsTo S.is_honest S.is_open S.rows S.may_find S.saves S.failures S.doubts) operator
         (view station.old (shown_by L.received L.handed L.failures link.old) picture.old)
         (view station.new (shown_by L.received L.handed L.failures link.new) picture.new) (has_stopped result) }
 {
@@ -261,7 +261,7 @@ fn ask_next<S: Stable, L: DatagramLink>(
     picture: &mut Picture,
     now: u64,
 ) -> Result<(), Stopped>
-    ensures { Looks (StepsTo S.is_honest S.is_open S.rows S.may_find S.saves S.failures) operator
+    ensures { Looks (StepsTo S.is_honest S.is_open S.rows S.may_find S.saves S.failures S.doubts) operator
         (view station.old (shown_by L.received L.handed L.failures link.old) picture.old)
         (view station.new (shown_by L.received L.handed L.failures link.new) picture.new) (has_stopped result) }
 {
@@ -285,7 +285,7 @@ fn act<S: Stable, L: DatagramLink>(
     picture: &mut Picture,
     now: u64,
 ) -> Result<(), Stopped>
-    ensures { Looks (StepsTo S.is_honest S.is_open S.rows S.may_find S.saves S.failures) operator
+    ensures { Looks (StepsTo S.is_honest S.is_open S.rows S.may_find S.saves S.failures S.doubts) operator
         (view station.old (shown_by L.received L.handed L.failures link.old) picture.old)
         (view station.new (shown_by L.received L.handed L.failures link.new) picture.new) (has_stopped result) }
 {
@@ -311,7 +311,7 @@ fn hear_and_act<S: Stable, L: DatagramLink>(
     picture: &mut Picture,
     now: u64,
 ) -> Result<Came, Stopped>
-    ensures { Looks (StepsTo S.is_honest S.is_open S.rows S.may_find S.saves S.failures) operator
+    ensures { Looks (StepsTo S.is_honest S.is_open S.rows S.may_find S.saves S.failures S.doubts) operator
         (view station.old (shown_by L.received L.handed L.failures link.old) picture.old)
         (view station.new (shown_by L.received L.handed L.failures link.new) picture.new) (has_stopped result) }
 {
@@ -338,7 +338,7 @@ pub fn look<S: Stable, L: DatagramLink>(
     picture: &mut Picture,
     now: u64,
 ) -> Result<Came, Stopped>
-    ensures looks { Looks (StepsTo S.is_honest S.is_open S.rows S.may_find S.saves S.failures) operator
+    ensures looks { Looks (StepsTo S.is_honest S.is_open S.rows S.may_find S.saves S.failures S.doubts) operator
         (view station.old (shown_by L.received L.handed L.failures link.old) picture.old)
         (view station.new (shown_by L.received L.handed L.failures link.new) picture.new) (has_stopped result) }
     ensures keeps { KeepsUp picture.old picture.new }

@@ -30,7 +30,7 @@ fn with_orders(alloc: Global, page: &[u8], key: &[u8], orders: &[u8]) -> Result<
 
 /// The page that may give orders, by this key.
 ///
-/// It fails only where memory ran out.
+/// It fails only where memory ran out, which tests alone see.
 pub fn page_with_orders(alloc: Global, key: &[u8]) -> Result<Vec<u8>, AllocError>
     ensures { IfOk result (λ page. page.items ≡ page_with_orders key.now) }
 {

@@ -49,34 +49,49 @@ fn put_and_publish<J: BoardId, R: Wait>(
     board.publish(rt)
 }
 
-/// What two glances read, before and after they are told, and what is only put.
+/// What two glances read, before and after they are told, and what is only put; and whether the board, and what it had
+/// told before the last publication, met them.
 fn shown_and_read<J: BoardId, R: Wait>(
     rt: &R,
     board: &mut Board<J>,
     one: &mut Glance<J>,
     other: &mut Glance<J>,
-) -> Result<[Reading; 9], AllocError> {
+) -> Result<([Reading; 9], [bool; 6]), AllocError> {
     let before = one.read(2);
+    let met_before = board.meet(one);
     put_and_publish(rt, board, &[shown(2, 1, 1, 2), shown(3, 1, 1, 4)])?;
     one.learn(board.tell());
     let told = [one.read(2), one.read(3), one.read(1)];
     board.put(shown(2, 1, 2, 3))?;
     let pending = one.read(2);
+    let news = board.tell();
+    let met_then = [board.meet(one), news.meet(one)];
     board.publish(rt)?;
     one.learn(board.tell());
     let again = [one.read(2), one.read(3)];
     let untold = [other.read(2), other.read(65535)];
-    Ok([
-        before, told[0], told[1], told[2], pending, again[0], again[1], untold[0], untold[1],
-    ])
+    let met = [
+        met_before,
+        met_then[0],
+        met_then[1],
+        board.meet(one),
+        board.meet(other),
+        news.meet(one),
+    ];
+    Ok((
+        [
+            before, told[0], told[1], told[2], pending, again[0], again[1], untold[0], untold[1],
+        ],
+        met,
+    ))
 }
 
-/// The readings of an open board, and one of a board that is closed.
+/// The readings of an open board with what met, and one reading of a board that is closed.
 fn over_board<J: BoardId, R: Wait>(
     rt: &R,
     alloc: Global,
     blank: Blank,
-) -> Result<([Reading; 9], Reading), Fail>
+) -> Result<(([Reading; 9], [bool; 6]), Reading), Fail>
     requires { blank.seen.book ≡ J.book }
 {
     let (mut board, mut glances) = open_board::<J, R>(rt, alloc, blank, 2)?;
@@ -92,7 +107,9 @@ fn over_board<J: BoardId, R: Wait>(
 
 #[test]
 fn what_was_put_is_read_once_it_is_published(rt: HostRuntime) -> Result<(), Fail> {
-    let (found, closed) = over_board::<Brand, _>(&rt, rt.alloc(), Blank::new())?;
+    let ((found, met), closed) = over_board::<Brand, _>(&rt, rt.alloc(), Blank::new())?;
+    // What was told before a publication has less than what is seen after it.
+    assert!(rt; met == [true, true, true, true, true, false]);
     let wanted = [
         Ok(None),
         Ok(Some(shown(2, 1, 1, 2))),

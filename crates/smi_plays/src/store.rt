@@ -69,6 +69,8 @@ impl<S: OnDisks> Stable for Closing<S> {
 
     ghost failures = { λ c. S.failures c.store };
 
+    ghost doubts = { λ c. S.doubts c.store };
+
     ghost saves = { λ c. S.saves c.store };
 
     ghost rests = { λ c. S.rests c.store };

@@ -80,6 +80,13 @@ IfFailed (Err Memory) P = Unit {0}
 IfFailed (Err Device) P = P
 IfFailed (Err Unsure) P = P
 
+-- no failure of the store: all went well, or memory was refused
+abbrev pub IfCalm : {X : Type 0} → Result X StoreFault → Type 0 → Type 0
+IfCalm (Ok x) P = P
+IfCalm (Err Memory) P = P
+IfCalm (Err Device) P = Unit {0}
+IfCalm (Err Unsure) P = Unit {0}
+
 -- what is listed after a save: the rows as saved, the rows as before, or in doubt one of them
 abbrev pub ListsAfter : {X : Type 0} → Result X StoreFault → Rows → Rows → List Saved → Type 0
 ListsAfter (Ok x) before after list = IsListing after list

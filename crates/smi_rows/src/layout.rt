@@ -14,7 +14,8 @@ use std::alloc::{AllocError, Global};
 
 /// The bytes of the row of a boot.
 ///
-/// Out of memory is answered where an allocation was refused, and nowhere else.
+/// Out of memory is answered where an allocation was refused, and nowhere else, which tests alone
+/// see.
 pub fn write_boot(alloc: Global, boot: u32) -> Result<Vec<u8>, AllocError>
     ensures { IfOk result (λ row. row.items ≡ spec.boot_bytes (newest RowKind.Boot) boot) }
 {
@@ -28,7 +29,8 @@ impl DomainRow {
 
     /// The bytes of the row.
     ///
-    /// Out of memory is answered where an allocation was refused, and nowhere else.
+    /// Out of memory is answered where an allocation was refused, and nowhere else, which tests
+    /// alone see.
     pub fn write(&self, alloc: Global) -> Result<Vec<u8>, AllocError>
         requires { length self.now.links < 2 ^ 16 }
         ensures { IfOk result (λ row. row.items ≡ spec.domain_bytes (newest RowKind.Domain) self.now) }
@@ -44,7 +46,8 @@ impl OperatorRow {
 
     /// The bytes of the row.
     ///
-    /// Out of memory is answered where an allocation was refused, and nowhere else.
+    /// Out of memory is answered where an allocation was refused, and nowhere else, which tests
+    /// alone see.
     pub fn write(&self, alloc: Global) -> Result<Vec<u8>, AllocError>
         requires { length self.now < 2 ^ 16 }
         ensures { IfOk result (λ row. row.items ≡ spec.operator_bytes (newest RowKind.Operator) self.now) }
@@ -100,7 +103,8 @@ fn operator_in(alloc: Global, schema: u8, operator: &OperatorRow) -> Result<Vec<
 /// Puts the bytes of a domain's row at the end of others: of one with this standing, this gathered code and these
 /// links to its children, by rising number.
 ///
-/// Out of memory is answered where an allocation was refused, and nowhere else.
+/// Out of memory is answered where an allocation was refused, and nowhere else, which tests alone
+/// see.
 pub fn append_domain(
     row: &mut Vec<u8>,
     standing: &Record,
@@ -122,7 +126,8 @@ pub fn append_domain(
 
 /// Puts the bytes of an operator's row at the end of others: of one with these links, by rising number.
 ///
-/// Out of memory is answered where an allocation was refused, and nowhere else.
+/// Out of memory is answered where an allocation was refused, and nowhere else, which tests alone
+/// see.
 pub fn append_operator(row: &mut Vec<u8>, links: &[StoredLink]) -> Result<(), AllocError>
     requires { length links.now < 2 ^ 16 }
     ensures { OnOk result (row.new.items ≡ row.old.items

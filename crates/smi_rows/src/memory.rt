@@ -109,8 +109,10 @@ impl Stable for MemoryStable {
 
     ghost is_open = { λ _. Unit {0} };
 
-    // It fails only where memory ran out.
+    // It fails only where memory ran out, which tests alone see.
     ghost failures = { λ _. 0 };
+
+    ghost doubts = { λ _. 0 };
 
     ghost saves = { λ s. s.saves };
 

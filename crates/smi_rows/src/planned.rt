@@ -1,7 +1,8 @@
 //! A store whose saves fail as planned.
 
 ghost use Rattle.std.specs.Prelude.{◌≡◌, ◌+◌, ◌<◌, ◌≤◌, ◌⊎◌, IfOk, OnOk, IsErr, Some, Err};
-ghost use Rattle.smi_rows.specs.Store.{Rows, IsSame, IsListing, IfSure, IfNotSaved, IfUnsure, IfFailed, with_row};
+ghost use Rattle.smi_rows.specs.Store.{Rows, IsSame, IsListing, with_row};
+ghost use Rattle.smi_rows.specs.Store.{IfSure, IfNotSaved, IfUnsure, IfFailed, IfCalm};
 ghost use Rattle.smi_rows.specs.Planned.{due_of, left_of};
 
 use crate::key::Key;
@@ -38,6 +39,8 @@ pub struct PlannedStable<S> {
     pub saves: Tally,
     /// How often a plan struck.
     pub struck: Tally,
+    /// How often one struck as `Unsure`.
+    pub doubted: Tally,
 }
 
 /// The plan that strikes now, and what is planned from then on.
@@ -65,13 +68,14 @@ impl<S> PlannedStable<S> {
     pub fn new(store: S) -> PlannedStable<S>
         ensures store { result.store ≡ store }
         ensures planned { result.planned ≡ None }
-        ensures counts { (result.saves.count ≡ 0) × (result.struck.count ≡ 0) }
+        ensures counts { (result.saves.count ≡ 0) × (result.struck.count ≡ 0) × (result.doubted.count ≡ 0) }
     {
         PlannedStable {
             store,
             planned: None,
             saves: Tally::zero(),
             struck: Tally::zero(),
+            doubted: Tally::zero(),
         }
     }
 
@@ -99,6 +103,7 @@ impl<S> PlannedStable<S> {
             planned: _,
             saves: _,
             struck: _,
+            doubted: _,
         } = self;
         store
     }
@@ -114,6 +119,8 @@ impl<S: Stable> Stable for PlannedStable<S> {
     ghost is_open = { λ p. S.is_open p.store };
 
     ghost failures = { λ p. S.failures p.store + p.struck.count };
+
+    ghost doubts = { λ p. S.doubts p.store + p.doubted.count };
 
     ghost saves = { λ p. p.saves.count };
 
@@ -138,13 +145,20 @@ impl<S: Stable> Stable for PlannedStable<S> {
             + self.new.struck.count }
         ensures cause { IfFailed result (S.failures self.old.store + self.old.struck.count
             < S.failures self.new.store + self.new.struck.count) }
-        // The plan strikes, and is spent.
-        ensures device { due_of self.old.planned ≡ Some Plan.Device
-            → (result ≡ Err StoreFault.Device) × (self.new.store ≡ self.old.store) }
-        ensures before { due_of self.old.planned ≡ Some Plan.Before
-            → (result ≡ Err StoreFault.Unsure) × (self.new.store ≡ self.old.store) }
+        ensures calm { IfCalm result (S.failures self.new.store + self.new.struck.count
+            ≡ S.failures self.old.store + self.old.struck.count) }
+        ensures doubt { IfUnsure result (S.doubts self.old.store + self.old.doubted.count
+            < S.doubts self.new.store + self.new.doubted.count) }
+        ensures sure { IfSure result (S.doubts self.new.store + self.new.doubted.count
+            ≡ S.doubts self.old.store + self.old.doubted.count) }
+        // The plan strikes once, and is spent.
+        ensures device { due_of self.old.planned ≡ Some Plan.Device → (result ≡ Err StoreFault.Device)
+            × (self.new.store ≡ self.old.store) × (self.new.struck.count ≡ self.old.struck.count + 1) }
+        ensures before { due_of self.old.planned ≡ Some Plan.Before → (result ≡ Err StoreFault.Unsure)
+            × (self.new.store ≡ self.old.store) × (self.new.struck.count ≡ self.old.struck.count + 1) }
         ensures after { due_of self.old.planned ≡ Some Plan.After
-            → IsErr result × (S.saves self.new.store ≡ S.saves self.old.store + 1) }
+            → IsErr result × (S.saves self.new.store ≡ S.saves self.old.store + 1)
+            × (self.new.struck.count ≤ self.old.struck.count + 1) }
         // Where the store below saved the row, it stays.
         ensures landed { due_of self.old.planned ≡ Some Plan.After → S.is_honest self.new.store
             → self.old.struck.count < self.new.struck.count
@@ -164,11 +178,13 @@ impl<S: Stable> Stable for PlannedStable<S> {
             }
             Some(Plan::Before) => {
                 self.struck.raise();
+                self.doubted.raise();
                 Err(StoreFault::Unsure)
             }
             Some(Plan::After) => {
                 self.store.save(key, bytes)?;
                 self.struck.raise();
+                self.doubted.raise();
                 Err(StoreFault::Unsure)
             }
         }
@@ -189,6 +205,12 @@ impl<S: Stable> Stable for PlannedStable<S> {
             + self.new.struck.count }
         ensures cause { IfFailed result (S.failures self.old.store + self.old.struck.count
             < S.failures self.new.store + self.new.struck.count) }
+        ensures calm { IfCalm result (S.failures self.new.store + self.new.struck.count
+            ≡ S.failures self.old.store + self.old.struck.count) }
+        ensures doubt { IfUnsure result (S.doubts self.old.store + self.old.doubted.count
+            < S.doubts self.new.store + self.new.doubted.count) }
+        ensures sure { IfSure result (S.doubts self.new.store + self.new.doubted.count
+            ≡ S.doubts self.old.store + self.old.doubted.count) }
         // No plan strikes, and none is spent.
         ensures passed_on { (self.new.struck.count ≡ self.old.struck.count)
             × (S.saves self.new.store ≡ S.saves self.old.store) }

@@ -32,7 +32,8 @@ impl Row {
     /// What the row of this key says at a station of the tree, or the first test that it fails.
     ///
     /// Rows of the newest schema of their kind are read and those of all before it, each to the value
-    /// that was written. Out of memory is answered where an allocation was refused, and nowhere else.
+    /// that was written. Out of memory is answered where an allocation was refused, and nowhere else,
+    /// which tests alone see.
     pub fn read(alloc: Global, tree: &Tree, key: Key, bytes: &[u8]) -> Result<Row, RowFault>
         // What is read was written so, and the tree has what it names.
         ensures found { IfOk result (λ row. IsRow tree.now key bytes.now row) }

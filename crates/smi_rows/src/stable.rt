@@ -9,6 +9,7 @@ ghost use Rattle.smi_rows.specs.Store.{
   IfNotSaved,
   IfUnsure,
   IfFailed,
+  IfCalm,
   with_row,
 };
 
@@ -50,6 +51,9 @@ pub trait Stable {
     // How often it failed.
     ghost failures: { Self → ℕ };
 
+    // How often it failed so that nobody knows what it left.
+    ghost doubts: { Self → ℕ };
+
     // How often `save` was called.
     ghost saves: { Self → ℕ };
 
@@ -71,7 +75,10 @@ pub trait Stable {
         ensures honest { is_honest self.new → is_honest self.old }
         ensures saves { saves self.new ≡ saves self.old + 1 }
         ensures failures { failures self.old ≤ failures self.new }
-        ensures cause { IfFailed result (failures self.old < failures self.new) };
+        ensures cause { IfFailed result (failures self.old < failures self.new) }
+        ensures calm { IfCalm result (failures self.new ≡ failures self.old) }
+        ensures doubt { IfUnsure result (doubts self.old < doubts self.new) }
+        ensures sure { IfSure result (doubts self.new ≡ doubts self.old) };
 
     /// All rows, by rising key. The rows stay, whatever the answer, and a store that failed for good
     /// lists none.
@@ -86,7 +93,10 @@ pub trait Stable {
         ensures honest { is_honest self.new → is_honest self.old }
         ensures saves { saves self.new ≡ saves self.old }
         ensures failures { failures self.old ≤ failures self.new }
-        ensures cause { IfFailed result (failures self.old < failures self.new) };
+        ensures cause { IfFailed result (failures self.old < failures self.new) }
+        ensures calm { IfCalm result (failures self.new ≡ failures self.old) }
+        ensures doubt { IfUnsure result (doubts self.old < doubts self.new) }
+        ensures sure { IfSure result (doubts self.new ≡ doubts self.old) };
 
     // While the store is honest and open, a stop leaves its rows.
     ghost rests: { (store : Self) → is_honest store → is_open store → (r : Rows) → may_find store r

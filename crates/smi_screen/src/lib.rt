@@ -21,6 +21,7 @@ mod console;
 mod gate;
 mod guest;
 mod hosts;
+mod house;
 mod post;
 mod running;
 mod stage;

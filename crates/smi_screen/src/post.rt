@@ -6,10 +6,8 @@ ghost use Rattle.smi_node.specs.Linked.{shown_by};
 ghost use Rattle.smi_observer.specs.Looking.{Looks, view};
 ghost use Rattle.smi_screen.specs.Ending.{has_stopped};
 
-use crate::console::Console;
-use crate::gate::Gate;
+use crate::house::House;
 use crate::running::Ended;
-use crate::stage::Stage;
 use smi_link::DatagramLink;
 use smi_observer::{Came, Pace, look};
 use smi_out::Out;
@@ -17,14 +15,9 @@ use smi_picture::Picture;
 use smi_rows::Stable;
 use smi_station::Station;
 use smi_tree::Tree;
-use smi_window::Window;
-use std::alloc::Global;
 use std::net::Net;
 use std::sync::Wait;
 use std::time::{Clock, Instant};
-
-/// How many milliseconds lie between two frames.
-const BETWEEN_FRAMES: u64 = 200;
 
 /// How many turns an endless screen makes at once, before it begins again with all that it has.
 const TURNS_AT_ONCE: u32 = 1_000_000;
@@ -35,54 +28,37 @@ const MOST_FAULTS: u32 = 100;
 /// What a screen works with, beside its station and its link.
 #[derive(Drop)]
 pub(crate) struct Post {
-    alloc: Global,
     /// The operator in whose name it looks.
     operator: u16,
     start: Instant,
     /// How many milliseconds have passed since then.
     now: u64,
-    /// When the last frame was made, and how many were.
-    framed: u64,
-    frames: u64,
     faults: u32,
     pace: Pace,
     out: Out,
     picture: Picture,
-    window: Window,
-    gate: Gate,
-    /// Where orders go that are given from the page, where they may be.
-    console: Option<Console>,
+    // Behind a box, so that whatever has a post is not dear to prove.
+    house: Box<House>,
 }
 
 impl Post {
-    /// A post before this stage and at this gate, whose time begins at a moment.
+    /// A post whose time begins at a moment, with its picture and its house.
     pub(crate) fn new(
-        alloc: Global,
         operator: u16,
         start: Instant,
         pace: Pace,
-        stage: Stage,
-        gate: Gate,
+        picture: Picture,
+        house: Box<House>,
     ) -> Post {
-        let Stage {
-            picture,
-            window,
-            console,
-        } = stage;
         Post {
-            alloc,
             operator,
             start,
             now: 0,
-            framed: 0,
-            frames: 0,
             faults: 0,
             pace,
             out: Out::new(),
             picture,
-            window,
-            gate,
-            console,
+            house,
         }
     }
 
@@ -94,34 +70,6 @@ impl Post {
         if let Ok(passed) = self.start.elapsed(clock) {
             let passed = u64::try_from(passed.as_millis()).unwrap_or(self.now);
             self.now = self.now.max(passed);
-        }
-    }
-
-    /// Makes a new frame, if it is time. One for which there is no memory is left out.
-    fn make_frame(&mut self, tree: &Tree)
-        ensures picture { self.new.picture ≡ self.old.picture }
-        ensures operator { self.new.operator ≡ self.old.operator }
-    {
-        if self.now.saturating_sub(self.framed) < BETWEEN_FRAMES {
-            return;
-        }
-        self.framed = self.now;
-        self.frames = self.frames.saturating_add(1);
-        let _ = self
-            .window
-            .frame
-            .renew(self.alloc, tree, &self.picture, self.frames, self.now);
-        let _ = self.window.tell_orders(self.alloc);
-    }
-
-    /// Orders that were given go to their console, and what it says is heard.
-    fn relay_orders<R: Net>(&mut self, rt: &R)
-        ensures picture { self.new.picture ≡ self.old.picture }
-        ensures operator { self.new.operator ≡ self.old.operator }
-    {
-        if let (Some(console), Some(orders)) = (&mut self.console, &mut self.window.orders) {
-            orders.time = self.now;
-            console.turn(rt, &mut orders.relay, self.now);
         }
     }
 
@@ -147,7 +95,8 @@ impl Post {
         station: &mut Station<'_, S>,
         link: &mut L,
     ) -> Result<Came, Ended>
-        ensures looks { Looks (StepsTo S.is_honest S.is_open S.rows S.may_find S.saves S.failures) self.old.operator
+        ensures looks { Looks (StepsTo S.is_honest S.is_open S.rows S.may_find S.saves S.failures S.doubts)
+            self.old.operator
             (view station.old (shown_by L.received L.handed L.failures link.old) self.old.picture)
             (view station.new (shown_by L.received L.handed L.failures link.new) self.new.picture)
             (has_stopped result) }
@@ -175,9 +124,7 @@ impl Post {
         ensures operator { self.new.operator ≡ self.old.operator }
         ensures goes_on { has_stopped result ≡ false }
     {
-        self.relay_orders(rt);
-        self.make_frame(tree);
-        self.gate.turn(&mut self.window, self.now);
+        self.house.turn(rt, tree, &self.picture, self.now);
         self.count(came)
     }
 
@@ -207,7 +154,8 @@ impl Post {
         station: &mut Station<'_, S>,
         link: &mut L,
     ) -> Result<(), Ended>
-        ensures looks { Looks (StepsTo S.is_honest S.is_open S.rows S.may_find S.saves S.failures) self.old.operator
+        ensures looks { Looks (StepsTo S.is_honest S.is_open S.rows S.may_find S.saves S.failures S.doubts)
+            self.old.operator
             (view station.old (shown_by L.received L.handed L.failures link.old) self.old.picture)
             (view station.new (shown_by L.received L.handed L.failures link.new) self.new.picture)
             (has_stopped result) }
@@ -227,7 +175,8 @@ impl Post {
         link: &mut L,
         turns: u32,
     ) -> Result<(), Ended>
-        ensures looks { Looks (StepsTo S.is_honest S.is_open S.rows S.may_find S.saves S.failures) self.old.operator
+        ensures looks { Looks (StepsTo S.is_honest S.is_open S.rows S.may_find S.saves S.failures S.doubts)
+            self.old.operator
             (view station.old (shown_by L.received L.handed L.failures link.old) self.old.picture)
             (view station.new (shown_by L.received L.handed L.failures link.new) self.new.picture)
             (has_stopped result) }
@@ -251,7 +200,7 @@ impl Post {
         link: &mut L,
         turns: Option<u32>,
     ) -> Result<(), Ended>
-        ensures { Looks (StepsTo S.is_honest S.is_open S.rows S.may_find S.saves S.failures) self.old.operator
+        ensures { Looks (StepsTo S.is_honest S.is_open S.rows S.may_find S.saves S.failures S.doubts) self.old.operator
             (view station.old (shown_by L.received L.handed L.failures link.old) self.old.picture)
             (view station.new (shown_by L.received L.handed L.failures link.new) self.new.picture)
             (has_stopped result) }

@@ -2,11 +2,13 @@
 
 use crate::console::Place;
 use crate::gate::Gate;
+use crate::house::House;
 use crate::post::Post;
-use crate::stage::staged;
+use crate::stage::{Stage, staged};
 use bytes::Bytes;
 use smi_link::UdpLink;
 use smi_observer::Pace;
+use smi_picture::Picture;
 use smi_protocol::OpenFault;
 use smi_rows::Stable;
 use smi_station::{Station, migrate};
@@ -95,7 +97,28 @@ fn gate_at<R: Net<Listener = TcpListener, Stream = TcpStream>>(
     }
 }
 
-/// What a screen works with, once its gate is open, in a box, since whoever drops one is dear to prove.
+/// The picture of a screen, and its house once its gate is open.
+fn housed<R: Net<Listener = TcpListener, Stream = TcpStream> + AllocGlobal>(
+    rt: &R,
+    tree: &Tree,
+    keys: RandomState,
+    plan: &mut Plan,
+) -> Result<(Picture, Box<House>), Ended> {
+    let alloc = rt.alloc();
+    let stage = staged(alloc, tree, plan)?;
+    let gate = gate_at(rt, alloc, keys, plan.http)?;
+    let Stage {
+        picture,
+        window,
+        console,
+    } = Box::into_inner(stage);
+    match Box::new(alloc, House::new(alloc, window, gate, console)) {
+        Ok(house) => Ok((picture, house)),
+        Err(_) => Err(Ended::Memory),
+    }
+}
+
+/// What a screen works with, in a box, since whoever drops one is dear to prove.
 fn posted<R: Net<Listener = TcpListener, Stream = TcpStream> + Wait + Clock + AllocGlobal>(
     rt: &R,
     tree: &Tree,
@@ -103,15 +126,13 @@ fn posted<R: Net<Listener = TcpListener, Stream = TcpStream> + Wait + Clock + Al
     keys: RandomState,
     plan: &mut Plan,
 ) -> Result<Box<Post>, Ended> {
-    let alloc = rt.alloc();
     let Ok(start) = Instant::now(rt) else {
         return Err(Ended::Gate);
     };
-    let stage = staged(alloc, tree, plan)?;
-    let gate = gate_at(rt, alloc, keys, plan.http)?;
+    let (picture, house) = housed(rt, tree, keys, plan)?;
     let pace = Pace::new(tree.object_count(), tree.domain_count());
-    let post = Post::new(alloc, operator, start, pace, Box::into_inner(stage), gate);
-    match Box::new(alloc, post) {
+    let post = Post::new(operator, start, pace, picture, house);
+    match Box::new(rt.alloc(), post) {
         Ok(post) => Ok(post),
         Err(_) => Err(Ended::Memory),
     }

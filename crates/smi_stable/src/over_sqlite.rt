@@ -70,6 +70,9 @@ impl<S: Alter> Stable for SqliteStable<S> {
 
     ghost failures = { λ s. s.failures };
 
+    // Each failure leaves a doubt.
+    ghost doubts = { λ s. s.failures };
+
     ghost saves = { λ s. s.saves };
 
     ghost rests = { λ s honest live r may k. may.2 k

@@ -1,7 +1,7 @@
 -- What a datagram that a station takes can name.
-use Rattle.std.proofs.Common.{ℕ, ◌≡◌, ◌≤◌, ◌<◌, ◌+◌, Bool, true, false, Option, Some, None, refl, sym, ap, ◌∙◌, subst}
+use Rattle.std.proofs.Common.{ℕ, ◌≡◌, ◌≤◌, true, false, Option, Some, None, refl, ap, ◌∙◌, subst}
 use Rattle.std.proofs.Common.{arith}
-use Rattle.std.specs.Prelude.{◌&&◌, nat_le, IfSome}
+use Rattle.std.specs.Prelude.{nat_le, IfSome}
 use Rattle.std.proofs.lemmas.Bool.{and_parts, leb-true}
 use Rattle.smi_grant.specs.declared.Command.{Command}
 use Rattle.smi_grant.specs.declared.Holder.{Holder}
@@ -13,8 +13,7 @@ use Rattle.smi_message.specs.Message.{Message, is_boot, is_body, is_domain, is_g
 use Rattle.smi_limits.specs.Between.{is_between}
 use Rattle.smi_message.specs.declared.Body.{Body}
 use Rattle.smi_message.specs.declared.Body.TheVariants as body
-use Rattle.smi_grant.specs.Command as command
-use Rattle.smi_roles.specs.Roles.{is_command_of, is_holder_of, is_number, is_kept_by, is_keeper}
+use Rattle.smi_roles.specs.Roles.{is_holder_of, is_number, is_kept_by, is_keeper}
 use Rattle.smi_tree.specs.Hierarchy.{Hierarchy}
 use Rattle.smi_tree.specs.Lawful.{IsBetween, IsTree}
 use Rattle.smi_tree.specs.Lookups.{domain_count, parent_of, station_count}

@@ -1,5 +1,5 @@
 -- A datagram at a station.
-use Rattle.std.proofs.Common.{ℕ, ◌≡◌, Bool, false, List, Option, refl, sym, ap, ◌∙◌, subst}
+use Rattle.std.proofs.Common.{ℕ, ◌≡◌, Bool, false, List, Option, ap, ◌∙◌}
 use Rattle.std.specs.List.{flat_map}
 use Rattle.smi_grant.specs.declared.Shown.{Shown}
 use Rattle.smi_message.specs.Message.{Message}

@@ -1,5 +1,5 @@
 -- A step put together from what its parts hand out.
-use Rattle.std.proofs.Common.{ℕ, ◌≡◌, ◌≤◌, length, arith, Bool, true, false, List, [], ◌∷◌, ◌++◌, map, take, Option}
+use Rattle.std.proofs.Common.{ℕ, ◌≡◌, ◌≤◌, length, arith, Bool, true, false, List, [], ◌∷◌, ◌++◌, Option}
 use Rattle.std.proofs.Common.{Some, None, refl, sym, ap, subst, ◌∙◌, append_assoc, append-nil}
 use Rattle.std.specs.Prelude.{◌==◌, ◌&&◌, if◌then◌else◌, nat_lt, not}
 use Rattle.std.specs.Option.{option_or}
@@ -28,7 +28,7 @@ use Rattle.smi_protocol.specs.Keeping.{answered, commanded, decided, ran, run_co
 use Rattle.smi_protocol.specs.declared.entry.Entry.{Entry}
 use Rattle.smi_protocol.specs.Showing.{Member, domain_of_body, followed, is_spent, members_of, moved_by_body}
 use Rattle.smi_protocol.specs.Showing.{moved_by_command, same_members, shown_to_all}
-use Rattle.smi_protocol.specs.Step.{Out, body_noticed, conditions_by, nothing_out, put_together}
+use Rattle.smi_protocol.specs.Step.{body_noticed, conditions_by, nothing_out, put_together}
 use Rattle.smi_protocol.specs.Watching.{Notice, is_watched, noticed, showed_if, told_state, unnoticed}
 use Rattle.smi_view.specs.Accepting.{acceptance}
 use Rattle.smi_protocol.specs.declared.order.Answer.{Answer}
@@ -36,7 +36,7 @@ use Rattle.smi_protocol.specs.declared.order.Mark.{Mark}
 use Rattle.smi_out.specs.Handed.{answered_after, kept_after, sent_after, with_notice}
 use Rattle.smi_out.proofs.Sending.{sent_first, sent_twice}
 use Rattle.smi_plan.specs.Handing.{with_step}
-use Rattle.smi_display.specs.Members.{Listed, are_same, followed_by, listed_of, same_numbers}
+use Rattle.smi_display.specs.Members.{are_same, followed_by, listed_of, same_numbers}
 use Rattle.smi_station.specs.Stirring.{acted_by, action_by, action_of, members_in, stirred}
 
 -- What is handed out.

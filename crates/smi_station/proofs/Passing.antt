@@ -1,5 +1,5 @@
 -- What a domain's objects show anew, in two steps: its devices move, and then its unit.
-use Rattle.std.proofs.Common.{ℕ, ◌≡◌, ◌≤◌, ◌<◌, ◌+◌, ◌-◌, Bool, true, false, List, [], ◌∷◌, ◌++◌, ◌⊎◌, inl, inr, map}
+use Rattle.std.proofs.Common.{ℕ, ◌≡◌, ◌≤◌, ◌<◌, ◌+◌, Bool, true, false, List, [], ◌∷◌, ◌++◌, ◌⊎◌, inl, inr}
 use Rattle.std.proofs.Common.{Option, Some, None, refl, sym, ap, ◌∙◌, subst, arith}
 use Rattle.std.specs.Prelude.{◌==◌, ◌||◌, not, IfSome, option_map, if◌then◌else◌}
 use Rattle.std.specs.List.{cons_option, filter_map, list_any}
@@ -13,10 +13,10 @@ use Rattle.smi_tree.specs.Lookups.{domain_count, devices_of}
 use Rattle.smi_publish.specs.declared.condition.Condition.{Condition}
 use Rattle.smi_publish.specs.Published.{HasRoom, change_at, changes_at, condition, differs, last_sequence, shown}
 use Rattle.smi_publish.specs.Published.{shown_at}
-use Rattle.smi_publish.specs.Publishing.{acted, come_to, device_objects, evaluated, is_among, moved_by, reported}
+use Rattle.smi_publish.specs.Publishing.{come_to, device_objects, evaluated, is_among, moved_by, reported}
 use Rattle.smi_publish.specs.Publishing.{unit_moved}
 use Rattle.smi_protocol.specs.Messages.{if_any}
-use Rattle.smi_protocol.specs.Showing.{is_spent, passed_in}
+use Rattle.smi_protocol.specs.Showing.{is_spent}
 use Rattle.smi_protocol.specs.SoundDisplay.{IsCondition}
 use Rattle.smi_protocol.proofs.Lists.{Apart, In, from_mapped, in_any, in_chosen, in_first, in_second, numbers_above}
 use Rattle.smi_protocol.proofs.Lists.{same}

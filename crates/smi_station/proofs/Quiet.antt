@@ -1,5 +1,5 @@
 -- Steps in which no object of the station changes.
-use Rattle.std.proofs.Common.{ℕ, ◌≡◌, Bool, true, false, List, [], ◌∷◌, refl, sym, ap, ◌∙◌, subst}
+use Rattle.std.proofs.Common.{ℕ, ◌≡◌, Bool, true, false, [], ◌∷◌, refl, sym, ap, ◌∙◌, subst}
 use Rattle.std.specs.Prelude.{Option, Some, None, Result, Ok, Err, if◌then◌else◌}
 use Rattle.smi_tree.specs.Hierarchy.{Hierarchy}
 use Rattle.smi_publish.specs.declared.condition.Condition.{Condition}
@@ -7,7 +7,7 @@ use Rattle.smi_publish.specs.Published.{HasRoom}
 use Rattle.smi_protocol.specs.Display.{Display, Station}
 use Rattle.smi_protocol.specs.Grants.{Grants, put}
 use Rattle.smi_protocol.specs.GrantStep.{GrantStep, unchanged}
-use Rattle.smi_protocol.specs.Happening.{Happening, Orders, Ticks, answer}
+use Rattle.smi_protocol.specs.Happening.{Orders, Ticks, answer}
 use Rattle.smi_protocol.specs.Ordering.{obeyed, order_comes}
 use Rattle.smi_protocol.specs.Sound.{IsSound}
 use Rattle.smi_command.specs.Order.{take_begun, drop_begun, command_issued}

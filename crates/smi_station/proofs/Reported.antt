@@ -1,12 +1,11 @@
 -- A report of a device at a station.
-use Rattle.std.proofs.Common.{ℕ, zero, suc, ◌≡◌, ◌≤◌, ◌<◌, ◌+◌, ◌-◌, ◌⊎◌, Bool, true, false, List, [], ◌∷◌, ◌++◌}
+use Rattle.std.proofs.Common.{ℕ, zero, suc, ◌≡◌, ◌≤◌, ◌+◌, ◌-◌, Bool, true, false, List, [], ◌++◌}
 use Rattle.std.proofs.Common.{Option, Some, None, refl, sym, ap, ◌∙◌, subst, arith}
 use Rattle.std.specs.Prelude.{◌==◌, if◌then◌else◌, nat_le, slice_get}
 use Rattle.std.specs.List.{flat_map}
 use Rattle.std.proofs.lemmas.Bool.{and_parts, leb-true}
 use Rattle.std.proofs.lemmas.Bool.Decides.{nat_tests}
 use Rattle.smi_grant.specs.declared.Shown.{Shown}
-use Rattle.smi_message.specs.Message.{Message}
 use Rattle.smi_tree.specs.Hierarchy.{Hierarchy, entry, is_device_of}
 use Rattle.smi_tree.specs.Lawful.{IsBetween}
 use Rattle.smi_tree.specs.Lookups.{devices_of, domain_count, state_count}
@@ -33,7 +32,7 @@ use Rattle.smi_display.specs.Following.{followed_at}
 use Rattle.smi_display.specs.Listening.{KeepsTheRest}
 use Rattle.smi_display.specs.Members.{Listed, listed_of}
 use Rattle.smi_station.specs.Core.{AreHalves, station_with}
-use Rattle.smi_station.specs.Stirring.{shown_anew, stirred_in}
+use Rattle.smi_station.specs.Stirring.{stirred_in}
 use Rattle.smi_station.proofs.Outcomes.{listed_follows, parts_together, station_together}
 use Rattle.smi_station.proofs.Passing.{reported_first, reported_shown}
 use Rattle.smi_station.proofs.Stirred.{all_shown, shown_sends, stirred_display, stirred_room, unit_room}

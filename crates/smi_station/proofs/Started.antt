@@ -1,5 +1,5 @@
 -- A station that starts.
-use Rattle.std.proofs.Common.{ℕ, ◌≡◌, ◌<◌, ◌+◌, Bool, true, false, Option, Some, None, Result, Ok, Err, refl, sym, ap}
+use Rattle.std.proofs.Common.{ℕ, ◌≡◌, ◌<◌, Bool, true, false, Option, Some, None, Result, Ok, Err, sym}
 use Rattle.std.proofs.Common.{◌∙◌, subst, arith}
 use Rattle.std.specs.Prelude.{IfErr, IfOk, IfSome, option_map, if◌then◌else◌}
 use Rattle.smi_tree.specs.Hierarchy.{Hierarchy}
@@ -8,7 +8,6 @@ use Rattle.smi_publish.specs.declared.condition.Condition.{Condition}
 use Rattle.smi_publish.specs.Published.{condition, last_sequence}
 use Rattle.smi_roles.specs.Roles.{is_kept_by}
 use Rattle.smi_rows.specs.Store.{Rows}
-use Rattle.smi_protocol.specs.Display.{Display, Station}
 use Rattle.smi_protocol.specs.Loading.{Opens}
 use Rattle.smi_protocol.specs.Opening.{first_display}
 use Rattle.smi_protocol.specs.Sound.{IsSound}

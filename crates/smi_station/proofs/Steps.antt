@@ -1,15 +1,15 @@
 -- Steps of a station whose halves have been gone over one after the other.
-use Rattle.std.proofs.Common.{ℕ, ◌≡◌, ◌≤◌, ◌<◌, ◌+◌, Bool, true, false, List, [], ◌∷◌, Option, Some, None, Result, Ok}
+use Rattle.std.proofs.Common.{ℕ, ◌≡◌, Bool, false, List, [], ◌∷◌, Option, Some, None, Result, Ok}
 use Rattle.std.proofs.Common.{Err, inl, inr, refl, sym, ap, ◌∙◌, subst, arith}
-use Rattle.std.specs.Prelude.{IfOk, OnOk, OnErr, if◌then◌else◌}
+use Rattle.std.specs.Prelude.{IfOk, OnOk, OnErr}
 use Rattle.smi_tree.specs.Hierarchy.{Hierarchy}
-use Rattle.smi_message.specs.Message.{Message, is_boot}
+use Rattle.smi_message.specs.Message.{Message}
 use Rattle.smi_message.specs.declared.Body.TheVariants as body
-use Rattle.smi_rows.specs.Store.{Rows, Saved, IsSame}
+use Rattle.smi_rows.specs.Store.{Rows, IsSame}
 use Rattle.smi_protocol.specs.Display.{Display, Station}
 use Rattle.smi_protocol.specs.GrantStep.{unchanged}
 use Rattle.smi_protocol.specs.Happening.{Happening, Comes, Reports, Ticks}
-use Rattle.smi_protocol.specs.Refusals.{is_report_here, refusal_of}
+use Rattle.smi_protocol.specs.Refusals.{refusal_of}
 use Rattle.smi_protocol.specs.SoundDisplay.{MayChange}
 use Rattle.smi_protocol.specs.Tidy.{IsTidy}
 use Rattle.smi_law.proofs.Tidy.{after_tidy}
@@ -26,7 +26,7 @@ use Rattle.smi_protocol.specs.Step.{Out, Outcome, accepted, after, after_event, 
 use Rattle.smi_protocol.specs.Step.{ordered_or_reported, nothing_out, refusal_answers}
 use Rattle.smi_protocol.specs.Watching.{Notice, watch_comes}
 use Rattle.smi_protocol.specs.declared.event.Heard.{Heard}
-use Rattle.smi_protocol.specs.declared.event.Heard.TheVariants.{Refused, Same}
+use Rattle.smi_protocol.specs.declared.event.Heard.TheVariants.{Refused}
 use Rattle.smi_protocol.specs.declared.event.StepFault.{StepFault}
 use Rattle.smi_protocol.specs.declared.event.StepFault.TheVariants.{NotStored, Stopped, Memory}
 use Rattle.smi_grants.specs.Kept.{Kept, grants_of}
@@ -142,11 +142,12 @@ IsRest (Ok x) = Unit {0}
 IsRest (Err fault) = fault ≡ Memory
 
 pub rests : {T X : Type 0} (is_honest is_open : T → Type 0) (rows : T → Rows) (may_find : T → Rows → Type 0)
-    (saves failures : T → ℕ)
+    (saves failures doubts : T → ℕ)
     → ((store : T) → is_honest store → is_open store → (x : Rows) → may_find store x → IsSame x (rows store))
-    → (store : T) (r : Result X StepFault) → IsRest r → Leaves is_honest is_open rows may_find saves failures store
+    → (store : T) (r : Result X StepFault) → IsRest r → Leaves is_honest is_open rows may_find saves failures doubts
+    store
     store r None
-rests is_honest is_open rows may_find saves failures finds store (Ok x) rest = record {
+rests is_honest is_open rows may_find saves failures doubts finds store (Ok x) rest = record {
   saved = λ honest opened. (opened, λ k. refl);
   kept = λ honest. tt;
   unsure = λ honest opened. tt;
@@ -155,8 +156,11 @@ rests is_honest is_open rows may_find saves failures finds store (Ok x) rest = r
   one_save = omega arith;
   failures_rise = omega arith;
   cause = tt;
+  calm = refl;
+  doubt = tt;
+  sure = refl;
 }
-rests is_honest is_open rows may_find saves failures finds store (Err Memory) rest = record {
+rests is_honest is_open rows may_find saves failures doubts finds store (Err Memory) rest = record {
   saved = λ honest opened. tt;
   kept = λ honest opened. (opened, λ k. refl);
   unsure = λ honest opened. tt;
@@ -165,9 +169,12 @@ rests is_honest is_open rows may_find saves failures finds store (Err Memory) re
   one_save = omega arith;
   failures_rise = omega arith;
   cause = tt;
+  calm = refl;
+  doubt = tt;
+  sure = refl;
 }
-rests is_honest is_open rows may_find saves failures finds store (Err NotStored) rest = absurd cc
-rests is_honest is_open rows may_find saves failures finds store (Err Stopped) rest = absurd cc
+rests is_honest is_open rows may_find saves failures doubts finds store (Err NotStored) rest = absurd cc
+rests is_honest is_open rows may_find saves failures doubts finds store (Err Stopped) rest = absurd cc
 
 -- Watches.
 

@@ -1,5 +1,5 @@
 -- What a step and a start leave in the store says all that the station keeps.
-use Rattle.std.proofs.Common.{ℕ, ◌≡◌, ◌⊎◌, inl, inr, Result, Ok, Err, sym, subst, ◌∙◌}
+use Rattle.std.proofs.Common.{ℕ, ◌≡◌, ◌⊎◌, inl, inr, Result, Ok, Err, sym, subst}
 use Rattle.std.specs.Prelude.{IfOk, OnOk}
 use mathlib.Core.Path.{fun_ext}
 use Rattle.smi_tree.specs.Hierarchy.{Hierarchy}

@@ -1,8 +1,7 @@
 -- What a step wanted memory for.
-use Rattle.std.proofs.Common.{◌≡◌, Bool, true, false, Option, Some, None, Result, Ok, Err, refl, subst, sym}
-use Rattle.std.specs.Prelude.{◌||◌, is_some, IsOk, OnErr}
+use Rattle.std.proofs.Common.{◌≡◌, Bool, true, Option, Some, None, Result, Ok, Err, refl}
+use Rattle.std.specs.Prelude.{is_some, IsOk, OnErr}
 use Rattle.smi_rows.specs.Store.{Saved}
-use Rattle.smi_protocol.specs.declared.event.Heard.{Heard}
 use Rattle.smi_protocol.specs.declared.event.StepFault.{StepFault}
 use Rattle.smi_protocol.specs.declared.event.StepFault.TheVariants.{NotStored, Stopped, Memory}
 use Rattle.smi_grants.specs.Save.{IfMemory}

@@ -158,7 +158,7 @@ impl<'a> Core<'a> {
             → Steps self.old self.new (after_event (tree_of self.old) (number_of self.old) (station_of self.old)
             event.entry) out.new result }
         ensures store { self.old.is_stopped ≡ false
-            → Leaves S.is_honest S.is_open S.rows S.may_find S.saves S.failures store.old store.new result
+            → Leaves S.is_honest S.is_open S.rows S.may_find S.saves S.failures S.doubts store.old store.new result
             (after_event (tree_of self.old) (number_of self.old) (station_of self.old) event.entry).saved }
         ensures memory { self.old.is_stopped ≡ false → IfMemory result (wants_memory
             (after_event (tree_of self.old) (number_of self.old) (station_of self.old) event.entry).saved
@@ -191,7 +191,8 @@ impl<'a> Core<'a> {
         requires empty { out.old ≡ nothing_out }
         ensures step { Steps self.old self.new (after_event (tree_of self.old) (number_of self.old)
             (station_of self.old) event.entry) out.new result }
-        ensures store { Leaves S.is_honest S.is_open S.rows S.may_find S.saves S.failures store.old store.new result
+        ensures store { Leaves S.is_honest S.is_open S.rows S.may_find S.saves S.failures S.doubts store.old store.new
+            result
             (after_event (tree_of self.old) (number_of self.old) (station_of self.old) event.entry).saved }
         ensures memory { IfMemory result (wants_memory
             (after_event (tree_of self.old) (number_of self.old) (station_of self.old) event.entry).saved
@@ -219,7 +220,8 @@ impl<'a> Core<'a> {
         requires empty { out.old ≡ nothing_out }
         ensures step { Steps self.old self.new (after_reading (tree_of self.old) (number_of self.old)
             (station_of self.old) (reading bytes.now)) out.new result }
-        ensures store { Leaves S.is_honest S.is_open S.rows S.may_find S.saves S.failures store.old store.new result
+        ensures store { Leaves S.is_honest S.is_open S.rows S.may_find S.saves S.failures S.doubts store.old store.new
+            result
             (after_reading (tree_of self.old) (number_of self.old) (station_of self.old) (reading bytes.now)).saved }
         ensures memory { IfMemory result (wants_memory
             (after_reading (tree_of self.old) (number_of self.old) (station_of self.old) (reading bytes.now)).saved
@@ -244,7 +246,8 @@ impl<'a> Core<'a> {
         requires empty { out.old ≡ nothing_out }
         ensures step { Steps self.old self.new (after (tree_of self.old) (number_of self.old) (station_of self.old)
             (Comes datagram.now)) out.new result }
-        ensures store { Leaves S.is_honest S.is_open S.rows S.may_find S.saves S.failures store.old store.new result
+        ensures store { Leaves S.is_honest S.is_open S.rows S.may_find S.saves S.failures S.doubts store.old store.new
+            result
             (after (tree_of self.old) (number_of self.old) (station_of self.old) (Comes datagram.now)).saved }
         ensures memory { IfMemory result (wants_memory
             (after (tree_of self.old) (number_of self.old) (station_of self.old) (Comes datagram.now)).saved
@@ -269,7 +272,8 @@ impl<'a> Core<'a> {
         requires empty { out.old ≡ nothing_out }
         ensures step { Steps self.old self.new (accepted (tree_of self.old) (number_of self.old)
             (station_of self.old) (Comes datagram.now)) out.new result }
-        ensures store { Leaves S.is_honest S.is_open S.rows S.may_find S.saves S.failures store.old store.new result
+        ensures store { Leaves S.is_honest S.is_open S.rows S.may_find S.saves S.failures S.doubts store.old store.new
+            result
             (accepted (tree_of self.old) (number_of self.old) (station_of self.old) (Comes datagram.now)).saved }
         ensures memory { IfMemory result (wants_memory
             (accepted (tree_of self.old) (number_of self.old) (station_of self.old) (Comes datagram.now)).saved
@@ -324,7 +328,8 @@ impl<'a> Core<'a> {
         requires empty { out.old ≡ nothing_out }
         ensures step { Steps self.old self.new (after (tree_of self.old) (number_of self.old) (station_of self.old)
             (ordered_or_reported operator order.now)) out.new result }
-        ensures store { Leaves S.is_honest S.is_open S.rows S.may_find S.saves S.failures store.old store.new result
+        ensures store { Leaves S.is_honest S.is_open S.rows S.may_find S.saves S.failures S.doubts store.old store.new
+            result
             (after (tree_of self.old) (number_of self.old) (station_of self.old)
             (ordered_or_reported operator order.now)).saved }
         ensures memory { IfMemory result (is_some
@@ -350,7 +355,8 @@ impl<'a> Core<'a> {
         requires empty { out.old ≡ nothing_out }
         ensures step { Steps self.old self.new (after (tree_of self.old) (number_of self.old) (station_of self.old)
             (Orders operator order.now)) out.new result }
-        ensures store { Leaves S.is_honest S.is_open S.rows S.may_find S.saves S.failures store.old store.new result
+        ensures store { Leaves S.is_honest S.is_open S.rows S.may_find S.saves S.failures S.doubts store.old store.new
+            result
             (after (tree_of self.old) (number_of self.old) (station_of self.old) (Orders operator order.now)).saved }
         ensures memory { IfMemory result (is_some
             (after (tree_of self.old) (number_of self.old) (station_of self.old) (Orders operator order.now)).saved

@@ -28,7 +28,7 @@ pub(crate) fn make<S: Stable>(
     ensures heard { (step : GrantStep) → Plans kept.old.tree kept.old.number (grants_of kept.old) step change.now
         → IfOk result (λ heard. heard ≡ heard_of (row_of kept.old.tree kept.old.number step)) }
     ensures store { (step : GrantStep) → Plans kept.old.tree kept.old.number (grants_of kept.old) step change.now
-        → Leaves S.is_honest S.is_open S.rows S.may_find S.saves S.failures store.old store.new result
+        → Leaves S.is_honest S.is_open S.rows S.may_find S.saves S.failures S.doubts store.old store.new result
         (row_of kept.old.tree kept.old.number step) }
     ensures memory { (step : GrantStep) → Plans kept.old.tree kept.old.number (grants_of kept.old) step change.now
         → IfMemory result (is_some (row_of kept.old.tree kept.old.number step) ≡ true) }

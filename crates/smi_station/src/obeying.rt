@@ -43,7 +43,8 @@ pub(crate) fn obey<S: Stable>(
         result (out.new
         ≡ (accepted kept.old.tree kept.old.number (station_with kept.old display.old false)
         (Orders operator what.now)).out) }
-    ensures store { Leaves S.is_honest S.is_open S.rows S.may_find S.saves S.failures store.old store.new result
+    ensures store { Leaves S.is_honest S.is_open S.rows S.may_find S.saves S.failures S.doubts store.old store.new
+        result
         (accepted kept.old.tree kept.old.number (station_with kept.old display.old false)
         (Orders operator what.now)).saved }
     ensures memory { IfMemory result (is_some

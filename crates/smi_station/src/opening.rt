@@ -1,11 +1,11 @@
 //! A station starts on its store.
 
-ghost use Rattle.std.specs.Prelude.{◌≡◌, ◌≤◌, ◌<◌, ◌+◌, ◌⊎◌, IfErr, IfOk, Ok, OnOk};
+ghost use Rattle.std.specs.Prelude.{◌≡◌, ◌≤◌, ◌<◌, ◌+◌, ◌⊎◌, Err, IfErr, IfOk, Ok, OnOk};
 ghost use Rattle.smi_rows.specs.Store.{Rows, IsSame};
-ghost use Rattle.smi_protocol.specs.Loading.{Opens};
+ghost use Rattle.smi_protocol.specs.Loading.{IsStation, Opens};
 ghost use Rattle.smi_tree.specs.Lookups.{station_count};
-ghost use Rattle.smi_load.specs.Starting.{IfCertain, IfInDoubt, IfStoreFailed, IfUnchanged, IsToldAsMemory};
-ghost use Rattle.smi_load.specs.Starting.{after_start, beginning_with};
+ghost use Rattle.smi_load.specs.Starting.{IfCertain, IfInDoubt, IfStoreFailed, IfStoreUnfailed};
+ghost use Rattle.smi_load.specs.Starting.{IfUnchanged, IsToldAsMemory, after_start, beginning_with};
 ghost use Rattle.smi_station.specs.Core.{IsOf, begun};
 
 use crate::halves::Core;
@@ -77,6 +77,9 @@ fn loaded<'a, S: Stable>(
     ensures saves { S.saves store.new ≡ S.saves store.old }
     ensures failures { S.failures store.old ≤ S.failures store.new }
     ensures cause { IfStoreFailed result (S.failures store.old < S.failures store.new) }
+    ensures calm { IfStoreUnfailed result (S.failures store.new ≡ S.failures store.old) }
+    ensures doubt { IfInDoubt result (S.doubts store.old < S.doubts store.new) }
+    ensures sure { IfCertain result (S.doubts store.new ≡ S.doubts store.old) }
     ensures fault { IfErr result IsToldAsMemory }
 {
     match loaded_kept(alloc, tree, number, store) {
@@ -94,6 +97,9 @@ pub(crate) fn start<'a, S: Stable>(
 ) -> Result<Core<'a>, OpenFault>
     ensures opens { S.is_honest store.new → Opens tree.now number (S.rows store.old) (begun result) }
     ensures of { IfOk result (IsOf tree.now number) }
+    // Whatever the store is, it is not touched for a station that the tree does not have.
+    ensures stranger { IsStation tree.now number false
+        → (result ≡ Err OpenFault.NoSuchStation) × (store.new ≡ store.old) }
     ensures saved { S.is_honest store.new → OnOk
         result (S.is_open store.new × IsSame (S.rows store.new) (after_start tree.now number (S.rows store.old))) }
     ensures kept { S.is_honest store.new → S.is_open store.old
@@ -107,6 +113,9 @@ pub(crate) fn start<'a, S: Stable>(
     ensures saves { S.saves store.new ≤ S.saves store.old + 1 }
     ensures failures { S.failures store.old ≤ S.failures store.new }
     ensures cause { IfStoreFailed result (S.failures store.old < S.failures store.new) }
+    ensures calm { IfStoreUnfailed result (S.failures store.new ≡ S.failures store.old) }
+    ensures doubt { IfInDoubt result (S.doubts store.old < S.doubts store.new) }
+    ensures sure { IfCertain result (S.doubts store.new ≡ S.doubts store.old) }
     ensures fault { IfErr result IsToldAsMemory }
 {
     if !has_station(tree, number) {

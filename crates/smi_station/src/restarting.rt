@@ -8,9 +8,10 @@ use smi_rows::Stable;
 use std::alloc::Global;
 
 impl<'a> Core<'a> {
-    ghost use Rattle.std.specs.Prelude.{◌≡◌, ◌≤◌, ◌<◌, ◌+◌, IfErr, OnErr, OnOk};
-    ghost use Rattle.smi_rows.specs.Store.{IsSame};
-    ghost use Rattle.smi_load.specs.Starting.{IfStoreFailed, IfUnchanged, IsToldAsMemory};
+    ghost use Rattle.std.specs.Prelude.{◌≡◌, ◌≤◌, ◌<◌, ◌+◌, ◌⊎◌, IfErr, OnErr, OnOk};
+    ghost use Rattle.smi_rows.specs.Store.{IsSame, Rows};
+    ghost use Rattle.smi_load.specs.Starting.{IfCertain, IfInDoubt, IfStoreFailed, IfStoreUnfailed};
+    ghost use Rattle.smi_load.specs.Starting.{IfUnchanged, IsToldAsMemory, after_start};
     ghost use Rattle.smi_load.specs.Stored.{Restarts};
     ghost use Rattle.smi_station.specs.Core.{IsOf, IsStoredIn, begun, number_of, station_of, tree_of};
     ghost use Rattle.smi_station.specs.Readers.{restarted};
@@ -26,10 +27,21 @@ impl<'a> Core<'a> {
         ensures open { S.is_honest store.new → OnOk result (S.is_open store.new) }
         ensures kept { S.is_honest store.new → S.is_open store.old
             → IfUnchanged result (S.is_open store.new × IsSame (S.rows store.new) (S.rows store.old)) }
+        ensures saved { S.is_honest store.new → OnOk result (S.is_open store.new × IsSame (S.rows store.new)
+            (after_start (tree_of self.old) (number_of self.old) (S.rows store.old))) }
+        ensures unsure { S.is_honest store.new → S.is_open store.old → S.is_open store.new
+            → IfInDoubt result (IsSame (S.rows store.new) (S.rows store.old)
+            ⊎ IsSame (S.rows store.new) (after_start (tree_of self.old) (number_of self.old) (S.rows store.old))) }
+        ensures crash { S.is_honest store.new → S.is_open store.old → (r : Rows) → S.may_find store.new r
+            → IsSame r (S.rows store.old)
+            ⊎ IsSame r (after_start (tree_of self.old) (number_of self.old) (S.rows store.old)) }
         ensures honest { S.is_honest store.new → S.is_honest store.old }
         ensures saves { S.saves store.new ≤ S.saves store.old + 1 }
         ensures failures { S.failures store.old ≤ S.failures store.new }
         ensures cause { IfStoreFailed result (S.failures store.old < S.failures store.new) }
+        ensures calm { IfStoreUnfailed result (S.failures store.new ≡ S.failures store.old) }
+        ensures doubt { IfInDoubt result (S.doubts store.old < S.doubts store.new) }
+        ensures sure { IfCertain result (S.doubts store.new ≡ S.doubts store.old) }
         ensures fault { IfErr result IsToldAsMemory }
     {
         match start(alloc, self.kept.tree(), self.kept.number(), store) {
@@ -43,9 +55,10 @@ impl<'a> Core<'a> {
 }
 
 impl<'a, S: Stable> Station<'a, S> {
-    ghost use Rattle.std.specs.Prelude.{◌≡◌, ◌≤◌, ◌<◌, ◌+◌, IfErr, OnErr, OnOk};
-    ghost use Rattle.smi_rows.specs.Store.{IsSame};
-    ghost use Rattle.smi_load.specs.Starting.{IfStoreFailed, IfUnchanged, IsToldAsMemory};
+    ghost use Rattle.std.specs.Prelude.{◌≡◌, ◌≤◌, ◌<◌, ◌+◌, ◌⊎◌, IfErr, OnErr, OnOk};
+    ghost use Rattle.smi_rows.specs.Store.{IsSame, Rows};
+    ghost use Rattle.smi_load.specs.Starting.{IfCertain, IfInDoubt, IfStoreFailed, IfStoreUnfailed};
+    ghost use Rattle.smi_load.specs.Starting.{IfUnchanged, IsToldAsMemory, after_start};
     ghost use Rattle.smi_load.specs.Stored.{Restarts};
     ghost use Rattle.smi_station.specs.Core.{IsOf, IsStoredIn, begun, number_of, station_of, tree_of};
     ghost use Rattle.smi_station.specs.Readers.{restarted};
@@ -67,10 +80,24 @@ impl<'a, S: Stable> Station<'a, S> {
         ensures open { S.is_honest self.new.store → OnOk result (S.is_open self.new.store) }
         ensures kept { S.is_honest self.new.store → S.is_open self.old.store
             → IfUnchanged result (S.is_open self.new.store × IsSame (S.rows self.new.store) (S.rows self.old.store)) }
+        ensures saved { S.is_honest self.new.store
+            → OnOk result (S.is_open self.new.store × IsSame (S.rows self.new.store)
+            (after_start (tree_of self.old.core) (number_of self.old.core) (S.rows self.old.store))) }
+        ensures unsure { S.is_honest self.new.store → S.is_open self.old.store → S.is_open self.new.store
+            → IfInDoubt result (IsSame (S.rows self.new.store) (S.rows self.old.store)
+            ⊎ IsSame (S.rows self.new.store)
+            (after_start (tree_of self.old.core) (number_of self.old.core) (S.rows self.old.store))) }
+        // A stop at any moment leaves the boot as before or one higher.
+        ensures crash { S.is_honest self.new.store → S.is_open self.old.store → (r : Rows) → S.may_find self.new.store r
+            → IsSame r (S.rows self.old.store)
+            ⊎ IsSame r (after_start (tree_of self.old.core) (number_of self.old.core) (S.rows self.old.store)) }
         ensures honest { S.is_honest self.new.store → S.is_honest self.old.store }
         ensures saves { S.saves self.new.store ≤ S.saves self.old.store + 1 }
         ensures failures { S.failures self.old.store ≤ S.failures self.new.store }
         ensures cause { IfStoreFailed result (S.failures self.old.store < S.failures self.new.store) }
+        ensures calm { IfStoreUnfailed result (S.failures self.new.store ≡ S.failures self.old.store) }
+        ensures doubt { IfInDoubt result (S.doubts self.old.store < S.doubts self.new.store) }
+        ensures sure { IfCertain result (S.doubts self.new.store ≡ S.doubts self.old.store) }
         ensures fault { IfErr result IsToldAsMemory }
     {
         self.core.restart(alloc, &mut self.store)

@@ -112,8 +112,9 @@ impl<'a, S> Station<'a, S> {
 impl<'a, S: Stable> Station<'a, S> {
     ghost use Rattle.std.specs.Prelude.{◌≤◌, ◌<◌, ◌+◌, ◌⊎◌, IfErr, IfOk, OnOk};
     ghost use Rattle.smi_rows.specs.Store.{Rows, IsSame};
-    ghost use Rattle.smi_protocol.specs.Loading.{Opens};
-    ghost use Rattle.smi_load.specs.Starting.{IfInDoubt, IfStoreFailed, IfUnchanged, IsToldAsMemory, after_start};
+    ghost use Rattle.smi_protocol.specs.Loading.{IsStation, Opens};
+    ghost use Rattle.smi_load.specs.Starting.{IfCertain, IfInDoubt, IfStoreFailed, IfStoreUnfailed};
+    ghost use Rattle.smi_load.specs.Starting.{IfUnchanged, IsToldAsMemory, after_start};
     ghost use Rattle.smi_station.specs.Core.{IsOf, IsStoredIn, begun};
     ghost use Rattle.smi_station.specs.Readers.{core_in, store_in};
     ghost use Rattle.std.specs.Prelude.{◌≡◌, true, false, Err};
@@ -131,8 +132,9 @@ impl<'a, S: Stable> Station<'a, S> {
     /// A fault gives the store back. They are found in this order: `NoSuchStation`, where the tree has no such
     /// station; `Row`, with the least key whose row is refused and the code of the test that it fails; `BootsSpent`,
     /// where the station has started 4,000,000,000 times. `Store`, where the store failed, and `Memory`, where memory
-    /// was refused, come where they come. After each the rows are as before, but that after an unsure save the boot
-    /// may be one higher.
+    /// was refused, come where they come; that it was refused then, tests alone see. After each the rows are as before,
+    /// but that after an unsure save the boot may be one higher. The store failed where `Store` is answered, and
+    /// nowhere else.
     pub fn open(
         alloc: Global,
         tree: &'a Tree,
@@ -141,6 +143,9 @@ impl<'a, S: Stable> Station<'a, S> {
     ) -> Result<Station<'a, S>, (OpenFault, S)>
         ensures opens { S.is_honest (store_in result) → Opens tree.now number (S.rows store) (begun (core_in result)) }
         ensures of { IfOk (core_in result) (IsOf tree.now number) }
+        // Whatever the store is, it is given back as it was where the tree has no such station.
+        ensures stranger { IsStation tree.now number false
+            → (core_in result ≡ Err OpenFault.NoSuchStation) × (store_in result ≡ store) }
         // They then say all that the station keeps.
         ensures stored { S.is_honest (store_in result) → IfOk (core_in result) (IsStoredIn (S.rows (store_in result))) }
         ensures saved { S.is_honest (store_in result)
@@ -159,6 +164,9 @@ impl<'a, S: Stable> Station<'a, S> {
         ensures saves { S.saves (store_in result) ≤ S.saves store + 1 }
         ensures failures { S.failures store ≤ S.failures (store_in result) }
         ensures cause { IfStoreFailed (core_in result) (S.failures store < S.failures (store_in result)) }
+        ensures calm { IfStoreUnfailed (core_in result) (S.failures (store_in result) ≡ S.failures store) }
+        ensures doubt { IfInDoubt (core_in result) (S.doubts store < S.doubts (store_in result)) }
+        ensures sure { IfCertain (core_in result) (S.doubts (store_in result) ≡ S.doubts store) }
         ensures fault { IfErr (core_in result) IsToldAsMemory }
     {
         let mut store = store;
@@ -176,14 +184,16 @@ impl<'a, S: Stable> Station<'a, S> {
     /// rows are unchanged; `Memory` comes only where a row is saved, or where a watch adds an entry, so ticks, reports
     /// and all that is refused never answer it. `Stopped` is answered by a station that has stopped, before all other
     /// tests, and where the store answered `Unsure`: the station has then stopped, and its rows are as before or as
-    /// after the step. After each of the three nothing is handed out. A stop at any moment of a step leaves the rows
-    /// as before or as after it.
+    /// after the step. The store failed where `NotStored` is answered, or `Stopped` by a station that ran, and nowhere
+    /// else; that memory was refused where `Memory` is, tests alone see. After each of the three nothing is handed out.
+    /// A stop at any moment of a step leaves the rows as before or as after it.
     pub fn step(&mut self, event: Event<'_>, out: &mut Out) -> Result<Heard, StepFault>
         ensures step { self.old.core.is_stopped ≡ false
             → Steps self.old.core self.new.core (after_event (tree_of self.old.core) (number_of self.old.core)
             (station_of self.old.core) event.entry) out.new result }
         ensures store { self.old.core.is_stopped ≡ false
-            → Leaves S.is_honest S.is_open S.rows S.may_find S.saves S.failures self.old.store self.new.store result
+            → Leaves S.is_honest S.is_open S.rows S.may_find S.saves S.failures S.doubts self.old.store self.new.store
+            result
             (after_event (tree_of self.old.core) (number_of self.old.core) (station_of self.old.core)
             event.entry).saved }
         // Memory is wanted for a row that is saved, or for a new watcher, and for nothing else.

@@ -21,7 +21,7 @@ fn spell_line(text: &mut Vec<u8>, tree: &Tree, line: &Line) -> Result<(), AllocE
 /// Puts the text of a line into a buffer, with its line feed, in place of what was there.
 ///
 /// Whatever the tree has is written by its name, and else by its number. Out of memory is answered only where the
-/// buffer was refused more, and then the buffer is empty.
+/// buffer was refused more, which tests alone see, and then the buffer is empty.
 pub fn spell(text: &mut Vec<u8>, tree: &Tree, line: &Line) -> Result<(), AllocError>
     ensures { MatchResult result (λ _. text.new.items ≡ line_text tree.now line.now) (λ _. text.new.items ≡ []) }
 {

@@ -85,7 +85,8 @@ impl Tree {
 
     /// The tree that a file declares, or the first of its faulty lines with its first fault.
     ///
-    /// Out of memory is answered where an allocation was refused, and nowhere else.
+    /// Out of memory is answered where an allocation was refused, and nowhere else, which tests
+    /// alone see.
     #[tactic(auto, unfolding(crate::specs::File::tree_of))]
     pub fn read(alloc: Global, bytes: &[u8]) -> Result<Tree, TreeFault>
         ensures exact { Reads result (tree_of bytes.now) }

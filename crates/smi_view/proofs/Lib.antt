@@ -3,3 +3,4 @@ pub mod Counting
 pub mod LastRows
 pub mod LastStates
 pub mod Naming
+pub mod Rises

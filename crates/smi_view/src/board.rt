@@ -1,6 +1,8 @@
 //! The end of a board that a station's thread writes.
 
-ghost use Rattle.std.specs.Prelude.{◌≡◌, ◌<◌, ◌^◌, [], ◌∷◌, ◌++◌, drop, fold, length, All, Some, IfOk, OnOk, OnErr};
+ghost use Rattle.std.specs.Prelude.{◌≡◌, ◌↔◌, ◌<◌, ◌+◌, ◌^◌, [], ◌∷◌, ◌++◌, drop, fold, length, All, Some, IfOk};
+ghost use Rattle.std.specs.Prelude.{IsTrue, OnErr, OnOk};
+ghost use mathlib.Core.List.{IsPrefix};
 ghost use Rattle.std.specs.Prelude.{MatchResult};
 ghost use Rattle.left_right.specs.Sides.{view};
 ghost use Rattle.smi_view.specs.declared.page.Page.{Page};
@@ -9,11 +11,11 @@ ghost use Rattle.smi_view.specs.Pages.{name_of, page_of, turned};
 ghost use Rattle.smi_view.specs.Shows.{HasSeenNothing};
 
 use crate::glance::{Glance, News};
+use crate::growth::BoardGrowth;
 use crate::history::{Blank, BoardId, Counter, Rows};
 use crate::page::Name;
 use crate::rule::{Finds, Names, OneHistory};
 use crate::sheet::{Entry, Sheet};
-use core::mem::replace_with;
 use left_right::Absorb;
 use left_right::writer::Writer;
 use smi_grant::Shown;
@@ -22,12 +24,13 @@ use std::collections::VecDeque;
 use std::marker::Model;
 use std::sync::Wait;
 
-type BoardWriter = Writer<Sheet, Entry, Option<Name>, OneHistory>;
+pub(crate) type BoardWriter = Writer<Sheet, Entry, Option<Name>, OneHistory>;
 
 /// The end of a board that one thread writes.
 ///
-/// Contracts see it as two lists: all rows that were published, and those that were put since. It is
-/// ended by [`Board::close`].
+/// Contracts see it as two lists: all rows that were published, and those that were put since; and as how
+/// often it was refused what it asked for, memory or the count of one more row. It is ended by
+/// [`Board::close`].
 pub struct Board<J: BoardId> {
     writer: BoardWriter,
     /// What was put and not handed to the writer yet.
@@ -37,6 +40,7 @@ pub struct Board<J: BoardId> {
     rows: Rows<J>,
     /// No rows, as at the opening.
     none: Rows<J>,
+    growth: BoardGrowth,
 }
 
 impl<J: BoardId> Model for Board<J> {
@@ -50,6 +54,7 @@ impl<J: BoardId> Model for Board<J> {
     ghost view = { λ b. record {
       publications = b.writer.desk.shown.value.mark.seen.log;
       pending = drop (length b.writer.desk.shown.value.mark.seen.log) b.rows;
+      refusals = b.growth.count;
     } };
 
     ghost invariant = { λ b. (fold turned (page_of b.writer.desk.shown.value)
@@ -60,14 +65,20 @@ impl<J: BoardId> Model for Board<J> {
 }
 
 /// What waits is handed to the writer, the oldest first.
-fn hand_over(writer: &mut BoardWriter, waiting: &mut VecDeque<Entry>) -> Result<(), AllocError>
+fn hand_over(
+    growth: &mut BoardGrowth,
+    writer: &mut BoardWriter,
+    waiting: &mut VecDeque<Entry>,
+) -> Result<(), AllocError>
     ensures desk { writer.new.desk ≡ writer.old.desk }
     ensures entries { drop writer.new.behind writer.new.log.items ++ waiting.new.items
         ≡ drop writer.old.behind writer.old.log.items ++ waiting.old.items }
     ensures all { OnOk result (waiting.new.items ≡ []) }
+    ensures grown { OnOk result (growth.new.count ≡ growth.old.count) }
+    ensures refused { OnErr result (growth.new.count ≡ growth.old.count + 1) }
 {
     while let Some(entry) = waiting.pop_front() {
-        if let Err(entry) = writer.append(entry) {
+        if let Err(entry) = growth.append(writer, entry) {
             waiting.push_front_reserved(entry);
             return Err(AllocError);
         }
@@ -75,7 +86,8 @@ fn hand_over(writer: &mut BoardWriter, waiting: &mut VecDeque<Entry>) -> Result<
     Ok(())
 }
 
-fn publish<R: Wait>(rt: &R, writer: BoardWriter) -> (BoardWriter, Result<(), AllocError>)
+/// Shows readers all that the writer has, or leaves what they see.
+pub(crate) fn publish<R: Wait>(rt: &R, writer: BoardWriter) -> (BoardWriter, Result<(), AllocError>)
     requires entries { let next : Page = fold turned (page_of writer.desk.shown.value)
         (drop writer.behind writer.log.items) in next.entries ≡ entries_of next.rows }
     requires name { let next : Page = fold turned (page_of writer.desk.shown.value)
@@ -92,38 +104,20 @@ fn publish<R: Wait>(rt: &R, writer: BoardWriter) -> (BoardWriter, Result<(), All
     writer.publish_as::<Finds, R>(rt)
 }
 
-fn publish_in<R: Wait>(rt: &R, writer: &mut BoardWriter) -> Result<(), AllocError>
-    requires entries { let next : Page = fold turned (page_of writer.old.desk.shown.value)
-        (drop writer.old.behind writer.old.log.items) in next.entries ≡ entries_of next.rows }
-    requires name { let next : Page = fold turned (page_of writer.old.desk.shown.value)
-        (drop writer.old.behind writer.old.log.items) in
-        next.name ≡ name_of writer.old.desk.shown.value.mark.seen.book }
-    ensures page { OnOk result (page_of writer.new.desk.shown.value
-        ≡ fold turned (page_of writer.old.desk.shown.value) (drop writer.old.behind writer.old.log.items)) }
-    ensures emptied { OnOk result (drop writer.new.behind writer.new.log.items ≡ []) }
-    ensures name { OnOk result (view writer.new.desk.place
-        ≡ Some (name_of writer.new.desk.shown.value.mark.seen.book)) }
-    ensures unpublished { OnErr result (writer.new.desk.shown.value ≡ writer.old.desk.shown.value) }
-    ensures kept { OnErr result (drop writer.new.behind writer.new.log.items
-        ≡ drop writer.old.behind writer.old.log.items) }
-    ensures same { OnErr result (view writer.new.desk.place ≡ view writer.old.desk.place) }
-{
-    replace_with(writer, rt, |writer, rt| publish(rt, writer))
-}
-
 impl<J: BoardId> Board<J> {
     /// The row of an object is pending, after those that are.
     ///
-    /// It fails only where memory ran out, and changes nothing.
+    /// It fails only where the board was refused memory, or its history the count of one more row, and
+    /// changes nothing then.
     pub fn put(&mut self, shown: Shown) -> Result<(), AllocError>
         ensures publications { self.new.publications ≡ self.old.publications }
         ensures ok { OnOk result (self.new.pending ≡ self.old.pending ++ shown ∷ []) }
         ensures err { OnErr result (self.new.pending ≡ self.old.pending) }
+        ensures grown { OnOk result (self.new.refusals ≡ self.old.refusals) }
+        ensures refused { OnErr result (self.old.refusals < self.new.refusals) }
     {
-        self.waiting.reserve(1)?;
-        let Some(rows) = self.rows.with(&self.counter, shown) else {
-            return Err(AllocError);
-        };
+        self.growth.reserve(&mut self.waiting)?;
+        let rows = self.growth.with(&self.rows, &self.counter, shown)?;
         let entry = Entry {
             row: shown,
             mark: rows.mark(),
@@ -135,17 +129,18 @@ impl<J: BoardId> Board<J> {
 
     /// What is pending is published, all at once.
     ///
-    /// It fails only where memory ran out, and changes nothing. It waits for the readings of an earlier
-    /// publication to end.
+    /// It fails only where the board was refused memory, and changes nothing then. It waits for the readings
+    /// of an earlier publication to end.
     pub fn publish<R: Wait>(&mut self, rt: &R) -> Result<(), AllocError>
         ensures published { OnOk result (self.new.publications ≡ self.old.publications ++ self.old.pending) }
         ensures emptied { OnOk result (self.new.pending ≡ []) }
         ensures unpublished { OnErr result (self.new.publications ≡ self.old.publications) }
         ensures kept { OnErr result (self.new.pending ≡ self.old.pending) }
+        ensures grown { OnOk result (self.new.refusals ≡ self.old.refusals) }
+        ensures refused { OnErr result (self.old.refusals < self.new.refusals) }
     {
-        hand_over(&mut self.writer, &mut self.waiting)?;
-        publish_in(rt, &mut self.writer)?;
-        Ok(())
+        hand_over(&mut self.growth, &mut self.writer, &mut self.waiting)?;
+        self.growth.publish(rt, &mut self.writer)
     }
 
     /// What was published so far, for a glance to learn in its thread.
@@ -157,9 +152,17 @@ impl<J: BoardId> Board<J> {
         }
     }
 
+    /// Whether a glance has seen nothing but the beginning of what was published: it has, at any time.
+    pub fn meet(&self, glance: &Glance<J>) -> bool
+        ensures { IsTrue result ↔ IsPrefix glance.now.seen self.now.publications }
+    {
+        self.tell().meet(glance)
+    }
+
     /// A glance that has seen nothing and was told nothing.
     ///
-    /// It fails only where memory ran out, or that as many glances are out as the board has room for.
+    /// It fails only where memory ran out, or where as many glances are out as the board has room
+    /// for; tests alone see that.
     fn glance(&mut self) -> Result<Glance<J>, AllocError>
         ensures board { self.new ≡ self.old }
         ensures new { IfOk result HasSeenNothing }
@@ -196,6 +199,7 @@ impl<J: BoardId> Board<J> {
             counter: _counter,
             rows: _rows,
             none: _none,
+            growth: _growth,
         } = self;
         let last = writer.take(rt);
         News {
@@ -207,7 +211,7 @@ impl<J: BoardId> Board<J> {
 /// A board with no publications and nothing pending, and so many glances of it, one for each reading
 /// thread, which have seen nothing and were told nothing.
 ///
-/// It fails only where memory ran out.
+/// It fails only where memory ran out, which tests alone see.
 pub fn open_board<J: BoardId, R: Wait>(
     rt: &R,
     alloc: Global,
@@ -219,6 +223,7 @@ pub fn open_board<J: BoardId, R: Wait>(
     requires few { glances < 2 ^ 32 }
     ensures publications { IfOk result (λ ends. ends.0.publications ≡ []) }
     ensures pending { IfOk result (λ ends. ends.0.pending ≡ []) }
+    ensures refusals { IfOk result (λ ends. ends.0.refusals ≡ 0) }
     ensures glances { IfOk result (λ ends. length ends.1.items ≡ glances) }
     ensures new { IfOk result (λ ends. All HasSeenNothing ends.1.items) }
 {
@@ -244,6 +249,7 @@ fn open_writer<J: BoardId, R: Wait>(
     requires few { glances < 2 ^ 32 }
     ensures publications { IfOk result (λ board. board.publications ≡ []) }
     ensures pending { IfOk result (λ board. board.pending ≡ []) }
+    ensures refusals { IfOk result (λ board. board.refusals ≡ 0) }
 {
     let (counter, rows) = blank.named::<J>();
     let first = Sheet::new(alloc, rows.mark());
@@ -262,5 +268,6 @@ fn open_writer<J: BoardId, R: Wait>(
         counter,
         rows,
         none,
+        growth: BoardGrowth::new(),
     })
 }

@@ -65,6 +65,18 @@ impl<J: BoardId> Model for Glance<J> {
     ghost invariant = { λ g. known_at g.reader.place ≡ Some (name_of J.book) };
 }
 
+impl<J: BoardId> News<J> {
+    ghost use Rattle.std.specs.Prelude.{◌↔◌, IsTrue};
+
+    /// Whether a glance of that board has seen nothing but the beginning of these publications. It may have seen
+    /// more, where they were told before its last reading.
+    pub fn meet(&self, glance: &Glance<J>) -> bool
+        ensures { IsTrue result ↔ IsPrefix glance.now.seen self.now }
+    {
+        glance.seen.begin(&self.rows)
+    }
+}
+
 /// A reading of an object, and the rows that it is of, where these begin with what was seen and told.
 fn look<J: BoardId>(
     reader: BoardReader,

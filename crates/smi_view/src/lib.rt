@@ -10,13 +10,16 @@
 //! board has published may be told at any time ([`Board::tell`]) and learnt by a glance in its thread
 //! ([`Glance::learn`]). The layer above may rely on this: a reading is of some first part of the
 //! publications, which begins with all that this glance has seen before and with all that it was told;
-//! so for one glance, too, nothing goes back. All ends of one board have one type parameter, so that
-//! what one board tells is learnt by its own glances alone.
+//! so for one glance, too, nothing goes back. What a glance has seen was published ([`Board::meet`]): so
+//! where versions rise in the publications they rise in readings ([`law::readings_rise`]). All ends of one
+//! board have one type parameter, so that what one board tells is learnt by its own glances alone.
 #![tactic(auto)]
 
 mod board;
 mod glance;
+mod growth;
 mod history;
+pub mod law;
 mod page;
 mod rule;
 mod sheet;

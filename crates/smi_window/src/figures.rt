@@ -296,7 +296,7 @@ fn put_figures(
 
 /// All figures of a picture, with its number and the time at which it was looked at.
 ///
-/// It fails only where memory ran out.
+/// It fails only where memory ran out, which tests alone see.
 pub fn spell_figures(
     alloc: Global,
     tree: &Tree,

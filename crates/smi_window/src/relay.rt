@@ -167,7 +167,7 @@ impl Relay {
     /// Gives an order now, where there is room: it is one errand more, and its line, behind its tag, the last that is
     /// to be sent. Where there is no room nothing changes.
     ///
-    /// It fails only where memory ran out, and changes nothing then.
+    /// It fails only where memory ran out, which tests alone see, and changes nothing then.
     pub fn give(&mut self, line: &[u8], now: u64) -> Result<(), AllocError>
         ensures ok { OnOk result (self.new ≡ spec.given self.old line.now now) }
         ensures err { OnErr result (self.new ≡ self.old) }
@@ -219,7 +219,7 @@ impl Relay {
     /// The console has said a line now: what follows its tag is the answer to the errand of that tag. A line that
     /// answers none changes nothing.
     ///
-    /// It fails only where memory ran out, and changes nothing then.
+    /// It fails only where memory ran out, which tests alone see, and changes nothing then.
     pub fn hear(&mut self, line: &[u8], now: u64) -> Result<(), AllocError>
         ensures ok { OnOk result (self.new ≡ spec.heard self.old line.now now) }
         ensures err { OnErr result (self.new ≡ self.old) }

@@ -163,7 +163,7 @@ impl<'a> Listing for Devices<'a> {
 
 /// The picture in one line of JSON, with its number and the time at which it was looked at.
 ///
-/// It fails only where memory ran out.
+/// It fails only where memory ran out, which tests alone see.
 pub fn spell_picture(
     alloc: Global,
     tree: &Tree,

@@ -237,7 +237,7 @@ fn put_all_kinds(text: &mut Vec<u8>, tree: &Tree) -> Result<(), AllocError>
 
 /// The tree in one line of JSON.
 ///
-/// It fails only where memory ran out.
+/// It fails only where memory ran out, which tests alone see.
 pub fn spell_tree(alloc: Global, tree: &Tree) -> Result<Vec<u8>, AllocError>
     ensures { IfOk result (λ text. text.items ≡ tree_text tree.now) }
 {

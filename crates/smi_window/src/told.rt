@@ -144,7 +144,7 @@ fn put_errands(text: &mut Vec<u8>, relay: &Relay, now: u64) -> Result<(), AllocE
 
 /// The orders that were given, the oldest first, in one line of JSON.
 ///
-/// It fails only where memory ran out.
+/// It fails only where memory ran out, which tests alone see.
 pub fn spell_orders(alloc: Global, relay: &Relay, now: u64) -> Result<Vec<u8>, AllocError>
     ensures { IfOk result (λ text. text.items ≡ orders_text relay.now now) }
 {

@@ -154,7 +154,7 @@ fn refuse_change(response: &mut Response) -> Result<(), AllocError>
 impl Window {
     /// What became of the orders that were given, as they stand now, in place of what was told before.
     ///
-    /// It fails only where memory ran out, and changes nothing then.
+    /// It fails only where memory ran out, which tests alone see, and changes nothing then.
     pub fn tell_orders(&mut self, alloc: Global) -> Result<(), AllocError>
         ensures ok { OnOk result (self.new ≡ orders_told self.old) }
         ensures err { OnErr result (self.new ≡ self.old) }

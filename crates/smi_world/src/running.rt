@@ -126,8 +126,8 @@ fn run_into(
 /// and while every grant between it and its operator is current; and what is shown never goes back and is what was
 /// passed through (specs/Safe of `smi_law`).
 ///
-/// `NoSuch` is answered for the first item that names what the tree does not have. Out of memory is answered only where
-/// an allocation was refused.
+/// `NoSuch` is answered for the first item that names what the tree does not have. Out of memory is answered only
+/// where an allocation was refused, which tests alone see.
 pub fn run(alloc: Global, tree: &Tree, items: &[Item]) -> Result<Trace, WorldFault>
     ensures trace { IfOk result (λ lines. lines.items ≡ trace_of tree.now items.now) }
     ensures safe { IfOk result (λ lines. Safe tree.now (past_of lines.items)) }

@@ -88,7 +88,7 @@ impl<'a> World<'a> {
     ghost use Rattle.std.specs.Prelude.{length};
 
     /// All stations of the tree start for the first time. Out of memory is answered only where an allocation was
-    /// refused.
+    /// refused, which tests alone see.
     pub fn new(alloc: Global, tree: &'a Tree) -> Result<World<'a>, AllocError>
         ensures opens { IfOk result (λ world. IsAt world (first_world tree.now)) }
         ensures tree { IfOk result (λ world. world.tree ≡ tree.now) }

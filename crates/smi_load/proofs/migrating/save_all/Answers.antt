@@ -3,7 +3,8 @@ use Rattle.std.proofs.lemmas.List.{take_all}
 use Rattle.std.proofs.lemmas.Result.{err_from_is_err_and}
 use Rattle.smi_rows.specs.Store.{Saved}
 use Rattle.smi_load.specs.Migrating.{over}
-use Rattle.smi_load.proofs.Saving.{certain_then, either_way, failed_more, one_more}
+use Rattle.smi_load.proofs.Saving.{certain_then, doubt_then, either_way, failed_more, one_more, sure_then}
+use Rattle.smi_load.proofs.Saving.{unfailed_then}
 use Rattle.smi_load.proofs.migrating.save_all.Goals as goal
 
 pub returns-in_err-save_row-clause-certain : goal.returns-in_err-save_row-clause-certain
@@ -56,15 +57,38 @@ returns-in_err-save_row-clause-cause g c =
     let p = err_from_is_err_and c.from_residual.result c.from_residual.ensures.1 in
     rw (p.1, p.2)
     (failed_more (Unit {0}) (Unit {0}) c.in_err-save_row.field-0.0 (g.S.Stable.failures c.args.store.now)
-    (g.S.Stable.failures c.loop-row.store) (g.S.Stable.failures c.save_row.new.store) c.loop-row.invariant.failures
-    c.in_err-save_row.ensures.cause)
+    (g.S.Stable.failures c.loop-row.store) (g.S.Stable.failures c.save_row.new.store)
+    (omega (arith, c.loop-row.invariant.failures)) c.in_err-save_row.ensures.cause)
+
+pub returns-in_err-save_row-clause-calm : goal.returns-in_err-save_row-clause-calm
+returns-in_err-save_row-clause-calm g c =
+    let p = err_from_is_err_and c.from_residual.result c.from_residual.ensures.1 in
+    rw (p.1, p.2)
+    (unfailed_then (Unit {0}) (Unit {0}) _ _ c.in_err-save_row.field-0.0
+    (λ same. same ∙ c.loop-row.invariant.failures) c.in_err-save_row.ensures.calm)
+
+pub returns-in_err-save_row-clause-doubt : goal.returns-in_err-save_row-clause-doubt
+returns-in_err-save_row-clause-doubt g c =
+    let p = err_from_is_err_and c.from_residual.result c.from_residual.ensures.1 in
+    let same = c.loop-row.invariant.doubts in
+    rw (p.1, p.2)
+    (doubt_then (Unit {0}) (Unit {0}) _ _ c.in_err-save_row.field-0.0 (λ less. omega (arith, same, less))
+    c.in_err-save_row.ensures.doubt)
+
+pub returns-in_err-save_row-clause-sure : goal.returns-in_err-save_row-clause-sure
+returns-in_err-save_row-clause-sure g c =
+    let p = err_from_is_err_and c.from_residual.result c.from_residual.ensures.1 in
+    rw (p.1, p.2)
+    (sure_then (Unit {0}) (Unit {0}) _ _ c.in_err-save_row.field-0.0
+    (λ same. same ∙ c.loop-row.invariant.doubts) c.in_err-save_row.ensures.sure)
 
 pub loop-row-init : goal.loop-row-init
 loop-row-init g c = record {
   honest = λ honest. honest;
   rows = λ honest live. (live, λ k. refl);
   saves = omega arith;
-  failures = omega arith;
+  failures = refl;
+  doubts = refl;
 }
 
 pub loop-row-preserved : goal.loop-row-preserved
@@ -83,7 +107,8 @@ loop-row-preserved g c =
                 (g.S.Stable.rows c.save_row.new.store) before.1 after.1,
           );
       saves = omega (arith, inv.saves, e.saves);
-      failures = omega (arith, inv.failures, e.failures);
+      failures = e.calm ∙ inv.failures;
+      doubts = e.sure ∙ inv.doubts;
     }
 
 pub returns-clause-saved : goal.returns-clause-saved
@@ -119,4 +144,10 @@ returns-clause-saves g c = omega (
 )
 
 pub returns-clause-failures : goal.returns-clause-failures
-returns-clause-failures g c = c.loop-row.invariant.failures
+returns-clause-failures g c = omega (arith, c.loop-row.invariant.failures)
+
+pub returns-clause-calm : goal.returns-clause-calm
+returns-clause-calm g c = c.loop-row.invariant.failures
+
+pub returns-clause-sure : goal.returns-clause-sure
+returns-clause-sure g c = c.loop-row.invariant.doubts

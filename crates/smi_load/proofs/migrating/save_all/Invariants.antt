@@ -1,4 +1,4 @@
-use Rattle.std.proofs.Common.{◌≡◌, ◌≤◌, ◌+◌, take}
+use Rattle.std.proofs.Common.{◌≡◌, ◌+◌, take}
 use Rattle.smi_rows.specs.Store.{IsSame}
 use Rattle.smi_load.specs.Migrating.{over}
 use Rattle.smi_load.proofs.migrating.save_all.Given as goal
@@ -11,5 +11,6 @@ invariant-loop-row g l = record {
       → g.S.Stable.is_open l.store × IsSame (g.S.Stable.rows l.store)
       (over (g.S.Stable.rows l.initial.store) (take l.row-index l.rows));
   saves : g.S.Stable.saves l.store ≡ g.S.Stable.saves l.initial.store + l.row-index;
-  failures : g.S.Stable.failures l.initial.store ≤ g.S.Stable.failures l.store;
+  failures : g.S.Stable.failures l.store ≡ g.S.Stable.failures l.initial.store;
+  doubts : g.S.Stable.doubts l.store ≡ g.S.Stable.doubts l.initial.store;
 }

@@ -9,7 +9,7 @@ use Rattle.smi_node.proofs.serving.hear.Goals as goal
 pub returns-in-Received : goal.returns-in-Received
 returns-in-Received g c =
     let s = g.S.Stable in
-    let steps = StepsTo {S = g.row.S.Denot} s.is_honest s.is_open s.rows s.may_find s.saves s.failures in
+    let steps = StepsTo {S = g.row.S.Denot} s.is_honest s.is_open s.rows s.may_find s.saves s.failures s.doubts in
     let shows = shown_by g.L.DatagramLink.received g.L.DatagramLink.handed g.L.DatagramLink.failures in
     let before : Node (Whole g.row.S.Denot) = node c.args.station.now
     (edges (shows c.args.link.now) c.args.desk.now c.args.board.now) in

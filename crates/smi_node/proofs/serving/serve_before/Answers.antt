@@ -14,7 +14,7 @@ in_a_row-faults-requires g c = c.loop.invariant.few
 pub loop-preserved : goal.loop-preserved
 loop-preserved g c =
     let s = g.S.Stable in
-    let steps = StepsTo {S = g.row.S.Denot} s.is_honest s.is_open s.rows s.may_find s.saves s.failures in
+    let steps = StepsTo {S = g.row.S.Denot} s.is_honest s.is_open s.rows s.may_find s.saves s.failures s.doubts in
     let shows = shown_by g.L.DatagramLink.received g.L.DatagramLink.handed g.L.DatagramLink.failures in
     let operators = c.operators-operators.result.now in
     let first : Node (Whole g.row.S.Denot) = node c.args.station.now
@@ -31,7 +31,7 @@ loop-preserved g c =
 pub returns-then-faults-eq-MOST_FAULTS : goal.returns-then-faults-eq-MOST_FAULTS
 returns-then-faults-eq-MOST_FAULTS g c =
     let s = g.S.Stable in
-    let steps = StepsTo {S = g.row.S.Denot} s.is_honest s.is_open s.rows s.may_find s.saves s.failures in
+    let steps = StepsTo {S = g.row.S.Denot} s.is_honest s.is_open s.rows s.may_find s.saves s.failures s.doubts in
     let shows = shown_by g.L.DatagramLink.received g.L.DatagramLink.handed g.L.DatagramLink.failures in
     let operators = c.operators-operators.result.now in
     let first : Node (Whole g.row.S.Denot) = node c.args.station.now
@@ -49,7 +49,7 @@ returns-then-faults-eq-MOST_FAULTS g c =
 pub returns-in-Err : goal.returns-in-Err
 returns-in-Err g c =
     let s = g.S.Stable in
-    let steps = StepsTo {S = g.row.S.Denot} s.is_honest s.is_open s.rows s.may_find s.saves s.failures in
+    let steps = StepsTo {S = g.row.S.Denot} s.is_honest s.is_open s.rows s.may_find s.saves s.failures s.doubts in
     let shows = shown_by g.L.DatagramLink.received g.L.DatagramLink.handed g.L.DatagramLink.failures in
     let operators = c.operators-operators.result.now in
     let first : Node (Whole g.row.S.Denot) = node c.args.station.now
@@ -68,7 +68,7 @@ returns-in-Err g c =
 pub returns : goal.returns
 returns g c =
     let s = g.S.Stable in
-    let steps = StepsTo {S = g.row.S.Denot} s.is_honest s.is_open s.rows s.may_find s.saves s.failures in
+    let steps = StepsTo {S = g.row.S.Denot} s.is_honest s.is_open s.rows s.may_find s.saves s.failures s.doubts in
     let shows = shown_by g.L.DatagramLink.received g.L.DatagramLink.handed g.L.DatagramLink.failures in
     let operators = c.operators-operators.result.now in
     let first : Node (Whole g.row.S.Denot) = node c.args.station.now

@@ -8,7 +8,8 @@ use Rattle.smi_node.proofs.serving.serve_before.Given as goal
 abbrev pub invariant-loop : goal.invariant-loop
 invariant-loop g l =
     MadeTurns (carrying (StepsTo {S = g.row.S.Denot} g.S.Stable.is_honest g.S.Stable.is_open g.S.Stable.rows
-    g.S.Stable.may_find g.S.Stable.saves g.S.Stable.failures) l.operators) l.operators l.counter l.faults
+    g.S.Stable.may_find g.S.Stable.saves g.S.Stable.failures g.S.Stable.doubts) l.operators) l.operators l.counter
+    l.faults
     (node l.initial.station
     (edges (shown_by g.L.DatagramLink.received g.L.DatagramLink.handed g.L.DatagramLink.failures l.initial.link)
     l.initial.desk l.initial.board))

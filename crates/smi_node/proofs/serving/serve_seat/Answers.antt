@@ -13,7 +13,8 @@ returns-in-Some g c =
       c.next.new.self,
       c.in-Some.ensures.step,
       subst (λ (e : Option Event). Obeys (carrying
-          (StepsTo {S = g.row.S.Denot} s.is_honest s.is_open s.rows s.may_find s.saves s.failures) c.args.operators.now)
+          (StepsTo {S = g.row.S.Denot} s.is_honest s.is_open s.rows s.may_find s.saves s.failures s.doubts)
+          c.args.operators.now)
           c.args.seat e
           (node c.args.station.now (edges (shows c.args.link.now) c.next.new.self c.args.board.now))
           (node c.obey.new.station (edges (shows c.obey.new.link) c.obey.new.desk c.obey.new.board))

@@ -14,7 +14,7 @@ serve_seat-requires g c = subst (λ n. c.loop-seat.seat < n) (sym c.loop-seat.in
 pub loop-seat-preserved : goal.loop-seat-preserved
 loop-seat-preserved g c =
     let s = g.S.Stable in
-    let steps = StepsTo {S = g.row.S.Denot} s.is_honest s.is_open s.rows s.may_find s.saves s.failures in
+    let steps = StepsTo {S = g.row.S.Denot} s.is_honest s.is_open s.rows s.may_find s.saves s.failures s.doubts in
     let shows = shown_by g.L.DatagramLink.received g.L.DatagramLink.handed g.L.DatagramLink.failures in
     let first : Node (Whole g.row.S.Denot) = node c.args.station.now
     (edges (shows c.args.link.now) c.args.desk.now c.args.board.now) in
@@ -33,7 +33,7 @@ loop-seat-preserved g c =
 pub returns-in-Err : goal.returns-in-Err
 returns-in-Err g c =
     let s = g.S.Stable in
-    let steps = StepsTo {S = g.row.S.Denot} s.is_honest s.is_open s.rows s.may_find s.saves s.failures in
+    let steps = StepsTo {S = g.row.S.Denot} s.is_honest s.is_open s.rows s.may_find s.saves s.failures s.doubts in
     let shows = shown_by g.L.DatagramLink.received g.L.DatagramLink.handed g.L.DatagramLink.failures in
     let first : Node (Whole g.row.S.Denot) = node c.args.station.now
     (edges (shows c.args.link.now) c.args.desk.now c.args.board.now) in

@@ -10,7 +10,8 @@ abbrev pub invariant-loop-seat : goal.invariant-loop-seat
 invariant-loop-seat g l = record {
   served : ServesSeats
       (carrying (StepsTo {S = g.row.S.Denot} g.S.Stable.is_honest g.S.Stable.is_open g.S.Stable.rows
-      g.S.Stable.may_find g.S.Stable.saves g.S.Stable.failures) l.operators) l.operators l.seats l.seat
+      g.S.Stable.may_find g.S.Stable.saves g.S.Stable.failures g.S.Stable.doubts) l.operators) l.operators l.seats
+      l.seat
       (node l.initial.station
       (edges (shown_by g.L.DatagramLink.received g.L.DatagramLink.handed g.L.DatagramLink.failures l.initial.link)
       l.initial.desk l.initial.board))

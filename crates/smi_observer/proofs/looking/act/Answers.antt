@@ -9,7 +9,7 @@ use Rattle.smi_observer.proofs.looking.act.Goals as goal
 pub returns-in-Ok-ask_next : goal.returns-in-Ok-ask_next
 returns-in-Ok-ask_next g c =
     let s = g.S.Stable in
-    let steps = StepsTo {S = g.row.S.Denot} s.is_honest s.is_open s.rows s.may_find s.saves s.failures in
+    let steps = StepsTo {S = g.row.S.Denot} s.is_honest s.is_open s.rows s.may_find s.saves s.failures s.doubts in
     let shows = shown_by g.L.DatagramLink.received g.L.DatagramLink.handed g.L.DatagramLink.failures in
     let first : View (Whole g.row.S.Denot) = view c.args.station.now (shows c.args.link.now) c.args.picture.now in
     let watched : View (Whole g.row.S.Denot)
@@ -23,7 +23,7 @@ returns-in-Ok-ask_next g c =
 pub returns-in-Err-ask_next : goal.returns-in-Err-ask_next
 returns-in-Err-ask_next g c =
     let s = g.S.Stable in
-    let steps = StepsTo {S = g.row.S.Denot} s.is_honest s.is_open s.rows s.may_find s.saves s.failures in
+    let steps = StepsTo {S = g.row.S.Denot} s.is_honest s.is_open s.rows s.may_find s.saves s.failures s.doubts in
     let shows = shown_by g.L.DatagramLink.received g.L.DatagramLink.handed g.L.DatagramLink.failures in
     let first : View (Whole g.row.S.Denot) = view c.args.station.now (shows c.args.link.now) c.args.picture.now in
     let watched : View (Whole g.row.S.Denot)

@@ -9,5 +9,5 @@ abbrev pub invariant-loop : goal.invariant-loop
 invariant-loop g l =
     let s = g.S.Stable in
     let shows = shown_by g.L.DatagramLink.received g.L.DatagramLink.handed g.L.DatagramLink.failures in
-    Looks (StepsTo {S = g.row.S.Denot} s.is_honest s.is_open s.rows s.may_find s.saves s.failures) l.operator
+    Looks (StepsTo {S = g.row.S.Denot} s.is_honest s.is_open s.rows s.may_find s.saves s.failures s.doubts) l.operator
     (view l.initial.station (shows l.initial.link) l.initial.picture) (view l.station (shows l.link) l.picture) false

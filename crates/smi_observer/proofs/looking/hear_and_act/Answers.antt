@@ -9,7 +9,7 @@ use Rattle.smi_observer.proofs.looking.hear_and_act.Goals as goal
 pub returns-in-Ok-act : goal.returns-in-Ok-act
 returns-in-Ok-act g c =
     let s = g.S.Stable in
-    let steps = StepsTo {S = g.row.S.Denot} s.is_honest s.is_open s.rows s.may_find s.saves s.failures in
+    let steps = StepsTo {S = g.row.S.Denot} s.is_honest s.is_open s.rows s.may_find s.saves s.failures s.doubts in
     let shows = shown_by g.L.DatagramLink.received g.L.DatagramLink.handed g.L.DatagramLink.failures in
     let first : View (Whole g.row.S.Denot) = view c.args.station.now (shows c.args.link.now) c.args.picture.now in
     let heard : View (Whole g.row.S.Denot)
@@ -20,7 +20,7 @@ returns-in-Ok-act g c =
 pub returns-in-Err-act : goal.returns-in-Err-act
 returns-in-Err-act g c =
     let s = g.S.Stable in
-    let steps = StepsTo {S = g.row.S.Denot} s.is_honest s.is_open s.rows s.may_find s.saves s.failures in
+    let steps = StepsTo {S = g.row.S.Denot} s.is_honest s.is_open s.rows s.may_find s.saves s.failures s.doubts in
     let shows = shown_by g.L.DatagramLink.received g.L.DatagramLink.handed g.L.DatagramLink.failures in
     let first : View (Whole g.row.S.Denot) = view c.args.station.now (shows c.args.link.now) c.args.picture.now in
     let heard : View (Whole g.row.S.Denot)

@@ -8,7 +8,7 @@ use Rattle.smi_observer.proofs.looking.watch.Goals as goal
 pub returns : goal.returns
 returns g c =
     let s = g.S.Stable in
-    let steps = StepsTo {S = g.row.S.Denot} s.is_honest s.is_open s.rows s.may_find s.saves s.failures in
+    let steps = StepsTo {S = g.row.S.Denot} s.is_honest s.is_open s.rows s.may_find s.saves s.failures s.doubts in
     let shows = shown_by g.L.DatagramLink.received g.L.DatagramLink.handed g.L.DatagramLink.failures in
     let before : View (Whole g.row.S.Denot) = view c.args.station.now (shows c.args.link.now) c.args.picture.now in
     let after : View (Whole g.row.S.Denot)

@@ -9,7 +9,7 @@ use Rattle.smi_observer.proofs.looking.watch_next.Goals as goal
 pub loop-preserved : goal.loop-preserved
 loop-preserved g c =
     let s = g.S.Stable in
-    let steps = StepsTo {S = g.row.S.Denot} s.is_honest s.is_open s.rows s.may_find s.saves s.failures in
+    let steps = StepsTo {S = g.row.S.Denot} s.is_honest s.is_open s.rows s.may_find s.saves s.failures s.doubts in
     let shows = shown_by g.L.DatagramLink.received g.L.DatagramLink.handed g.L.DatagramLink.failures in
     let first : View (Whole g.row.S.Denot) = view c.args.station.now (shows c.args.link.now) c.args.picture.now in
     let before : View (Whole g.row.S.Denot) = view c.loop.station (shows c.loop.link) c.loop.picture in
@@ -19,7 +19,7 @@ loop-preserved g c =
 pub returns-in-Err : goal.returns-in-Err
 returns-in-Err g c =
     let s = g.S.Stable in
-    let steps = StepsTo {S = g.row.S.Denot} s.is_honest s.is_open s.rows s.may_find s.saves s.failures in
+    let steps = StepsTo {S = g.row.S.Denot} s.is_honest s.is_open s.rows s.may_find s.saves s.failures s.doubts in
     let shows = shown_by g.L.DatagramLink.received g.L.DatagramLink.handed g.L.DatagramLink.failures in
     let first : View (Whole g.row.S.Denot) = view c.args.station.now (shows c.args.link.now) c.args.picture.now in
     let before : View (Whole g.row.S.Denot) = view c.loop.station (shows c.loop.link) c.loop.picture in

@@ -1,11 +1,9 @@
-use Rattle.std.proofs.Common.{◌≡◌, ◌∙◌, true, ap, sym, subst}
+use Rattle.std.proofs.Common.{◌≡◌, ◌∙◌, true, ap, subst}
 use Rattle.smi_message.specs.Message.{Message, is_body}
 use Rattle.smi_grants.specs.Kept.{grants_of}
 use Rattle.smi_out.specs.Handed.{with_notice}
-use Rattle.smi_plan.specs.Handing.{with_step}
 use Rattle.smi_protocol.specs.GrantsOf.{datagram_comes}
 use Rattle.smi_protocol.specs.Happening.{Comes}
-use Rattle.smi_protocol.specs.Refusals.{refusal_of_message}
 use Rattle.smi_protocol.specs.Step.{Out, body_noticed}
 use Rattle.smi_protocol.proofs.SoundSteps.{stays_sound}
 use Rattle.smi_display.specs.Displayed.{display_of}

@@ -1,4 +1,4 @@
-use Rattle.std.proofs.Common.{sym, ◌∙◌, ap}
+use Rattle.std.proofs.Common.{◌∙◌}
 use Rattle.smi_station.proofs.Started.{started_core}
 use Rattle.smi_station.proofs.opening.with_display.Goals as goal
 

@@ -1,4 +1,4 @@
-use Rattle.std.proofs.Common.{◌≤◌, ◌+◌, ◌<◌, ap, sym, ◌∙◌, arith, subst}
+use Rattle.std.proofs.Common.{ap, sym, ◌∙◌, arith}
 use Rattle.smi_tree.specs.Hierarchy.{Hierarchy, entry}
 use Rattle.smi_protocol.proofs.KeptObjects.{kept_within}
 use Rattle.smi_station.proofs.Reported.{device_among}

@@ -1,4 +1,4 @@
-use Rattle.std.proofs.Common.{ap, sym, ◌∙◌, [], List, subst}
+use Rattle.std.proofs.Common.{ap, sym, ◌∙◌, subst}
 use Rattle.std.specs.Prelude.{Option}
 use Rattle.std.specs.List.{flat_map}
 use Rattle.smi_grant.specs.declared.Shown.{Shown}

@@ -1,11 +1,8 @@
-use Rattle.std.proofs.Common.{◌≡◌, ◌∙◌, List, Some, sym, ap, subst}
-use Rattle.std.specs.Prelude.{ℕ, Option}
+use Rattle.std.proofs.Common.{◌∙◌, List, Some, sym, ap}
 use Rattle.smi_grant.specs.declared.Shown.{Shown}
 use Rattle.smi_message.specs.Message.{Message}
-use Rattle.smi_publish.specs.declared.condition.Condition.{Condition}
-use Rattle.smi_publish.specs.Published.{HasRoom, conditions_of}
+use Rattle.smi_publish.specs.Published.{conditions_of}
 use Rattle.smi_out.specs.Handed.{sent_after}
-use Rattle.smi_protocol.specs.Display.{Display}
 use Rattle.smi_protocol.specs.Showing.{is_spent}
 use Rattle.smi_protocol.specs.Step.{Out}
 use Rattle.smi_grants.specs.Kept.{grants_of}

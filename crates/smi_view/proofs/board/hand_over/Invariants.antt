@@ -6,6 +6,7 @@ invariant-loop-entry l =
     (l.writer.desk ≡ l.initial.writer.desk)
     × (drop l.writer.behind l.writer.log.items ++ l.waiting.items
     ≡ drop l.initial.writer.behind l.initial.writer.log.items ++ l.initial.waiting.items)
+    × (l.growth.count ≡ l.initial.growth.count)
 
 abbrev pub decreases-loop-entry : goal.decreases-loop-entry
 decreases-loop-entry l = deque_len l.waiting

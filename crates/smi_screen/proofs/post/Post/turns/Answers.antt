@@ -10,7 +10,7 @@ use Rattle.smi_screen.proofs.post.Post.turns.Goals as goal
 pub loop-preserved : goal.loop-preserved
 loop-preserved g c =
     let s = g.S.Stable in
-    let steps = StepsTo {S = g.row.S.Denot} s.is_honest s.is_open s.rows s.may_find s.saves s.failures in
+    let steps = StepsTo {S = g.row.S.Denot} s.is_honest s.is_open s.rows s.may_find s.saves s.failures s.doubts in
     let shows = shown_by g.L.DatagramLink.received g.L.DatagramLink.handed g.L.DatagramLink.failures in
     let first : View (Whole g.row.S.Denot) = view c.args.station.now (shows c.args.link.now) c.args.self.now.picture in
     let before : View (Whole g.row.S.Denot) = view c.loop.station (shows c.loop.link) c.loop.self.picture in
@@ -25,7 +25,7 @@ loop-preserved g c =
 pub returns-in-Err-clause-looks : goal.returns-in-Err-clause-looks
 returns-in-Err-clause-looks g c =
     let s = g.S.Stable in
-    let steps = StepsTo {S = g.row.S.Denot} s.is_honest s.is_open s.rows s.may_find s.saves s.failures in
+    let steps = StepsTo {S = g.row.S.Denot} s.is_honest s.is_open s.rows s.may_find s.saves s.failures s.doubts in
     let shows = shown_by g.L.DatagramLink.received g.L.DatagramLink.handed g.L.DatagramLink.failures in
     let first : View (Whole g.row.S.Denot) = view c.args.station.now (shows c.args.link.now) c.args.self.now.picture in
     let before : View (Whole g.row.S.Denot) = view c.loop.station (shows c.loop.link) c.loop.self.picture in

@@ -10,7 +10,7 @@ invariant-loop g l =
     let s = g.S.Stable in
     let shows = shown_by g.L.DatagramLink.received g.L.DatagramLink.handed g.L.DatagramLink.failures in
     record {
-      looks : Looks (StepsTo {S = g.row.S.Denot} s.is_honest s.is_open s.rows s.may_find s.saves s.failures)
+      looks : Looks (StepsTo {S = g.row.S.Denot} s.is_honest s.is_open s.rows s.may_find s.saves s.failures s.doubts)
           l.initial.self.operator (view l.initial.station (shows l.initial.link) l.initial.self.picture)
           (view l.station (shows l.link) l.self.picture) false;
       operator : l.self.operator ≡ l.initial.self.operator;

@@ -1,23 +1,11 @@
-use Rattle.std.proofs.Common.{◌≡◌, ◌∙◌, ◌++◌, ◌∷◌, [], Ok, Some, None, false, ap, sym, subst}
-use Rattle.std.specs.Prelude.{Option, ℕ, Result}
-use Rattle.smi_tree.specs.Hierarchy.{Hierarchy}
-use Rattle.smi_message.specs.Message.{Message}
-use Rattle.smi_grants.specs.Kept.{grants_of}
-use Rattle.smi_protocol.specs.Happening.{Comes, Orders, Reports, Ticks, Happening}
-use Rattle.smi_protocol.specs.Refusals.{is_report_here, refusal_of, refusal_of_message}
-use Rattle.smi_protocol.specs.Step.{Out, accepted, after, after_event, after_reading, ordered_or_reported}
-use Rattle.smi_protocol.specs.declared.event.Event.{Event}
-use Rattle.smi_protocol.specs.declared.event.Event.TheVariants as event
-use Rattle.smi_protocol.specs.declared.event.Heard.{Heard}
-use Rattle.smi_protocol.specs.declared.event.Heard.TheVariants.{Refused, Same}
-use Rattle.smi_protocol.specs.declared.event.StepFault.{StepFault}
-use Rattle.smi_protocol.specs.declared.order.Order.{Order}
-use Rattle.smi_station.specs.Core.{Core, IsCore, Steps, core_with, number_of, station_of, station_with, tree_of}
+use Rattle.std.proofs.Common.{◌≡◌, false}
+use Rattle.smi_protocol.specs.Happening.{Comes}
+use Rattle.smi_protocol.specs.Step.{accepted}
+use Rattle.smi_station.specs.Core.{Core, Steps, core_with, number_of, station_of, station_with, tree_of}
 use Rattle.smi_station.specs.Leaving.{Leaves}
-use Rattle.smi_station.proofs.Steps.{made_core, made_steps, made_tidy, refused_steps, rests, running, stands}
-use Rattle.smi_station.proofs.Steps.{taken_steps, watched_core, watched_steps}
+use Rattle.smi_station.proofs.Steps.{made_core, made_steps, made_tidy, running, stands}
 use Rattle.smi_grants.specs.Save.{IfMemory}
-use Rattle.std.specs.Prelude.{is_some, true}
+use Rattle.std.specs.Prelude.{true}
 use Rattle.smi_display.specs.Displayed.{display_of}
 use Rattle.smi_station.specs.Wanting.{adds, wants_memory}
 use Rattle.smi_station.proofs.Wanted.{for_entry, for_row}
@@ -51,7 +39,7 @@ returns-in-None-clause-store g c =
     let i = c.self.inside in
     stands i.kept i.display i.is_stopped c.args.self.now c.self.view_is c.requires.runs
     (λ (before : Core). Leaves g.S.Stable.is_honest g.S.Stable.is_open g.S.Stable.rows g.S.Stable.may_find
-    g.S.Stable.saves g.S.Stable.failures c.args.store.now c.hear.new.store c.hear.result
+    g.S.Stable.saves g.S.Stable.failures g.S.Stable.doubts c.args.store.now c.hear.new.store c.hear.result
     (accepted (tree_of before) (number_of before) (station_of before) (Comes c.args.datagram.now)).saved)
     c.hear.ensures.store
 

@@ -1,24 +1,16 @@
-use Rattle.std.proofs.Common.{◌≡◌, ◌∙◌, ◌++◌, ◌∷◌, [], Ok, Some, None, false, ap, sym, subst}
-use Rattle.std.specs.Prelude.{Option, ℕ, Result}
-use Rattle.smi_tree.specs.Hierarchy.{Hierarchy}
-use Rattle.smi_message.specs.Message.{Message}
+use Rattle.std.proofs.Common.{◌≡◌, ◌∙◌, ◌++◌, ◌∷◌, [], Ok, Some, false, ap, sym, subst}
+use Rattle.std.specs.Prelude.{Option}
 use Rattle.smi_grants.specs.Kept.{grants_of}
-use Rattle.smi_protocol.specs.Happening.{Comes, Orders, Reports, Ticks, Happening}
-use Rattle.smi_protocol.specs.Refusals.{is_report_here, refusal_of, refusal_of_message}
-use Rattle.smi_protocol.specs.Step.{Out, nothing_out, accepted, after, after_event, after_reading}
-use Rattle.smi_protocol.specs.Step.{ordered_or_reported}
-use Rattle.smi_protocol.specs.declared.event.Event.{Event}
-use Rattle.smi_protocol.specs.declared.event.Event.TheVariants as event
-use Rattle.smi_protocol.specs.declared.event.Heard.{Heard}
-use Rattle.smi_protocol.specs.declared.event.Heard.TheVariants.{Refused, Same}
-use Rattle.smi_protocol.specs.declared.event.StepFault.{StepFault}
-use Rattle.smi_protocol.specs.declared.order.Order.{Order}
+use Rattle.smi_protocol.specs.Happening.{Orders}
+use Rattle.smi_protocol.specs.Refusals.{refusal_of}
+use Rattle.smi_protocol.specs.Step.{Out, nothing_out, accepted, after}
+use Rattle.smi_protocol.specs.declared.event.Heard.TheVariants.{Refused}
 use Rattle.smi_station.specs.Core.{Core, IsCore, Steps, core_with, number_of, station_of, station_with, tree_of}
 use Rattle.smi_protocol.specs.declared.order.Answer.{Answer}
 use Rattle.smi_rows.specs.Store.{Saved}
 use Rattle.smi_station.specs.Leaving.{Leaves}
 use Rattle.smi_station.proofs.Steps.{made_core, made_steps, made_tidy, runs_on, refused_saves, refused_steps, rests}
-use Rattle.smi_station.proofs.Steps.{running, stands, taken_saves, taken_steps, watched_core, watched_steps}
+use Rattle.smi_station.proofs.Steps.{running, stands, taken_saves, taken_steps}
 use Rattle.smi_grants.specs.Save.{IfMemory}
 use Rattle.std.specs.Prelude.{is_some, true}
 use Rattle.smi_station.proofs.halves.Core.obey.Goals as goal
@@ -46,13 +38,14 @@ returns-in-Some-clause-step g c =
 pub returns-in-Some-clause-store : goal.returns-in-Some-clause-store
 returns-in-Some-clause-store g c =
     subst (λ (row : Option Saved). Leaves g.S.Stable.is_honest g.S.Stable.is_open g.S.Stable.rows g.S.Stable.may_find
-    g.S.Stable.saves g.S.Stable.failures c.args.store.now c.args.store.now (Ok (Refused c.in-Some.code)) row)
+    g.S.Stable.saves g.S.Stable.failures g.S.Stable.doubts c.args.store.now c.args.store.now (Ok (Refused
+    c.in-Some.code)) row)
     (sym (refused_saves c.args.self.now (Orders c.args.operator c.args.order.now) c.in-Some.code
     (subst (λ (before : Core). refusal_of (tree_of before) (number_of before) (grants_of before.kept)
     (Orders c.args.operator c.args.order.now) ≡ Some c.in-Some.code) c.self.view_is
     (sym c.refusal_of_order.ensures ∙ c.in-Some.is))))
     (rests g.S.Stable.is_honest g.S.Stable.is_open g.S.Stable.rows g.S.Stable.may_find g.S.Stable.saves
-    g.S.Stable.failures g.met.S.Stable.rests c.args.store.now (Ok (Refused c.in-Some.code)) tt)
+    g.S.Stable.failures g.S.Stable.doubts g.met.S.Stable.rests c.args.store.now (Ok (Refused c.in-Some.code)) tt)
 
 pub returns-in-None-clause-step : goal.returns-in-None-clause-step
 returns-in-None-clause-step g c =
@@ -79,10 +72,10 @@ returns-in-None-clause-store g c =
     let i = c.self.inside in
     stands i.kept i.display i.is_stopped c.args.self.now c.self.view_is c.requires.runs
     (λ (before : Core). Leaves g.S.Stable.is_honest g.S.Stable.is_open g.S.Stable.rows g.S.Stable.may_find
-    g.S.Stable.saves g.S.Stable.failures c.args.store.now c.obey.new.store c.obey.result
+    g.S.Stable.saves g.S.Stable.failures g.S.Stable.doubts c.args.store.now c.obey.new.store c.obey.result
     (after (tree_of before) (number_of before) (station_of before) (Orders c.args.operator c.args.order.now)).saved)
     (subst (λ (row : Option Saved). Leaves g.S.Stable.is_honest g.S.Stable.is_open g.S.Stable.rows g.S.Stable.may_find
-    g.S.Stable.saves g.S.Stable.failures c.args.store.now c.obey.new.store c.obey.result row)
+    g.S.Stable.saves g.S.Stable.failures g.S.Stable.doubts c.args.store.now c.obey.new.store c.obey.result row)
     (sym (taken_saves (core_with i.kept i.display false) (Orders c.args.operator c.args.order.now)
     (sym c.refusal_of_order.ensures ∙ c.in-None.is))) c.obey.ensures.store)
 

@@ -1,21 +1,13 @@
-use Rattle.std.proofs.Common.{◌≡◌, ◌∙◌, ◌++◌, ◌∷◌, [], Ok, Some, None, Bool, true, false, refl, ap, sym, subst}
-use Rattle.std.specs.Prelude.{Option, ℕ, Result, if◌then◌else◌}
+use Rattle.std.proofs.Common.{◌≡◌, ◌∙◌, Ok, Some, None, Bool, true, false, refl, ap, sym}
+use Rattle.std.specs.Prelude.{if◌then◌else◌}
 use Rattle.smi_tree.specs.Hierarchy.{Hierarchy}
-use Rattle.smi_message.specs.Message.{Message}
-use Rattle.smi_grants.specs.Kept.{grants_of}
-use Rattle.smi_protocol.specs.Happening.{Comes, Orders, Reports, Ticks, Happening}
-use Rattle.smi_protocol.specs.Refusals.{is_report_here, refusal_of, refusal_of_message}
-use Rattle.smi_protocol.specs.Step.{Out, accepted, after, after_event, after_reading, ordered_or_reported}
-use Rattle.smi_protocol.specs.declared.event.Event.{Event}
-use Rattle.smi_protocol.specs.declared.event.Event.TheVariants as event
-use Rattle.smi_protocol.specs.declared.event.Heard.{Heard}
-use Rattle.smi_protocol.specs.declared.event.Heard.TheVariants.{Refused, Same}
-use Rattle.smi_protocol.specs.declared.event.StepFault.{StepFault}
-use Rattle.smi_protocol.specs.declared.order.Order.{Order}
-use Rattle.smi_station.specs.Core.{Core, IsCore, Steps, core_with, number_of, station_of, station_with, tree_of}
-use Rattle.smi_station.specs.Leaving.{Leaves}
-use Rattle.smi_station.proofs.Steps.{made_core, made_steps, made_tidy, refused_steps, rests, running, stands}
-use Rattle.smi_station.proofs.Steps.{taken_steps, watched_core, watched_steps}
+use Rattle.smi_protocol.specs.Happening.{Reports}
+use Rattle.smi_protocol.specs.Refusals.{is_report_here}
+use Rattle.smi_protocol.specs.Step.{after}
+use Rattle.smi_protocol.specs.declared.event.Heard.TheVariants.{Same}
+use Rattle.smi_station.specs.Core.{Core, Steps, core_with, number_of, station_of, tree_of}
+use Rattle.smi_station.proofs.Steps.{made_tidy, running, stands}
+use Rattle.smi_station.proofs.Steps.{taken_steps}
 use Rattle.smi_station.proofs.halves.Core.report.Goals as goal
 
 pub invariant_of-self : goal.invariant_of-self

@@ -1,4 +1,4 @@
-use Rattle.std.proofs.Common.{◌≡◌, ◌∙◌, Ok, ap, subst, sym}
+use Rattle.std.proofs.Common.{◌∙◌, Ok, ap, subst, sym}
 use Rattle.smi_tree.specs.Lawful.{IsBetween}
 use Rattle.smi_tree.specs.Lookups.{station_count}
 use Rattle.smi_load.specs.Stored.{Restarts}
@@ -24,3 +24,15 @@ returns-in-Ok-clause-stored g c = λ honest.
     (start_stored c.tree.result.now c.number.result (g.S.Stable.is_open c.start.new.store) (Ok c.in-Ok.core)
     (g.S.Stable.rows c.args.store.now) (g.S.Stable.rows c.start.new.store)
     (c.in-Ok.ensures.opens honest) c.in-Ok.ensures.of (c.in-Ok.ensures.saved honest))
+
+pub returns-in-Ok-clause-saved : goal.returns-in-Ok-clause-saved
+returns-in-Ok-clause-saved g c =
+    let tree = c.tree.ensures.value ∙ ap (λ (x : Core). tree_of x) c.self.view_is in
+    let number = c.number.ensures.value ∙ ap (λ (x : Core). number_of x) c.self.view_is in
+    rw (tree, number) at c.in-Ok.ensures.saved
+
+pub returns-in-Ok-clause-crash : goal.returns-in-Ok-clause-crash
+returns-in-Ok-clause-crash g c =
+    let tree = c.tree.ensures.value ∙ ap (λ (x : Core). tree_of x) c.self.view_is in
+    let number = c.number.ensures.value ∙ ap (λ (x : Core). number_of x) c.self.view_is in
+    rw (tree, number) at c.in-Ok.ensures.crash

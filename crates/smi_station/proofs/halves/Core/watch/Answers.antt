@@ -1,26 +1,18 @@
-use Rattle.std.proofs.Common.{◌≡◌, ◌∙◌, ◌++◌, ◌∷◌, [], Ok, Some, None, false, ap, sym, subst}
-use Rattle.std.specs.Prelude.{Option, ℕ, Result}
-use Rattle.smi_tree.specs.Hierarchy.{Hierarchy}
+use Rattle.std.proofs.Common.{◌≡◌, ◌∙◌, false, ap, sym, subst}
+use Rattle.std.specs.Prelude.{Result}
 use Rattle.smi_message.specs.Message.{Message}
-use Rattle.smi_grants.specs.Kept.{grants_of}
-use Rattle.smi_protocol.specs.Happening.{Comes, Orders, Reports, Ticks, Happening}
-use Rattle.smi_protocol.specs.Refusals.{is_report_here, refusal_of, refusal_of_message}
-use Rattle.smi_protocol.specs.Step.{Out, accepted, after, after_event, after_reading, ordered_or_reported}
-use Rattle.smi_protocol.specs.declared.event.Event.{Event}
-use Rattle.smi_protocol.specs.declared.event.Event.TheVariants as event
+use Rattle.smi_protocol.specs.Happening.{Comes}
+use Rattle.smi_protocol.specs.Step.{accepted}
 use Rattle.smi_protocol.specs.declared.event.Heard.{Heard}
-use Rattle.smi_protocol.specs.declared.event.Heard.TheVariants.{Refused, Same}
 use Rattle.smi_protocol.specs.declared.event.StepFault.{StepFault}
-use Rattle.smi_protocol.specs.declared.order.Order.{Order}
 use Rattle.smi_station.specs.Core.{Core, IsCore, Steps, core_with, number_of, same_or_memory, station_of}
 use Rattle.smi_station.specs.Core.{station_with, tree_of}
-use Rattle.smi_station.specs.Leaving.{Leaves}
-use Rattle.smi_station.proofs.Steps.{made_core, made_steps, refused_steps, rests, running, stands, taken_steps}
+use Rattle.smi_station.proofs.Steps.{running, stands}
 use Rattle.smi_station.proofs.Steps.{watched_core, watched_steps}
 use Rattle.std.specs.Prelude.{OnErr, true}
 use Rattle.smi_display.specs.Displayed.{display_of}
 use Rattle.smi_display.specs.Listening.{adds_watcher}
-use Rattle.smi_station.specs.Wanting.{adds, wants_memory}
+use Rattle.smi_station.specs.Wanting.{adds}
 use Rattle.smi_station.proofs.Wanted.{as_memory}
 use Rattle.smi_station.proofs.halves.Core.watch.Goals as goal
 

@@ -1,9 +1,8 @@
 use Rattle.std.proofs.Common.{◌≡◌, true, false, subst}
 use Rattle.smi_protocol.specs.Step.{after_event}
 use Rattle.std.specs.Prelude.{OnOk}
-use Rattle.smi_tree.specs.Lawful.{IsTree}
 use Rattle.smi_station.proofs.Stored.{step_stored}
-use Rattle.smi_station.specs.Core.{Core, IsStoredIn, Steps, number_of, station_of, tree_of}
+use Rattle.smi_station.specs.Core.{IsStoredIn, Steps, number_of, station_of, tree_of}
 use Rattle.smi_station.specs.Leaving.{Leaves}
 use Rattle.smi_station.specs.Readers.{Whole}
 use Rattle.smi_station.specs.Wanting.{adds_by, wants_memory}
@@ -21,7 +20,7 @@ pub returns-clause-store : goal.returns-clause-store
 returns-clause-store g c =
     subst (λ (before : Whole g.row.S.Denot). before.core.is_stopped ≡ false
     → Leaves g.S.Stable.is_honest g.S.Stable.is_open g.S.Stable.rows g.S.Stable.may_find g.S.Stable.saves
-    g.S.Stable.failures before.store c.step.new.store c.step.result
+    g.S.Stable.failures g.S.Stable.doubts before.store c.step.new.store c.step.result
     (after_event (tree_of before.core) (number_of before.core) (station_of before.core) c.args.event).saved)
     c.self.view_is c.step.ensures.store
 

@@ -1,0 +1,80 @@
+//! What a screen has for its guests: the window, the gate, and the console for the orders of its page.
+
+use crate::console::Console;
+use crate::gate::Gate;
+use smi_picture::Picture;
+use smi_tree::Tree;
+use smi_window::Window;
+use std::alloc::Global;
+use std::net::Net;
+use std::time::Clock;
+
+/// How many milliseconds lie between two frames.
+const BETWEEN_FRAMES: u64 = 200;
+
+/// All that a screen has beside its station, its link and its picture.
+#[derive(Drop)]
+pub(crate) struct House {
+    alloc: Global,
+    /// When the last frame was made, and how many were.
+    framed: u64,
+    frames: u64,
+    window: Window,
+    gate: Gate,
+    /// Where orders go that are given from the page, where they may be.
+    console: Option<Console>,
+}
+
+impl House {
+    /// A house whose first frame is still to be made.
+    pub(crate) fn new(
+        alloc: Global,
+        window: Window,
+        gate: Gate,
+        console: Option<Console>,
+    ) -> House {
+        House {
+            alloc,
+            framed: 0,
+            frames: 0,
+            window,
+            gate,
+            console,
+        }
+    }
+
+    /// Makes a new frame of a picture, if it is time. One for which there is no memory is left out.
+    fn make_frame(&mut self, tree: &Tree, picture: &Picture, now: u64) {
+        if now.saturating_sub(self.framed) < BETWEEN_FRAMES {
+            return;
+        }
+        self.framed = now;
+        self.frames = self.frames.saturating_add(1);
+        let _ = self
+            .window
+            .frame
+            .renew(self.alloc, tree, picture, self.frames, now);
+        let _ = self.window.tell_orders(self.alloc);
+    }
+
+    /// Orders that were given go to their console, and what it says is heard.
+    fn relay_orders<R: Net>(&mut self, rt: &R, now: u64) {
+        if let (Some(console), Some(orders)) = (&mut self.console, &mut self.window.orders) {
+            orders.time = now;
+            console.turn(rt, &mut orders.relay, now);
+        }
+    }
+
+    /// One turn, some milliseconds after the start: orders go on, a frame is made, and the guests have their turn.
+    pub(crate) fn turn<R: Net + Clock>(
+        &mut self,
+        rt: &R,
+        tree: &Tree,
+        picture: &Picture,
+        now: u64,
+    ) {
+        self.relay_orders(rt, now);
+        self.make_frame(tree, picture, now);
+        self.gate.turn(&mut self.window, now);
+    }
+}
