@@ -30,7 +30,7 @@ COLUMNS, MEASURED = ("proof", "tests", "edits"), "b"
 HOW = re.compile(r"(?m)^# (smi\w*) ([a-z-]) ([a-z-]) ([a-z-])$")
 WHOLE = re.compile(r"(?m)^# make (\w+): (\d+) processors, (\d+) seconds, (\d+) of processor time$")
 HEADS = ("# How that was measured, by the letters of docs/GATE.md: proof, tests, edits.\n",
-         "# How long a whole command took where nothing was kept and nothing else ran.\n")
+         "# How long a whole command took where nothing was kept.\n")
 # A line of `make smi` about a library that is proved.
 PROVED = re.compile(r"(?m)^(smi\w*): proved, (\d+) seconds")
 # The crates and the numbers of processors of which the documents tell.
