@@ -5,7 +5,7 @@ SOURCES := crates.txt $(shell find crates -path '*/out' -prune -o -type f \( -na
 # So many crates are proved side by side: one for each processor, and 4 GB for each.
 LANES := $(shell awk -v most=$$(nproc) '/^MemAvailable/ { fit = int($$2 / 4000000); print fit < 1 ? 1 : fit < most ? fit : most }' /proc/meminfo)
 
-.PHONY: smi run try test gate record check cases nodes marks full consoles soak crowd shift screen browser bridge demo tools documents pictures edits edits-test tools-test costs bench
+.PHONY: smi run try test gate record check cases nodes marks full consoles soak crowd shift screen browser bridge demo tools documents pictures edits edits-test tools-test costs costs-table bench
 .PHONY: install deb package
 
 # The program, proved and built, at bin/smi.
@@ -159,6 +159,10 @@ tools-test:
 # What crates cost the gate: make costs CRATE='smi_grant smi_tree'
 costs:
 	@python3 tools/costs.py $(CRATE)
+
+# The tables of docs/GATE.md and README.md that follow of costs.txt and the crates, made anew.
+costs-table:
+	@python3 tools/costs.py --write
 
 bench: bin/smi bin/smi_trial
 	python3 tests/bench.py bin/smi bin/smi_trial

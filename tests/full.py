@@ -1,5 +1,5 @@
 """Nodes over a tree that is full: nine stations, each at an address of its own, eight operators at one of them, and one
-that keeps all 128 domains with 512 devices and is killed and started again.
+that keeps all 128 domains with 512 devices and is killed and started again, also on rows of the first schema.
 
 usage: full.py SMI [TEXT]
 
@@ -8,9 +8,11 @@ the busy ones are the fifth, the seventh and the ninth. Expected lines are those
 With a TEXT only the cases are run whose name has it. The last line is 'N passed, M failed'.
 """
 
+import collections
 import os
 import shutil
 import socket
+import sqlite3
 import sys
 import tempfile
 import time
@@ -159,10 +161,11 @@ def shown_cases(detector, boot, state, sequence):
         yield verdict.case(
             "all %d objects can be watched" % len(names), told,
             ["told OP%d watch %s 0" % (1 + at % OPERATORS, name) for at, name in enumerate(names)])
-    missing = [name for name in names if not waits_for(detector.nodes[CREW], "show " + name, "board %s %d.%d %s" % (
-        name, boot, sequence, state))]
-    yield "all %d objects are shown at boot %d%s" % (len(names), boot, ", but " + missing[0] if missing else ""), (
-        not missing)
+    # (where one is missing, others are not waited for)
+    missing = next((name for name in names if not waits_for(
+        detector.nodes[CREW], "show " + name, "board %s %d.%d %s" % (name, boot, sequence, state))), None)
+    yield "all %d objects are shown at boot %d%s" % (len(names), boot, ", but " + missing if missing else ""), (
+        missing is None)
 
 
 def restart_cases(detector):
@@ -186,6 +189,40 @@ def restart_cases(detector):
     yield "the rows of other roots are unchanged", all(after[key] == row for key, row in left.items())
 
 
+def write_older(path):
+    """Writes the rows of a store as they stood in the first schema: those that name no newer verb and no mode differ in
+    their first byte alone."""
+    with sqlite3.connect(path) as file:
+        rows = file.execute("SELECT rowid, bytes FROM stable_rows").fetchall()
+        file.executemany("UPDATE stable_rows SET bytes = ? WHERE rowid = ?", [(b"\1" + it[1:], at) for at, it in rows])
+    file.close()
+
+
+def migrated_cases(detector):
+    """The keeper of all domains and the crew's station start on rows of the first schema: each is saved anew, and says
+    what it said."""
+    before, after = {}, {}
+    for station in (KEEPER, CREW):
+        detector.nodes[station].kill()
+        write_older(detector.store(station))
+        before.update(stores.rows_in(detector.store(station)))
+    counts = collections.Counter(row[:2] for row in before.values())
+    yield verdict.case("rows of the first schema", counts, {"01": DOMAINS + OPERATORS + 2})
+    for station in (KEEPER, CREW):
+        detector.start(station)
+    told = detector.ask(CREW, "order OP1 do %s START" % root(1))
+    yield verdict.case("stations start on rows of the first schema", told, "told OP1 do %s START 0" % root(1))
+    for station in (KEEPER, CREW):
+        detector.nodes[station].kill()
+        after.update(stores.rows_in(detector.store(station)))
+    counts = collections.Counter(row[:2] for row in after.values())
+    yield verdict.case("all rows are saved anew in their newest schema", counts, {"02": DOMAINS + 2, "03": OPERATORS})
+    # what OP1 has ordered since, and the boots, are others
+    same = [key for key in before if key[1] and not begins_with(key, root(1)) or key[2] > 1]
+    yield verdict.case("they say what they said", {key: after[key][2:] for key in same},
+                       {key: before[key][2:] for key in same})
+
+
 def begins_with(key, name):
     """Whether the domain of a row is this root, or stands below it."""
     own = list(domains())[key[1] - 1]
@@ -203,6 +240,7 @@ def cases(program, folder):
         ended = [station for station, node in detector.nodes.items() if node.child.poll() is not None]
         yield "no node ended by itself", not ended
         yield from restart_cases(detector)
+        yield from migrated_cases(detector)
     finally:
         detector.end()
 

@@ -9,7 +9,6 @@ failed'.
 """
 
 import ast
-import collections
 import contextlib
 import glob
 import io
@@ -26,15 +25,12 @@ HERE = os.path.dirname(os.path.abspath(__file__))
 ROOT = os.path.dirname(HERE)
 sys.path.insert(0, os.path.join(ROOT, "tools"))
 
-import costs  # noqa: E402 (these stand in tools/)
-import gate  # noqa: E402
+import gate  # noqa: E402 (these stand in tools/)
 import kit  # noqa: E402
 import libraries  # noqa: E402
 import soak  # noqa: E402
 import verdict  # noqa: E402
-
-# A crate as the tools see it: its name, what it stands on, and where its files are.
-Crate = collections.namedtuple("Crate", "name deps folder", defaults=((), ""))
+from costs_test import Crate, Landings, Records as RecordsOfCosts, Tables  # noqa: E402, F401
 
 
 def printed(call, *given):
@@ -267,25 +263,6 @@ class Libraries(unittest.TestCase):
         # also where one beside it ends well after it
         begun, well, _ = self.built(2, ["one"], ["five"])
         self.assertEqual((sorted(begun), well), (["five", "one"], False))
-
-
-class Costs(unittest.TestCase):
-    """The table of what crates cost."""
-
-    FOUND = {"one": kit.Cost(1000, 20, 3, 40), "two": kit.Cost(7, None, None, None)}
-
-    def test_table(self):
-        self.assertEqual(costs.table(self.FOUND).splitlines()[2:], [
-            "| `one` | 1,000 | 20 | 3 in 40 |", "| `two` | 7 | - | - |", "| all | 1,007 | 20 | 3 in 40 |"])
-
-    def test_record(self):
-        with tempfile.TemporaryDirectory() as folder, \
-                mock.patch.object(kit, "COSTS", os.path.join(folder, "costs.txt")), \
-                mock.patch.object(kit, "crates", lambda names=(): [Crate("two"), Crate("one"), Crate("three")]):
-            self.assertEqual(kit.costs(), {})
-            kit.write_costs(self.FOUND)
-            self.assertEqual(kit.costs(), self.FOUND)
-            self.assertEqual(list(kit.costs()), ["two", "one"])
 
 
 def record_row(kind, holder, epoch, last, busy, links=b""):

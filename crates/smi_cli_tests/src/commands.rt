@@ -4,6 +4,7 @@ use smi_cli::rows::{Listed, rows};
 use smi_rows::{Key, MemoryStable, Stable};
 use smi_samples::{Narrow, Trickle};
 use std::cmp::min;
+use std::io::{self, ErrorKind, Read};
 use std::test::Fail;
 
 /// Operator 2 takes domain 1 at epoch 0.
@@ -155,6 +156,22 @@ fn faults_in_mid_stream(rt: HostRuntime) -> Result<(), Fail> {
         assert_eq!(rt; writer.written.as_slice(), &TAKEN[..front]);
     }
     Ok(())
+}
+
+/// A reader that has nothing yet, and never will.
+#[derive(Drop)]
+struct Blocked;
+
+impl Read for Blocked {
+    fn read(&mut self, _buf: &mut [u8]) -> io::Result<usize> {
+        Err(ErrorKind::WouldBlock.into())
+    }
+}
+
+#[test]
+fn a_reader_that_would_block_fails(rt: HostRuntime) {
+    let end = answer(&mut Blocked, &mut Vec::new(rt.alloc()));
+    assert_eq!(rt; end, Answered::ReadFault);
 }
 
 #[test]

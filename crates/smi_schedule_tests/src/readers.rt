@@ -3,7 +3,18 @@
 use smi_samples::Trickle;
 use smi_schedule::{Cut, Lines};
 use std::alloc::{AllocError, Global};
+use std::io::{self, ErrorKind, Read};
 use std::test::Fail;
+
+/// A reader that has nothing yet, and never will.
+#[derive(Drop)]
+struct Blocked;
+
+impl Read for Blocked {
+    fn read(&mut self, _buf: &mut [u8]) -> io::Result<usize> {
+        Err(ErrorKind::WouldBlock.into())
+    }
+}
 
 /// The lines of a text, each with a bar after it, and how the reading ended.
 fn cut_all(
@@ -62,4 +73,10 @@ fn long_texts(rt: HostRuntime) -> Result<(), Fail> {
         assert_eq!(rt; cut, end, "{length} bytes");
     }
     Ok(())
+}
+
+#[test]
+fn a_reader_that_would_block_fails(rt: HostRuntime) {
+    let cut = Lines::new(rt.alloc()).cut(&mut Blocked);
+    assert_eq!(rt; cut, Cut::ReadFault);
 }
