@@ -1,9 +1,10 @@
 //! A node as a crew runs it: a station on its store, served over UDP, and the lines that are read beside it.
 //!
 //! [`run`] begins it. It brings the store's rows into their newest schema, opens the station, makes a seat for each
-//! of its operators and one for reports, a board with one glance, and its socket, in this order, so that the first
-//! fault is told (`opening`). Then it serves the station in its own thread, with `serve_before` of `smi_node`, which
-//! is told each step that it makes, and counts (`smi_counts`).
+//! of its operators and one for reports, a board with one glance, and its socket, in this order (`fitting`), so that
+//! the first fault is told (`opening`, `ending`). Its link reaches the stations at their addresses (`peers`). Then it
+//! serves the station in its own thread (`service`), with `serve_before` of `smi_node`, which is told each step that
+//! it makes, and counts (`smi_counts`). What that does to the store is the contract of [`run`].
 //!
 //! Three threads, which nobody joins, have the consoles (`starting`). One reads the lines of the standard input and
 //! hands them on (`reading`); one writes what the standard input is told (`outlet`). The third stands at the front

@@ -136,7 +136,9 @@ fn opened<
 /// console. What is amiss is told in one line on `faults`, and the status says how the node ended. Those threads tell
 /// their own faults on those of the console, and these end the console alone.
 ///
-/// Nothing but the opening and the steps of the station changes the store.
+/// Nothing but the opening and the steps of the station changes the store. That it serves over its own socket and its
+/// own seats no clause says, and none what the threads of the console do: tests/full.py, tests/nodes.py and
+/// tests/consoles.py see that.
 pub fn run<
     S: Stable,
     H: Files + Net + Wait + Threads + Clock + AllocGlobal + Clone + Drop + Send + 'static,
