@@ -19,11 +19,15 @@ import lunskaf
 
 
 class Supply:
-    """A supply, the state that it is really in, and its ramp where it is on its way."""
+    """A supply, the state that it is really in, and its ramp where it is on its way.
+
+    Actions, the end of a ramp and trips come in threads of their own: one at a time changes the state and reports it,
+    so that reports are in the order of the states.
+    """
 
     def __init__(self, device, seconds):
         self.device, self.seconds = device, seconds
-        self.state, self.ramp = "OFF", None
+        self.state, self.ramp, self.turn = "OFF", None, threading.RLock()
         device.on_start(self.start)
         device.on("CONFIGURE", self.configure)
         device.on(None, self.follow)
@@ -39,11 +43,12 @@ class Supply:
 
     def report(self, state):
         """The supply has come into a state. Where the node is away, that is reported once it is there again."""
-        self.come_to(state)
-        try:
-            self.device.report(state)
-        except (lunskaf.Lost, lunskaf.TimeOut) as away:
-            print(away, file=sys.stderr)
+        with self.turn:
+            self.come_to(state)
+            try:
+                self.device.report(state)
+            except (lunskaf.Lost, lunskaf.TimeOut) as away:
+                print(away, file=sys.stderr)
 
     def start(self):
         """A node that has just begun does not know what the supply is in."""
@@ -51,20 +56,30 @@ class Supply:
 
     def follow(self, acted):
         """The supply does at once what most actions ask."""
-        self.halt()
-        self.come_to(acted.state)
+        with self.turn:
+            self.halt()
+            self.come_to(acted.state)
 
     def configure(self, acted):
         """It ramps, where that is what the action has it do."""
-        self.follow(acted)
-        if acted.state == "RAMPING":
-            self.ramp = threading.Timer(self.seconds, self.report, ["READY"])
-            self.ramp.daemon = True
-            self.ramp.start()
+        with self.turn:
+            self.follow(acted)
+            if acted.state == "RAMPING":
+                self.ramp = threading.Timer(self.seconds, self.arrive)
+                self.ramp.daemon = True
+                self.ramp.start()
+
+    def arrive(self):
+        """The ramp is at its end, if it was not halted."""
+        with self.turn:
+            if self.ramp is threading.current_thread():
+                self.ramp = None
+                self.report("READY")
 
     def trip(self):
-        self.halt()
-        self.report("ERROR")
+        with self.turn:
+            self.halt()
+            self.report("ERROR")
 
 
 def trips(supply):

@@ -670,6 +670,9 @@ def supply_case(program, folder):
     running = nodes.Node(program, words)
     script = [sys.executable, os.path.join(EXAMPLES, "supply.py"), where, "PIXEL_HV1", "0.5"]
     supply = subprocess.Popen(script, stdin=subprocess.PIPE, stdout=subprocess.PIPE, text=True)
+    # a state that never comes ends the supply, and with it what is read here
+    watch = threading.Timer(6 * PATIENCE, supply.kill)
+    watch.start()
 
     def seen(state):
         """Whether the supply sees its device come into a state, after others."""
@@ -697,6 +700,7 @@ def supply_case(program, folder):
     yield "a node that was started again is told", seen("STANDBY")
     with lunskaf.Node(where) as node:
         yield verdict.comes("and has it", lambda: {it.object: it.state for it in node.states()}["PIXEL_HV1"], "STANDBY", PATIENCE)
+    watch.cancel()
     supply.kill()
     running.kill()
 
