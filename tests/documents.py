@@ -48,7 +48,6 @@ UNSEEN = 8
 QUOTED = re.compile(r"(docs/[\w-]+\.md|README\.md), \"([^\"]+)\"")
 # How the names of crates end that are no part of the program: tests, and trials.
 OF_TESTS = ("_tests", "_samples")
-NO_PROGRAM = (*OF_TESTS, "_bounds", "_lists", "_measures", "_plays", "_refused", "_rig", "_trial")
 # Where a page has its screen.
 SCREEN = "127.0.0.1:8080"
 # How often a page is played in one folder.
@@ -440,19 +439,17 @@ def meaning_cases():
 
 
 def declared_in(path):
-    """The types that a source file declares."""
-    return re.findall(r"^(?:pub(?:\(\w+\))? )?(?:struct|enum|trait) (\w+)", read(path), flags=re.M)
+    """The types that a source file declares, and the other names of types."""
+    return re.findall(r"^(?:pub(?:\(\w+\))? )?(?:struct|enum|trait|type) (\w+)", read(path), flags=re.M)
 
 
-def types_of_several():
-    """The names of types that stand in more than one crate, each with these crates."""
+def declared_twice():
+    """The names that several types have, each with the files that declare one."""
     found = {}
-    for path in places.searched("sources"):
-        crate = path.split("/")[1]
-        if not crate.endswith(NO_PROGRAM):
-            for name in declared_in(path):
-                found.setdefault(name, set()).add(crate)
-    return {name: sorted(of) for name, of in found.items() if len(of) > 1}
+    for path in places.found_by("crates/*/src/**/*.rt"):
+        for name in declared_in(path):
+            found.setdefault(name, []).append(path)
+    return {name: sorted(paths) for name, paths in found.items() if len(paths) > 1}
 
 
 def in_code(name, crate, file):
@@ -462,8 +459,8 @@ def in_code(name, crate, file):
 
 
 def word_cases():
-    """docs/GLOSSARY.md has each word once, in the order of letters, and what stands for it in the code is there; it has
-    the names that several types have, and its ordinary words are those that tests/words.py asks for."""
+    """docs/GLOSSARY.md has each word once, in the order of letters, and what stands for it in the code is there; no two
+    types have one name, and its ordinary words are those that tests/words.py asks for."""
     text = read("docs", "GLOSSARY.md")
     rows = tables(section(text, "Words"))
     of_words = [row[0] for row in rows]
@@ -474,9 +471,7 @@ def word_cases():
         yield "GLOSSARY.md: %s stands in the code" % word, named(code) and len(named(code)) == code.count("(") and all(
             in_code(name, crate, file) for name, crate, file in named(code))
     yield "GLOSSARY.md: a name that no crate has is seen", not in_code("no_such_name", "smi_grant", "")
-    told = {row[0].strip("`"): re.findall(r"`(\w+)`:", row[1])
-            for row in tables(section(text, "Names that several types have"))}
-    yield verdict.case("GLOSSARY.md has the names that several types have", told, types_of_several())
+    yield verdict.case("each type has a name of its own", declared_twice(), {})
     for _, unwanted in tables(section(text, "Ordinary words")):
         yield verdict.case(
             "GLOSSARY.md: %s is looked for" % unwanted, words.unusual("it is %s line" % unwanted), None, "is not")

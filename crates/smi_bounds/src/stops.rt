@@ -46,7 +46,7 @@ enum End {
 
 /// What rows are found.
 #[derive(Clone, Copy, PartialEq, Eq)]
-enum Found {
+enum RowsFound {
     /// Boot 1.
     Before,
     /// Boot 2.
@@ -60,36 +60,36 @@ fn is_row(row: Option<&SavedRow>, domain: u16, bytes: &[u8]) -> bool {
 }
 
 /// Which rows these are, if they are any of those.
-fn found_in(rows: &[SavedRow]) -> Option<Found> {
+fn found_in(rows: &[SavedRow]) -> Option<RowsFound> {
     if rows.len() == 1 && is_row(rows.first(), 0, FIRST) {
-        Some(Found::Before)
+        Some(RowsFound::Before)
     } else if rows.len() == 1 && is_row(rows.first(), 0, BOOT) {
-        Some(Found::Opened)
+        Some(RowsFound::Opened)
     } else if rows.len() == 2 && is_row(rows.first(), 0, BOOT) && is_row(rows.get(1), 1, TAKEN) {
-        Some(Found::Taken)
+        Some(RowsFound::Taken)
     } else {
         None
     }
 }
 
 /// Whether the rows may be found after that.
-fn fits(end: End, found: Found) -> bool {
+fn fits(end: End, found: RowsFound) -> bool {
     match end {
-        End::NoStore => found == Found::Before,
-        End::NotOpened(OpenFault::Store(StoreFault::Unsure)) => found != Found::Taken,
-        End::Stepped(Ok(heard)) => heard == Heard::Done && found == Found::Taken,
-        End::Stepped(Err(StepFault::Stopped)) => found != Found::Before,
-        End::Stepped(Err(StepFault::NotStored)) => found == Found::Opened,
+        End::NoStore => found == RowsFound::Before,
+        End::NotOpened(OpenFault::Store(StoreFault::Unsure)) => found != RowsFound::Taken,
+        End::Stepped(Ok(heard)) => heard == Heard::Done && found == RowsFound::Taken,
+        End::Stepped(Err(StepFault::Stopped)) => found != RowsFound::Before,
+        End::Stepped(Err(StepFault::NotStored)) => found == RowsFound::Opened,
         _ => false,
     }
 }
 
 /// Whether a station that was opened on these rows goes on: with the next boot, and with the domain as they say.
-fn is_going_on<S: Stable>(station: &mut Station<'_, S>, found: Found) -> bool {
+fn is_going_on<S: Stable>(station: &mut Station<'_, S>, found: RowsFound) -> bool {
     let (boot, heard) = match found {
-        Found::Before => (2, Heard::Done),
-        Found::Opened => (3, Heard::Done),
-        Found::Taken => (3, Heard::Same),
+        RowsFound::Before => (2, Heard::Done),
+        RowsFound::Opened => (3, Heard::Done),
+        RowsFound::Taken => (3, Heard::Same),
     };
     let mut out = Out::new();
     let is_stepped = station.step(Event::Datagram(&TAKE), &mut out) == Ok(heard);
@@ -100,19 +100,19 @@ fn is_going_on<S: Stable>(station: &mut Station<'_, S>, found: Found) -> bool {
 
 /// What is done at a station that has opened.
 #[derive(Clone, Copy)]
-enum Work {
+enum AfterOpen {
     Nothing,
     /// The domain is taken.
     Take,
     /// It goes on, with these rows.
-    GoOn(Found),
+    GoOn(RowsFound),
 }
 
-fn work_at<S: Stable>(station: &mut Station<'_, S>, work: Work) -> End {
+fn work_at<S: Stable>(station: &mut Station<'_, S>, work: AfterOpen) -> End {
     match work {
-        Work::Nothing => End::Opened,
-        Work::Take => End::Stepped(station.step(Event::Datagram(&TAKE), &mut Out::new())),
-        Work::GoOn(found) => {
+        AfterOpen::Nothing => End::Opened,
+        AfterOpen::Take => End::Stepped(station.step(Event::Datagram(&TAKE), &mut Out::new())),
+        AfterOpen::GoOn(found) => {
             if is_going_on(station, found) {
                 End::Opened
             } else {
@@ -128,7 +128,7 @@ fn at_station<S: OnDisks<Disks = Disks>>(
     alloc: Global,
     tree: &Tree,
     store: S,
-    work: Work,
+    work: AfterOpen,
 ) -> (End, Disks) {
     match Station::open(alloc, tree, 1, store) {
         Ok(mut station) => {
@@ -144,7 +144,7 @@ fn on_disks<S: OnDisks<Disks = Disks>>(
     alloc: Global,
     tree: &Tree,
     disks: Disks,
-    work: Work,
+    work: AfterOpen,
 ) -> (End, Disks) {
     match S::open(alloc, disks) {
         Ok(store) => at_station(alloc, tree, store, work),
@@ -153,11 +153,15 @@ fn on_disks<S: OnDisks<Disks = Disks>>(
 }
 
 /// The rows of a store, if they are any of those, where a station goes on over them.
-fn found_over<S: OnDisks<Disks = Disks>>(alloc: Global, tree: &Tree, store: S) -> Option<Found> {
+fn found_over<S: OnDisks<Disks = Disks>>(
+    alloc: Global,
+    tree: &Tree,
+    store: S,
+) -> Option<RowsFound> {
     let mut store = store;
     let found = store.load().ok().and_then(|rows| found_in(&rows));
     // Whatever was found, the store is given up there.
-    let work = Work::GoOn(found.unwrap_or(Found::Before));
+    let work = AfterOpen::GoOn(found.unwrap_or(RowsFound::Before));
     match at_station(alloc, tree, store, work) {
         (End::Opened, _) => found,
         _ => None,
@@ -169,7 +173,7 @@ fn rows_after<S: OnDisks<Disks = Disks>>(
     alloc: Global,
     tree: &Tree,
     disks: Disks,
-) -> Option<Found> {
+) -> Option<RowsFound> {
     match S::open(alloc, back(disks)) {
         Ok(store) => found_over(alloc, tree, store),
         Err(_) => None,
@@ -195,14 +199,14 @@ fn end_of<S: OnDisks<Disks = Disks>>(
 ) -> Option<End> {
     let (log, db) = limits(which, calls);
     let copies = copied(alloc, disks, log, db)?;
-    let (end, left) = on_disks::<S>(alloc, tree, copies, Work::Take);
+    let (end, left) = on_disks::<S>(alloc, tree, copies, AfterOpen::Take);
     let found = rows_after::<S>(alloc, tree, left)?;
     if fits(end, found) { Some(end) } else { None }
 }
 
 /// How often the station was not opened, and how often it stopped, before a run came to its end.
 #[derive(Clone, Copy)]
-struct Counts {
+struct StopCounts {
     not_opened: u64,
     stopped: u64,
 }
@@ -213,8 +217,8 @@ fn count_ends<S: OnDisks<Disks = Disks>>(
     tree: &Tree,
     disks: &Disks,
     which: usize,
-) -> Option<Counts> {
-    let mut counts = Counts {
+) -> Option<StopCounts> {
+    let mut counts = StopCounts {
         not_opened: 0,
         stopped: 0,
     };
@@ -231,14 +235,14 @@ fn count_ends<S: OnDisks<Disks = Disks>>(
 
 /// Whether all runs fit, and enough of them stopped: the log is written by each save, the other file need not be.
 fn all_fit<S: OnDisks<Disks = Disks>>(alloc: Global, tree: &Tree, disks: &Disks) -> bool {
-    let has_both = |counts: Counts| counts.not_opened > 0 && counts.stopped > 0;
+    let has_both = |counts: StopCounts| counts.not_opened > 0 && counts.stopped > 0;
     count_ends::<S>(alloc, tree, disks, 0).is_some_and(has_both)
         && count_ends::<S>(alloc, tree, disks, 1).is_some()
         && count_ends::<S>(alloc, tree, disks, 2).is_some_and(has_both)
 }
 
 fn over_tree<S: OnDisks<Disks = Disks>>(alloc: Global, tree: &Tree) -> bool {
-    match on_disks::<S>(alloc, tree, blank(alloc), Work::Nothing) {
+    match on_disks::<S>(alloc, tree, blank(alloc), AfterOpen::Nothing) {
         (End::Opened, disks) => all_fit::<S>(alloc, tree, &disks),
         _ => false,
     }

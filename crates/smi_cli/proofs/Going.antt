@@ -16,8 +16,8 @@ use Rattle.smi_cli.specs.Answer.{AnswersWhole, IsDone, pieces, answers, ending}
 use Rattle.smi_cli.specs.Keeper.{answer_to}
 use Rattle.smi_message.specs.Bad.{refusal_code}
 use Rattle.smi_message.specs.declared.Bad.TheVariants as bad
-use Rattle.smi_message.specs.declared.Refusal.{Refusal}
-use Rattle.smi_message.specs.declared.Refusal.TheVariants as refusal
+use Rattle.smi_message.specs.declared.DatagramRefusal.{DatagramRefusal}
+use Rattle.smi_message.specs.declared.DatagramRefusal.TheVariants as refusal
 use Rattle.smi_cli.proofs.Pieces.{pieces_first, pieces_last, pieces_nil}
 
 -- input is what the reader had, left what it still has, piece the beginning of the next piece
@@ -84,12 +84,12 @@ ending_ok : (k : ℕ) (r s : Standing) (p t : List ℕ) (ps : List (List ℕ)) �
 unfolding ending
 ending_ok k r s p t ps e = rw (e, ending) refl
 
-answers_err : (r : Standing) (p : List ℕ) (c : Refusal) (ps : List (List ℕ)) → answer_to r p ≡ Err c
+answers_err : (r : Standing) (p : List ℕ) (c : DatagramRefusal) (ps : List (List ℕ)) → answer_to r p ≡ Err c
     → answers r (p ∷ ps) ≡ []
 unfolding answers
 answers_err r p c ps e = rw (e, answers) refl
 
-ending_err : (k : ℕ) (r : Standing) (p : List ℕ) (c : Refusal) (ps : List (List ℕ)) → answer_to r p ≡ Err c
+ending_err : (k : ℕ) (r : Standing) (p : List ℕ) (c : DatagramRefusal) (ps : List (List ℕ)) → answer_to r p ≡ Err c
     → ending k r (p ∷ ps) ≡ Refused (k + 1) (refusal_code c)
 unfolding ending
 ending_err k r p c ps e = rw (e, ending) refl
@@ -175,8 +175,8 @@ finish input left piece r k w0 w end ps f x y g =
     ∙ ap (λ (l : List ℕ). g.told ++ l) (ap (answers r) f ∙ x) ∙ append-nil g.told in
     (sym (g.ending_is ∙ ap (ending k r) f ∙ y), subst (Appends w0 w) (sym all) g.written)
 
-pub refused : (a b : Option (List ℕ)) (left : List ℕ) (r : Standing) (k : ℕ) (c : Refusal) (w0 w : Option (List ℕ))
-    → 44 ≤ length left → answer_to r (take 44 left) ≡ Err c
+pub refused : (a b : Option (List ℕ)) (left : List ℕ) (r : Standing) (k : ℕ) (c : DatagramRefusal)
+    (w0 w : Option (List ℕ)) → 44 ≤ length left → answer_to r (take 44 left) ≡ Err c
     → Goes a b left r k w0 w → Finishes a (Refused (k + 1) (refusal_code c)) w0 w
 refused None b left r k c w0 w h e g = tt
 refused (Some i) None left r k c w0 w h e g = absurd g

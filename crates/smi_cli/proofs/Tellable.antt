@@ -12,7 +12,7 @@ use Rattle.smi_grant.specs.Record.{Standing, is_outcome, is_settled, last_epoch}
 use Rattle.smi_grant.specs.Keeper.{take_after, drop_after, admits, handed}
 use Rattle.smi_message.specs.declared.Body.{Body}
 use Rattle.smi_message.specs.declared.Body.TheVariants as body
-use Rattle.smi_message.specs.declared.Refusal.TheVariants as refusal
+use Rattle.smi_message.specs.declared.DatagramRefusal.TheVariants as refusal
 use Rattle.smi_message.specs.Message.{is_body, is_domain, is_party}
 use Rattle.smi_cli.specs.Tellable.{is_tellable}
 use Rattle.smi_cli.specs.Keeper.{is_operator, after, outcome_of, run_after, where_known, said_after}

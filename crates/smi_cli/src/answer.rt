@@ -4,12 +4,12 @@ ghost use Rattle.std.specs.Prelude.{◌≡◌, ◌≢◌, ◌≤◌, ◌<◌, �
 ghost use Rattle.std.specs.Prelude.{drop, length};
 ghost use Rattle.std.specs.Io.KnownBytes.{Appends};
 ghost use Rattle.smi_grant.specs.Record.{fresh};
-ghost use Rattle.smi_message.specs.declared.refusal.Refusal.{Refusal};
+ghost use Rattle.smi_message.specs.declared.refusal.DatagramRefusal.{DatagramRefusal};
 ghost use Rattle.smi_cli.specs.Keeper.{answer_to};
 ghost use Rattle.smi_cli.specs.Answer.{AnswersWhole, IsDone, answers, ending, first_fault, pieces};
 
 use crate::keeper::Keeper;
-use smi_message::{Bad, Refusal};
+use smi_message::{Bad, DatagramRefusal};
 use smi_write::write_whole;
 use std::io::{ErrorKind, Read, Write};
 
@@ -41,7 +41,7 @@ struct Progress {
     /// How many are answered.
     count: usize,
     /// Why the next one is not, where it is refused.
-    refusal: Option<Refusal>,
+    refusal: Option<DatagramRefusal>,
 }
 
 /// Answers each 44 bytes in turn, up to the first refusal; fewer bytes after them stay for later.
@@ -57,7 +57,8 @@ fn answer_each(keeper: &mut Keeper, bytes: &[u8], told: &mut [u8; BLOCK]) -> Pro
     ensures ending { (later : List ℕ) (k : ℕ) → ending k keeper.old (pieces (bytes.now ++ later))
         ≡ ending (k + result.count) keeper.new (pieces (drop (result.count * 44) bytes.now ++ later)) }
     ensures whole { result.refusal ≡ None → length bytes.now < result.count * 44 + 44 }
-    ensures refused { (refusal : Refusal) → result.refusal ≡ Some refusal → (result.count * 44 + 44 ≤ length bytes.now)
+    ensures refused { (refusal : DatagramRefusal) → result.refusal ≡ Some refusal
+        → (result.count * 44 + 44 ≤ length bytes.now)
         × (answer_to keeper.new (take 44 (drop (result.count * 44) bytes.now)) ≡ Err refusal) }
 {
     let most = bytes.len() / 44;

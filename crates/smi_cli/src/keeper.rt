@@ -6,7 +6,7 @@ ghost use Rattle.smi_message.specs.Message.{is_body, tell};
 ghost use Rattle.smi_cli.specs.Keeper as spec;
 
 use smi_grant::{Command, Holder, LAST_NUMBER, Record, Verdict};
-use smi_message::{Body, Datagram, Refusal, decode, encode};
+use smi_message::{Body, Datagram, DatagramRefusal, decode, encode};
 use std::marker::Model;
 
 /// The number of the tree that the domain stands in.
@@ -51,30 +51,30 @@ impl Keeper {
     /// What the keeper answers to 44 bytes: the record as it stands afterwards. A refusal changes
     /// nothing, and names the first test that the bytes fail.
     #[tactic(auto, unfolding(crate::specs::Keeper::answer_to))]
-    pub fn answer(&mut self, bytes: &[u8]) -> Result<[u8; 44], Refusal>
+    pub fn answer(&mut self, bytes: &[u8]) -> Result<[u8; 44], DatagramRefusal>
         ensures { MatchResult result
             (λ told. spec.answer_to self.old bytes.now ≡ Ok (self.new, told))
             (λ refusal. (spec.answer_to self.old bytes.now ≡ Err refusal) × (self.new ≡ self.old)) }
     {
         let datagram = match decode(bytes) {
             Ok(datagram) => datagram,
-            Err(bad) => return Err(Refusal::Bad(bad)),
+            Err(bad) => return Err(DatagramRefusal::Bad(bad)),
         };
         self.hear(&datagram)?;
         Ok(encode(&self.tell(datagram.from)))
     }
 
     #[tactic(auto, unfolding(crate::specs::Keeper::heard_after))]
-    fn hear(&mut self, datagram: &Datagram) -> Result<(), Refusal>
+    fn hear(&mut self, datagram: &Datagram) -> Result<(), DatagramRefusal>
         ensures { MatchResult result
             (λ _. spec.heard_after self.old datagram.now ≡ Ok self.new)
             (λ refusal. (spec.heard_after self.old datagram.now ≡ Err refusal) × (self.new ≡ self.old)) }
     {
         if datagram.tree != TREE {
-            return Err(Refusal::OtherTree);
+            return Err(DatagramRefusal::OtherTree);
         }
         if datagram.to != STATION {
-            return Err(Refusal::OtherStation);
+            return Err(DatagramRefusal::OtherStation);
         }
         self.record = said_after(&self.record, &datagram.body)?;
         Ok(())
@@ -90,7 +90,7 @@ impl Keeper {
 
 /// The record after what a datagram says, where it speaks of the domain and comes from an operator.
 #[tactic(auto, unfolding(crate::specs::Keeper::said_after))]
-fn said_after(current: &Record, body: &Body) -> Result<Record, Refusal>
+fn said_after(current: &Record, body: &Body) -> Result<Record, DatagramRefusal>
     requires { is_body body.now ≡ true }
     ensures { result ≡ spec.said_after current.now body.now }
 {
@@ -108,7 +108,7 @@ fn said_after(current: &Record, body: &Body) -> Result<Record, Refusal>
             let holder = Holder::Operator(operator);
             Ok(run_after(current, holder, epoch, number, command))
         }
-        _ => Err(Refusal::Unknown),
+        _ => Err(DatagramRefusal::Unknown),
     }
 }
 

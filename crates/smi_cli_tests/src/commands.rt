@@ -160,9 +160,9 @@ fn faults_in_mid_stream(rt: HostRuntime) -> Result<(), Fail> {
 
 /// A reader that has nothing yet, and never will.
 #[derive(Drop)]
-struct Blocked;
+struct NeverReady;
 
-impl Read for Blocked {
+impl Read for NeverReady {
     fn read(&mut self, _buf: &mut [u8]) -> io::Result<usize> {
         Err(ErrorKind::WouldBlock.into())
     }
@@ -170,7 +170,7 @@ impl Read for Blocked {
 
 #[test]
 fn a_reader_that_would_block_fails(rt: HostRuntime) {
-    let end = answer(&mut Blocked, &mut Vec::new(rt.alloc()));
+    let end = answer(&mut NeverReady, &mut Vec::new(rt.alloc()));
     assert_eq!(rt; end, Answered::ReadFault);
 }
 

@@ -10,7 +10,7 @@ use smi_cli::rows::Listed;
 use smi_cli::status::{Status, no_memory, read_fault, store_fault, write_fault, wrong_line};
 use smi_crew::Console;
 use smi_disks::Stores;
-use smi_line::{Line, Words, bytes_of, line_of};
+use smi_line::{CommandLine, Words, bytes_of, line_of};
 use std::alloc::Global;
 use std::io::{BufWriter, ErrorKind, Read, Write};
 use std::net::{Net, TcpListener, TcpStream};
@@ -42,14 +42,14 @@ pub fn program<
 >(host: &H, words: &Words, reader: R, writer: W, faults: &mut F, aside: E) -> u8 {
     let alloc = host.alloc();
     match line_of(alloc, words.texts.as_slice()) {
-        Line::Answer => {
+        CommandLine::Answer => {
             let (mut reader, mut writer) = (reader, writer);
             told(answer(&mut reader, &mut writer), faults).code()
         }
-        Line::Check(path) => check_file(host, bytes_of(words, path), writer, faults),
-        Line::Rows(path) => list_rows(host, bytes_of(words, path), writer, faults).code(),
-        Line::Sim(line) => simulate(host, words, line, writer, faults),
-        Line::Node(line) => {
+        CommandLine::Check(path) => check_file(host, bytes_of(words, path), writer, faults),
+        CommandLine::Rows(path) => list_rows(host, bytes_of(words, path), writer, faults).code(),
+        CommandLine::Sim(line) => simulate(host, words, line, writer, faults),
+        CommandLine::Node(line) => {
             let console = Console {
                 input: reader,
                 output: writer,
@@ -57,9 +57,9 @@ pub fn program<
             };
             run_node(host, words, line, console, faults).code()
         }
-        Line::Screen(line) => run_screen(host, words, line, faults).code(),
-        Line::Wrong => wrong_line(faults).code(),
-        Line::NoMemory => no_memory(faults).code(),
+        CommandLine::Screen(line) => run_screen(host, words, line, faults).code(),
+        CommandLine::Wrong => wrong_line(faults).code(),
+        CommandLine::NoMemory => no_memory(faults).code(),
     }
 }
 

@@ -2,10 +2,10 @@
 
 use crate::tree::read_marked;
 use smi_cli::status::{Status, no_memory, store_fault, wrong_line};
-use smi_crew::{Console, Place, Plan, Turns, run};
+use smi_crew::{Console, ListenAddress, NodeSetup, Turns, run};
 use smi_disks::Stores;
 use smi_line::{NodeLine, Words, bytes_of};
-use smi_origin::{Kinship, Mark};
+use smi_origin::{Kinship, TreeMark};
 use smi_rows::StoreFault;
 use smi_tree::Tree;
 use std::alloc::{AllocError, Global};
@@ -45,15 +45,15 @@ pub(crate) fn address_in(word: &str) -> Option<SocketAddr> {
 }
 
 /// Where a console is listened for.
-fn place_of(alloc: Global, word: &str) -> Result<Place, AllocError> {
+fn place_of(alloc: Global, word: &str) -> Result<ListenAddress, AllocError> {
     match address_in(word) {
-        Some(address) => Ok(Place::Address(address)),
-        None => Ok(Place::Path(String::from_str(alloc, word)?)),
+        Some(address) => Ok(ListenAddress::Address(address)),
+        None => Ok(ListenAddress::Path(String::from_str(alloc, word)?)),
     }
 }
 
 /// Where consoles are listened for.
-fn places_of(alloc: Global, line: &NodeLine<'_>) -> Result<Vec<Place>, AllocError> {
+fn places_of(alloc: Global, line: &NodeLine<'_>) -> Result<Vec<ListenAddress>, AllocError> {
     let mut places = Vec::new(alloc);
     if let Some(word) = line.console {
         places.push(place_of(alloc, word)?)?;
@@ -70,7 +70,7 @@ fn plan_of<H: Files + AllocGlobal, F: Write>(
     words: &Words,
     line: NodeLine<'_>,
     faults: &mut F,
-) -> Result<(Plan, Mark), Status> {
+) -> Result<(NodeSetup, TreeMark), Status> {
     let (tree, mark) = read_marked(host, bytes_of(words, line.tree), faults)?;
     let tree = shared(host.alloc(), tree, faults)?;
     let Some(station) = tree.station_named(line.station.as_bytes()) else {
@@ -78,7 +78,7 @@ fn plan_of<H: Files + AllocGlobal, F: Write>(
     };
     match places_of(host.alloc(), &line) {
         Ok(consoles) => {
-            let plan = Plan {
+            let plan = NodeSetup {
                 tree,
                 station,
                 turns: turns_of(line.turns),
@@ -97,7 +97,7 @@ fn plan_of<H: Files + AllocGlobal, F: Write>(
 fn may_go_on<H: Stores, F: Write>(
     host: &H,
     path: &[u8],
-    mark: &Mark,
+    mark: &TreeMark,
     faults: &mut F,
 ) -> Result<(), Status> {
     match host.kinship(path, mark) {
@@ -119,7 +119,7 @@ fn may_go_on<H: Stores, F: Write>(
 pub(crate) fn opened<H: Stores, F: Write>(
     host: &H,
     path: &[u8],
-    mark: &Mark,
+    mark: &TreeMark,
     faults: &mut F,
 ) -> Result<H::Open, Status> {
     let stable = match host.open(path) {

@@ -7,9 +7,9 @@ use smi_cli::status::{Status, no_memory, read_fault, wrong_line};
 use smi_crew::{addresses, link_fault, opening_fault, stopped, told};
 use smi_disks::Stores;
 use smi_line::{ScreenLine, Words, bytes_of};
-use smi_origin::Mark;
+use smi_origin::TreeMark;
 use smi_page::{page_bytes, page_with_orders};
-use smi_screen::{Ended, Giving, Place, Plan, hosts_of, run};
+use smi_screen::{ConsoleAddress, Ended, Giving, ScreenSetup, hosts_of, run};
 use smi_tree::Tree;
 use std::alloc::{AllocError, Global};
 use std::hash::RandomState;
@@ -54,10 +54,10 @@ fn kept(text: Vec<u8>) -> Result<Bytes, AllocError> {
 }
 
 /// Where a console is.
-fn place_of(alloc: Global, word: &str) -> Result<Place, AllocError> {
+fn place_of(alloc: Global, word: &str) -> Result<ConsoleAddress, AllocError> {
     match address_in(word) {
-        Some(address) => Ok(Place::Address(address)),
-        None => Ok(Place::Path(String::from_str(alloc, word)?)),
+        Some(address) => Ok(ConsoleAddress::Address(address)),
+        None => Ok(ConsoleAddress::Path(String::from_str(alloc, word)?)),
     }
 }
 
@@ -66,7 +66,7 @@ fn place_of(alloc: Global, word: &str) -> Result<Place, AllocError> {
 struct Keyed {
     page: Bytes,
     key: Bytes,
-    console: Place,
+    console: ConsoleAddress,
 }
 
 /// A page that may give orders by a key of these bytes, to the console of this word.
@@ -81,7 +81,7 @@ fn page_with_key(alloc: Global, bytes: [u8; KEY], word: &str) -> Result<Keyed, A
 }
 
 /// The page of a plan may give orders from now on, of operators of this tree.
-fn give(plan: &mut Plan, keyed: Keyed, tree: Tree) {
+fn give(plan: &mut ScreenSetup, keyed: Keyed, tree: Tree) {
     let Keyed { page, key, console } = keyed;
     plan.page = page;
     plan.giving = Some(Giving { console, key, tree });
@@ -102,7 +102,7 @@ fn with_orders<H: Files + RandomSource + AllocGlobal, F: Write>(
     words: &Words,
     line: ScreenLine<'_>,
     word: &str,
-    plan: &mut Plan,
+    plan: &mut ScreenSetup,
     faults: &mut F,
 ) -> Result<(), Status> {
     let bytes = random(host, faults)?;
@@ -122,9 +122,9 @@ fn plan_of(
     tree: &Tree,
     station: u16,
     line: ScreenLine<'_>,
-) -> Result<Plan, AllocError> {
+) -> Result<ScreenSetup, AllocError> {
     let peers = addresses(alloc, tree)?;
-    Ok(Plan {
+    Ok(ScreenSetup {
         station,
         peers,
         http: line.http,
@@ -149,9 +149,9 @@ fn looked<
     host: &H,
     words: &Words,
     tree: &Tree,
-    mark: &Mark,
+    mark: &TreeMark,
     keys: RandomState,
-    plan: &mut Plan,
+    plan: &mut ScreenSetup,
     line: ScreenLine<'_>,
     faults: &mut F,
 ) -> Status {
@@ -184,7 +184,7 @@ fn planned<
     host: &H,
     words: &Words,
     tree: &Tree,
-    mark: &Mark,
+    mark: &TreeMark,
     station: u16,
     line: ScreenLine<'_>,
     faults: &mut F,

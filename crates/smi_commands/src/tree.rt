@@ -3,7 +3,7 @@
 use smi_cli::status::{Status, no_memory, read_fault};
 use smi_disks::open;
 use smi_limits::MOST_BYTES_OF_A_FILE;
-use smi_origin::{Mark, digest};
+use smi_origin::{TreeMark, digest};
 use smi_tree::{Tree, TreeFault};
 use std::alloc::Global;
 use std::io::{self, ErrorKind, Read, Write};
@@ -52,7 +52,7 @@ pub fn read_marked<H: Files + AllocGlobal, F: Write>(
     host: &H,
     path: &[u8],
     faults: &mut F,
-) -> Result<(Tree, Mark), Status> {
+) -> Result<(Tree, TreeMark), Status> {
     let bytes = read_bytes(host, path, faults)?;
     let Ok(digest) = digest(host.alloc(), bytes.as_slice()) else {
         return Err(no_memory(faults));
@@ -60,7 +60,7 @@ pub fn read_marked<H: Files + AllocGlobal, F: Write>(
     match Tree::read(host.alloc(), bytes.as_slice()) {
         Ok(tree) => {
             let number = tree.number();
-            Ok((tree, Mark { number, digest }))
+            Ok((tree, TreeMark { number, digest }))
         }
         Err(fault) => Err(tree_fault(fault, faults)),
     }

@@ -3,10 +3,10 @@
 use crate::bell::Bell;
 use crate::hall::Hall;
 use crate::outlet::Outlet;
-use crate::reading::{Ending, Input};
+use crate::reading::{Input, InputEnd};
 use crossbeam_channel::Receiver;
 use smi_cli::status::{no_memory, read_fault, write_fault};
-use smi_front::{Front, MOST_GIVEN, News};
+use smi_front::{Front, MOST_GIVEN, StationNews};
 use smi_trace::Unwritten;
 use smi_tree::Tree;
 use smi_view::BoardId;
@@ -24,7 +24,7 @@ const NEWS: usize = 512;
 
 /// What the thread has beside its outputs.
 #[derive(Drop)]
-pub(crate) struct Post<J: BoardId> {
+pub(crate) struct Attendant<J: BoardId> {
     pub(crate) front: Box<Front<J>>,
     pub(crate) hall: Box<Hall>,
     pub(crate) bell: Bell,
@@ -32,12 +32,12 @@ pub(crate) struct Post<J: BoardId> {
     pub(crate) outlet: Outlet,
     /// What is typed at the standard input, and what the station tells.
     pub(crate) lines: Receiver<Input>,
-    pub(crate) news: Receiver<News>,
+    pub(crate) news: Receiver<StationNews>,
     /// Whether the standard input is heard no more.
     pub(crate) is_plain_over: bool,
 }
 
-impl<J: BoardId> Post<J> {
+impl<J: BoardId> Attendant<J> {
     /// What the station has told is noted. Whether there may be more.
     fn note_news<R: Wait>(&mut self, rt: &R) -> bool {
         for _ in 0..NEWS {
@@ -81,7 +81,7 @@ impl<J: BoardId> Post<J> {
     }
 
     /// How the standard input has ended, once all that it gave is answered, and the answers are written.
-    fn ended(&self) -> Option<Ending> {
+    fn ended(&self) -> Option<InputEnd> {
         let plain = &self.hall.plain;
         let is_told = plain.said().is_empty() && self.outlet.is_written();
         if is_told && plain.is_idle() && !self.front.owes(plain.number()) {
@@ -93,16 +93,16 @@ impl<J: BoardId> Post<J> {
 }
 
 /// Tells how the standard input ended, where that is a fault.
-fn tell_ending<F: Write>(ending: Result<Ending, Unwritten>, faults: &mut F) {
+fn tell_ending<F: Write>(ending: Result<InputEnd, Unwritten>, faults: &mut F) {
     match ending {
-        Ok(Ending::End) => {}
-        Ok(Ending::ReadFault) => {
+        Ok(InputEnd::End) => {}
+        Ok(InputEnd::ReadFault) => {
             read_fault(faults);
         }
         Err(Unwritten::Writer) => {
             write_fault(faults);
         }
-        Ok(Ending::Memory) | Err(Unwritten::Memory) => {
+        Ok(InputEnd::Memory) | Err(Unwritten::Memory) => {
             no_memory(faults);
         }
     }
@@ -111,7 +111,7 @@ fn tell_ending<F: Write>(ending: Result<Ending, Unwritten>, faults: &mut F) {
 /// Hands on what the caller at the standard input is to be told, and tells its faults.
 fn print<J: BoardId, R: Wait, F: Write>(
     rt: &R,
-    post: &mut Post<J>,
+    post: &mut Attendant<J>,
     faults: &mut F,
 ) -> Result<(), Unwritten> {
     let plain = &mut post.hall.plain;
@@ -127,7 +127,7 @@ fn serve_plain<J: BoardId, R: Wait, F: Write>(
     rt: &R,
     tree: &Tree,
     now: Option<Instant>,
-    post: &mut Post<J>,
+    post: &mut Attendant<J>,
     faults: &mut F,
 ) -> Result<bool, Unwritten> {
     if post.hall.is_plain_lost() {
@@ -153,7 +153,7 @@ fn attend_plain<J: BoardId, R: Wait, F: Write>(
     rt: &R,
     tree: &Tree,
     now: Option<Instant>,
-    post: &mut Post<J>,
+    post: &mut Attendant<J>,
     faults: &mut F,
 ) -> bool {
     if post.is_plain_over {
@@ -175,7 +175,7 @@ fn attend_plain<J: BoardId, R: Wait, F: Write>(
 fn round<J: BoardId, R: Wait + Clock, F: Write>(
     rt: &R,
     tree: &Tree,
-    post: &mut Post<J>,
+    post: &mut Attendant<J>,
     faults: &mut F,
 ) -> bool {
     let now = Instant::now(rt).ok();
@@ -195,7 +195,7 @@ fn round<J: BoardId, R: Wait + Clock, F: Write>(
 pub(crate) fn attend<J: BoardId, R: Wait + Clock, F: Write>(
     rt: &R,
     tree: &Tree,
-    post: &mut Post<J>,
+    post: &mut Attendant<J>,
     faults: &mut F,
 ) {
     for _ in rt.forever() {

@@ -2,7 +2,7 @@
 
 use crate::chime::Chime;
 use crossbeam_channel::Sender;
-use smi_front::{Act, News};
+use smi_front::{Act, StationNews};
 use std::alloc::Global;
 use std::collections::VecDeque;
 use std::sync::{Arc, Wait};
@@ -16,8 +16,8 @@ const MOST_WAITING: usize = 4_096;
 pub(crate) struct Dispatch<H: Drop> {
     rt: H,
     chime: Arc<Chime, Global>,
-    way: Sender<News>,
-    waiting: VecDeque<News>,
+    way: Sender<StationNews>,
+    waiting: VecDeque<StationNews>,
     /// How many actions there was no room for.
     missed: u32,
 }
@@ -28,7 +28,7 @@ impl<H: Wait + Drop> Dispatch<H> {
         alloc: Global,
         rt: H,
         chime: Arc<Chime, Global>,
-        way: Sender<News>,
+        way: Sender<StationNews>,
     ) -> Dispatch<H> {
         Dispatch {
             rt,
@@ -59,7 +59,7 @@ impl<H: Wait + Drop> Dispatch<H> {
     }
 
     /// Tells news. Whether there was room.
-    pub(crate) fn tell(&mut self, news: News) -> bool {
+    pub(crate) fn tell(&mut self, news: StationNews) -> bool {
         if self.waiting.len() >= MOST_WAITING || self.waiting.push_back(news).is_err() {
             return false;
         }
@@ -70,14 +70,14 @@ impl<H: Wait + Drop> Dispatch<H> {
     /// Hands on what waits, and how many actions there was no room for.
     pub(crate) fn go_on(&mut self) {
         self.hand_on();
-        if self.missed > 0 && self.tell(News::Missed(self.missed)) {
+        if self.missed > 0 && self.tell(StationNews::Missed(self.missed)) {
             self.missed = 0;
         }
     }
 
     /// Tells of an action, or counts it.
     pub(crate) fn tell_act(&mut self, act: Act) {
-        if self.missed > 0 || !self.tell(News::Acted(act)) {
+        if self.missed > 0 || !self.tell(StationNews::Acted(act)) {
             self.missed = self.missed.saturating_add(1);
         }
     }

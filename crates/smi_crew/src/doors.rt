@@ -9,7 +9,7 @@ use std::os::unix::fs::FileTypeExt;
 
 /// Where a node listens for consoles.
 #[derive(Drop)]
-pub enum Place {
+pub enum ListenAddress {
     /// A Unix socket at this path. Who may connect is said by the rights of its file.
     Path(String),
     /// TCP at this address of the machine.
@@ -53,10 +53,10 @@ fn unix_door<R: Files + Net>(rt: &R, path: &str) -> io::Result<UnixListener> {
 
 impl Door {
     /// A door at this place.
-    pub(crate) fn open<R: Files + Net>(rt: &R, place: &Place) -> io::Result<Door> {
+    pub(crate) fn open<R: Files + Net>(rt: &R, place: &ListenAddress) -> io::Result<Door> {
         match place {
-            Place::Path(path) => Ok(Door::Unix(unix_door(rt, path.as_str())?)),
-            Place::Address(address) => {
+            ListenAddress::Path(path) => Ok(Door::Unix(unix_door(rt, path.as_str())?)),
+            ListenAddress::Address(address) => {
                 let listener = TcpListener::bind(rt, *address)?;
                 Ok(Door::Tcp(listener))
             }

@@ -10,12 +10,12 @@ use crate::ending::Halt;
 use crate::hall::Hall;
 use crate::herald::Herald;
 use crate::peers::linked;
-use crate::running::Plan;
+use crate::running::NodeSetup;
 use crate::service::Service;
 use crate::starting::{Console, Lobby, begin_console};
 use crossbeam_channel::Sender;
 use smi_counts::{CountedLink, Counter, Counts};
-use smi_front::{Front, News, Office, boxed};
+use smi_front::{Front, Office, StationNews, boxed};
 use smi_limits::MOST_OPERATORS_OF_A_STATION;
 use smi_link::{DatagramLink, UdpLink};
 use smi_operator::{Desk, Seat, open_seats};
@@ -62,7 +62,7 @@ fn seated(alloc: Global, operators: &[u16]) -> Result<Seats, AllocError>
 /// The front desk of a node, over the seats of its operators and behind them nobody's.
 fn front_of<J: BoardId>(
     alloc: Global,
-    plan: &Plan,
+    plan: &NodeSetup,
     operators: &[u16],
     own: Vec<Seat>,
     reports: Seat,
@@ -87,7 +87,7 @@ struct Ends<L: Drop, J: BoardId> {
 /// The seats of a station's operators and one for reports, at the front, their desk, and last the station's link.
 fn posted<'a, J: BoardId, H: Net + Clock + AllocGlobal>(
     rt: &'a H,
-    plan: &Plan,
+    plan: &NodeSetup,
     operators: &[u16],
     glance: Glance<J>,
     counts: &Arc<Counts, Global>,
@@ -108,7 +108,7 @@ fn posted<'a, J: BoardId, H: Net + Clock + AllocGlobal>(
 /// The hall of a node, with its doors, and a chime to it.
 fn hall_of<H: Files + Net + AllocGlobal>(
     rt: &H,
-    plan: &Plan,
+    plan: &NodeSetup,
 ) -> Result<(Box<Hall>, Arc<Chime, Global>), Halt> {
     match Hall::open(rt, rt.alloc(), plan.consoles.as_slice()) {
         Ok((hall, waker)) => match Arc::new(rt.alloc(), Chime::new(waker)) {
@@ -123,7 +123,7 @@ fn hall_of<H: Files + Net + AllocGlobal>(
 /// All that stands at the front of a node, with its doors, and a chime to it.
 fn lobby_of<J: BoardId, H: Files + Net + AllocGlobal>(
     rt: &H,
-    plan: &Plan,
+    plan: &NodeSetup,
     front: Box<Front<J>>,
     bell: Bell,
 ) -> Result<(Lobby<J>, Arc<Chime, Global>), Halt> {
@@ -160,11 +160,11 @@ fn link_with<L: DatagramLink + Drop>(
 /// Who tells the thread at the front of what a station does, by this way, and counts.
 fn herald_of<S: Stable, H: Wait + AllocGlobal + Clone + Drop>(
     rt: &H,
-    plan: &Plan,
+    plan: &NodeSetup,
     station: &Station<'_, S>,
     counts: &Arc<Counts, Global>,
     chime: &Arc<Chime, Global>,
-    news: Sender<News>,
+    news: Sender<StationNews>,
 ) -> Result<Herald<H>, AllocError> {
     let counts = Arc::try_clone(counts)?;
     let chime = Arc::try_clone(chime)?;
@@ -185,7 +185,7 @@ fn manned<
     E: Write + Drop + Send + 'static,
 >(
     rt: &H,
-    plan: &Plan,
+    plan: &NodeSetup,
     station: &Station<'_, S>,
     counts: &Arc<Counts, Global>,
     ends: Ends<L, J>,
@@ -218,7 +218,7 @@ pub(crate) fn fitted<
     E: Write + Drop + Send + 'static,
 >(
     rt: &'a H,
-    plan: &Plan,
+    plan: &NodeSetup,
     station: &Station<'_, S>,
     glance: Glance<J>,
     console: Console<I, O, E>,

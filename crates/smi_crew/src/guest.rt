@@ -22,7 +22,7 @@ const PATIENCE: u64 = 2;
 
 /// A connection, and who types there.
 #[derive(Drop)]
-pub(crate) struct Guest {
+pub(crate) struct ConsoleGuest {
     stream: Stream,
     caller: Caller,
     cutter: Cutter,
@@ -44,12 +44,16 @@ enum Read {
     Nothing,
 }
 
-impl Guest {
+impl ConsoleGuest {
     /// A guest of this number, who has typed nothing.
     ///
     /// Its error is that memory was refused.
-    pub(crate) fn new(alloc: Global, number: u64, stream: Stream) -> Result<Guest, AllocError> {
-        Ok(Guest {
+    pub(crate) fn new(
+        alloc: Global,
+        number: u64,
+        stream: Stream,
+    ) -> Result<ConsoleGuest, AllocError> {
+        Ok(ConsoleGuest {
             stream,
             caller: Caller::new(alloc, number, Manners::Wordy)?,
             cutter: Cutter::new(alloc),

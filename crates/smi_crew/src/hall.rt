@@ -1,11 +1,11 @@
 //! Everybody who talks to a node: the standard input, and connections.
 
-use crate::doors::{Door, Place, Stream};
-use crate::guest::Guest;
-use crate::reading::Ending;
+use crate::doors::{Door, ListenAddress, Stream};
+use crate::guest::ConsoleGuest;
+use crate::reading::InputEnd;
 use mio::event::Event;
 use mio::{Events, Poll, Registry, Token, Waker};
-use smi_front::{Answered, Caller, Front, Manners, boxed};
+use smi_front::{Caller, Front, Manners, SeatAnswer, boxed};
 use smi_tree::Tree;
 use smi_view::BoardId;
 use std::alloc::{AllocError, Global};
@@ -49,9 +49,9 @@ pub(crate) struct Hall {
     alloc: Global,
     /// Who types at the standard input, and how that ended.
     pub(crate) plain: Caller,
-    pub(crate) ending: Option<Ending>,
+    pub(crate) ending: Option<InputEnd>,
     is_plain_lost: bool,
-    guests: Vec<Guest>,
+    guests: Vec<ConsoleGuest>,
     entrances: Vec<Entrance>,
     next: u64,
     poll: Poll,
@@ -61,7 +61,7 @@ pub(crate) struct Hall {
 /// An entrance at this place, known to the poll by this number.
 fn entrance_at<R: Files + Net>(
     rt: &R,
-    place: &Place,
+    place: &ListenAddress,
     registry: &Registry,
     number: usize,
 ) -> io::Result<Entrance> {
@@ -76,7 +76,7 @@ fn entrance_at<R: Files + Net>(
 /// The entrances of a hall at these places are added to others, each known to the poll by its number.
 fn open_entrances<R: Files + Net>(
     rt: &R,
-    places: &[Place],
+    places: &[ListenAddress],
     registry: &Registry,
     entrances: &mut Vec<Entrance>,
 ) -> io::Result<()> {
@@ -87,7 +87,7 @@ fn open_entrances<R: Files + Net>(
 }
 
 /// Somebody may wait at the entrance of this number, or a guest may be heard or told.
-fn hear_of(entrances: &mut [Entrance], guests: &mut [Guest], event: &Event) {
+fn hear_of(entrances: &mut [Entrance], guests: &mut [ConsoleGuest], event: &Event) {
     let Token(number) = event.token();
     if let Some(place) = number.checked_sub(FIRST_DOOR) {
         if let Some(entrance) = entrances.get_mut(place) {
@@ -124,7 +124,7 @@ impl Hall {
     pub(crate) fn open<R: Files + Net>(
         rt: &R,
         alloc: Global,
-        places: &[Place],
+        places: &[ListenAddress],
     ) -> io::Result<(Box<Hall>, Waker)> {
         let poll = Poll::new(rt)?;
         let waker = Waker::new(poll.registry(), Token(WAKER))?;
@@ -143,7 +143,7 @@ impl Hall {
         &mut self,
         front: &mut Front<J>,
         tree: &Tree,
-        answered: &Answered,
+        answered: &SeatAnswer,
     ) {
         match front.tell(tree, &mut self.plain, answered) {
             Ok(true) => return,
@@ -191,7 +191,7 @@ impl Hall {
         self.next = number.saturating_add(1);
         if let Ok(token) = usize::try_from(number) {
             if stream.register(self.poll.registry(), token).is_ok() {
-                let guest = Guest::new(self.alloc, number, stream)?;
+                let guest = ConsoleGuest::new(self.alloc, number, stream)?;
                 self.guests.push(guest)?;
             }
         }

@@ -2,7 +2,7 @@
 
 use crate::dispatch::Dispatch;
 use smi_counts::Counter;
-use smi_front::{Act, News, done_by};
+use smi_front::{Act, StationNews, done_by};
 use smi_grant::Shown;
 use smi_node::Witness;
 use smi_out::Out;
@@ -55,7 +55,7 @@ impl<H: Wait + Drop> Herald<H> {
 
     /// A state is told, or owed where there is no room for it, or where others are owed.
     fn tell(&mut self, shown: Shown) {
-        if self.owes || !self.dispatch.tell(News::Showed(shown)) {
+        if self.owes || !self.dispatch.tell(StationNews::Showed(shown)) {
             self.owe(shown);
         }
     }
@@ -79,7 +79,7 @@ impl<H: Wait + Drop> Herald<H> {
         self.owes = false;
         for owed in self.owed.iter_mut() {
             if let Some(shown) = *owed {
-                if self.dispatch.tell(News::Showed(shown)) {
+                if self.dispatch.tell(StationNews::Showed(shown)) {
                     *owed = None;
                 } else {
                     self.owes = true;

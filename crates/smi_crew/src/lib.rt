@@ -36,9 +36,9 @@ mod running;
 mod service;
 mod starting;
 
-pub use doors::Place;
+pub use doors::ListenAddress;
 pub use opening::{link_fault, opening_fault, stopped, told};
 pub use peers::addresses;
-pub use running::{Plan, run};
+pub use running::{NodeSetup, run};
 pub use service::Turns;
 pub use starting::Console;

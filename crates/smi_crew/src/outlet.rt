@@ -20,17 +20,17 @@ const MOST: u64 = 1 << 48;
 
 /// What the thread that writes and the one at the front know of each other.
 #[derive(Drop)]
-pub(crate) struct Progress {
+pub(crate) struct WriterStatus {
     /// How many blocks were handed on and are not written.
     unwritten: AtomicUsize,
     /// Whether a write has failed.
     has_failed: AtomicBool,
 }
 
-impl Progress {
+impl WriterStatus {
     /// Nothing was handed on.
-    pub(crate) fn new() -> Progress {
-        Progress {
+    pub(crate) fn new() -> WriterStatus {
+        WriterStatus {
             unwritten: AtomicUsize::new(0),
             has_failed: AtomicBool::new(false),
         }
@@ -42,7 +42,7 @@ impl Progress {
 pub(crate) struct Outlet {
     alloc: Global,
     blocks: Sender<Vec<u8>>,
-    progress: Arc<Progress, Global>,
+    progress: Arc<WriterStatus, Global>,
 }
 
 impl Outlet {
@@ -50,7 +50,7 @@ impl Outlet {
     pub(crate) fn new(
         alloc: Global,
         blocks: Sender<Vec<u8>>,
-        progress: Arc<Progress, Global>,
+        progress: Arc<WriterStatus, Global>,
     ) -> Outlet {
         Outlet {
             alloc,
@@ -111,7 +111,7 @@ fn write_block<W: Write>(writer: &mut W, block: &[u8]) -> bool {
 pub(crate) fn write_all<W: Write, R: Wait>(
     rt: &R,
     blocks: &Receiver<Vec<u8>>,
-    progress: &Progress,
+    progress: &WriterStatus,
     chime: &Chime,
     writer: &mut W,
 ) {

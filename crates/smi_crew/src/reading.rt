@@ -15,7 +15,7 @@ const AT_ONCE: usize = 512;
 
 /// How the input ended.
 #[derive(Clone, Copy)]
-pub(crate) enum Ending {
+pub(crate) enum InputEnd {
     End,
     ReadFault,
     Memory,
@@ -25,7 +25,7 @@ pub(crate) enum Ending {
 #[derive(Drop)]
 pub(crate) enum Input {
     Line(Vec<u8>),
-    Ended(Ending),
+    Ended(InputEnd),
 }
 
 /// What one read gives.
@@ -60,20 +60,20 @@ fn next_line<I: Read>(reader: &mut I, cutter: &mut Cutter) -> Result<Input, Allo
             Come::End => {
                 return Ok(match cutter.rest()? {
                     Some(line) => Input::Line(line),
-                    None => Input::Ended(Ending::End),
+                    None => Input::Ended(InputEnd::End),
                 });
             }
             Come::Fault => break,
         }
     }
-    Ok(Input::Ended(Ending::ReadFault))
+    Ok(Input::Ended(InputEnd::ReadFault))
 }
 
 /// What the input gives next.
 fn next_input<I: Read>(reader: &mut I, cutter: &mut Cutter) -> Input {
     match next_line(reader, cutter) {
         Ok(input) => input,
-        Err(_) => Input::Ended(Ending::Memory),
+        Err(_) => Input::Ended(InputEnd::Memory),
     }
 }
 
@@ -100,5 +100,5 @@ pub(crate) fn read_all<I: Read, R: Wait>(
             return;
         }
     }
-    hand_on(rt, Input::Ended(Ending::ReadFault), lines, chime);
+    hand_on(rt, Input::Ended(InputEnd::ReadFault), lines, chime);
 }

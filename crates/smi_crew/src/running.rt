@@ -5,7 +5,7 @@ ghost use Rattle.std.specs.Arc.{arc_value};
 ghost use Rattle.smi_crew.specs.Running.{Begins, Runs};
 ghost use Rattle.smi_crew.specs.Serving.{IsCrewed, serving};
 
-use crate::doors::Place;
+use crate::doors::ListenAddress;
 use crate::ending::{Halt, told_end};
 use crate::fitting::fitted;
 use crate::opening::opening_fault;
@@ -28,14 +28,14 @@ use std::time::Clock;
 
 /// What a node is run with, beside its store and its console.
 #[derive(Drop)]
-pub struct Plan {
+pub struct NodeSetup {
     pub tree: Arc<Tree, Global>,
     /// The number of its station, from 1.
     pub station: u16,
     /// How long it serves.
     pub turns: Turns,
     /// Where it listens for consoles, beside the standard input.
-    pub consoles: Vec<Place>,
+    pub consoles: Vec<ListenAddress>,
 }
 
 /// Serves a station that is open, with a board that is.
@@ -48,7 +48,7 @@ fn crewed<
     E: Write + Drop + Send + 'static,
 >(
     rt: &H,
-    plan: &Plan,
+    plan: &NodeSetup,
     station: &mut Station<'_, S>,
     board: &mut Board<J>,
     glance: Glance<J>,
@@ -83,7 +83,7 @@ fn over_board<
 >(
     rt: &H,
     blank: Blank,
-    plan: &Plan,
+    plan: &NodeSetup,
     station: &mut Station<'_, S>,
     console: Console<I, O, E>,
 ) -> Result<Result<(), ServeFault>, Halt>
@@ -108,7 +108,7 @@ fn opened<
     O: Write + Drop + Send + 'static,
     E: Write + Drop + Send + 'static,
     F: Write,
->(rt: &H, plan: &Plan, store: S, console: Console<I, O, E>, faults: &mut F) -> (Status, S)
+>(rt: &H, plan: &NodeSetup, store: S, console: Console<I, O, E>, faults: &mut F) -> (Status, S)
     ensures { Begins S.is_honest S.is_open S.rows S.may_find S.saves S.failures S.doubts (arc_value plan.now.tree)
         plan.now.station plan.now.turns store result }
 {
@@ -146,7 +146,7 @@ pub fn run<
     O: Write + Drop + Send + 'static,
     E: Write + Drop + Send + 'static,
     F: Write,
->(rt: &H, plan: &Plan, store: S, console: Console<I, O, E>, faults: &mut F) -> (Status, S)
+>(rt: &H, plan: &NodeSetup, store: S, console: Console<I, O, E>, faults: &mut F) -> (Status, S)
     ensures { Runs S.is_honest S.is_open S.rows S.may_find S.saves S.failures S.doubts (arc_value plan.now.tree)
         plan.now.station plan.now.turns store result }
 {

@@ -56,7 +56,7 @@ fn served<S: Stable, L: DatagramLink, J: BoardId, V: Witness, R: Wait>(
 
 /// What a station is served with.
 #[derive(Drop)]
-struct Parts<L: Drop, V: Drop> {
+struct ServiceParts<L: Drop, V: Drop> {
     link: L,
     desk: Box<Desk>,
     witness: V,
@@ -66,7 +66,7 @@ struct Parts<L: Drop, V: Drop> {
 #[derive(Drop)]
 pub(crate) struct Service<L: Drop, V: Drop> {
     // Behind a box, so that a place that drops a service is not dear to prove.
-    parts: Box<Parts<L, V>>,
+    parts: Box<ServiceParts<L, V>>,
 }
 
 impl<L: DatagramLink + Drop, V: Witness + Drop> Service<L, V> {
@@ -77,7 +77,7 @@ impl<L: DatagramLink + Drop, V: Witness + Drop> Service<L, V> {
         desk: Box<Desk>,
         witness: V,
     ) -> Result<Service<L, V>, AllocError> {
-        let parts = Parts {
+        let parts = ServiceParts {
             link,
             desk,
             witness,
@@ -97,7 +97,7 @@ impl<L: DatagramLink + Drop, V: Witness + Drop> Service<L, V> {
         ensures { IsServed (serving S.is_honest S.is_open S.rows S.may_find S.saves S.failures S.doubts) turns
             station.old station.new result }
     {
-        let Parts {
+        let ServiceParts {
             link,
             desk,
             witness,

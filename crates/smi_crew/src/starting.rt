@@ -1,14 +1,14 @@
 //! The threads of a node's consoles begin.
 
-use crate::attending::{Post, attend};
+use crate::attending::{Attendant, attend};
 use crate::bell::Bell;
 use crate::chime::Chime;
 use crate::hall::Hall;
-use crate::outlet::{HANDED, Outlet, Progress, write_all};
+use crate::outlet::{HANDED, Outlet, WriterStatus, write_all};
 use crate::reading::{Input, read_all};
-use crate::running::Plan;
+use crate::running::NodeSetup;
 use crossbeam_channel::{Receiver, Sender, bounded};
-use smi_front::{Front, News};
+use smi_front::{Front, StationNews};
 use smi_tree::Tree;
 use smi_view::BoardId;
 use std::alloc::{AllocError, Global};
@@ -56,7 +56,7 @@ fn begin_writing<
 >(rt: &H, output: O, chime: &Arc<Chime, Global>) -> Result<Outlet, AllocError> {
     let chime = Arc::try_clone(chime)?;
     let (sender, blocks) = bounded(rt.alloc(), HANDED)?;
-    let progress = match Arc::new(rt.alloc(), Progress::new()) {
+    let progress = match Arc::new(rt.alloc(), WriterStatus::new()) {
         Ok(progress) => progress,
         Err(_refused) => return Err(AllocError),
     };
@@ -77,7 +77,7 @@ fn begin_attending<
     J: BoardId + Send + Sync + 'static,
     H: Wait + Threads + Clock + AllocGlobal + Clone + Drop + Send + 'static,
     E: Write + Drop + Send + 'static,
->(rt: &H, tree: Arc<Tree, Global>, post: Post<J>, faults: E) -> Result<(), AllocError> {
+>(rt: &H, tree: Arc<Tree, Global>, post: Attendant<J>, faults: E) -> Result<(), AllocError> {
     let there = rt.clone()?;
     let begun = spawn(rt, move || {
         let (mut post, mut faults) = (post, faults);
@@ -103,8 +103,8 @@ pub(crate) struct Lobby<J: BoardId> {
 struct Ways {
     line_sender: Sender<Input>,
     lines: Receiver<Input>,
-    news_sender: Sender<News>,
-    news: Receiver<News>,
+    news_sender: Sender<StationNews>,
+    news: Receiver<StationNews>,
 }
 
 fn open_ways(alloc: Global) -> Result<Ways, AllocError> {
@@ -123,15 +123,15 @@ fn post_of<J: BoardId>(
     lobby: Lobby<J>,
     outlet: Outlet,
     lines: Receiver<Input>,
-    news: Receiver<News>,
-) -> (Post<J>, Arc<Chime, Global>) {
+    news: Receiver<StationNews>,
+) -> (Attendant<J>, Arc<Chime, Global>) {
     let Lobby {
         front,
         hall,
         bell,
         chime,
     } = lobby;
-    let post = Post {
+    let post = Attendant {
         front,
         hall,
         bell,
@@ -152,10 +152,10 @@ pub(crate) fn begin_console<
     E: Write + Drop + Send + 'static,
 >(
     rt: &H,
-    plan: &Plan,
+    plan: &NodeSetup,
     lobby: Lobby<J>,
     console: Console<I, O, E>,
-) -> Result<Sender<News>, AllocError> {
+) -> Result<Sender<StationNews>, AllocError> {
     let tree = Arc::try_clone(&plan.tree)?;
     let Console {
         input,

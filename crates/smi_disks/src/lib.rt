@@ -16,4 +16,4 @@ pub use file::{beside, bytes_of, open, resolved};
 pub use listing::list;
 pub use mark::kinship;
 pub use store::Stores;
-pub use watched::{Place, Presence, Watched};
+pub use watched::{Presence, StoreFile, Watched};

@@ -133,18 +133,18 @@ fn found_out(listed: Listed, may_be_used: bool) -> Listed {
 }
 
 /// A store that is given up, and tells whether its disk may still be used.
-trait Ending: Alter + Drop {
+trait EndsWell: Alter + Drop {
     fn ends_well(self) -> bool;
 }
 
-impl Ending for FileStore<Memory> {
+impl EndsWell for FileStore<Memory> {
     fn ends_well(self) -> bool {
         self.close().may_be_used()
     }
 }
 
 // Over any store, since each function that names the store of SQLite is dear to prove.
-fn list_over<S: Ending, W: Write>(connection: Connection<S>, writer: &mut W) -> Listed {
+fn list_over<S: EndsWell, W: Write>(connection: Connection<S>, writer: &mut W) -> Listed {
     match SqliteStable::adopt(connection) {
         Ok(stable) => {
             let mut stable = stable;

@@ -1,7 +1,7 @@
 //! The mark of the tree that a store was made for, in a file beside it.
 
 use crate::file::{beside, bytes_of};
-use smi_origin::{Kinship, Mark, compare};
+use smi_origin::{Kinship, TreeMark, compare};
 use std::fs::{self, OpenFile};
 use std::io::{self, ErrorKind, Write};
 use std::rt::Files;
@@ -25,7 +25,7 @@ fn text(path: &[u8]) -> io::Result<&str> {
 }
 
 /// Puts a mark beside a store: whole, or not at all.
-fn put_mark<H: Files + AllocGlobal>(host: &H, path: &[u8], mark: &Mark) -> io::Result<()> {
+fn put_mark<H: Files + AllocGlobal>(host: &H, path: &[u8], mark: &TreeMark) -> io::Result<()> {
     let unfinished = beside(host.alloc(), path, UNFINISHED)?;
     let finished = beside(host.alloc(), path, MARK)?;
     let (unfinished, finished) = (text(unfinished.as_slice())?, text(finished.as_slice())?);
@@ -39,9 +39,13 @@ fn put_mark<H: Files + AllocGlobal>(host: &H, path: &[u8], mark: &Mark) -> io::R
 /// tree. What stands there and is no mark is that of another tree.
 ///
 /// Its error is that the mark could not be read, or not be written.
-pub fn kinship<H: Files + AllocGlobal>(host: &H, path: &[u8], own: &Mark) -> io::Result<Kinship> {
+pub fn kinship<H: Files + AllocGlobal>(
+    host: &H,
+    path: &[u8],
+    own: &TreeMark,
+) -> io::Result<Kinship> {
     match mark_beside(host, path)? {
-        Some(bytes) => match Mark::of(bytes.as_slice()) {
+        Some(bytes) => match TreeMark::of(bytes.as_slice()) {
             Some(mark) => Ok(compare(own, &mark)),
             None => Ok(Kinship::Other),
         },

@@ -2,9 +2,9 @@
 
 use crate::listing::list;
 use crate::mark::kinship;
-use crate::watched::{Place, Watched};
+use crate::watched::{StoreFile, Watched};
 use smi_cli::rows::Listed;
-use smi_origin::{Kinship, Mark};
+use smi_origin::{Kinship, TreeMark};
 use smi_stable::{SqliteStable, Stable, StoreFault};
 use sqlite::{Alter, Connection, Error, ErrorCode, File, FileStore};
 use std::io::{self, ErrorKind, Write};
@@ -23,14 +23,14 @@ pub trait Stores {
 
     /// How a tree compares with the one that the store of a path was made for. A store that has no mark gets that of
     /// this tree, so this is asked while the store is open.
-    fn kinship(&self, path: &[u8], own: &Mark) -> io::Result<Kinship>;
+    fn kinship(&self, path: &[u8], own: &TreeMark) -> io::Result<Kinship>;
 
     /// Closes a store: its log is copied into its file, as far as that can be done.
     fn close(&self, stable: Self::Open);
 }
 
 impl Stores for HostRuntime {
-    type Open = Watched<SqliteStable<FileStore<File>>, Place<HostRuntime>>;
+    type Open = Watched<SqliteStable<FileStore<File>>, StoreFile<HostRuntime>>;
 
     fn list<W: Write>(&self, path: &[u8], writer: &mut W) -> Listed {
         list(self, path, writer)
@@ -39,25 +39,25 @@ impl Stores for HostRuntime {
     fn open(
         &self,
         path: &[u8],
-    ) -> Result<Watched<SqliteStable<FileStore<File>>, Place<HostRuntime>>, StoreFault> {
+    ) -> Result<Watched<SqliteStable<FileStore<File>>, StoreFile<HostRuntime>>, StoreFault> {
         match str::from_utf8(path) {
             Ok(path) => watched(smi_file::open(self, path), self, path),
             Err(_) => Err(StoreFault::Device),
         }
     }
 
-    fn kinship(&self, path: &[u8], own: &Mark) -> io::Result<Kinship> {
+    fn kinship(&self, path: &[u8], own: &TreeMark) -> io::Result<Kinship> {
         kinship(self, path, own)
     }
 
-    fn close(&self, stable: Watched<SqliteStable<FileStore<File>>, Place<HostRuntime>>) {
+    fn close(&self, stable: Watched<SqliteStable<FileStore<File>>, StoreFile<HostRuntime>>) {
         closed(stable.into_inner());
     }
 }
 
 /// The file that stands at the path of a store that is open.
-fn placed(host: &HostRuntime, path: &str) -> io::Result<Place<HostRuntime>> {
-    Place::of(host.clone()?, String::from_str(host.alloc(), path)?)
+fn placed(host: &HostRuntime, path: &str) -> io::Result<StoreFile<HostRuntime>> {
+    StoreFile::of(host.clone()?, String::from_str(host.alloc(), path)?)
 }
 
 /// A store with the file that it is in, or what it means that there is none, or that the file could not be looked at.
@@ -65,9 +65,9 @@ fn watched<S: Alter>(
     opened: Result<Connection<S>, Error>,
     host: &HostRuntime,
     path: &str,
-) -> Result<Watched<SqliteStable<S>, Place<HostRuntime>>, StoreFault>
+) -> Result<Watched<SqliteStable<S>, StoreFile<HostRuntime>>, StoreFault>
 where
-    Connection<S>: Ending,
+    Connection<S>: GivesUp,
 {
     match opened {
         Ok(connection) => beside_its_place(adopted(connection)?, placed(host, path)),
@@ -82,7 +82,7 @@ fn beside_its_place<S: Alter, P>(
     place: io::Result<P>,
 ) -> Result<Watched<SqliteStable<S>, P>, StoreFault>
 where
-    Connection<S>: Ending,
+    Connection<S>: GivesUp,
 {
     match place {
         Ok(place) => Ok(Watched::new(stable, place)),
@@ -98,11 +98,11 @@ where
 }
 
 /// A connection that is given up: it is closed, as far as that can be done.
-trait Ending {
+trait GivesUp {
     fn end(self);
 }
 
-impl Ending for Connection<FileStore<File>> {
+impl GivesUp for Connection<FileStore<File>> {
     fn end(self) {
         let _ = self.close();
     }
@@ -111,7 +111,7 @@ impl Ending for Connection<FileStore<File>> {
 // All three over any store, since each function that names the store of SQLite is dear to prove.
 fn adopted<S: Alter>(connection: Connection<S>) -> Result<SqliteStable<S>, StoreFault>
 where
-    Connection<S>: Ending,
+    Connection<S>: GivesUp,
 {
     match SqliteStable::adopt(connection) {
         Ok(stable) => Ok(stable),
@@ -124,7 +124,7 @@ where
 
 fn closed<S: Alter>(stable: SqliteStable<S>)
 where
-    Connection<S>: Ending,
+    Connection<S>: GivesUp,
 {
     stable.release().end();
 }

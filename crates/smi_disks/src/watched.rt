@@ -16,21 +16,21 @@ pub trait Presence {
 
 /// The file by the path of a store: the one that stood there when the store was opened.
 #[derive(Drop)]
-pub struct Place<H> {
+pub struct StoreFile<H> {
     host: H,
     path: String,
     file: u64,
 }
 
-impl<H: Files + Drop> Place<H> {
+impl<H: Files + Drop> StoreFile<H> {
     /// The file that stands at a path now.
-    pub fn of(host: H, path: String) -> io::Result<Place<H>> {
+    pub fn of(host: H, path: String) -> io::Result<StoreFile<H>> {
         let file = fs::metadata(&host, path.as_str())?.ino();
-        Ok(Place { host, path, file })
+        Ok(StoreFile { host, path, file })
     }
 }
 
-impl<H: Files + Drop> Presence for Place<H> {
+impl<H: Files + Drop> Presence for StoreFile<H> {
     /// Not where no file or another one stands there. Where the system does not tell, it counts as there.
     fn is_there(&self) -> bool {
         match fs::metadata(&self.host, self.path.as_str()) {

@@ -17,8 +17,8 @@ use Rattle.smi_front.specs.declared.asked.Asked.{Asked}
 use Rattle.smi_front.specs.declared.asked.Asked.TheVariants.{Seat, Board, Node, Nothing}
 use Rattle.smi_front.specs.declared.caller.Manners.{Manners}
 use Rattle.smi_front.specs.declared.caller.Manners.TheVariants.{Terse, Wordy}
-use Rattle.smi_front.specs.declared.said.Request.{Request}
-use Rattle.smi_front.specs.declared.said.Request.TheVariants as request
+use Rattle.smi_front.specs.declared.said.LineRequest.{LineRequest}
+use Rattle.smi_front.specs.declared.said.LineRequest.TheVariants as request
 use Rattle.smi_front.specs.declared.whole.Whole.{Whole}
 use Rattle.smi_front.specs.declared.whole.Whole.TheVariants.{Counts, UnderWay, States, Follow, Actions, Help}
 
@@ -65,7 +65,7 @@ node_asked h States line = Ok (Node States)
 node_asked h Help line = Ok (Node Help)
 
 -- a report is nobody's; nothing is asked by a line that is skipped, which one with a tag can't be
-abbrev pub request_asked : Bool → Option Request → Result Asked Fault
+abbrev pub request_asked : Bool → Option LineRequest → Result Asked Fault
 request_asked has_tag (Some (request.Order operator what)) = Ok (Seat (Some operator) what)
 request_asked has_tag (Some (request.Report device state)) = Ok (Seat None (order.Report device state))
 request_asked has_tag (Some (request.Show object)) = Ok (Board object)

@@ -7,8 +7,8 @@ use Rattle.smi_trace.specs.Text.{line_of}
 use Rattle.smi_trace.specs.Words.{action_word, object_word, state_word, version_word}
 use Rattle.smi_front.specs.Caller.{Called, saying, wished}
 use Rattle.smi_front.specs.declared.news.Act.{Act}
-use Rattle.smi_front.specs.declared.news.News.{News}
-use Rattle.smi_front.specs.declared.news.News.TheVariants.{Showed, Acted, Missed}
+use Rattle.smi_front.specs.declared.news.StationNews.{StationNews}
+use Rattle.smi_front.specs.declared.news.StationNews.TheVariants.{Showed, Acted, Missed}
 use Rattle.smi_front.specs.declared.tag.Tag.{Tag}
 
 -- the device, the action, and the version and the state of the device then
@@ -20,14 +20,14 @@ acted_text h act = line_of (codes "acted") (object_word h act.shown.object ∷ a
 abbrev pub missed_text : ℕ → List ℕ
 missed_text count = line_of (codes "missed") (decimal count ∷ [])
 
-abbrev pub news_text : Hierarchy → News → List ℕ
+abbrev pub news_text : Hierarchy → StationNews → List ℕ
 news_text h (Showed shown) = board_text h shown.object (Some shown)
 news_text h (Acted act) = acted_text h act
 news_text h (Missed count) = missed_text count
 
 -- the tag behind which a caller is told of news, where it wants to be: a state by what it follows, an action by the
 -- devices whose actions it asked for, and what is missed where it asked for any
-abbrev pub news_tag : Called → News → Option (Option Tag)
+abbrev pub news_tag : Called → StationNews → Option (Option Tag)
 news_tag c (Showed shown) = wished c.follow shown.object
 news_tag c (Acted act) = wished c.actions act.shown.object
 news_tag c (Missed count) = option_map (λ wish. wish.tag) c.actions
@@ -37,10 +37,10 @@ heard_behind None text c = c
 heard_behind (Some tag) text c = saying tag text c
 
 -- a caller is told of news as it wants to be
-abbrev pub heard_of : Hierarchy → News → Called → Called
+abbrev pub heard_of : Hierarchy → StationNews → Called → Called
 heard_of h news c = heard_behind (news_tag c news) (news_text h news) c
 
 -- and of all news, one after the other
-abbrev pub heard_all : Hierarchy → List News → Called → Called
+abbrev pub heard_all : Hierarchy → List StationNews → Called → Called
 heard_all h [] c = c
 heard_all h (news ∷ more) c = heard_all h more (heard_of h news c)

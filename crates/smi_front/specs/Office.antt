@@ -7,7 +7,7 @@ use Rattle.smi_front.specs.Caller.{Called}
 use Rattle.smi_front.specs.Wicket.{GaveAt, SameAt, Wicketed}
 use Rattle.smi_front.specs.declared.wicket.Given.{Given}
 use Rattle.smi_front.specs.declared.caller.Held.{Held}
-use Rattle.smi_front.specs.declared.office.Answered.{Answered}
+use Rattle.smi_front.specs.declared.office.SeatAnswer.{SeatAnswer}
 
 -- the operators, their wickets and behind them nobody's, and whether an order was given since that was last asked
 pub record Staffed : Type 0 where
@@ -47,7 +47,7 @@ abbrev pub GivesHeld : Staffed → Called → Staffed → Called → Type 0
 GivesHeld a c b d = GivesSo c.held a c b d
 
 -- an answer is the next of its seat, and of the oldest order there that was not answered
-abbrev pub TakesAnswer : Answered → Wicketed → Wicketed → Type 0
+abbrev pub TakesAnswer : SeatAnswer → Wicketed → Wicketed → Type 0
 TakesAnswer r a b = (a.given ≡ r.given ∷ b.given) × (told_to b.seat ≡ told_to a.seat ++ r.told ∷ [])
     × (submitted b.seat ≡ submitted a.seat) × (b.operator ≡ a.operator) × (r.operator ≡ a.operator)
 

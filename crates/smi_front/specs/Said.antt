@@ -16,10 +16,10 @@ use Rattle.smi_protocol.specs.declared.item.Item.{Item}
 use Rattle.smi_protocol.specs.declared.item.Item.TheVariants as item
 use Rattle.smi_protocol.specs.declared.item.Deed.TheVariants as deed
 use Rattle.smi_schedule.specs.Line.{item_in}
-use Rattle.smi_front.specs.declared.said.Kind.{Kind}
-use Rattle.smi_front.specs.declared.said.Kind.TheVariants as kind
-use Rattle.smi_front.specs.declared.said.Request.{Request}
-use Rattle.smi_front.specs.declared.said.Request.TheVariants as request
+use Rattle.smi_front.specs.declared.said.LineKind.{LineKind}
+use Rattle.smi_front.specs.declared.said.LineKind.TheVariants as kind
+use Rattle.smi_front.specs.declared.said.LineRequest.{LineRequest}
+use Rattle.smi_front.specs.declared.said.LineRequest.TheVariants as request
 
 -- the operator is one of these
 abbrev pub is_of : List ℕ → ℕ → Bool
@@ -27,7 +27,7 @@ is_of operators operator = list_any (λ o. o == operator) operators
 
 -- what an item of a schedule asks of a node with these operators: no other operator is known there, and nothing else
 -- than an order or a report is asked so
-abbrev pub asked : List ℕ → Item → Result Request Fault
+abbrev pub asked : List ℕ → Item → Result LineRequest Fault
 asked operators (item.Do (deed.Order operator what)) =
     if is_of operators operator then Ok (request.Order operator what) else Err UnknownName
 asked operators (item.Do (deed.Report device state)) = Ok (request.Report device state)
@@ -38,41 +38,41 @@ asked operators (item.Restart station) = Err UnknownWord
 asked operators (item.Stop station moment what) = Err UnknownWord
 asked operators (item.Fail station plan what) = Err UnknownWord
 
-abbrev pub asked_so : List ℕ → Option Item → Result (Option Request) Fault
+abbrev pub asked_so : List ℕ → Option Item → Result (Option LineRequest) Fault
 asked_so operators None = Ok None
 asked_so operators (Some what) = do
   it ← asked operators what
   Ok (Some it)
 
 -- an order or a report is spelled as in a schedule
-unfoldable pub request_as_item : Hierarchy → List ℕ → List ℕ → Result (Option Request) Fault
+unfoldable pub request_as_item : Hierarchy → List ℕ → List ℕ → Result (Option LineRequest) Fault
 request_as_item h operators line = do
   what ← item_in h line
   asked_so operators what
 
 -- after `show` stands an object
-unfoldable pub shown : Hierarchy → List (List ℕ) → Result Request Fault
+unfoldable pub shown : Hierarchy → List (List ℕ) → Result LineRequest Fault
 shown h more = do
   name ← declaration.one_name more
   object ← ok_or (object_named h name) UnknownName
   Ok (request.Show object)
 
 -- what a line may begin with
-abbrev pub kind_of : List ℕ → Option Kind
+abbrev pub kind_of : List ℕ → Option LineKind
 kind_of word =
     if bytes_eq word (codes "show") then Some kind.Show
     else (if bytes_eq word (codes "order") then Some kind.Order
     else (if bytes_eq word (codes "report") then Some kind.Report
     else None))
 
-unfoldable pub request_of : Hierarchy → List ℕ → Kind → List ℕ → List (List ℕ) → Result (Option Request) Fault
+unfoldable pub request_of : Hierarchy → List ℕ → LineKind → List ℕ → List (List ℕ) → Result (Option LineRequest) Fault
 request_of h operators kind.Show line more = do
   it ← shown h more
   Ok (Some it)
 request_of h operators kind.Order line more = request_as_item h operators line
 request_of h operators kind.Report line more = request_as_item h operators line
 
-abbrev pub request_by : Hierarchy → List ℕ → List ℕ → List (List ℕ) → Result (Option Request) Fault
+abbrev pub request_by : Hierarchy → List ℕ → List ℕ → List (List ℕ) → Result (Option LineRequest) Fault
 request_by h operators line [] = Ok None
 request_by h operators line (word ∷ more) =
     if is_comment word then Ok None
@@ -81,6 +81,6 @@ request_by h operators line (word ∷ more) =
       request_of h operators which line more)
 
 -- a line of over 200 bytes is refused first; one without words, or that begins with #, is skipped
-unfoldable pub request_in : Hierarchy → List ℕ → List ℕ → Result (Option Request) Fault
+unfoldable pub request_in : Hierarchy → List ℕ → List ℕ → Result (Option LineRequest) Fault
 request_in h operators line = if nat_lt MOST_BYTES_OF_A_LINE (length line) then Err LineTooLong
     else request_by h operators line (words line)

@@ -5,7 +5,7 @@ ghost use Rattle.smi_tree.specs.Text.{words};
 ghost use Rattle.smi_front.specs.Asked as spec;
 
 use crate::caller::Manners;
-use crate::said::{Request, request_in};
+use crate::said::{LineRequest, request_in};
 use crate::whole::{Whole, whole_in};
 use smi_limits::MOST_BYTES_OF_A_LINE;
 use smi_protocol::Order;
@@ -103,13 +103,16 @@ fn node_asked(tree: &Tree, whole: Whole, text: &[u8]) -> Result<Asked, Fault>
 }
 
 /// What a line asks that is none of the whole node. A tag alone asks nothing, which is a fault.
-fn request_asked(has_tag: bool, request: Option<Request>) -> Result<Asked, Fault>
+fn request_asked(has_tag: bool, request: Option<LineRequest>) -> Result<Asked, Fault>
     ensures { result ≡ spec.request_asked has_tag request }
 {
     match request {
-        Some(Request::Order(operator, order)) => Ok(Asked::Seat(Some(operator), order)),
-        Some(Request::Report(device, state)) => Ok(Asked::Seat(None, Order::Report(device, state))),
-        Some(Request::Show(object)) => Ok(Asked::Board(object)),
+        Some(LineRequest::Order(operator, order)) => Ok(Asked::Seat(Some(operator), order)),
+        Some(LineRequest::Report(device, state)) => Ok(Asked::Seat(
+            None,
+            Order::Report(device, state),
+        )),
+        Some(LineRequest::Show(object)) => Ok(Asked::Board(object)),
         None if has_tag => Err(Fault::WordCount),
         None => Ok(Asked::Nothing),
     }

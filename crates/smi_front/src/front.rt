@@ -7,8 +7,8 @@ use crate::asked::{Asked, asked_in};
 use crate::boxes::boxed;
 use crate::caller::Caller;
 use crate::faults::tell_fault;
-use crate::news::{News, spell_news};
-use crate::office::{Answered, Office};
+use crate::news::{StationNews, spell_news};
+use crate::office::{Office, SeatAnswer};
 use crate::tag::{Tag, tagged};
 use crate::telling::{shown, spell_told};
 use smi_counts::Counts;
@@ -36,7 +36,7 @@ pub struct Front<J: BoardId> {
     pub(crate) counts: Arc<Counts, Global>,
     pub(crate) picture: Picture,
     /// What the station told since that was last forgotten.
-    news: Vec<News>,
+    news: Vec<StationNews>,
     pub(crate) text: Vec<u8>,
     pub(crate) alloc: Global,
 }
@@ -54,14 +54,14 @@ fn tell_of(
     text: &mut Vec<u8>,
     tree: &Tree,
     caller: &mut Caller,
-    news: News,
+    news: StationNews,
 ) -> Result<(), AllocError>
     ensures { OnOk result (caller.new ≡ heard_of tree.now news caller.old) }
 {
     let tag = match news {
-        News::Showed(shown) => caller.follows(shown.object),
-        News::Acted(act) => caller.awaits(act.shown.object),
-        News::Missed(_) => caller.awaits_any(),
+        StationNews::Showed(shown) => caller.follows(shown.object),
+        StationNews::Acted(act) => caller.awaits(act.shown.object),
+        StationNews::Missed(_) => caller.awaits_any(),
     };
     match tag {
         Some(tag) => {
@@ -315,7 +315,7 @@ impl<J: BoardId> Front<J> {
     }
 
     /// The next answer at a seat, by its place.
-    pub fn answer(&mut self, place: usize) -> Option<Answered>
+    pub fn answer(&mut self, place: usize) -> Option<SeatAnswer>
         ensures some { IfSome result (λ r. ChangesAt place (TakesAnswer r) self.old.office self.new.office) }
         ensures none { IfNone result (ChangesAt place TakesNoAnswer self.old.office self.new.office) }
         ensures rest { self.new ≡ record self.old { office = self.new.office } }
@@ -330,7 +330,7 @@ impl<J: BoardId> Front<J> {
         &mut self,
         tree: &Tree,
         caller: &mut Caller,
-        answered: &Answered,
+        answered: &SeatAnswer,
     ) -> Result<bool, AllocError>
         ensures told { result ≡ Ok true → (caller.old.number ≡ answered.now.given.caller)
             × (caller.new ≡ saying answered.now.given.tag (told_text tree.now answered.now)
@@ -361,11 +361,11 @@ impl<J: BoardId> Front<J> {
     /// What the station tells is noted: a state that is no newer than what was known of its object is none.
     ///
     /// Its error is that memory was refused: then those who follow miss it.
-    pub fn note(&mut self, news: News) -> Result<(), AllocError>
+    pub fn note(&mut self, news: StationNews) -> Result<(), AllocError>
         ensures noted { OnOk result (self.new.news ≡ noted_news self.old news) }
         ensures office { self.new.office ≡ self.old.office }
     {
-        if let News::Showed(shown) = news {
+        if let StationNews::Showed(shown) = news {
             if !self.is_new(shown) {
                 return Ok(());
             }

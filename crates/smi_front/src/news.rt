@@ -22,7 +22,7 @@ pub struct Act {
 
 /// What a station tells of its own accord, in the order in which it happens.
 #[derive(Clone, Copy)]
-pub enum News {
+pub enum StationNews {
     /// An object has come into a state.
     Showed(Shown),
     /// An action was done at a device.
@@ -119,12 +119,16 @@ fn spell_missed(text: &mut Vec<u8>, count: u32) -> Result<(), AllocError>
 }
 
 /// Puts the line of news into a text, in place of what was there.
-pub(crate) fn spell_news(text: &mut Vec<u8>, tree: &Tree, news: News) -> Result<(), AllocError>
+pub(crate) fn spell_news(
+    text: &mut Vec<u8>,
+    tree: &Tree,
+    news: StationNews,
+) -> Result<(), AllocError>
     ensures { OnOk result (text.new.items ≡ news_text tree.now news) }
 {
     match news {
-        News::Showed(shown) => spell_board(text, tree, shown.object, Some(shown)),
-        News::Acted(act) => spell_acted(text, tree, act),
-        News::Missed(count) => spell_missed(text, count),
+        StationNews::Showed(shown) => spell_board(text, tree, shown.object, Some(shown)),
+        StationNews::Acted(act) => spell_acted(text, tree, act),
+        StationNews::Missed(count) => spell_missed(text, count),
     }
 }

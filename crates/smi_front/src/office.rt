@@ -36,7 +36,7 @@ impl Model for Office {
 
 /// An answer that has come: the order that it is of, whose operator gave it, and how it ended.
 #[derive(Clone, Copy)]
-pub struct Answered {
+pub struct SeatAnswer {
     /// The order, with the number of its caller and the tag of its line.
     pub given: Given,
     /// The operator, or nobody, who reported.
@@ -195,7 +195,7 @@ impl Office {
     }
 
     /// The next answer at the wicket of a place, from 0; none where there is none yet, or no such wicket.
-    pub fn answer(&mut self, place: usize) -> Option<Answered>
+    pub fn answer(&mut self, place: usize) -> Option<SeatAnswer>
         ensures some { IfSome result (λ r. ChangesAt place (TakesAnswer r) self.old self.new) }
         ensures none { IfNone result (ChangesAt place TakesNoAnswer self.old self.new) }
         ensures given { self.new.has_given ≡ self.old.has_given }
@@ -206,7 +206,7 @@ impl Office {
         let wicket = &mut self.wickets[place];
         let operator = wicket.operator();
         let (given, told) = wicket.told()?;
-        Some(Answered {
+        Some(SeatAnswer {
             given,
             operator,
             told,

@@ -12,7 +12,7 @@ use smi_tree::{Fault, Tree, first_word, is_comment, one_name};
 
 /// What a line asks of a node.
 #[derive(Clone, Copy)]
-pub enum Request {
+pub enum LineRequest {
     /// The operator of the node's station orders.
     Order(u16, Order),
     /// A device is in this state.
@@ -29,35 +29,39 @@ fn is_of(operators: &[u16], operator: u16) -> bool
 }
 
 /// What an item of a schedule asks of a node with these operators.
-fn asked(operators: &[u16], item: Item) -> Result<Request, Fault>
+fn asked(operators: &[u16], item: Item) -> Result<LineRequest, Fault>
     ensures { result ≡ spec.asked operators.now item }
 {
     match item {
         Item::Do(Deed::Order(operator, order)) => {
             if is_of(operators, operator) {
-                Ok(Request::Order(operator, order))
+                Ok(LineRequest::Order(operator, order))
             } else {
                 Err(Fault::UnknownName)
             }
         }
-        Item::Do(Deed::Report(device, state)) => Ok(Request::Report(device, state)),
+        Item::Do(Deed::Report(device, state)) => Ok(LineRequest::Report(device, state)),
         _ => Err(Fault::UnknownWord),
     }
 }
 
 /// The words after `show`.
 #[tactic(auto, unfolding(crate::specs::Said::shown))]
-fn shown(tree: &Tree, text: &[u8]) -> Result<Request, Fault>
+fn shown(tree: &Tree, text: &[u8]) -> Result<LineRequest, Fault>
     ensures { result ≡ spec.shown tree.now (words text.now) }
 {
     let name = one_name(text)?;
     let object = tree.object_named(name.text()).ok_or(Fault::UnknownName)?;
-    Ok(Request::Show(object))
+    Ok(LineRequest::Show(object))
 }
 
 /// An `order` or a `report`, as a schedule has it.
 #[tactic(auto, unfolding(crate::specs::Said::request_as_item))]
-fn request_as_item(tree: &Tree, operators: &[u16], line: &[u8]) -> Result<Option<Request>, Fault>
+fn request_as_item(
+    tree: &Tree,
+    operators: &[u16],
+    line: &[u8],
+) -> Result<Option<LineRequest>, Fault>
     ensures { result ≡ spec.request_as_item tree.now operators.now line.now }
 {
     match read_item(tree, line)? {
@@ -68,21 +72,21 @@ fn request_as_item(tree: &Tree, operators: &[u16], line: &[u8]) -> Result<Option
 
 /// What a line is, by the word that it begins with.
 #[derive(Clone, Copy)]
-pub(crate) enum Kind {
+pub(crate) enum LineKind {
     Show,
     Order,
     Report,
 }
 
-pub(crate) fn kind_of(word: &[u8]) -> Option<Kind>
+pub(crate) fn kind_of(word: &[u8]) -> Option<LineKind>
     ensures { result ≡ spec.kind_of word.now }
 {
     if word == b"show".as_slice() {
-        Some(Kind::Show)
+        Some(LineKind::Show)
     } else if word == b"order".as_slice() {
-        Some(Kind::Order)
+        Some(LineKind::Order)
     } else if word == b"report".as_slice() {
-        Some(Kind::Report)
+        Some(LineKind::Report)
     } else {
         None
     }
@@ -93,16 +97,16 @@ pub(crate) fn kind_of(word: &[u8]) -> Option<Kind>
 fn request_of(
     tree: &Tree,
     operators: &[u16],
-    kind: Kind,
+    kind: LineKind,
     line: &[u8],
     rest: &[u8],
-) -> Result<Option<Request>, Fault>
+) -> Result<Option<LineRequest>, Fault>
     ensures { result ≡ spec.request_of tree.now operators.now kind line.now (words rest.now) }
 {
     match kind {
-        Kind::Show => Ok(Some(shown(tree, rest)?)),
-        Kind::Order => request_as_item(tree, operators, line),
-        Kind::Report => request_as_item(tree, operators, line),
+        LineKind::Show => Ok(Some(shown(tree, rest)?)),
+        LineKind::Order => request_as_item(tree, operators, line),
+        LineKind::Report => request_as_item(tree, operators, line),
     }
 }
 
@@ -112,7 +116,7 @@ fn request_of(
 /// and `show` is followed by an object's name. The faults are those of schedules, in their order; an operator of
 /// another station is not known here. It takes no memory.
 #[tactic(auto, unfolding(crate::specs::Said::request_in))]
-pub fn request_in(tree: &Tree, operators: &[u16], line: &[u8]) -> Result<Option<Request>, Fault>
+pub fn request_in(tree: &Tree, operators: &[u16], line: &[u8]) -> Result<Option<LineRequest>, Fault>
     ensures { result ≡ spec.request_in tree.now operators.now line.now }
 {
     if line.len() > MOST_BYTES_OF_A_LINE {

@@ -1,6 +1,6 @@
 //! Which name of a line is not known.
 
-use crate::said::{Kind, kind_of};
+use crate::said::{LineKind, kind_of};
 use crate::whole::{Whole, named_by};
 use smi_tree::{Tree, first_word};
 
@@ -131,9 +131,9 @@ pub(crate) fn unknown_in<'a>(
 ) -> Option<Unknown<'a>> {
     let (first, rest) = first_word(text)?;
     match kind_of(first.text()) {
-        Some(Kind::Order) => unknown_of_order(tree, operators, rest),
-        Some(Kind::Report) => unknown_of(tree, operators, &[Sort::Device, Sort::State], rest),
-        Some(Kind::Show) => unknown_among(tree, operators, Sort::Object, rest),
+        Some(LineKind::Order) => unknown_of_order(tree, operators, rest),
+        Some(LineKind::Report) => unknown_of(tree, operators, &[Sort::Device, Sort::State], rest),
+        Some(LineKind::Show) => unknown_among(tree, operators, Sort::Object, rest),
         None => match named_by(first.text()) {
             Some(Whole::Follow) => unknown_among(tree, operators, Sort::Object, rest),
             Some(Whole::Actions) => unknown_among(tree, operators, Sort::Device, rest),

@@ -1,5 +1,5 @@
 use smi_grant::{Command, Holder, LAST_EPOCH, Phase, Record, Version};
-use smi_message::{Bad, Body, Datagram, Refusal, decode, encode};
+use smi_message::{Bad, Body, Datagram, DatagramRefusal, decode, encode};
 
 /// Operator 2 takes domain 1, which it last saw free at epoch 0: station 2 asks station 1 of tree 17.
 const TAKE: [u8; 44] = [
@@ -220,14 +220,14 @@ fn refusals_have_numbers(rt: HostRuntime) {
         Bad::Unused,
     ];
     for (place, bad) in order.iter().enumerate() {
-        assert_eq!(rt; Refusal::Bad(*bad).code(), bad.code());
+        assert_eq!(rt; DatagramRefusal::Bad(*bad).code(), bad.code());
         assert_eq!(rt; usize::from(bad.code()), place + 1);
     }
     assert_eq!(rt;
         (
-            Refusal::OtherTree.code(),
-            Refusal::OtherStation.code(),
-            Refusal::Unknown.code()
+            DatagramRefusal::OtherTree.code(),
+            DatagramRefusal::OtherStation.code(),
+            DatagramRefusal::Unknown.code()
         ),
         (7, 8, 9)
     );

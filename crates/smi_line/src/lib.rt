@@ -7,5 +7,5 @@
 mod line;
 mod words;
 
-pub use line::{Line, NodeLine, Schedule, ScreenLine, SimLine, line_of};
+pub use line::{CommandLine, NodeLine, Schedule, ScreenLine, SimLine, line_of};
 pub use words::{Words, bytes_behind, bytes_of, words_of};

@@ -14,7 +14,7 @@ const MOST_STEPS: u64 = 1_000_000;
 
 /// What the command line asks for.
 #[derive(Clone, Copy)]
-pub enum Line<'a> {
+pub enum CommandLine<'a> {
     /// Answer the datagrams of the standard input.
     Answer,
     /// Check the tree file of this path.
@@ -78,34 +78,41 @@ pub struct ScreenLine<'a> {
 }
 
 /// What the words of a command line ask for, the program's own name first.
-pub fn line_of(alloc: Global, words: &[String]) -> Line<'_> {
+pub fn line_of(alloc: Global, words: &[String]) -> CommandLine<'_> {
     // No form has the word that ends the options.
     if words.iter().skip(1).any(|word| word.as_str() == "--") {
-        return Line::Wrong;
+        return CommandLine::Wrong;
     }
     match parsed(alloc, words) {
         Ok(line) => line,
-        Err(e) if e.kind() == ErrorKind::OutOfMemory => Line::NoMemory,
-        Err(_) => Line::Wrong,
+        Err(e) if e.kind() == ErrorKind::OutOfMemory => CommandLine::NoMemory,
+        Err(_) => CommandLine::Wrong,
     }
 }
 
-fn parsed<'a>(alloc: Global, words: &'a [String]) -> Result<Line<'a>, Error> {
+fn parsed<'a>(alloc: Global, words: &'a [String]) -> Result<CommandLine<'a>, Error> {
     let command = forms(alloc)?;
     let matches = command.try_get_matches_from(words)?;
     Ok(line_in(&matches))
 }
 
 /// What the words ask for that were found to be a form.
-fn line_in<'a>(matches: &ArgMatches<'a>) -> Line<'a> {
+fn line_in<'a>(matches: &ArgMatches<'a>) -> CommandLine<'a> {
     match matches.subcommand() {
-        Some(("answer", _)) => Line::Answer,
-        Some(("check", given)) => given.get_str("TREE").map_or(Line::Wrong, Line::Check),
-        Some(("rows", given)) => given.get_str("STORE").map_or(Line::Wrong, Line::Rows),
-        Some(("sim", given)) => sim_line(given).map_or(Line::Wrong, Line::Sim),
-        Some(("node", given)) => node_line(given).map_or(Line::Wrong, Line::Node),
-        Some(("screen", given)) => screen_line(given).map_or(Line::Wrong, Line::Screen),
-        _ => Line::Wrong,
+        Some(("answer", _)) => CommandLine::Answer,
+        Some(("check", given)) => given
+            .get_str("TREE")
+            .map_or(CommandLine::Wrong, CommandLine::Check),
+        Some(("rows", given)) => given
+            .get_str("STORE")
+            .map_or(CommandLine::Wrong, CommandLine::Rows),
+        Some(("sim", given)) => sim_line(given).map_or(CommandLine::Wrong, CommandLine::Sim),
+        Some(("node", given)) => node_line(given).map_or(CommandLine::Wrong, CommandLine::Node),
+        Some(("screen", given)) => screen_line(given).map_or(
+            CommandLine::Wrong,
+            CommandLine::Screen,
+        ),
+        _ => CommandLine::Wrong,
     }
 }
 

@@ -6,21 +6,21 @@ use Rattle.smi_link.specs.declared.link.Reception.{Reception}
 use Rattle.smi_link.specs.declared.link.Reception.TheVariants as is
 use Rattle.std.specs.List.{filter_map}
 use Rattle.smi_link.specs.declared.frame.Sent.{Sent}
-use Rattle.smi_link.specs.declared.frame.Coming.{Coming}
-use Rattle.smi_link.specs.declared.frame.Coming.TheVariants.{Datagram, Nothing, Fault}
+use Rattle.smi_link.specs.declared.frame.ToReceive.{ToReceive}
+use Rattle.smi_link.specs.declared.frame.ToReceive.TheVariants.{Datagram, Nothing, Fault}
 use Rattle.smi_link.specs.Link.{most_bytes}
 
 -- what a link in memory holds: before `place` stands what it gave
 pub record Memory : Type 0 where
   pub station : ℕ
-  pub coming : List Coming
+  pub coming : List ToReceive
   pub place : ℕ
   pub sent : List Sent
   pub fails_after : Option ℕ
   pub failures : ℕ
   pub refusals : ℕ
 
-abbrev pub datagram_of : Coming → Option (List ℕ)
+abbrev pub datagram_of : ToReceive → Option (List ℕ)
 datagram_of (Datagram bytes) = Some bytes
 datagram_of Nothing = None
 datagram_of Fault = None
@@ -45,7 +45,7 @@ opened station = record {
   refusals = 0;
 }
 
-abbrev pub with_coming : Memory → Coming → Memory
+abbrev pub with_coming : Memory → ToReceive → Memory
 with_coming m c = record m { coming = m.coming ++ c ∷ [] }
 
 -- one more datagram, as it is received; one more time of nothing, one more fault is to come
@@ -80,7 +80,7 @@ abbrev pub moved_on : Memory → Memory
 moved_on m = record m { place = m.place + 1 }
 
 -- what comes next is given once, and at the end there is nothing
-abbrev pub GivesNext : Option Coming → Memory → Memory → List ℕ → Reception → Type 0
+abbrev pub GivesNext : Option ToReceive → Memory → Memory → List ℕ → Reception → Type 0
 GivesNext None old new buffer r = (r ≡ is.Nothing) × (new ≡ old)
 GivesNext (Some (Datagram bytes)) old new buffer r =
     (r ≡ is.Received (length bytes)) × (take (length bytes) buffer ≡ bytes) × (new ≡ moved_on old)

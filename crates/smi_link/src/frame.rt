@@ -5,12 +5,12 @@ use std::marker::Model;
 
 /// The bytes of a datagram, as far as they are received. Contracts see their list.
 #[derive(Debug, Drop)]
-pub(crate) struct Frame {
+pub(crate) struct ReceivedBytes {
     bytes: [u8; 45],
     count: usize,
 }
 
-impl Model for Frame {
+impl Model for ReceivedBytes {
     ghost use Rattle.std.specs.Prelude.{ℕ, List, ◌≡◌, ◌≤◌, take, length};
 
     ghost Value = { List ℕ };
@@ -20,18 +20,18 @@ impl Model for Frame {
     ghost invariant = { λ f. (length f.bytes ≡ 45) × (f.count ≤ 45) };
 }
 
-impl Frame {
+impl ReceivedBytes {
     ghost use Rattle.std.specs.Prelude.{◌≡◌, ◌≤◌, take, length};
     ghost use Rattle.smi_link.specs.Link.{most_bytes};
 
     /// A datagram as it is received: whole, or the first 45 bytes of a longer one.
-    pub(crate) fn of(datagram: &[u8]) -> Frame
+    pub(crate) fn of(datagram: &[u8]) -> ReceivedBytes
         ensures { result ≡ take most_bytes datagram.now }
     {
         let mut bytes = [0u8; 45];
         let count = datagram.len().min(MOST_BYTES);
         bytes[..count].copy_from_slice(&datagram[..count]);
-        Frame { bytes, count }
+        ReceivedBytes { bytes, count }
     }
 
     /// Puts the bytes into the beginning of a buffer; how many they are.
@@ -47,8 +47,8 @@ impl Frame {
 
 /// What a link is to give.
 #[derive(Debug, Drop)]
-pub(crate) enum Coming {
-    Datagram(Frame),
+pub(crate) enum ToReceive {
+    Datagram(ReceivedBytes),
     Nothing,
     Fault,
 }

@@ -1,4 +1,4 @@
-use crate::frame::{Coming, Frame, Sent};
+use crate::frame::{ReceivedBytes, Sent, ToReceive};
 use crate::growth::Growth;
 use crate::link::{DatagramLink, LinkFault, Reception};
 use smi_tally::Tally;
@@ -14,7 +14,7 @@ use std::marker::Model;
 #[derive(Drop)]
 pub struct MemoryLink {
     station: u16,
-    coming: Vec<Coming>,
+    coming: Vec<ToReceive>,
     place: usize,
     sent: Vec<Sent>,
     fails_after: Option<u32>,
@@ -66,7 +66,7 @@ impl MemoryLink {
         ensures ok { OnOk result (self.new ≡ with_datagram self.old datagram.now) }
         ensures err { OnErr result (self.new ≡ refused self.old) }
     {
-        let coming = Coming::Datagram(Frame::of(datagram));
+        let coming = ToReceive::Datagram(ReceivedBytes::of(datagram));
         self.growth.push(&mut self.coming, coming)
     }
 
@@ -75,7 +75,7 @@ impl MemoryLink {
         ensures ok { OnOk result (self.new ≡ with_nothing self.old) }
         ensures err { OnErr result (self.new ≡ refused self.old) }
     {
-        self.growth.push(&mut self.coming, Coming::Nothing)
+        self.growth.push(&mut self.coming, ToReceive::Nothing)
     }
 
     /// The link fails, once.
@@ -83,7 +83,7 @@ impl MemoryLink {
         ensures ok { OnOk result (self.new ≡ with_fault self.old) }
         ensures err { OnErr result (self.new ≡ refused self.old) }
     {
-        self.growth.push(&mut self.coming, Coming::Fault)
+        self.growth.push(&mut self.coming, ToReceive::Fault)
     }
 
     /// The `k`-th send from now fails, counted from 1. A later call takes the place of an earlier one.
@@ -113,16 +113,16 @@ impl DatagramLink for MemoryLink {
         ensures gives { Gives self.old self.new buffer.new result }
     {
         match self.next() {
-            Some(Coming::Datagram(frame)) => {
+            Some(ToReceive::Datagram(frame)) => {
                 let count = frame.give(buffer);
                 self.place += 1;
                 Reception::Received(count)
             }
-            Some(Coming::Nothing) => {
+            Some(ToReceive::Nothing) => {
                 self.place += 1;
                 Reception::Nothing
             }
-            Some(Coming::Fault) => {
+            Some(ToReceive::Fault) => {
                 self.place += 1;
                 self.faults.raise();
                 Reception::Fault
@@ -156,7 +156,7 @@ impl MemoryLink {
     ghost use Rattle.smi_link.specs.Memory.{with_sent, refused};
 
     /// What is to be given next.
-    fn next(&self) -> Option<&Coming>
+    fn next(&self) -> Option<&ToReceive>
         ensures { option_copied result ≡ slice_get self.now.coming self.now.place }
     {
         self.coming.get(self.place)
@@ -174,7 +174,7 @@ impl MemoryLink {
         };
         if station == self.station {
             self.growth.reserve(&mut self.sent)?;
-            let back = Coming::Datagram(Frame::of(datagram));
+            let back = ToReceive::Datagram(ReceivedBytes::of(datagram));
             self.growth.push(&mut self.coming, back)?;
         }
         self.growth.push(&mut self.sent, sent)

@@ -1,6 +1,6 @@
 //! Random calls of watcher lists, and whether each answers as plain lists do.
 
-use crate::watched::{Cells, Lists, PlainLists, STATIONS, Watched};
+use crate::watched::{CellLists, PlainLists, STATIONS, WatchLists, WatchResult};
 use smi_watchers::{WatchAnswer, WatchFault};
 use std::alloc::{AllocError, Global};
 use std::io;
@@ -12,11 +12,11 @@ const MOST_ECHO: u16 = 7;
 
 /// A sequence of numbers that the first determines.
 #[derive(Drop)]
-struct Draws {
+struct Generator {
     last: u64,
 }
 
-impl Draws {
+impl Generator {
     ghost use Rattle.std.specs.Prelude.{◌≤◌};
 
     /// A number from 0 to `most`.
@@ -34,7 +34,7 @@ impl Draws {
 
 /// How many calls were answered how, and whether each as by the plain lists.
 #[derive(Clone, Copy)]
-struct Tally {
+struct AnswerCounts {
     is_so: bool,
     added: u32,
     replaced: u32,
@@ -44,8 +44,8 @@ struct Tally {
     gone: usize,
 }
 
-impl Tally {
-    const NONE: Tally = Tally {
+impl AnswerCounts {
+    const NONE: AnswerCounts = AnswerCounts {
         is_so: true,
         added: 0,
         replaced: 0,
@@ -61,7 +61,7 @@ impl Tally {
     }
 
     /// What both lists answered a watch.
-    fn watch(&mut self, cells: Watched, plain: Watched) {
+    fn watch(&mut self, cells: WatchResult, plain: WatchResult) {
         self.and(cells == plain);
         match cells {
             Some(Ok(WatchAnswer::Added)) => self.added = self.added.wrapping_add(1),
@@ -90,15 +90,15 @@ pub fn call(rt: &HostRuntime, calls: u32) -> io::Result<()> {
     Ok(())
 }
 
-fn tally_of(alloc: Global, calls: u32) -> Result<Tally, AllocError> {
-    let mut cells = Cells::new(alloc, OBJECTS)?;
+fn tally_of(alloc: Global, calls: u32) -> Result<AnswerCounts, AllocError> {
+    let mut cells = CellLists::new(alloc, OBJECTS)?;
     let mut plain = PlainLists::new(alloc, OBJECTS)?;
     Ok(compared(&mut cells, &mut plain, calls))
 }
 
-fn compared(cells: &mut Cells, plain: &mut PlainLists, calls: u32) -> Tally {
-    let mut draws = Draws { last: 1 };
-    let mut tally = Tally::NONE;
+fn compared(cells: &mut CellLists, plain: &mut PlainLists, calls: u32) -> AnswerCounts {
+    let mut draws = Generator { last: 1 };
+    let mut tally = AnswerCounts::NONE;
     for _ in 0..calls {
         one(cells, plain, &mut draws, &mut tally);
     }
@@ -110,7 +110,12 @@ fn compared(cells: &mut Cells, plain: &mut PlainLists, calls: u32) -> Tally {
 
 /// One call with drawn arguments: of 4,000 one is a leaving and one a renewal, 198 end a watch, 200 read,
 /// and all else are watches, so that many lists are full.
-fn one(cells: &mut Cells, plain: &mut PlainLists, draws: &mut Draws, tally: &mut Tally) {
+fn one(
+    cells: &mut CellLists,
+    plain: &mut PlainLists,
+    draws: &mut Generator,
+    tally: &mut AnswerCounts,
+) {
     let object = 1 + draws.up_to(OBJECTS - 1);
     let station = 1 + draws.up_to(STATIONS - 1);
     let echo = u32::from(draws.up_to(MOST_ECHO));

@@ -8,15 +8,15 @@ use std::marker::Model;
 pub(crate) const STATIONS: u16 = 128;
 
 /// What a watch answers: nothing where there is no such object or station.
-pub(crate) type Watched = Option<Result<WatchAnswer, WatchFault>>;
+pub(crate) type WatchResult = Option<Result<WatchAnswer, WatchFault>>;
 
 /// The calls of watcher lists. One that names no object or no station of theirs does nothing.
-pub(crate) trait Lists {
+pub(crate) trait WatchLists {
     /// A station watches an object.
-    fn watch(&mut self, object: u16, station: u16, echo: u32) -> Watched;
+    fn watch(&mut self, object: u16, station: u16, echo: u32) -> WatchResult;
 
     /// A station leaves all lists and watches an object.
-    fn renew(&mut self, object: u16, station: u16, echo: u32) -> Watched;
+    fn renew(&mut self, object: u16, station: u16, echo: u32) -> WatchResult;
 
     /// A station watches an object no more.
     fn unwatch(&mut self, object: u16, station: u16, echo: u32);
@@ -29,12 +29,12 @@ pub(crate) trait Lists {
 }
 
 /// Lists of linked cells.
-pub(crate) struct Cells {
+pub(crate) struct CellLists {
     lists: Watchers,
     objects: u16,
 }
 
-impl Model for Cells {
+impl Model for CellLists {
     ghost use Rattle.std.specs.Prelude.{◌≡◌, ℕ, length};
 
     ghost Value = { ℕ };
@@ -44,18 +44,18 @@ impl Model for Cells {
     ghost invariant = { λ c. length c.lists.lists ≡ c.objects };
 }
 
-impl Drop for Cells {
+impl Drop for CellLists {
     fn drop(self) {
-        let Cells {
+        let CellLists {
             lists: _,
             objects: _,
         } = self;
     }
 }
 
-impl Cells {
-    pub(crate) fn new(alloc: Global, objects: u16) -> Result<Cells, AllocError> {
-        Ok(Cells {
+impl CellLists {
+    pub(crate) fn new(alloc: Global, objects: u16) -> Result<CellLists, AllocError> {
+        Ok(CellLists {
             lists: Watchers::new(alloc, objects)?,
             objects,
         })
@@ -84,8 +84,8 @@ impl Cells {
     }
 }
 
-impl Lists for Cells {
-    fn watch(&mut self, object: u16, station: u16, echo: u32) -> Watched {
+impl WatchLists for CellLists {
+    fn watch(&mut self, object: u16, station: u16, echo: u32) -> WatchResult {
         if 1 <= object && object <= self.objects && 1 <= station && station <= STATIONS {
             Some(self.lists.watch(object, station, echo))
         } else {
@@ -93,7 +93,7 @@ impl Lists for Cells {
         }
     }
 
-    fn renew(&mut self, object: u16, station: u16, echo: u32) -> Watched {
+    fn renew(&mut self, object: u16, station: u16, echo: u32) -> WatchResult {
         if 1 <= object && object <= self.objects && 1 <= station && station <= STATIONS {
             Some(self.lists.renew(object, station, echo))
         } else {
@@ -150,13 +150,13 @@ impl PlainLists {
     }
 }
 
-impl Lists for PlainLists {
-    fn watch(&mut self, object: u16, station: u16, echo: u32) -> Watched {
+impl WatchLists for PlainLists {
+    fn watch(&mut self, object: u16, station: u16, echo: u32) -> WatchResult {
         let list = self.lists.get_mut(place_of(object))?;
         Some(watched(list, station, echo))
     }
 
-    fn renew(&mut self, object: u16, station: u16, echo: u32) -> Watched {
+    fn renew(&mut self, object: u16, station: u16, echo: u32) -> WatchResult {
         let list = self.lists.get(place_of(object))?;
         let mut renewed = match list.clone() {
             Ok(renewed) => renewed,

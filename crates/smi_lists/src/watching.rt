@@ -1,6 +1,6 @@
 //! How long the calls of watcher lists take, of linked cells and of plain lists.
 
-use crate::watched::{Cells, Lists, PlainLists};
+use crate::watched::{CellLists, PlainLists, WatchLists};
 use std::alloc::{AllocError, Global};
 use std::io;
 use std::time::Instant;
@@ -91,7 +91,7 @@ pub fn measure(rt: &HostRuntime, rounds: u32) -> io::Result<()> {
 }
 
 fn cells_times(rt: &HostRuntime, objects: u16, rounds: u32) -> io::Result<Times> {
-    let mut lists = Cells::new(rt.alloc(), objects)?;
+    let mut lists = CellLists::new(rt.alloc(), objects)?;
     mean(rt, &mut lists, objects, rounds)
 }
 
@@ -100,7 +100,12 @@ fn plain_times(rt: &HostRuntime, objects: u16, rounds: u32) -> io::Result<Times>
     mean(rt, &mut lists, objects, rounds)
 }
 
-fn mean<L: Lists>(rt: &HostRuntime, lists: &mut L, objects: u16, rounds: u32) -> io::Result<Times> {
+fn mean<L: WatchLists>(
+    rt: &HostRuntime,
+    lists: &mut L,
+    objects: u16,
+    rounds: u32,
+) -> io::Result<Times> {
     let mut all = Times::NONE;
     for _ in 0..rounds {
         all = all.plus(round(rt, lists, objects)?);
@@ -109,7 +114,7 @@ fn mean<L: Lists>(rt: &HostRuntime, lists: &mut L, objects: u16, rounds: u32) ->
 }
 
 /// One round over empty lists, which leaves them empty.
-fn round<L: Lists>(rt: &HostRuntime, lists: &mut L, objects: u16) -> io::Result<Times> {
+fn round<L: WatchLists>(rt: &HostRuntime, lists: &mut L, objects: u16) -> io::Result<Times> {
     let start = Instant::now(rt)?;
     fill(lists, STATIONS, objects);
     let watch = start.elapsed(rt)?.as_nanos() / u128::from(objects.max(1)) / u128::from(STATIONS);
@@ -136,7 +141,7 @@ fn round<L: Lists>(rt: &HostRuntime, lists: &mut L, objects: u16) -> io::Result<
 }
 
 /// So many stations watch so many objects.
-fn fill<L: Lists>(lists: &mut L, stations: u16, objects: u16) {
+fn fill<L: WatchLists>(lists: &mut L, stations: u16, objects: u16) {
     for object in 1..=objects {
         for station in 1..=stations {
             let _ = lists.watch(object, station, 1);
@@ -144,7 +149,7 @@ fn fill<L: Lists>(lists: &mut L, stations: u16, objects: u16) {
     }
 }
 
-fn walked<L: Lists>(lists: &L, objects: u16) -> u64 {
+fn walked<L: WatchLists>(lists: &L, objects: u16) -> u64 {
     let mut sum: u64 = 0;
     for object in 1..=objects {
         sum = sum.wrapping_add(lists.echoes(object));
@@ -152,7 +157,7 @@ fn walked<L: Lists>(lists: &L, objects: u16) -> u64 {
     sum
 }
 
-fn empty<L: Lists>(lists: &mut L) -> usize {
+fn empty<L: WatchLists>(lists: &mut L) -> usize {
     let mut gone: usize = 0;
     for station in 1..=STATIONS {
         gone = gone.wrapping_add(lists.leave(station));
@@ -161,7 +166,7 @@ fn empty<L: Lists>(lists: &mut L) -> usize {
 }
 
 fn cells_leaving(rt: &HostRuntime, entries: u16, rounds: u32) -> io::Result<u128> {
-    let mut lists = Cells::new(rt.alloc(), 640)?;
+    let mut lists = CellLists::new(rt.alloc(), 640)?;
     leaving(rt, &mut lists, entries, rounds)
 }
 
@@ -172,7 +177,7 @@ fn plain_leaving(rt: &HostRuntime, entries: u16, rounds: u32) -> io::Result<u128
 
 /// How long a station takes to leave its lists, in the mean. 63 others watch each object, and one more
 /// watches those that it does not.
-fn leaving<L: Lists>(
+fn leaving<L: WatchLists>(
     rt: &HostRuntime,
     lists: &mut L,
     entries: u16,

@@ -8,7 +8,7 @@ use std::time::Instant;
 
 const DATAGRAM: [u8; 44] = [7; 44];
 
-type Link<'a> = UdpLink<&'a HostRuntime>;
+type HostLink<'a> = UdpLink<&'a HostRuntime>;
 
 /// How many datagrams go each way where only whether they come is asked.
 const MANY: u32 = 5_000;
@@ -62,12 +62,12 @@ fn link(
     rt: &HostRuntime,
     socket: UdpSocket,
     addresses: (SocketAddr, SocketAddr),
-) -> io::Result<Link<'_>> {
+) -> io::Result<HostLink<'_>> {
     let peers = both(rt, addresses)?;
     UdpLink::over(socket, rt, peers)
 }
 
-fn links(rt: &HostRuntime) -> io::Result<(Link<'_>, Link<'_>)> {
+fn links(rt: &HostRuntime) -> io::Result<(HostLink<'_>, HostLink<'_>)> {
     let (here, there) = sockets(rt)?;
     let addresses = addresses(&here, &there)?;
     let here = link(rt, here, addresses)?;
@@ -81,7 +81,7 @@ fn over_links(rt: &HostRuntime, rounds: u32) -> io::Result<u32> {
 }
 
 /// How many datagrams come to the other link.
-fn passed(here: &mut Link<'_>, there: &mut Link<'_>, rounds: u32) -> u32 {
+fn passed(here: &mut HostLink<'_>, there: &mut HostLink<'_>, rounds: u32) -> u32 {
     let mut whole: u32 = 0;
     for _ in 0..rounds {
         whole = whole.wrapping_add(u32::from(passes(here, there, 2)));
@@ -101,7 +101,7 @@ fn both(
 }
 
 /// Whether a datagram that one link sends to a station comes to the other whole.
-fn passes(from: &mut Link<'_>, to: &mut Link<'_>, station: u16) -> bool {
+fn passes(from: &mut HostLink<'_>, to: &mut HostLink<'_>, station: u16) -> bool {
     let mut buffer = [0u8; 45];
     from.send(station, &DATAGRAM).is_ok()
         && received(to, &mut buffer) == Reception::Received(44)
@@ -109,7 +109,7 @@ fn passes(from: &mut Link<'_>, to: &mut Link<'_>, station: u16) -> bool {
 }
 
 /// What a link receives, where it has nothing once, as it has each ten milliseconds, and then looks again.
-fn received(link: &mut Link<'_>, buffer: &mut [u8; 45]) -> Reception {
+fn received(link: &mut HostLink<'_>, buffer: &mut [u8; 45]) -> Reception {
     match link.receive(buffer) {
         Reception::Nothing => link.receive(buffer),
         other => other,

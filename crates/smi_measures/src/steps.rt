@@ -10,11 +10,11 @@ use smi_tree::Tree;
 use std::time::{Duration, Instant};
 use std::{fs, io};
 
-type Kept<'a> = Station<'a, MemoryStable>;
+type MeasuredStation<'a> = Station<'a, MemoryStable>;
 
 /// What is measured.
 #[derive(Clone, Copy, PartialEq, Eq)]
-enum Kind {
+enum StepKind {
     /// The first operator's datagrams take the first domain and drop it.
     Take,
     /// The first operator orders an action there, which goes through all domains below that the station keeps.
@@ -27,20 +27,20 @@ enum Kind {
     Due,
 }
 
-fn kind_of(word: &str) -> Option<Kind> {
+fn kind_of(word: &str) -> Option<StepKind> {
     match word {
-        "take" => Some(Kind::Take),
-        "do" => Some(Kind::Do),
-        "state" => Some(Kind::State),
-        "tick" => Some(Kind::Tick),
-        "due" => Some(Kind::Due),
+        "take" => Some(StepKind::Take),
+        "do" => Some(StepKind::Do),
+        "state" => Some(StepKind::State),
+        "tick" => Some(StepKind::Tick),
+        "due" => Some(StepKind::Due),
         _ => None,
     }
 }
 
 /// What a measure has counted.
 #[derive(Clone, Copy)]
-struct Counted {
+struct StepCounts {
     steps: u64,
     /// What these steps have sent.
     sent: u64,
@@ -50,17 +50,17 @@ struct Counted {
 
 /// What is used anew for each step.
 #[derive(Drop)]
-struct Desk {
+struct StepBuffers {
     out: Out,
     /// What the station has sent itself and has not read yet.
     waiting: Vec<[u8; 44]>,
-    counted: Counted,
+    counted: StepCounts,
 }
 
 /// A step, which is counted; what the station sends itself waits.
 fn step<S: Stable>(
     station: &mut Station<'_, S>,
-    desk: &mut Desk,
+    desk: &mut StepBuffers,
     event: Event<'_>,
 ) -> io::Result<()> {
     let heard = station.step(event, &mut desk.out);
@@ -84,7 +84,7 @@ fn step<S: Stable>(
 const MOST_WAITING: u32 = 4096;
 
 /// The station reads all that it has sent itself.
-fn settle(station: &mut Kept<'_>, desk: &mut Desk) -> io::Result<()> {
+fn settle(station: &mut MeasuredStation<'_>, desk: &mut StepBuffers) -> io::Result<()> {
     for _ in 0..MOST_WAITING {
         match desk.waiting.pop() {
             Some(bytes) => step(station, desk, Event::Datagram(&bytes))?,
@@ -94,13 +94,21 @@ fn settle(station: &mut Kept<'_>, desk: &mut Desk) -> io::Result<()> {
     Ok(())
 }
 
-fn order(station: &mut Kept<'_>, desk: &mut Desk, order: Order) -> io::Result<()> {
+fn order(
+    station: &mut MeasuredStation<'_>,
+    desk: &mut StepBuffers,
+    order: Order,
+) -> io::Result<()> {
     step(station, desk, Event::Order(1, order))?;
     settle(station, desk)
 }
 
 /// The first operator takes the first domain and all below it that the station keeps.
-fn take_all(tree: &Tree, station: &mut Kept<'_>, desk: &mut Desk) -> io::Result<()> {
+fn take_all(
+    tree: &Tree,
+    station: &mut MeasuredStation<'_>,
+    desk: &mut StepBuffers,
+) -> io::Result<()> {
     order(station, desk, Order::Take(1))?;
     for number in 1..tree.domain_count() {
         let target = number.wrapping_add(1);
@@ -144,7 +152,7 @@ fn asking(tree: &Tree, own: u16, kind: u8, epoch: u32) -> [u8; 44] {
 fn take_and_drop<S: Stable>(
     tree: &Tree,
     station: &mut Station<'_, S>,
-    desk: &mut Desk,
+    desk: &mut StepBuffers,
     count: u32,
 ) -> io::Result<()> {
     let own = station.grants().number();
@@ -175,7 +183,11 @@ fn child_of(tree: &Tree, own: u16) -> Option<(u16, u16)> {
 }
 
 /// The first operator's domain takes in its first child, and its devices are in the last state.
-fn take_in(tree: &Tree, station: &mut Kept<'_>, desk: &mut Desk) -> io::Result<()> {
+fn take_in(
+    tree: &Tree,
+    station: &mut MeasuredStation<'_>,
+    desk: &mut StepBuffers,
+) -> io::Result<()> {
     let own = station.grants().number();
     order(station, desk, Order::Take(1))?;
     if let Some((child, keeper)) = child_of(tree, own) {
@@ -207,7 +219,12 @@ fn showing(tree: &Tree, own: u16, child: u16, keeper: u16, sequence: u32) -> [u8
 }
 
 /// The child is told to be in state 1 and in state 3 in turn.
-fn show(tree: &Tree, station: &mut Kept<'_>, desk: &mut Desk, count: u32) -> io::Result<()> {
+fn show(
+    tree: &Tree,
+    station: &mut MeasuredStation<'_>,
+    desk: &mut StepBuffers,
+    count: u32,
+) -> io::Result<()> {
     let own = station.grants().number();
     let Some((child, keeper)) = child_of(tree, own) else {
         return Ok(());
@@ -224,7 +241,11 @@ const MOST_WATCHED: u16 = 48;
 
 /// Every operator of the station takes as many domains as it may, and the first one watches the last objects. Over the
 /// tree at every limit 192 datagrams are due then: 64 at each tick, since every third one ends with the last object.
-fn ask_for_all(tree: &Tree, station: &mut Kept<'_>, desk: &mut Desk) -> io::Result<()> {
+fn ask_for_all(
+    tree: &Tree,
+    station: &mut MeasuredStation<'_>,
+    desk: &mut StepBuffers,
+) -> io::Result<()> {
     for operator in station.operators() {
         for number in 0..tree.domain_count() {
             let take = Order::Take(number.wrapping_add(1));
@@ -241,33 +262,38 @@ fn ask_for_all(tree: &Tree, station: &mut Kept<'_>, desk: &mut Desk) -> io::Resu
 }
 
 /// What comes before the time is taken.
-fn prepare(tree: &Tree, station: &mut Kept<'_>, desk: &mut Desk, kind: Kind) -> io::Result<()> {
+fn prepare(
+    tree: &Tree,
+    station: &mut MeasuredStation<'_>,
+    desk: &mut StepBuffers,
+    kind: StepKind,
+) -> io::Result<()> {
     match kind {
-        Kind::Take | Kind::Tick => Ok(()),
-        Kind::Do => take_all(tree, station, desk),
-        Kind::State => take_in(tree, station, desk),
-        Kind::Due => ask_for_all(tree, station, desk),
+        StepKind::Take | StepKind::Tick => Ok(()),
+        StepKind::Do => take_all(tree, station, desk),
+        StepKind::State => take_in(tree, station, desk),
+        StepKind::Due => ask_for_all(tree, station, desk),
     }
 }
 
 /// So many times what is measured.
 fn run(
     tree: &Tree,
-    station: &mut Kept<'_>,
-    desk: &mut Desk,
-    kind: Kind,
+    station: &mut MeasuredStation<'_>,
+    desk: &mut StepBuffers,
+    kind: StepKind,
     count: u32,
 ) -> io::Result<()> {
     match kind {
-        Kind::Take => take_and_drop(tree, station, desk, count),
-        Kind::State => show(tree, station, desk, count),
-        Kind::Do => {
+        StepKind::Take => take_and_drop(tree, station, desk, count),
+        StepKind::State => show(tree, station, desk, count),
+        StepKind::Do => {
             for _ in 0..count {
                 order(station, desk, Order::Do(1, 1))?;
             }
             Ok(())
         }
-        Kind::Tick | Kind::Due => {
+        StepKind::Tick | StepKind::Due => {
             for _ in 0..count {
                 step(station, desk, Event::Tick)?;
                 desk.waiting.clear();
@@ -277,14 +303,14 @@ fn run(
     }
 }
 
-const NOTHING: Counted = Counted {
+const NOTHING: StepCounts = StepCounts {
     steps: 0,
     sent: 0,
     made: 0,
 };
 
 /// How often the first unit has changed since the station started.
-fn changes_of(station: &Kept<'_>) -> u32 {
+fn changes_of(station: &MeasuredStation<'_>) -> u32 {
     station.current(1).map_or(0, |shown| shown.version.sequence)
 }
 
@@ -292,11 +318,11 @@ fn changes_of(station: &Kept<'_>) -> u32 {
 fn timed(
     rt: &HostRuntime,
     tree: &Tree,
-    station: &mut Kept<'_>,
-    desk: &mut Desk,
-    kind: Kind,
+    station: &mut MeasuredStation<'_>,
+    desk: &mut StepBuffers,
+    kind: StepKind,
     count: u32,
-) -> io::Result<(Duration, Counted, u32)> {
+) -> io::Result<(Duration, StepCounts, u32)> {
     prepare(tree, station, desk, kind)?;
     desk.counted = NOTHING;
     let before = changes_of(station);
@@ -311,11 +337,11 @@ fn timed(
 fn at_desk(
     rt: &HostRuntime,
     tree: &Tree,
-    station: &mut Kept<'_>,
-    kind: Kind,
+    station: &mut MeasuredStation<'_>,
+    kind: StepKind,
     count: u32,
-) -> io::Result<(Duration, Counted, u32)> {
-    let mut desk = Desk {
+) -> io::Result<(Duration, StepCounts, u32)> {
+    let mut desk = StepBuffers {
         out: Out::new(),
         waiting: Vec::new(rt.alloc()),
         counted: NOTHING,
@@ -327,10 +353,10 @@ fn at_desk(
 fn at_station(
     rt: &HostRuntime,
     tree: &Tree,
-    kind: Kind,
+    kind: StepKind,
     count: u32,
-) -> io::Result<(Duration, Counted, u32)> {
-    let number = if kind == Kind::Tick {
+) -> io::Result<(Duration, StepCounts, u32)> {
+    let number = if kind == StepKind::Tick {
         tree.station_count()
     } else {
         1
@@ -369,9 +395,9 @@ pub fn measure(rt: &HostRuntime, path: &str, word: &str, count: u32) -> io::Resu
 fn over_tree(
     rt: &HostRuntime,
     bytes: &[u8],
-    kind: Kind,
+    kind: StepKind,
     count: u32,
-) -> io::Result<(Duration, Counted, u32)> {
+) -> io::Result<(Duration, StepCounts, u32)> {
     match Tree::read(rt.alloc(), bytes) {
         Ok(tree) => at_station(rt, &tree, kind, count),
         Err(_) => Err(io::Error::other("a faulty tree")),
@@ -400,7 +426,7 @@ fn stored_over_tree(
     bytes: &[u8],
     path: &str,
     count: u32,
-) -> io::Result<(Duration, Counted)> {
+) -> io::Result<(Duration, StepCounts)> {
     match Tree::read(rt.alloc(), bytes) {
         Ok(tree) => stored_in_file(rt, &tree, path, count),
         Err(_) => Err(io::Error::other("a faulty tree")),
@@ -412,7 +438,7 @@ fn stored_in_file(
     tree: &Tree,
     path: &str,
     count: u32,
-) -> io::Result<(Duration, Counted)> {
+) -> io::Result<(Duration, StepCounts)> {
     stored_at_station::<FileStable>(rt, tree, path, count)
 }
 
@@ -422,7 +448,7 @@ fn stored_at_station<S: InFile>(
     tree: &Tree,
     path: &str,
     count: u32,
-) -> io::Result<(Duration, Counted)> {
+) -> io::Result<(Duration, StepCounts)> {
     match Station::open(rt.alloc(), tree, 1, S::open(rt, path)?) {
         Ok(mut station) => {
             let time = stored_at_desk(rt, tree, &mut station, count);
@@ -441,8 +467,8 @@ fn stored_at_desk<S: Stable>(
     tree: &Tree,
     station: &mut Station<'_, S>,
     count: u32,
-) -> io::Result<(Duration, Counted)> {
-    let mut desk = Desk {
+) -> io::Result<(Duration, StepCounts)> {
+    let mut desk = StepBuffers {
         out: Out::new(),
         waiting: Vec::new(rt.alloc()),
         counted: NOTHING,
@@ -454,9 +480,9 @@ fn stored<S: Stable>(
     rt: &HostRuntime,
     tree: &Tree,
     station: &mut Station<'_, S>,
-    desk: &mut Desk,
+    desk: &mut StepBuffers,
     count: u32,
-) -> io::Result<(Duration, Counted)> {
+) -> io::Result<(Duration, StepCounts)> {
     let start = Instant::now(rt)?;
     take_and_drop(tree, station, desk, count)?;
     Ok((start.elapsed(rt)?, desk.counted))

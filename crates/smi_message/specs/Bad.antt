@@ -2,8 +2,8 @@
 use Rattle.std.specs.Prelude.{ℕ}
 use Rattle.smi_message.specs.declared.bad.Bad.{Bad}
 use Rattle.smi_message.specs.declared.bad.Bad.TheVariants as bad
-use Rattle.smi_message.specs.declared.refusal.Refusal.{Refusal}
-use Rattle.smi_message.specs.declared.refusal.Refusal.TheVariants as refusal
+use Rattle.smi_message.specs.declared.refusal.DatagramRefusal.{DatagramRefusal}
+use Rattle.smi_message.specs.declared.refusal.DatagramRefusal.TheVariants as refusal
 
 abbrev pub bad_code : Bad → ℕ
 bad_code bad.Length = 1
@@ -13,7 +13,7 @@ bad_code bad.Kind = 4
 bad_code bad.Range = 5
 bad_code bad.Unused = 6
 
-abbrev pub refusal_code : Refusal → ℕ
+abbrev pub refusal_code : DatagramRefusal → ℕ
 refusal_code (refusal.Bad b) = bad_code b
 refusal_code refusal.OtherTree = 7
 refusal_code refusal.OtherStation = 8

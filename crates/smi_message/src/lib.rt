@@ -21,4 +21,4 @@ mod refusal;
 pub use bad::Bad;
 pub use codec::{decode, encode};
 pub use datagram::{Body, Datagram};
-pub use refusal::Refusal;
+pub use refusal::DatagramRefusal;

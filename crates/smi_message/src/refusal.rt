@@ -3,7 +3,7 @@ use thiserror::Error;
 
 /// Why a station refuses what it received. It then changes and sends nothing.
 #[derive(Clone, Copy, Debug, PartialEq, Eq, Error)]
-pub enum Refusal {
+pub enum DatagramRefusal {
     /// The bytes are no datagram.
     #[error(transparent)]
     Bad(Bad),
@@ -18,7 +18,7 @@ pub enum Refusal {
     Unknown,
 }
 
-impl Refusal {
+impl DatagramRefusal {
     ghost use Rattle.std.specs.Prelude.{◌≡◌};
     ghost use Rattle.smi_message.specs.Bad.{refusal_code};
 
@@ -27,10 +27,10 @@ impl Refusal {
         ensures { result ≡ refusal_code self }
     {
         match self {
-            Refusal::Bad(bad) => bad.code(),
-            Refusal::OtherTree => 7,
-            Refusal::OtherStation => 8,
-            Refusal::Unknown => 9,
+            DatagramRefusal::Bad(bad) => bad.code(),
+            DatagramRefusal::OtherTree => 7,
+            DatagramRefusal::OtherStation => 8,
+            DatagramRefusal::Unknown => 9,
         }
     }
 }

@@ -8,10 +8,10 @@ use Rattle.smi_protocol.specs.declared.order.Mark.{Mark}
 use Rattle.smi_operator.specs.Sides.{Answers, Marks, Steps, post_at, work_of}
 use Rattle.smi_operator.specs.Working.{IsPlaceOf, newest_of}
 use Rattle.smi_operator.specs.declared.ends.Desk.{Desk}
-use Rattle.smi_operator.specs.declared.work.Entry.{Entry}
+use Rattle.smi_operator.specs.declared.work.WorkSlot.{WorkSlot}
 
 -- the orders in work of a seat, the oldest first; a seat that the desk does not have has none
-abbrev pub work_at : Desk → ℕ → List Entry
+abbrev pub work_at : Desk → ℕ → List WorkSlot
 work_at desk seat = option_map_or work_of (post_at desk seat) []
 
 -- the order of a seat at this place ends, if there is a place

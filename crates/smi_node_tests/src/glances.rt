@@ -10,7 +10,7 @@ use std::sync::Wait;
 use std::test::Fail;
 use std::thread::{Threads, join};
 
-type Reading = Result<Option<Shown>, NoReading>;
+type GlanceReading = Result<Option<Shown>, NoReading>;
 
 const ROW: Shown = Shown {
     object: 2,
@@ -21,7 +21,7 @@ const ROW: Shown = Shown {
     state: 2,
 };
 
-fn learnt<J: BoardId>(glance: Glance<J>, news: News<J>) -> Reading {
+fn learnt<J: BoardId>(glance: Glance<J>, news: News<J>) -> GlanceReading {
     let mut glance = glance;
     glance.learn(news);
     glance.read(2)
@@ -31,8 +31,8 @@ fn in_thread<J: BoardId + Send + Sync, R: Threads + Sync>(
     rt: &R,
     glance: Glance<J>,
     news: News<J>,
-) -> Reading {
-    let (reading, _) = join(rt, move || -> Reading { learnt(glance, news) }, || ());
+) -> GlanceReading {
+    let (reading, _) = join(rt, move || -> GlanceReading { learnt(glance, news) }, || ());
     reading
 }
 
@@ -46,7 +46,7 @@ fn read<J: BoardId + Send + Sync, R: Threads + Wait + Sync>(
     rt: &R,
     board: &mut Board<J>,
     glances: Vec<Glance<J>>,
-) -> Result<Reading, Fail> {
+) -> Result<GlanceReading, Fail> {
     let mut glances = glances;
     let news = published(rt, board)?;
     match glances.pop() {
@@ -59,7 +59,7 @@ fn over_board<J: BoardId + Send + Sync, R: Threads + Wait + Sync>(
     rt: &R,
     alloc: Global,
     blank: Blank,
-) -> Result<Reading, Fail>
+) -> Result<GlanceReading, Fail>
     requires { blank.seen.book ≡ J.book }
 {
     let (mut board, glances) = open_board::<J, R>(rt, alloc, blank, 1)?;

@@ -36,11 +36,11 @@ const TURNS: u32 = 100;
 
 /// How many operators were told that their orders are done.
 #[derive(Drop)]
-struct Told {
+struct ToldCount {
     count: AtomicU64,
 }
 
-impl Told {
+impl ToldCount {
     fn is_at_least(&self, count: u64) -> bool {
         self.count.load(Ordering::SeqCst) >= count
     }
@@ -51,7 +51,7 @@ impl Told {
 }
 
 /// Orders, and waits for the answer.
-fn order<R: Clock>(clock: &R, seat: &mut Seat, order: Order, told: &Told) {
+fn order<R: Clock>(clock: &R, seat: &mut Seat, order: Order, told: &ToldCount) {
     if seat.submit(order).is_err() {
         return;
     }
@@ -69,7 +69,7 @@ fn order<R: Clock>(clock: &R, seat: &mut Seat, order: Order, told: &Told) {
 }
 
 /// Orders once another operator was told.
-fn order_second<R: Clock>(clock: &R, seat: &mut Seat, what: Order, told: &Told) {
+fn order_second<R: Clock>(clock: &R, seat: &mut Seat, what: Order, told: &ToldCount) {
     for _ in 0..MOST_LOOKS {
         if told.is_at_least(1) {
             order(clock, seat, what, told);
@@ -80,7 +80,7 @@ fn order_second<R: Clock>(clock: &R, seat: &mut Seat, what: Order, told: &Told) 
 }
 
 /// The first operator has a seat and no order until the second was told.
-fn operate<R: Threads + Clock + Sync>(rt: &R, first: Seat, second: Seat, told: &Told) {
+fn operate<R: Threads + Clock + Sync>(rt: &R, first: Seat, second: Seat, told: &ToldCount) {
     join(
         rt,
         move || {
@@ -101,7 +101,7 @@ fn serve_all<J: BoardId, R: Wait + Clock>(
     link: &mut MemoryLink,
     desk: &mut Desk,
     board: &mut Board<J>,
-    told: &Told,
+    told: &ToldCount,
 ) -> bool {
     for _ in 0..MOST_LOOKS {
         if serve(rt, station, link, desk, board, TURNS).is_err() {
@@ -132,7 +132,7 @@ fn over_seats<J: BoardId, R: Wait + Threads + Clock + Sync>(
     seats: (Seat, Seat),
     desk: &mut Desk,
     link: &mut MemoryLink,
-    told: &Told,
+    told: &ToldCount,
 ) -> bool {
     let (first, second) = seats;
     let (_, are_told) = join(
@@ -152,7 +152,7 @@ fn over_link<J: BoardId, R: Wait + Threads + Clock + Sync>(
     desk: &mut Desk,
 ) -> bool {
     let mut link = MemoryLink::new(alloc, A);
-    let told = Told {
+    let told = ToldCount {
         count: AtomicU64::new(0),
     };
     match two_of(seats) {

@@ -6,17 +6,17 @@ use Rattle.std.proofs.lemmas.Option.{slice_get_cases}
 use Rattle.rtrb.specs.declared.end.End.{End}
 use Rattle.rtrb.specs.Ends.{SameRing}
 use Rattle.smi_operator.specs.declared.ends.Seat.{Seat}
-use Rattle.smi_operator.specs.declared.ends.Post.{Post}
+use Rattle.smi_operator.specs.declared.ends.SeatEnd.{SeatEnd}
 use Rattle.smi_operator.specs.declared.ends.Desk.{Desk}
 use Rattle.smi_operator.specs.declared.ends.Finished.{Finished}
 use Rattle.smi_operator.specs.Sides.{IsSeatOf, IsSeatAt, IsFinishedAt, IsEndedAt, SamePost, SamePosts, SameDesk}
 use Rattle.smi_operator.specs.Sides.{Steps, Ends, post_at, seat_count}
 
-same_refl : (p : Option Post) → SamePosts p p
+same_refl : (p : Option SeatEnd) → SamePosts p p
 same_refl (Some p) = (((refl, refl, refl, refl), refl), ((refl, refl, refl, refl), refl))
 same_refl None = tt
 
-same_trans : (p q r : Option Post) → SamePosts p q → SamePosts q r → SamePosts p r
+same_trans : (p q r : Option SeatEnd) → SamePosts p q → SamePosts q r → SamePosts p r
 same_trans (Some p) (Some q) (Some r) a b = (
   ((b.0.0.0 ∙ a.0.0.0, b.0.0.1 ∙ a.0.0.1, b.0.0.2 ∙ a.0.0.2, b.0.0.3 ∙ a.0.0.3), b.0.1 ∙ a.0.1),
   ((b.1.0.0 ∙ a.1.0.0, b.1.0.1 ∙ a.1.0.1, b.1.0.2 ∙ a.1.0.2, b.1.0.3 ∙ a.1.0.3), b.1.1 ∙ a.1.1),
@@ -37,27 +37,27 @@ desk_trans a b c x y = record {
 }
 
 -- there is one
-abbrev IsThere : Option Post → Type 0
+abbrev IsThere : Option SeatEnd → Type 0
 IsThere (Some p) = Unit {0}
 IsThere None = ⊥
 
-there : (posts : List Post) (i : ℕ) → i < length posts → IsThere (slice_get posts i)
+there : (posts : List SeatEnd) (i : ℕ) → i < length posts → IsThere (slice_get posts i)
 there posts i within = by_case (slice_get_cases posts i).1
   where
-    by_case : ((x : Post) × (i < length posts) × (slice_get posts i ≡ Some x) × (get_or posts i x ≡ x))
+    by_case : ((x : SeatEnd) × (i < length posts) × (slice_get posts i ≡ Some x) × (get_or posts i x ≡ x))
         ⊎ ((length posts ≤ i) × (slice_get posts i ≡ None))
         → IsThere (slice_get posts i)
     by_case (inl found) = rw found.2 tt
     by_case (inr past) = absurd (omega (arith, within, past.0))
 
-stepped : (R : Post → Post → Type 0) (p q : Option Post) → IsThere p → IsThere q
+stepped : (R : SeatEnd → SeatEnd → Type 0) (p q : Option SeatEnd) → IsThere p → IsThere q
     → IfSome p (λ a. IfSome q (λ b. SamePost a b × R a b)) → SamePosts p q
 stepped R (Some p) (Some q) is_p is_q step = step.0
 stepped R None q is_p is_q step = absurd is_p
 stepped R (Some p) None is_p is_q step = absurd is_q
 
 -- one call leaves the desk the same
-pub steps_same : (old new : Desk) (seat : ℕ) (R : Post → Post → Type 0) → seat < seat_count old
+pub steps_same : (old new : Desk) (seat : ℕ) (R : SeatEnd → SeatEnd → Type 0) → seat < seat_count old
     → Steps old new seat R → SameDesk old new
 steps_same old new seat R within steps = record { count = steps.count; posts = λ i. at i (cases_eq i seat) }
   where
@@ -75,7 +75,7 @@ ring_sym a b x = (sym x.0, sym x.1, sym x.2, sym x.3)
 ring_trans : {T A P : Type 0} (a b c : End T A P) → SameRing a b → SameRing b c → SameRing a c
 ring_trans a b c x y = (y.0 ∙ x.0, y.1 ∙ x.1, y.2 ∙ x.2, y.3 ∙ x.3)
 
-ended_at : (s : Seat) (f : Finished) (p q : Post) → IsSeatOf s p → Ends s f → SamePost p q → IsFinishedAt f q
+ended_at : (s : Seat) (f : Finished) (p q : SeatEnd) → IsSeatOf s p → Ends s f → SamePost p q → IsFinishedAt f q
 ended_at s f p q of ends same =
     let t = ends.0 in
     let to_post = ring_trans s.orders.end p.orders.end q.orders.end of.0 same.0.0 in
@@ -86,7 +86,7 @@ ended_at s f p q of ends same =
       rw ends.2.1 (ring_trans q.answers.end s.answers.end t.answers.end to_seat ends.1.1.0),
     )
 
-ended_posts : (s : Seat) (f : Finished) (p q : Option Post) → IfSome p (IsSeatOf s) → Ends s f → SamePosts p q
+ended_posts : (s : Seat) (f : Finished) (p q : Option SeatEnd) → IfSome p (IsSeatOf s) → Ends s f → SamePosts p q
     → IfSome q (IsFinishedAt f)
 ended_posts s f (Some p) (Some q) of ends same = ended_at s f p q of ends same
 ended_posts s f None None of ends same = tt

@@ -2,11 +2,11 @@ use Rattle.std.proofs.Common.{◌≡◌, List, [], ◌∷◌, ◌++◌, length, 
 use Rattle.std.specs.Prelude.{IfSome, slice_get}
 use Rattle.std.proofs.lemmas.List.{length-append}
 use Rattle.smi_operator.specs.declared.ends.Seat.{Seat}
-use Rattle.smi_operator.specs.declared.ends.Post.{Post}
+use Rattle.smi_operator.specs.declared.ends.SeatEnd.{SeatEnd}
 use Rattle.smi_operator.specs.Sides.{AreSeats, IsFresh, IsSeatOf}
 
 -- one more seat stands with its post
-pub seats_push : (ss : List Seat) (ps : List Post) (s : Seat) (p : Post) → AreSeats ss ps → IsFresh s p
+pub seats_push : (ss : List Seat) (ps : List SeatEnd) (s : Seat) (p : SeatEnd) → AreSeats ss ps → IsFresh s p
     → AreSeats (ss ++ s ∷ []) (ps ++ p ∷ [])
 seats_push [] [] s p all new = (new, tt)
 seats_push [] (q ∷ ps) s p all new = absurd all
@@ -14,12 +14,12 @@ seats_push (t ∷ ss) [] s p all new = absurd all
 seats_push (t ∷ ss) (q ∷ ps) s p all new = (all.0, seats_push ss ps s p all.1 new)
 
 -- two seats that are taken from the back stand with the first two posts
-pub two_seats : (ss r : List Seat) (a b : Seat) (ps : List Post) → AreSeats ss ps → ss ≡ (r ++ a ∷ []) ++ b ∷ []
+pub two_seats : (ss r : List Seat) (a b : Seat) (ps : List SeatEnd) → AreSeats ss ps → ss ≡ (r ++ a ∷ []) ++ b ∷ []
     → length ss ≡ 2
     → IfSome (slice_get ps 0) (IsSeatOf a) × IfSome (slice_get ps 1) (IsSeatOf b)
 two_seats ss [] a b ps all is two = both ps (subst (λ l. AreSeats l ps) is all)
   where
-    both : (ps : List Post) → AreSeats (a ∷ b ∷ []) ps
+    both : (ps : List SeatEnd) → AreSeats (a ∷ b ∷ []) ps
         → IfSome (slice_get ps 0) (IsSeatOf a) × IfSome (slice_get ps 1) (IsSeatOf b)
     both [] all = absurd all
     both (p ∷ []) all = absurd all.1

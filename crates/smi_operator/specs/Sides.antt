@@ -8,8 +8,8 @@ use Rattle.smi_protocol.specs.declared.order.Mark.{Mark}
 use Rattle.smi_protocol.specs.declared.order.Order.{Order}
 use Rattle.smi_protocol.specs.declared.order.Told.{Told}
 use Rattle.smi_operator.specs.Working.{begun, ending, may_join, ended_at, newest_marked, handed_out, still_in_work}
-use Rattle.smi_operator.specs.declared.work.Entry.{Entry}
-use Rattle.smi_operator.specs.declared.ends.Post.{Post}
+use Rattle.smi_operator.specs.declared.work.WorkSlot.{WorkSlot}
+use Rattle.smi_operator.specs.declared.ends.SeatEnd.{SeatEnd}
 use Rattle.smi_operator.specs.declared.ends.Seat.{Seat}
 use Rattle.smi_operator.specs.declared.ends.Desk.{Desk}
 use Rattle.smi_operator.specs.declared.ends.Finished.{Finished}
@@ -30,44 +30,44 @@ SameSeat a b = SameProducer a.orders b.orders × SameConsumer a.answers b.answer
 -- The desk's end of a seat.
 
 -- the orders that it gave, and what it answered
-abbrev pub given : Post → List Order
+abbrev pub given : SeatEnd → List Order
 given p = received p.orders
 
-abbrev pub answered : Post → List Told
+abbrev pub answered : SeatEnd → List Told
 answered p = sent p.answers
 
 -- the orders in work, the oldest first
-abbrev pub work_of : Post → List Entry
+abbrev pub work_of : SeatEnd → List WorkSlot
 work_of p = p.work.items
 
 -- the orders that it has seen and not given
-abbrev pub left : Post → List Order
+abbrev pub left : SeatEnd → List Order
 left p = known_items p.orders
 
 -- how many answers have a place for certain
-abbrev pub room : Post → ℕ
+abbrev pub room : SeatEnd → ℕ
 room p = known_free p.answers
 
-abbrev pub SamePost : Post → Post → Type 0
+abbrev pub SamePost : SeatEnd → SeatEnd → Type 0
 SamePost a b = SameConsumer a.orders b.orders × SameProducer a.answers b.answers
 
 -- The desk.
 
 -- the desk's end of the seat with this number, from 0
-abbrev pub post_at : Desk → ℕ → Option Post
+abbrev pub post_at : Desk → ℕ → Option SeatEnd
 post_at d seat = slice_get d.posts.items seat
 
 abbrev pub seat_count : Desk → ℕ
 seat_count d = length d.posts.items
 
 -- one seat changes so, and the others not at all
-pub record Steps (old new : Desk) (seat : ℕ) (R : Post → Post → Type 0) : Type 0 where
+pub record Steps (old new : Desk) (seat : ℕ) (R : SeatEnd → SeatEnd → Type 0) : Type 0 where
   pub this : IfSome (post_at old seat) (λ a. IfSome (post_at new seat) (λ b. SamePost a b × R a b))
   pub others : (i : ℕ) → i ≢ seat → post_at new i ≡ post_at old i
   pub count : seat_count new ≡ seat_count old
 
 -- an order is given that may join those in work, or none; what else was seen is left, and no place is lost
-abbrev pub Gives : Option Order → Post → Post → Type 0
+abbrev pub Gives : Option Order → SeatEnd → SeatEnd → Type 0
 Gives (Some o) a b =
     (may_join (work_of a) o ≡ true) × (work_of b ≡ work_of a ++ begun o ∷ []) × (given b ≡ given a ++ o ∷ [])
     × (answered b ≡ answered a)
@@ -76,7 +76,7 @@ Gives None a b = (work_of b ≡ work_of a) × (given b ≡ given a) × (answered
     × IsPrefix (left a) (left b) × (room a ≤ room b)
 
 -- the order at this place ends, and what can be handed out is, each answer in a place of its own
-abbrev pub Answers : ℕ → ℕ → Option Standing → Post → Post → Type 0
+abbrev pub Answers : ℕ → ℕ → Option Standing → SeatEnd → SeatEnd → Type 0
 Answers place code asked a b =
     (work_of b ≡ still_in_work (ended_at (work_of a) place (ending code asked)))
     × (answered b ≡ answered a ++ handed_out (ended_at (work_of a) place (ending code asked)))
@@ -85,7 +85,7 @@ Answers place code asked a b =
     × (room b + length (handed_out (ended_at (work_of a) place (ending code asked))) ≡ room a)
 
 -- the newest order in work is marked
-abbrev pub Marks : Mark → Post → Post → Type 0
+abbrev pub Marks : Mark → SeatEnd → SeatEnd → Type 0
 Marks m a b =
     (work_of b ≡ newest_marked (work_of a) m) × (answered b ≡ answered a) × (given b ≡ given a) × (left b ≡ left a)
     × (room b ≡ room a)
@@ -93,11 +93,11 @@ Marks m a b =
 -- A seat that has ended.
 
 -- the seat and the post are the two ends of the same rings
-abbrev pub IsSeatOf : Seat → Post → Type 0
+abbrev pub IsSeatOf : Seat → SeatEnd → Type 0
 IsSeatOf s p = IsPair s.orders p.orders × IsPair p.answers s.answers
 
 -- the ended seat is that of this post
-abbrev pub IsFinishedAt : Finished → Post → Type 0
+abbrev pub IsFinishedAt : Finished → SeatEnd → Type 0
 IsFinishedAt f p = IsPair f.orders p.orders × IsPair p.answers f.answers
 
 -- the same at the desk: the seat, and the ended seat, is that with this number
@@ -108,7 +108,7 @@ abbrev pub IsEndedAt : Finished → Desk → ℕ → Type 0
 IsEndedAt f d i = IfSome (post_at d i) (IsFinishedAt f)
 
 -- it is the same desk, whatever it gave and answered since
-abbrev pub SamePosts : Option Post → Option Post → Type 0
+abbrev pub SamePosts : Option SeatEnd → Option SeatEnd → Type 0
 SamePosts (Some a) (Some b) = SamePost a b
 SamePosts None None = Unit {0}
 SamePosts _ _ = ⊥
@@ -127,13 +127,13 @@ Ends s f = (t : Seat) × SameSeat s t × Keeps t f
 
 -- what was given and what is left are all that was submitted; what the seat was told begins what was answered; and
 -- of the sixteen places those are free whose answers the seat was told
-pub record Met (f : Finished) (p : Post) : Type 0 where
+pub record Met (f : Finished) (p : SeatEnd) : Type 0 where
   pub orders : given p ++ left p ≡ sent f.orders
   pub answers : IsPrefix (received f.answers) (answered p)
   pub room : room p + length (answered p) ≡ 16 + length (received f.answers)
 
 -- the lists of both stay
-abbrev pub Stays : Finished → Finished → Post → Post → Type 0
+abbrev pub Stays : Finished → Finished → SeatEnd → SeatEnd → Type 0
 Stays f g p q =
     (given q ≡ given p) × (answered q ≡ answered p) × (work_of q ≡ work_of p) × (sent g.orders ≡ sent f.orders)
     × (received g.answers ≡ received f.answers)
@@ -141,12 +141,12 @@ Stays f g p q =
 -- Seats that were just opened.
 
 -- nothing was said yet
-abbrev pub IsFresh : Seat → Post → Type 0
+abbrev pub IsFresh : Seat → SeatEnd → Type 0
 IsFresh s p = IsSeatOf s p × (submitted s ≡ []) × (told_to s ≡ []) × (given p ≡ []) × (answered p ≡ [])
     × (work_of p ≡ [])
 
 -- each seat is that of the post with its number
-abbrev pub AreSeats : List Seat → List Post → Type 0
+abbrev pub AreSeats : List Seat → List SeatEnd → Type 0
 AreSeats [] [] = Unit {0}
 AreSeats [] (p ∷ ps) = ⊥
 AreSeats (s ∷ ss) [] = ⊥

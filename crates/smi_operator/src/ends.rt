@@ -4,7 +4,7 @@ ghost use Rattle.std.specs.Prelude.{◌≡◌, ◌+◌, ◌≤◌, ◌++◌, map
 ghost use Rattle.rtrb.specs.Ring.{sent, received, known_free, producer_capacity};
 ghost use Rattle.smi_operator.specs.Working.{most_work, order_told, order_in};
 
-use crate::work::{Entry, MOST_WORK};
+use crate::work::{MOST_WORK, WorkSlot};
 use arrayvec::ArrayVec;
 use rtrb::{Consumer, Producer};
 use smi_protocol::{Order, Told};
@@ -20,10 +20,10 @@ pub struct Seat {
 
 /// The station's end of one seat, and the seat's orders in work.
 #[derive(Drop)]
-pub struct Post {
+pub struct SeatEnd {
     pub(crate) orders: Consumer<Order>,
     pub(crate) answers: Producer<Told>,
-    pub(crate) work: ArrayVec<Entry, MOST_WORK>,
+    pub(crate) work: ArrayVec<WorkSlot, MOST_WORK>,
     // The orders of what was answered, and those in work, are those that were given.
     ghost in_order: { map order_told (sent answers) ++ map order_in work.items ≡ received orders },
     ghost size: { producer_capacity answers ≡ 16 },
@@ -35,7 +35,7 @@ pub struct Post {
 /// The desk of a station's seats, which have numbers from 0. Its calls take no memory and never wait.
 #[derive(Drop)]
 pub struct Desk {
-    pub(crate) posts: Vec<Post>,
+    pub(crate) posts: Vec<SeatEnd>,
 }
 
 /// A seat that has ended: it takes no more orders, and keeps both ends until it meets the desk.

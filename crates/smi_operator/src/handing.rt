@@ -4,20 +4,20 @@ ghost use Rattle.std.specs.Prelude.{◌≡◌, ◌≤◌, ◌+◌, ◌++◌, len
 ghost use Rattle.rtrb.specs.Ring.{sent, known_free, SameProducer};
 ghost use Rattle.smi_operator.specs.Working.{first_told, handed_out, still_in_work};
 
-use crate::work::{Entry, MOST_WORK};
+use crate::work::{MOST_WORK, WorkSlot};
 use arrayvec::ArrayVec;
 use rtrb::Producer;
 use smi_protocol::Told;
 
 /// The answer of the oldest order, where it has ended.
-fn first_told(work: &[Entry]) -> Option<Told>
+fn first_told(work: &[WorkSlot]) -> Option<Told>
     ensures { result ≡ first_told work.now }
 {
     work.first()?.told()
 }
 
 /// Hands out the answers of the oldest orders, up to one that has not ended.
-pub(crate) fn hand_out(work: &mut ArrayVec<Entry, MOST_WORK>, answers: &mut Producer<Told>)
+pub(crate) fn hand_out(work: &mut ArrayVec<WorkSlot, MOST_WORK>, answers: &mut Producer<Told>)
     requires { length work.old.items ≤ known_free answers.old }
     ensures ring { SameProducer answers.old answers.new }
     ensures sent { sent answers.new ≡ sent answers.old ++ handed_out work.old.items }

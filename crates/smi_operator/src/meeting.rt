@@ -3,7 +3,7 @@
 ghost use Rattle.std.specs.Prelude.{◌≡◌, ◌≤◌, IsTrue, IfOk, [], length};
 ghost use Rattle.smi_operator.specs.Sides.{IsFinishedAt, Met, Stays, SamePost, IsFresh, IsDeskOf, seat_count};
 
-use crate::ends::{Desk, Finished, Post, Seat};
+use crate::ends::{Desk, Finished, Seat, SeatEnd};
 use arrayvec::ArrayVec;
 use rtrb::RingBuffer;
 use std::alloc::{AllocError, Global};
@@ -11,7 +11,7 @@ use std::alloc::{AllocError, Global};
 /// How many orders wait for the desk, and how many answers for the seat.
 const RING: usize = 16;
 
-impl Post {
+impl SeatEnd {
     /// Compares the lists of a seat that has ended with those of its post.
     pub(crate) fn meet(&mut self, finished: &mut Finished) -> bool
         requires { IsFinishedAt finished.old self.old }
@@ -28,7 +28,7 @@ impl Post {
     }
 }
 
-fn open_seat(alloc: Global) -> Result<(Seat, Post), AllocError>
+fn open_seat(alloc: Global) -> Result<(Seat, SeatEnd), AllocError>
     ensures { IfOk result (λ opened. IsFresh opened.0 opened.1) }
 {
     let (asking, orders) = RingBuffer::new(alloc, RING)?;
@@ -37,7 +37,7 @@ fn open_seat(alloc: Global) -> Result<(Seat, Post), AllocError>
         orders: asking,
         answers,
     };
-    let post = Post {
+    let post = SeatEnd {
         orders,
         answers: telling,
         work: ArrayVec::new(),

@@ -7,13 +7,13 @@ ghost use Rattle.smi_operator.specs.Working.{IsPlaceOf, begun, ending, may_join,
 ghost use Rattle.smi_operator.specs.Working.{handed_out, still_in_work};
 ghost use Rattle.smi_operator.specs.Sides.{given, answered, left, room, SamePost};
 
-use crate::ends::Post;
+use crate::ends::SeatEnd;
 use crate::handing::hand_out;
-use crate::work::{Ending, Entry, Work, end_at, mark_newest, may_join, place_of};
+use crate::work::{Ending, Work, WorkSlot, end_at, mark_newest, may_join, place_of};
 use smi_grant::Record;
 use smi_protocol::{Mark, Order};
 
-impl Post {
+impl SeatEnd {
     /// Takes the next order into work, where it may join those that are and a place for its answer is free.
     pub(crate) fn next(&mut self) -> Option<Order>
         ensures ring { SamePost self.old self.new }
@@ -37,7 +37,7 @@ impl Post {
             return None;
         }
         let order = self.orders.pop_known();
-        self.work.push(Entry::begun(order));
+        self.work.push(WorkSlot::begun(order));
         Some(order)
     }
 

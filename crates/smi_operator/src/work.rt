@@ -27,39 +27,39 @@ pub(crate) struct Ending {
 
 /// An order in work, and how it ended where its answer waits for those of older orders.
 #[derive(Clone, Copy, Debug, PartialEq, Eq)]
-pub(crate) struct Entry {
+pub(crate) struct WorkSlot {
     pub(crate) work: Work,
     pub(crate) ending: Option<Ending>,
 }
 
 /// What stands where no order is in work.
-impl Default for Entry {
-    fn default() -> Entry {
-        Entry::begun(Order::Ask(0))
+impl Default for WorkSlot {
+    fn default() -> WorkSlot {
+        WorkSlot::begun(Order::Ask(0))
     }
 }
 
-impl Entry {
+impl WorkSlot {
     ghost use Rattle.std.specs.Prelude.{◌≡◌, option_map};
     ghost use Rattle.smi_operator.specs.Working.{begun, ended_by, marked_by, told_of};
 
     /// An order comes into work.
-    pub(crate) fn begun(order: Order) -> Entry
+    pub(crate) fn begun(order: Order) -> WorkSlot
         ensures { result ≡ begun order }
     {
-        Entry {
+        WorkSlot {
             work: Work { order, mark: None },
             ending: None,
         }
     }
 
     /// The order has ended. One that had ended before stays so.
-    pub(crate) fn ended_by(self, ending: Ending) -> Entry
+    pub(crate) fn ended_by(self, ending: Ending) -> WorkSlot
         ensures { result ≡ ended_by self ending }
     {
         match self.ending {
             Some(_) => self,
-            None => Entry {
+            None => WorkSlot {
                 work: self.work,
                 ending: Some(ending),
             },
@@ -67,10 +67,10 @@ impl Entry {
     }
 
     /// The order became this command.
-    pub(crate) fn marked_by(self, mark: Mark) -> Entry
+    pub(crate) fn marked_by(self, mark: Mark) -> WorkSlot
         ensures { result ≡ marked_by self mark }
     {
-        Entry {
+        WorkSlot {
             work: Work {
                 order: self.work.order,
                 mark: Some(mark),
@@ -93,7 +93,7 @@ impl Entry {
 }
 
 /// The order at this place ends, unless it had.
-pub(crate) fn end_at(work: &mut [Entry], place: usize, ending: Ending)
+pub(crate) fn end_at(work: &mut [WorkSlot], place: usize, ending: Ending)
     requires { place < length work.old }
     ensures { work.new ≡ spec.ended_at work.old place ending }
 {
@@ -101,7 +101,7 @@ pub(crate) fn end_at(work: &mut [Entry], place: usize, ending: Ending)
 }
 
 /// The newest order became this command.
-pub(crate) fn mark_newest(work: &mut [Entry], mark: Mark)
+pub(crate) fn mark_newest(work: &mut [WorkSlot], mark: Mark)
     requires { 0 < length work.old }
     ensures { work.new ≡ spec.newest_marked work.old mark }
 {
@@ -126,7 +126,7 @@ fn commanded(order: Order) -> Option<u16>
 
 /// Whether an answer is of an order in work: that of an issued command is of the order that became the command, any
 /// other of an order that is the same.
-fn is_answered_by(entry: &Entry, order: Order, mark: Option<Mark>) -> bool
+fn is_answered_by(entry: &WorkSlot, order: Order, mark: Option<Mark>) -> bool
     ensures { Decides result (spec.IsAnsweredBy order mark entry.now.work) }
 {
     match mark {
@@ -138,7 +138,7 @@ fn is_answered_by(entry: &Entry, order: Order, mark: Option<Mark>) -> bool
 ghost use Rattle.std.specs.Bool.{Decides};
 
 /// Where the oldest order in work stands that an answer is of.
-pub(crate) fn place_of(work: &[Entry], order: Order, mark: Option<Mark>) -> Option<usize>
+pub(crate) fn place_of(work: &[WorkSlot], order: Order, mark: Option<Mark>) -> Option<usize>
     ensures { spec.IsPlaceOf order mark work.now result }
 {
     for (place, entry) in work.iter().enumerate() {
@@ -158,14 +158,14 @@ fn is_on(order: Order, domain: u16) -> bool
     }
 }
 
-fn are_on(work: &[Entry], domain: u16) -> bool
+fn are_on(work: &[WorkSlot], domain: u16) -> bool
     ensures { result ≡ list_all (λ e. spec.is_on domain e.work.order) work.now }
 {
     work.iter().all(|entry| is_on(entry.work.order, domain))
 }
 
 /// Whether a command on this domain may come into work beside these.
-fn is_further(domain: Option<u16>, work: &[Entry]) -> bool
+fn is_further(domain: Option<u16>, work: &[WorkSlot]) -> bool
     ensures value { result ≡ spec.is_further domain work.now }
     ensures room { IsTrue result → length work.now < spec.most_work }
 {
@@ -176,7 +176,7 @@ fn is_further(domain: Option<u16>, work: &[Entry]) -> bool
 }
 
 /// Whether an order may come into work beside these.
-pub(crate) fn may_join(work: &[Entry], order: Order) -> bool
+pub(crate) fn may_join(work: &[WorkSlot], order: Order) -> bool
     ensures value { result ≡ spec.may_join work.now order }
     ensures room { IsTrue result → length work.now < spec.most_work }
 {

@@ -8,7 +8,7 @@ pub const MARK_BYTES: usize = 34;
 
 /// The number of a tree, and the digest of what its file says.
 #[derive(Clone, Copy, Debug, PartialEq, Eq)]
-pub struct Mark {
+pub struct TreeMark {
     pub number: u16,
     pub digest: [u8; 32],
 }
@@ -24,7 +24,7 @@ pub enum Kinship {
     Other,
 }
 
-impl Mark {
+impl TreeMark {
     ghost use Rattle.std.specs.Prelude.{◌≡◌, ◌≢◌, length, IfSome, None};
     ghost use Rattle.smi_origin.specs.Mark.{mark_bytes};
 
@@ -39,7 +39,7 @@ impl Mark {
     }
 
     /// The mark of these bytes; none where they are not as many as a mark has.
-    pub fn of(bytes: &[u8]) -> Option<Mark>
+    pub fn of(bytes: &[u8]) -> Option<TreeMark>
         ensures found { IfSome result (λ mark. bytes.now ≡ mark_bytes mark) }
         ensures none { result ≡ None → length bytes.now ≢ MARK_BYTES }
     {
@@ -49,7 +49,7 @@ impl Mark {
         let (number, rest) = bytes.split_at(2);
         let mut digest = [0; 32];
         digest.copy_from_slice(rest);
-        Some(Mark {
+        Some(TreeMark {
             number: u16::from_be_bytes([number[0], number[1]]),
             digest,
         })
@@ -57,7 +57,7 @@ impl Mark {
 }
 
 /// How the tree of one mark compares with that of another.
-pub fn compare(own: &Mark, other: &Mark) -> Kinship
+pub fn compare(own: &TreeMark, other: &TreeMark) -> Kinship
     ensures { result ≡ kin own.now other.now }
 {
     if own.number != other.number {

@@ -1,7 +1,7 @@
 //! Three stations for each of the tree, and the world beside them.
 
 use crate::left::{are_left, are_so};
-use crate::side::{Made, Post, act, add, rows_of};
+use crate::side::{Made, PlayedStation, act, add, rows_of};
 use crate::store::Played;
 use crate::turn::{Turn, turn_of};
 use smi_message::encode;
@@ -13,17 +13,17 @@ use smi_tree::Tree;
 use smi_world::{Left, World};
 use std::alloc::{AllocError, Global};
 
-type InMemory<'a> = Post<'a, MemoryStable>;
+type InMemory<'a> = PlayedStation<'a, MemoryStable>;
 
-type Planned<'a> = Post<'a, PlannedStable<MemoryStable>>;
+type OverPlanned<'a> = PlayedStation<'a, PlannedStable<MemoryStable>>;
 
 /// The stations over each of the three stores, by number. The one over SQL is any, since each function that names the
 /// store of SQLite is dear to prove.
 #[derive(Drop)]
-struct Sides<'a, Q: Played + Drop> {
+struct ThreeStores<'a, Q: Played + Drop> {
     memory: Vec<InMemory<'a>>,
-    planned: Vec<Planned<'a>>,
-    sql: Vec<Post<'a, Q>>,
+    planned: Vec<OverPlanned<'a>>,
+    sql: Vec<PlayedStation<'a, Q>>,
 }
 
 /// What is used anew for each item.
@@ -41,14 +41,18 @@ fn add_three<'a, Q: Played + Drop>(
     alloc: Global,
     tree: &'a Tree,
     number: u16,
-    sides: &mut Sides<'a, Q>,
+    sides: &mut ThreeStores<'a, Q>,
 ) -> bool {
     add(alloc, tree, number, &mut sides.memory)
         && add(alloc, tree, number, &mut sides.planned)
         && add(alloc, tree, number, &mut sides.sql)
 }
 
-fn add_all<'a, Q: Played + Drop>(alloc: Global, tree: &'a Tree, sides: &mut Sides<'a, Q>) -> bool {
+fn add_all<'a, Q: Played + Drop>(
+    alloc: Global,
+    tree: &'a Tree,
+    sides: &mut ThreeStores<'a, Q>,
+) -> bool {
     for number in 0..tree.station_count() {
         if !add_three(alloc, tree, number.wrapping_add(1), sides) {
             return false;
@@ -66,7 +70,7 @@ fn are_kept(one: Option<Vec<SavedRow>>, other: Option<Vec<SavedRow>>) -> bool {
 }
 
 /// Whether the station tells of itself what the lines say; one that has stopped does not know how its row stands.
-fn is_told<S: Played + Drop>(post: &Post<'_, S>, made: Made, lines: &[Line]) -> bool {
+fn is_told<S: Played + Drop>(post: &PlayedStation<'_, S>, made: Made, lines: &[Line]) -> bool {
     made == Made::Heard(Err(StepFault::Stopped)) || are_so(&post.station, lines)
 }
 
@@ -74,12 +78,12 @@ fn is_told<S: Played + Drop>(post: &Post<'_, S>, made: Made, lines: &[Line]) -> 
 #[derive(Drop)]
 struct Three<'a, 'b, Q: Played + Drop> {
     memory: &'b mut InMemory<'a>,
-    planned: &'b mut Planned<'a>,
-    sql: &'b mut Post<'a, Q>,
+    planned: &'b mut OverPlanned<'a>,
+    sql: &'b mut PlayedStation<'a, Q>,
 }
 
 fn posts_at<'a, 'b, Q: Played + Drop>(
-    sides: &'b mut Sides<'a, Q>,
+    sides: &'b mut ThreeStores<'a, Q>,
     number: u16,
 ) -> Option<Three<'a, 'b, Q>> {
     let place = usize::from(number).wrapping_sub(1);
@@ -122,7 +126,7 @@ fn make<Q: Played + Drop>(
 fn turns<Q: Played + Drop>(
     alloc: Global,
     tree: &Tree,
-    sides: &mut Sides<'_, Q>,
+    sides: &mut ThreeStores<'_, Q>,
     sent: &[[u8; 44]],
     item: &Item,
     sheets: &mut Sheets,
@@ -162,7 +166,7 @@ fn are_made<Q: Played + Drop>(
     alloc: Global,
     tree: &Tree,
     world: &mut World<'_>,
-    sides: &mut Sides<'_, Q>,
+    sides: &mut ThreeStores<'_, Q>,
     items: &[Item],
     sheets: &mut Sheets,
 ) -> Result<bool, AllocError> {
@@ -182,7 +186,7 @@ fn with_sides<'a, Q: Played + Drop>(
     alloc: Global,
     tree: &'a Tree,
     world: &mut World<'_>,
-    sides: &mut Sides<'a, Q>,
+    sides: &mut ThreeStores<'a, Q>,
     items: &[Item],
 ) -> Result<bool, AllocError> {
     if !add_all(alloc, tree, sides) {
@@ -205,7 +209,7 @@ fn with_world<Q: Played + Drop>(
     world: &mut World<'_>,
     items: &[Item],
 ) -> Result<bool, AllocError> {
-    let mut sides: Sides<'_, Q> = Sides {
+    let mut sides: ThreeStores<'_, Q> = ThreeStores {
         memory: Vec::new(alloc),
         planned: Vec::new(alloc),
         sql: Vec::new(alloc),

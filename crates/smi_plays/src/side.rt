@@ -3,7 +3,7 @@
 ghost use Rattle.std.specs.Prelude.{◌≡◌};
 
 use crate::store::Played;
-use crate::turn::{Doing, Turn};
+use crate::turn::{StationTurn, Turn};
 use smi_out::Out;
 use smi_protocol::{Answer, Event, Heard, StepFault, Told};
 use smi_rows::{Plan, SavedRow};
@@ -13,7 +13,7 @@ use std::alloc::Global;
 
 /// A station.
 #[derive(Drop)]
-pub(crate) struct Post<'a, S: Played + Drop> {
+pub(crate) struct PlayedStation<'a, S: Played + Drop> {
     pub station: Station<'a, S>,
     /// Whether a save that failed by hand has stopped it.
     is_out: bool,
@@ -38,14 +38,14 @@ pub(crate) fn add<'a, S: Played + Drop>(
     alloc: Global,
     tree: &'a Tree,
     number: u16,
-    posts: &mut Vec<Post<'a, S>>,
+    posts: &mut Vec<PlayedStation<'a, S>>,
 ) -> bool {
     let Ok(store) = S::empty(alloc) else {
         return false;
     };
     match Station::open(alloc, tree, number, store) {
         Ok(station) => posts
-            .push(Post {
+            .push(PlayedStation {
                 station,
                 is_out: false,
             })
@@ -56,7 +56,7 @@ pub(crate) fn add<'a, S: Played + Drop>(
 
 /// The event comes to a station.
 fn come<S: Played + Drop>(
-    post: &mut Post<'_, S>,
+    post: &mut PlayedStation<'_, S>,
     event: Event<'_>,
     out: &mut Out,
 ) -> Result<Heard, StepFault> {
@@ -89,7 +89,7 @@ fn tell_not_stored(event: Event<'_>, out: &mut Out) {
 /// The save of the step fails so over a store that never fails: what the station would save is what it does not, or
 /// what it does before it stops.
 fn fail_by_hand<S: Played + Drop>(
-    post: &mut Post<'_, S>,
+    post: &mut PlayedStation<'_, S>,
     how: Plan,
     event: Event<'_>,
     out: &mut Out,
@@ -112,7 +112,7 @@ fn fail_by_hand<S: Played + Drop>(
 
 /// The event comes, and the save of its step fails so.
 fn fail<S: Played + Drop>(
-    post: &mut Post<'_, S>,
+    post: &mut PlayedStation<'_, S>,
     how: Plan,
     event: Event<'_>,
     out: &mut Out,
@@ -132,15 +132,15 @@ fn fail<S: Played + Drop>(
 /// What a turn makes of a station; what it hands out is in `out` then.
 pub(crate) fn act<S: Played + Drop>(
     alloc: Global,
-    post: &mut Post<'_, S>,
+    post: &mut PlayedStation<'_, S>,
     turn: &Turn<'_>,
     out: &mut Out,
 ) -> Made {
     let before = match turn.doing {
-        Doing::Come => return Made::Heard(come(post, turn.event, out)),
-        Doing::Fail(how) => return Made::Heard(fail(post, how, turn.event, out)),
-        Doing::StopAfter => Some(come(post, turn.event, out)),
-        Doing::Start => None,
+        StationTurn::Come => return Made::Heard(come(post, turn.event, out)),
+        StationTurn::Fail(how) => return Made::Heard(fail(post, how, turn.event, out)),
+        StationTurn::StopAfter => Some(come(post, turn.event, out)),
+        StationTurn::Start => None,
     };
     out.clear();
     post.is_out = false;
@@ -151,6 +151,6 @@ pub(crate) fn act<S: Played + Drop>(
 }
 
 /// The rows of a station's store.
-pub(crate) fn rows_of<S: Played + Drop>(post: &mut Post<'_, S>) -> Option<Vec<SavedRow>> {
+pub(crate) fn rows_of<S: Played + Drop>(post: &mut PlayedStation<'_, S>) -> Option<Vec<SavedRow>> {
     post.station.stable_mut().load().ok()
 }

@@ -6,7 +6,7 @@ use smi_tree::Tree;
 
 /// What is made of a station.
 #[derive(Clone, Copy)]
-pub(crate) enum Doing {
+pub(crate) enum StationTurn {
     /// The event comes.
     Come,
     /// The event comes, and the save of its step fails so.
@@ -21,7 +21,7 @@ pub(crate) enum Doing {
 #[derive(Clone, Copy)]
 pub(crate) struct Turn<'a> {
     pub station: u16,
-    pub doing: Doing,
+    pub doing: StationTurn,
     pub event: Event<'a>,
 }
 
@@ -71,13 +71,13 @@ fn coming<'a>(tree: &Tree, sent: &'a [[u8; 44]], deed: &Deed) -> Option<(u16, Ev
 fn started<'a>(station: u16) -> Turn<'a> {
     Turn {
         station,
-        doing: Doing::Start,
+        doing: StationTurn::Start,
         event: Event::Tick,
     }
 }
 
 /// What comes to this station, and what is then made of it.
-fn at<'a>(station: u16, doing: Doing, coming: Option<(u16, Event<'a>)>) -> Option<Turn<'a>> {
+fn at<'a>(station: u16, doing: StationTurn, coming: Option<(u16, Event<'a>)>) -> Option<Turn<'a>> {
     match coming {
         Some((there, event)) if there == station => Some(Turn {
             station,
@@ -95,18 +95,18 @@ pub(crate) fn turn_of<'a>(tree: &Tree, sent: &'a [[u8; 44]], item: &Item) -> Opt
             let (station, event) = coming(tree, sent, deed)?;
             Some(Turn {
                 station,
-                doing: Doing::Come,
+                doing: StationTurn::Come,
                 event,
             })
         }
         Item::Restart(station) => Some(started(*station)),
         Item::Stop(station, Moment::Before, _) => Some(started(*station)),
         Item::Stop(station, Moment::After, deed) => {
-            let turn = at(*station, Doing::StopAfter, coming(tree, sent, deed));
+            let turn = at(*station, StationTurn::StopAfter, coming(tree, sent, deed));
             Some(turn.unwrap_or(started(*station)))
         }
         Item::Fail(station, how, deed) => {
-            at(*station, Doing::Fail(*how), coming(tree, sent, deed))
+            at(*station, StationTurn::Fail(*how), coming(tree, sent, deed))
         }
     }
 }

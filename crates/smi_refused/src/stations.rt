@@ -17,7 +17,7 @@ use smi_station::Station;
 use smi_tree::Tree;
 use std::alloc::Global;
 
-type Kept<'a> = Station<'a, MemoryStable>;
+type TriedStation<'a> = Station<'a, MemoryStable>;
 
 // Station 2, in its first boot, watches object 1, the unit of DCS.
 const WATCH: [u8; 44] = [
@@ -27,7 +27,7 @@ const WATCH: [u8; 44] = [
 
 /// What comes to the stations.
 #[derive(Clone, Copy)]
-enum Input {
+enum StationInput {
     /// The watch above, of this object and with this boot.
     Watch(u8, u8),
     Order(u16, Order),
@@ -38,25 +38,25 @@ enum Input {
 }
 
 /// What comes one after the other, and what is heard then.
-fn inputs() -> [(Input, Heard); 11] {
+fn inputs() -> [(StationInput, Heard); 11] {
     [
-        (Input::Watch(1, 1), Heard::Same),
-        (Input::Watch(3, 1), Heard::Same),
-        (Input::Report(1, 1), Heard::Same),
-        (Input::Watch(3, 2), Heard::Same),
-        (Input::Order(1, Order::Take(1)), Heard::Done),
-        (Input::Deliver, Heard::Done),
-        (Input::Deliver, Heard::Done),
-        (Input::Order(1, Order::Include(1, 2)), Heard::Done),
-        (Input::Deliver, Heard::Done),
-        (Input::Order(1, Order::Watch(2)), Heard::Same),
-        (Input::Tick, Heard::Same),
+        (StationInput::Watch(1, 1), Heard::Same),
+        (StationInput::Watch(3, 1), Heard::Same),
+        (StationInput::Report(1, 1), Heard::Same),
+        (StationInput::Watch(3, 2), Heard::Same),
+        (StationInput::Order(1, Order::Take(1)), Heard::Done),
+        (StationInput::Deliver, Heard::Done),
+        (StationInput::Deliver, Heard::Done),
+        (StationInput::Order(1, Order::Include(1, 2)), Heard::Done),
+        (StationInput::Deliver, Heard::Done),
+        (StationInput::Order(1, Order::Watch(2)), Heard::Same),
+        (StationInput::Tick, Heard::Same),
     ]
 }
 
 /// What a station tells of itself.
 #[derive(Clone, Copy, PartialEq, Eq)]
-struct Standing {
+struct StationAccount {
     boot: u32,
     is_stopped: bool,
     record: Option<Record>,
@@ -66,8 +66,8 @@ struct Standing {
     device: Option<Shown>,
 }
 
-fn told(station: &Kept<'_>) -> Standing {
-    Standing {
+fn told(station: &TriedStation<'_>) -> StationAccount {
+    StationAccount {
         boot: station.boot(),
         is_stopped: station.is_stopped(),
         record: station.record(1),
@@ -83,13 +83,13 @@ fn has_nothing(out: &Out) -> bool {
 }
 
 /// Whether a station and its rows are as before.
-fn is_as_before(station: &mut Kept<'_>, before: Standing, rows: &[SavedRow]) -> bool {
+fn is_as_before(station: &mut TriedStation<'_>, before: StationAccount, rows: &[SavedRow]) -> bool {
     told(station) == before
         && rows_of(station.stable_mut()).is_ok_and(|found| are_same(rows, &found.0))
 }
 
 /// A step, and the same again where it was refused an allocation.
-fn step(station: &mut Kept<'_>, event: Event<'_>, heard: Heard, out: &mut Out) -> Outcome {
+fn step(station: &mut TriedStation<'_>, event: Event<'_>, heard: Heard, out: &mut Out) -> Outcome {
     let before = told(station);
     let Ok((rows, listed)) = rows_of(station.stable_mut()) else {
         return Outcome::Changed;
@@ -105,28 +105,38 @@ fn step(station: &mut Kept<'_>, event: Event<'_>, heard: Heard, out: &mut Out) -
 }
 
 fn come(
-    station: &mut Kept<'_>,
-    input: Input,
+    station: &mut TriedStation<'_>,
+    input: StationInput,
     heard: Heard,
     last: &[u8; 44],
     out: &mut Out,
 ) -> Outcome {
     match input {
-        Input::Watch(object, boot) => {
+        StationInput::Watch(object, boot) => {
             let mut bytes = WATCH;
             bytes[9] = object;
             bytes[35] = boot;
             step(station, Event::Datagram(&bytes), heard, out)
         }
-        Input::Order(operator, order) => step(station, Event::Order(operator, order), heard, out),
-        Input::Report(device, state) => step(station, Event::Report(device, state), heard, out),
-        Input::Deliver => step(station, Event::Datagram(last), heard, out),
-        Input::Tick => step(station, Event::Tick, heard, out),
+        StationInput::Order(operator, order) => step(
+            station,
+            Event::Order(operator, order),
+            heard,
+            out,
+        ),
+        StationInput::Report(device, state) => step(
+            station,
+            Event::Report(device, state),
+            heard,
+            out,
+        ),
+        StationInput::Deliver => step(station, Event::Datagram(last), heard, out),
+        StationInput::Tick => step(station, Event::Tick, heard, out),
     }
 }
 
 /// Whether two stations tell the same of themselves, and have the same rows.
-fn are_alike(one: &mut Kept<'_>, other: &mut Kept<'_>) -> Outcome {
+fn are_alike(one: &mut TriedStation<'_>, other: &mut TriedStation<'_>) -> Outcome {
     match (rows_of(one.stable_mut()), rows_of(other.stable_mut())) {
         (Ok((a, first)), Ok((b, second))) => {
             let is_so = are_same(&a, &b) && told(one) == told(other);
@@ -137,7 +147,7 @@ fn are_alike(one: &mut Kept<'_>, other: &mut Kept<'_>) -> Outcome {
 }
 
 /// Both stations go through all inputs.
-fn go_through(one: &mut Kept<'_>, other: &mut Kept<'_>) -> Outcome {
+fn go_through(one: &mut TriedStation<'_>, other: &mut TriedStation<'_>) -> Outcome {
     let (mut first, mut second) = (Out::new(), Out::new());
     let mut last = WATCH;
     let mut outcome = are_alike(one, other);
@@ -168,7 +178,7 @@ fn opened<'a>(
     alloc: Global,
     tree: &'a Tree,
     store: MemoryStable,
-) -> Result<(Kept<'a>, Outcome), MemoryStable> {
+) -> Result<(TriedStation<'a>, Outcome), MemoryStable> {
     match Station::open(alloc, tree, 1, store) {
         Ok(station) => Ok((station, Outcome::Whole)),
         Err((OpenFault::Memory, store)) => again(alloc, tree, store),
@@ -186,7 +196,7 @@ fn again<'a>(
     alloc: Global,
     tree: &'a Tree,
     store: MemoryStable,
-) -> Result<(Kept<'a>, Outcome), MemoryStable> {
+) -> Result<(TriedStation<'a>, Outcome), MemoryStable> {
     let mut store = store;
     let is_kept = rows_of(&mut store).is_ok_and(|rows| has_boot(&rows.0));
     match Station::open(alloc, tree, 1, store) {
@@ -196,7 +206,7 @@ fn again<'a>(
 }
 
 /// What is seen of the second station, which is to open, beside the first.
-fn with_second(alloc: Global, tree: &Tree, one: &mut Kept<'_>) -> Outcome {
+fn with_second(alloc: Global, tree: &Tree, one: &mut TriedStation<'_>) -> Outcome {
     let mut store = MemoryStable::new(alloc);
     let saved = save(&mut store);
     match opened(alloc, tree, store) {

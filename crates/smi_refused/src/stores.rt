@@ -12,7 +12,7 @@ use std::alloc::Global;
 use std::io;
 
 /// A row under its key.
-type Saved = (Key, &'static [u8]);
+type KeyedRow = (Key, &'static [u8]);
 
 // The domain is free again.
 const FREED: &[u8] = &[
@@ -20,7 +20,7 @@ const FREED: &[u8] = &[
 ];
 
 /// What is saved, in this order: two rows, one of them twice.
-fn saves() -> [Saved; 3] {
+fn saves() -> [KeyedRow; 3] {
     [
         (key(1, 1, 0), TAKEN),
         (key(1, 0, 0), BOOT),
@@ -32,7 +32,7 @@ fn saves() -> [Saved; 3] {
 #[derive(Drop)]
 struct Unsure {
     before: Vec<SavedRow>,
-    saved: Saved,
+    saved: KeyedRow,
 }
 
 pub(crate) fn memory(alloc: Global) -> Outcome {
@@ -45,17 +45,17 @@ pub(crate) fn sql(alloc: Global) -> Outcome {
     over_sql::<OverSql<Memory>>(alloc)
 }
 
-type Disks = Files<Memory>;
+type MemoryFiles = Files<Memory>;
 
 // Over any store, as all below, since each function that names the store of SQLite is dear to prove.
-fn over_sql<S: OnDisks<Disks = Disks>>(alloc: Global) -> Outcome {
+fn over_sql<S: OnDisks<MemoryFiles = MemoryFiles>>(alloc: Global) -> Outcome {
     match opened::<S>(alloc) {
         Some((store, opened)) => opened.and(saves_over(alloc, store)),
         None => Outcome::Changed,
     }
 }
 
-fn saves_over<S: OnDisks<Disks = Disks>>(alloc: Global, store: S) -> Outcome {
+fn saves_over<S: OnDisks<MemoryFiles = MemoryFiles>>(alloc: Global, store: S) -> Outcome {
     let mut store = store;
     let seen = saved_all(&mut store);
     let disks = store.close();
@@ -75,7 +75,7 @@ fn saved_all<S: Stable>(store: &mut S) -> Result<Outcome, Unsure> {
 }
 
 /// A save, and the same again where it was refused its allocation.
-fn save<S: Stable>(store: &mut S, saved: Saved) -> Result<Outcome, Unsure> {
+fn save<S: Stable>(store: &mut S, saved: KeyedRow) -> Result<Outcome, Unsure> {
     let Ok((before, listed)) = rows_of(store) else {
         return Ok(Outcome::Changed);
     };
@@ -100,7 +100,7 @@ pub(crate) fn rows_of<S: Stable>(store: &mut S) -> Result<(Vec<SavedRow>, Outcom
     }
 }
 
-fn is_saved<S: Stable>(store: &mut S, before: &[SavedRow], saved: Saved) -> bool {
+fn is_saved<S: Stable>(store: &mut S, before: &[SavedRow], saved: KeyedRow) -> bool {
     rows_of(store).is_ok_and(|rows| are_as_saved(before, &rows.0, saved))
 }
 
@@ -110,7 +110,7 @@ fn has(rows: &[SavedRow], key: Key, bytes: &[u8]) -> bool {
 }
 
 /// Whether the rows are those from before, with the saved one in the place of the one under its key.
-fn are_as_saved(before: &[SavedRow], after: &[SavedRow], saved: Saved) -> bool {
+fn are_as_saved(before: &[SavedRow], after: &[SavedRow], saved: KeyedRow) -> bool {
     let others = before.iter().filter(|row| row.key != saved.0).count();
     has(after, saved.0, saved.1)
         && after.len() == others.saturating_add(1)
@@ -118,7 +118,7 @@ fn are_as_saved(before: &[SavedRow], after: &[SavedRow], saved: Saved) -> bool {
 }
 
 /// A store over empty disks, at the second try where the first was refused an allocation.
-fn opened<S: OnDisks<Disks = Disks>>(alloc: Global) -> Option<(S, Outcome)> {
+fn opened<S: OnDisks<MemoryFiles = MemoryFiles>>(alloc: Global) -> Option<(S, Outcome)> {
     let (disks, made) = blank(alloc)?;
     match S::open(alloc, disks) {
         Ok(store) => Some((store, made)),
@@ -129,7 +129,7 @@ fn opened<S: OnDisks<Disks = Disks>>(alloc: Global) -> Option<(S, Outcome)> {
     }
 }
 
-fn blank(alloc: Global) -> Option<(Disks, Outcome)> {
+fn blank(alloc: Global) -> Option<(MemoryFiles, Outcome)> {
     let (log, first) = disk_at_last(alloc)?;
     let (db, second) = disk_at_last(alloc)?;
     Some((Files { log, db }, first.and(second)))
@@ -164,7 +164,11 @@ const CALLS: u32 = 4096;
 
 /// A save may be unsure where its disk failed, and nowhere else. The next open finds its row as before or as
 /// saved, and the same save then succeeds.
-fn found_again<S: OnDisks<Disks = Disks>>(alloc: Global, unsure: Unsure, disks: Disks) -> Outcome {
+fn found_again<S: OnDisks<MemoryFiles = MemoryFiles>>(
+    alloc: Global,
+    unsure: Unsure,
+    disks: MemoryFiles,
+) -> Outcome {
     let has_failed = !disks.may_be_used();
     match S::open(alloc, back(disks)) {
         Ok(store) => {

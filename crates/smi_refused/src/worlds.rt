@@ -67,7 +67,7 @@ fn are_left(item: &Item, one: &[Line], other: &[Line], is_again: bool) -> bool {
 
 /// All lines so far, and those of the last item in two worlds.
 #[derive(Drop)]
-struct Sheets {
+struct WorldLines {
     left: Left,
     one: Vec<Line>,
     other: Vec<Line>,
@@ -89,7 +89,7 @@ fn both(
     one: &mut World<'_>,
     other: &mut World<'_>,
     item: &Item,
-    sheets: &mut Sheets,
+    sheets: &mut WorldLines,
 ) -> Outcome {
     let (first, is_again) = act(alloc, one, item, &mut sheets.left, &mut sheets.one);
     let (second, is_again_there) = act(alloc, other, item, &mut sheets.left, &mut sheets.other);
@@ -107,7 +107,7 @@ fn go_through(
     one: &mut World<'_>,
     other: &mut World<'_>,
     items: &[Item],
-    sheets: &mut Sheets,
+    sheets: &mut WorldLines,
 ) -> Outcome {
     let mut outcome = Outcome::Whole;
     for item in items {
@@ -140,7 +140,7 @@ fn runs(alloc: Global, tree: &Tree, items: &[Item], whole: &[Line]) -> Outcome {
 }
 
 fn in_both(alloc: Global, one: &mut World<'_>, other: &mut World<'_>, items: &[Item]) -> Outcome {
-    let mut sheets = Sheets {
+    let mut sheets = WorldLines {
         left: Left::new(),
         one: Vec::new(alloc),
         other: Vec::new(alloc),

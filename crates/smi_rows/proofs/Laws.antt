@@ -22,7 +22,7 @@ use Rattle.smi_tree.specs.Hierarchy.{Hierarchy}
 use Rattle.smi_rows.specs.declared.key.Key.{Key}
 use Rattle.smi_rows.specs.declared.key.RowKind.{RowKind}
 use Rattle.smi_rows.specs.declared.key.RowKind.TheVariants as kind
-use Rattle.smi_rows.specs.declared.fault.Fault.TheVariants as fault
+use Rattle.smi_rows.specs.declared.fault.RowFlaw.TheVariants as fault
 use Rattle.smi_rows.specs.declared.fault.RowFault.{RowFault}
 use Rattle.smi_rows.specs.declared.fault.RowFault.TheVariants.{Code}
 use Rattle.smi_rows.specs.declared.row.StoredLink.{StoredLink}

@@ -13,8 +13,8 @@ use Rattle.smi_tree.specs.Hierarchy.{Hierarchy}
 use Rattle.smi_rows.specs.declared.key.Key.{Key}
 use Rattle.smi_rows.specs.declared.key.RowKind.{RowKind}
 use Rattle.smi_rows.specs.declared.key.RowKind.TheVariants as kind
-use Rattle.smi_rows.specs.declared.fault.Fault.{Fault}
-use Rattle.smi_rows.specs.declared.fault.Fault.TheVariants as fault
+use Rattle.smi_rows.specs.declared.fault.RowFlaw.{RowFlaw}
+use Rattle.smi_rows.specs.declared.fault.RowFlaw.TheVariants as fault
 use Rattle.smi_rows.specs.declared.fault.RowFault.{RowFault}
 use Rattle.smi_rows.specs.declared.fault.RowFault.TheVariants.{Code, Memory}
 use Rattle.smi_rows.specs.declared.row.StoredLink.{StoredLink}
@@ -140,7 +140,7 @@ where_said s b r = if is_said s b r then Some r else None
 abbrev pub said_at : Schema → List ℕ → Option Row
 said_at s b = option_and_then (where_said s b) (row_at s.kind s b)
 
-abbrev pub refused : {X : Type 0} → Fault → Result X RowFault
+abbrev pub refused : {X : Type 0} → RowFlaw → Result X RowFault
 refused f = Err (Code (fault_code f))
 
 abbrev pub known_row : Hierarchy → Key → Option Row → Result Row RowFault

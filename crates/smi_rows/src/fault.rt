@@ -3,7 +3,7 @@ use thiserror::Error;
 
 /// What is wrong with a row: the first of these tests that it fails.
 #[derive(Clone, Copy, Debug, PartialEq, Eq, Error)]
-pub enum Fault {
+pub enum RowFlaw {
     /// It is empty, or has a byte too few or too many for what it says.
     #[error("1: too few bytes, or too many")]
     Length = 1,
@@ -19,7 +19,7 @@ pub enum Fault {
     Unknown,
 }
 
-impl Fault {
+impl RowFlaw {
     ghost use Rattle.std.specs.Prelude.{◌≡◌};
     ghost use Rattle.smi_rows.specs.Fault.{fault_code};
 
@@ -34,7 +34,7 @@ impl Fault {
 /// Why a row was not read.
 #[derive(Clone, Copy, Debug, PartialEq, Eq, Error)]
 pub enum RowFault {
-    /// The [code](Fault::code) of the first test that the row fails.
+    /// The [code](RowFlaw::code) of the first test that the row fails.
     #[error("a row has fault {0}")]
     Code(u16),
     /// Memory ran out.
@@ -42,14 +42,14 @@ pub enum RowFault {
     Memory,
 }
 
-impl From<Fault> for RowFault {
+impl From<RowFlaw> for RowFault {
     ghost use Rattle.std.specs.Prelude.{◌≡◌};
     ghost use Rattle.smi_rows.specs.declared.fault.RowFault.TheVariants as row_fault;
     ghost use Rattle.smi_rows.specs.Fault.{fault_code};
 
     ghost from_gives = { λ fault row. row ≡ row_fault.Code (fault_code fault) };
 
-    fn from(fault: Fault) -> RowFault {
+    fn from(fault: RowFlaw) -> RowFault {
         RowFault::Code(fault.code())
     }
 }

@@ -26,7 +26,7 @@ mod saved;
 mod schema;
 mod stable;
 
-pub use fault::{Fault, RowFault};
+pub use fault::{RowFault, RowFlaw};
 pub use key::{Key, RowKind};
 pub use layout::{append_domain, append_operator, write_boot};
 pub use memory::MemoryStable;

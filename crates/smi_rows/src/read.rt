@@ -4,7 +4,7 @@ ghost use Rattle.std.specs.Prelude.{◌≡◌, ◌<◌, ◌^◌, true, length, I
 ghost use Rattle.smi_rows.specs.Reading as spec;
 ghost use Rattle.smi_rows.specs.Layout.{HasFewLinks};
 
-use crate::fault::{Fault, RowFault};
+use crate::fault::{RowFault, RowFlaw};
 use crate::key::{Key, RowKind};
 use crate::known::is_known;
 use crate::layout::row_in;
@@ -41,9 +41,9 @@ impl Row {
         ensures only { (row : Said) → IsRow tree.now key bytes.now row → Reads result (Ok row) }
         // It is unknown where it was written so, and the tree lacks something that it names.
         ensures unknown { (row : Said) → IsWritten key bytes.now row → is_known tree.now key row ≡ false
-            → Reads result (refused Fault.Unknown) }
+            → Reads result (refused RowFlaw.Unknown) }
         // It is out of range only where it is written as no row is.
-        ensures out_of_range { result ≡ refused Fault.Range → (row : Said) → IsWritten key bytes.now row → ⊥ }
+        ensures out_of_range { result ≡ refused RowFlaw.Range → (row : Said) → IsWritten key bytes.now row → ⊥ }
         // The first test that fails.
         ensures exact { Reads result (row_of tree.now key bytes.now) }
     {
@@ -54,17 +54,17 @@ impl Row {
 fn tested(alloc: Global, tree: &Tree, key: Key, bytes: &[u8]) -> Result<Row, RowFault>
     ensures { spec.Reads result (spec.row_of tree.now key bytes.now) }
 {
-    let kind = key.kind().ok_or(Fault::Unknown)?;
+    let kind = key.kind().ok_or(RowFlaw::Unknown)?;
     if bytes.is_empty() {
-        return Err(RowFault::from(Fault::Length));
+        return Err(RowFault::from(RowFlaw::Length));
     }
-    let schema = Schema::of(kind, bytes[0]).ok_or(Fault::Schema)?;
+    let schema = Schema::of(kind, bytes[0]).ok_or(RowFlaw::Schema)?;
     if !has_length(schema, bytes) {
-        return Err(RowFault::from(Fault::Length));
+        return Err(RowFault::from(RowFlaw::Length));
     }
     let row = said_at(alloc, schema, bytes)?;
     if !is_known(tree, key, &row) {
-        return Err(RowFault::from(Fault::Unknown));
+        return Err(RowFault::from(RowFlaw::Unknown));
     }
     Ok(row)
 }
@@ -98,11 +98,11 @@ fn said_at(alloc: Global, schema: Schema, bytes: &[u8]) -> Result<Row, RowFault>
 {
     let row = row_at(alloc, schema, bytes)?;
     if !is_row_in(schema, &row) {
-        return Err(RowFault::from(Fault::Range));
+        return Err(RowFault::from(RowFlaw::Range));
     }
     let written = row_in(alloc, schema.number, &row)?;
     if written.as_slice() != bytes {
-        return Err(RowFault::from(Fault::Range));
+        return Err(RowFault::from(RowFlaw::Range));
     }
     Ok(row)
 }
@@ -132,7 +132,7 @@ fn domain_at(alloc: Global, schema: Schema, bytes: &[u8]) -> Result<DomainRow, R
     ensures few { IfOk result (λ domain. length domain.links < 2 ^ 16) }
     ensures domain { spec.Gives (λ domain. domain) (spec.domain_at schema bytes.now) result }
 {
-    let standing = standing_at(bytes).ok_or(Fault::Range)?;
+    let standing = standing_at(bytes).ok_or(RowFlaw::Range)?;
     let count = u16_at(bytes, 22);
     let links = links_at(alloc, schema, count, &bytes[DOMAIN_FRONT..])?;
     Ok(DomainRow {
@@ -157,7 +157,7 @@ fn links_at(
     for i in 0..count {
         match link_at(schema, rest) {
             Some(stored) => links.extend_from_slice(&[stored])?,
-            None => return Err(RowFault::from(Fault::Range)),
+            None => return Err(RowFault::from(RowFlaw::Range)),
         }
         rest = &rest[size_at(schema, rest)..];
     }

@@ -23,7 +23,7 @@ const READS: usize = 8;
 
 /// Where a node listens for consoles.
 #[derive(Drop)]
-pub enum Place {
+pub enum ConsoleAddress {
     /// A Unix socket at this path.
     Path(String),
     /// TCP at this address.
@@ -32,39 +32,44 @@ pub enum Place {
 
 /// A connection, which may only be on its way.
 #[derive(Drop)]
-enum Stream {
+enum ConsoleStream {
     Unix(UnixStream),
     Tcp(TcpStream),
 }
 
-impl Stream {
+impl ConsoleStream {
     /// Begins to connect, and does not wait for it.
-    fn connect<R: Net>(rt: &R, place: &Place) -> io::Result<Stream> {
+    fn connect<R: Net>(rt: &R, place: &ConsoleAddress) -> io::Result<ConsoleStream> {
         match place {
-            Place::Path(path) => Ok(Stream::Unix(UnixStream::connect(rt, path.as_str())?)),
-            Place::Address(address) => Ok(Stream::Tcp(TcpStream::connect(rt, *address)?)),
+            ConsoleAddress::Path(path) => Ok(ConsoleStream::Unix(UnixStream::connect(
+                rt,
+                path.as_str(),
+            )?)),
+            ConsoleAddress::Address(address) => Ok(ConsoleStream::Tcp(TcpStream::connect(
+                rt, *address,
+            )?)),
         }
     }
 
     /// Whether it is made.
     fn is_made(&self) -> bool {
         match self {
-            Stream::Unix(stream) => stream.peer_addr().is_ok(),
-            Stream::Tcp(stream) => stream.peer_addr().is_ok(),
+            ConsoleStream::Unix(stream) => stream.peer_addr().is_ok(),
+            ConsoleStream::Tcp(stream) => stream.peer_addr().is_ok(),
         }
     }
 
     fn read(&mut self, buffer: &mut [u8]) -> io::Result<usize> {
         match self {
-            Stream::Unix(stream) => stream.read(buffer),
-            Stream::Tcp(stream) => stream.read(buffer),
+            ConsoleStream::Unix(stream) => stream.read(buffer),
+            ConsoleStream::Tcp(stream) => stream.read(buffer),
         }
     }
 
     fn write(&mut self, bytes: &[u8]) -> io::Result<usize> {
         match self {
-            Stream::Unix(stream) => stream.write(bytes),
-            Stream::Tcp(stream) => stream.write(bytes),
+            ConsoleStream::Unix(stream) => stream.write(bytes),
+            ConsoleStream::Tcp(stream) => stream.write(bytes),
         }
     }
 }
@@ -78,8 +83,8 @@ enum Standing {
 
 /// A connection with a console, and the line that it is saying.
 #[derive(Drop)]
-struct Line {
-    stream: Stream,
+struct Connected {
+    stream: ConsoleStream,
     cutter: Cutter,
     /// Since when it is there or on its way.
     since: u64,
@@ -87,10 +92,10 @@ struct Line {
 
 /// The console of a node, and the connection with it, if there is one.
 #[derive(Drop)]
-pub struct Console {
+pub struct NodeConsole {
     alloc: Global,
-    place: Place,
-    line: Option<Line>,
+    place: ConsoleAddress,
+    line: Option<Connected>,
     /// When a connection is tried for again.
     next_try: u64,
 }
@@ -109,7 +114,7 @@ fn after_fault(error: io::Error) -> Standing {
     }
 }
 
-impl Line {
+impl Connected {
     /// The lines that have come are heard.
     fn hear(&mut self, relay: &mut Relay, now: u64) -> Result<(), AllocError> {
         for _ in 0..LINES {
@@ -171,10 +176,10 @@ impl Line {
     }
 }
 
-impl Console {
+impl NodeConsole {
     /// A console with which there is no connection yet.
-    pub fn new(alloc: Global, place: Place) -> Console {
-        Console {
+    pub fn new(alloc: Global, place: ConsoleAddress) -> NodeConsole {
+        NodeConsole {
             alloc,
             place,
             line: None,
@@ -188,8 +193,8 @@ impl Console {
             return;
         }
         self.next_try = now.saturating_add(BETWEEN_TRIES);
-        if let Ok(stream) = Stream::connect(rt, &self.place) {
-            self.line = Some(Line {
+        if let Ok(stream) = ConsoleStream::connect(rt, &self.place) {
+            self.line = Some(Connected {
                 stream,
                 cutter: Cutter::new(self.alloc),
                 since: now,

@@ -1,6 +1,6 @@
 //! What a screen has for its guests: the window, the gate, and the console for the orders of its page.
 
-use crate::console::Console;
+use crate::console::NodeConsole;
 use crate::gate::Gate;
 use smi_picture::Picture;
 use smi_tree::Tree;
@@ -22,7 +22,7 @@ pub(crate) struct House {
     window: Window,
     gate: Gate,
     /// Where orders go that are given from the page, where they may be.
-    console: Option<Console>,
+    console: Option<NodeConsole>,
 }
 
 impl House {
@@ -31,7 +31,7 @@ impl House {
         alloc: Global,
         window: Window,
         gate: Gate,
-        console: Option<Console>,
+        console: Option<NodeConsole>,
     ) -> House {
         House {
             alloc,

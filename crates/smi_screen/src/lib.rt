@@ -6,9 +6,9 @@
 //! and there is neither a lock nor a second thread. What a page elsewhere could ask is nothing: [`hosts_of`] says
 //! which names of hosts are answered.
 //!
-//! Where a [`Console`] is named, orders may be given from the page: they wait in the window's relay (`smi_window`), and
-//! each turn sends what is to be sent of them over one connection, and hears what is said there, without waiting. The
-//! station of the screen orders nothing: the orders are those of operators of the node whose console it is.
+//! Where a [`NodeConsole`] is named, orders may be given from the page: they wait in the window's relay (`smi_window`),
+//! and each turn sends what is to be sent of them over one connection, and hears what is said there, without waiting.
+//! The station of the screen orders nothing: the orders are those of operators of the node whose console it is.
 //!
 //! The gate has a listener and its guests, at most `MOST_GUESTS` of them. At each turn of it whoever waits is let in,
 //! and each guest reads once, is answered, and writes once, over sockets that never wait. A guest has a time by which
@@ -26,8 +26,8 @@ mod post;
 mod running;
 mod stage;
 
-pub use console::{Console, Place};
+pub use console::{ConsoleAddress, NodeConsole};
 pub use gate::{Gate, MOST_GUESTS};
 pub use guest::Guest;
 pub use hosts::hosts_of;
-pub use running::{Ended, Giving, Plan, run};
+pub use running::{Ended, Giving, ScreenSetup, run};

@@ -27,7 +27,7 @@ const MOST_FAULTS: u32 = 100;
 
 /// What a screen works with, beside its station and its link.
 #[derive(Drop)]
-pub(crate) struct Post {
+pub(crate) struct ScreenServer {
     /// The operator in whose name it looks.
     operator: u16,
     start: Instant,
@@ -41,7 +41,7 @@ pub(crate) struct Post {
     house: Box<House>,
 }
 
-impl Post {
+impl ScreenServer {
     /// A post whose time begins at a moment, with its picture and its house.
     pub(crate) fn new(
         operator: u16,
@@ -49,8 +49,8 @@ impl Post {
         pace: Pace,
         picture: Picture,
         house: Box<House>,
-    ) -> Post {
-        Post {
+    ) -> ScreenServer {
+        ScreenServer {
             operator,
             start,
             now: 0,

@@ -1,9 +1,9 @@
 //! A screen begins, looks, and ends.
 
-use crate::console::Place;
+use crate::console::ConsoleAddress;
 use crate::gate::Gate;
 use crate::house::House;
-use crate::post::Post;
+use crate::post::ScreenServer;
 use crate::stage::{Stage, staged};
 use bytes::Bytes;
 use smi_link::UdpLink;
@@ -50,7 +50,7 @@ impl From<AllocError> for Ended {
 #[derive(Drop)]
 pub struct Giving {
     /// The console of the node of the operators who order.
-    pub console: Place,
+    pub console: ConsoleAddress,
     /// What the page has to show with each order.
     pub key: Bytes,
     /// The tree, once more: the window has it for its own.
@@ -59,7 +59,7 @@ pub struct Giving {
 
 /// What a screen is run with, beside its store.
 #[derive(Drop)]
-pub struct Plan {
+pub struct ScreenSetup {
     /// The number of its station, from 1.
     pub station: u16,
     /// Where each station is reached, by number.
@@ -85,7 +85,7 @@ fn refused(error: io::Error, other: Ended) -> Ended {
 }
 
 /// A gate at an address.
-fn gate_at<R: Net<Listener = TcpListener, Stream = TcpStream>>(
+fn gate_at<R: Net<Listener = TcpListener, ConsoleStream = TcpStream>>(
     rt: &R,
     alloc: Global,
     keys: RandomState,
@@ -98,11 +98,11 @@ fn gate_at<R: Net<Listener = TcpListener, Stream = TcpStream>>(
 }
 
 /// The picture of a screen, and its house once its gate is open.
-fn housed<R: Net<Listener = TcpListener, Stream = TcpStream> + AllocGlobal>(
+fn housed<R: Net<Listener = TcpListener, ConsoleStream = TcpStream> + AllocGlobal>(
     rt: &R,
     tree: &Tree,
     keys: RandomState,
-    plan: &mut Plan,
+    plan: &mut ScreenSetup,
 ) -> Result<(Picture, Box<House>), Ended> {
     let alloc = rt.alloc();
     let stage = staged(alloc, tree, plan)?;
@@ -119,19 +119,19 @@ fn housed<R: Net<Listener = TcpListener, Stream = TcpStream> + AllocGlobal>(
 }
 
 /// What a screen works with, in a box, since whoever drops one is dear to prove.
-fn posted<R: Net<Listener = TcpListener, Stream = TcpStream> + Wait + Clock + AllocGlobal>(
+fn posted<R: Net<Listener = TcpListener, ConsoleStream = TcpStream> + Wait + Clock + AllocGlobal>(
     rt: &R,
     tree: &Tree,
     operator: u16,
     keys: RandomState,
-    plan: &mut Plan,
-) -> Result<Box<Post>, Ended> {
+    plan: &mut ScreenSetup,
+) -> Result<Box<ScreenServer>, Ended> {
     let Ok(start) = Instant::now(rt) else {
         return Err(Ended::Gate);
     };
     let (picture, house) = housed(rt, tree, keys, plan)?;
     let pace = Pace::new(tree.object_count(), tree.domain_count());
-    let post = Post::new(operator, start, pace, picture, house);
+    let post = ScreenServer::new(operator, start, pace, picture, house);
     match Box::new(rt.alloc(), post) {
         Ok(post) => Ok(post),
         Err(_) => Err(Ended::Memory),
@@ -141,7 +141,7 @@ fn posted<R: Net<Listener = TcpListener, Stream = TcpStream> + Wait + Clock + Al
 /// The link of a station, which takes its peers out of the plan.
 fn linked<'a, R: Net + Clock + AllocGlobal>(
     rt: &'a R,
-    plan: &mut Plan,
+    plan: &mut ScreenSetup,
 ) -> Result<UdpLink<&'a R>, Ended> {
     let peers = replace(&mut plan.peers, Vec::new(rt.alloc()));
     match UdpLink::open(rt, rt, plan.station, peers) {
@@ -153,12 +153,12 @@ fn linked<'a, R: Net + Clock + AllocGlobal>(
 /// Looks with a station that is open.
 fn looked<
     S: Stable,
-    R: Net<Listener = TcpListener, Stream = TcpStream> + Wait + Clock + AllocGlobal,
+    R: Net<Listener = TcpListener, ConsoleStream = TcpStream> + Wait + Clock + AllocGlobal,
 >(
     rt: &R,
     tree: &Tree,
     keys: RandomState,
-    plan: &mut Plan,
+    plan: &mut ScreenSetup,
     station: &mut Station<'_, S>,
 ) -> Result<(), Ended> {
     let Some(operator) = station.operators().first().copied() else {
@@ -179,8 +179,8 @@ fn how_it_ended(looked: Result<(), Ended>) -> Ended {
 /// The station is opened on its store, and looks.
 fn opened<
     S: Stable,
-    R: Net<Listener = TcpListener, Stream = TcpStream> + Wait + Clock + AllocGlobal,
->(rt: &R, tree: &Tree, keys: RandomState, plan: &mut Plan, store: S) -> (Ended, S) {
+    R: Net<Listener = TcpListener, ConsoleStream = TcpStream> + Wait + Clock + AllocGlobal,
+>(rt: &R, tree: &Tree, keys: RandomState, plan: &mut ScreenSetup, store: S) -> (Ended, S) {
     match Station::open(rt.alloc(), tree, plan.station, store) {
         Ok(station) => {
             let mut station = station;
@@ -198,8 +198,8 @@ fn opened<
 /// What the plan has is taken out of it as it is needed.
 pub fn run<
     S: Stable,
-    R: Net<Listener = TcpListener, Stream = TcpStream> + Wait + Clock + AllocGlobal,
->(rt: &R, tree: &Tree, keys: RandomState, plan: &mut Plan, store: S) -> (Ended, S) {
+    R: Net<Listener = TcpListener, ConsoleStream = TcpStream> + Wait + Clock + AllocGlobal,
+>(rt: &R, tree: &Tree, keys: RandomState, plan: &mut ScreenSetup, store: S) -> (Ended, S) {
     let mut store = store;
     match migrate(rt.alloc(), tree, plan.station, &mut store) {
         Ok(_) => opened(rt, tree, keys, plan, store),

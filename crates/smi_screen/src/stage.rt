@@ -1,7 +1,7 @@
 //! What a screen shows, and where the orders go that are given from its page.
 
-use crate::console::Console;
-use crate::running::{Giving, Plan};
+use crate::console::NodeConsole;
+use crate::running::{Giving, ScreenSetup};
 use bytes::Bytes;
 use smi_picture::Picture;
 use smi_tree::Tree;
@@ -14,11 +14,11 @@ use std::mem::replace;
 pub(crate) struct Stage {
     pub(crate) picture: Picture,
     pub(crate) window: Window,
-    pub(crate) console: Option<Console>,
+    pub(crate) console: Option<NodeConsole>,
 }
 
 /// What the window of a page has that may give orders, and the console that they go to.
-fn ordering(alloc: Global, giving: Giving) -> (Orders, Console) {
+fn ordering(alloc: Global, giving: Giving) -> (Orders, NodeConsole) {
     let Giving { console, key, tree } = giving;
     let orders = Orders {
         tree,
@@ -26,11 +26,11 @@ fn ordering(alloc: Global, giving: Giving) -> (Orders, Console) {
         relay: Relay::new(alloc),
         time: 0,
     };
-    (orders, Console::new(alloc, console))
+    (orders, NodeConsole::new(alloc, console))
 }
 
 /// A stage on which nothing was seen, with what the plan has for it.
-fn stage_with(alloc: Global, plan: &mut Plan, picture: Picture, frame: Frame) -> Stage {
+fn stage_with(alloc: Global, plan: &mut ScreenSetup, picture: Picture, frame: Frame) -> Stage {
     let hosts = replace(&mut plan.hosts, Vec::new(alloc));
     let (orders, console) = match replace(&mut plan.giving, None) {
         Some(giving) => {
@@ -56,7 +56,7 @@ fn stage_with(alloc: Global, plan: &mut Plan, picture: Picture, frame: Frame) ->
 pub(crate) fn staged(
     alloc: Global,
     tree: &Tree,
-    plan: &mut Plan,
+    plan: &mut ScreenSetup,
 ) -> Result<Box<Stage>, AllocError> {
     let picture = Picture::new(alloc, tree.object_count(), tree.domain_count())?;
     let page = replace(&mut plan.page, Bytes::from_static(b""));

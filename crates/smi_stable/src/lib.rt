@@ -13,7 +13,7 @@ mod sqlite_stable;
 mod statement;
 
 pub use smi_rows::{
-    DomainRow, Fault, Key, MemoryStable, Mode, OperatorRow, Plan, Planned, PlannedStable, Row,
-    RowFault, RowKind, SavedRow, Schema, Stable, StoreFault, StoredLink, Tally, law, write_boot,
+    DomainRow, Key, MemoryStable, Mode, OperatorRow, Plan, Planned, PlannedStable, Row, RowFault,
+    RowFlaw, RowKind, SavedRow, Schema, Stable, StoreFault, StoredLink, Tally, law, write_boot,
 };
 pub use sqlite_stable::SqliteStable;

@@ -52,18 +52,18 @@ ghost use Rattle.smi_protocol.specs.Happening.{answer};
 
 /// A watch: of which object, since which boot of the station that watches.
 #[derive(Clone, Copy)]
-struct Watched {
+struct WatchAsked {
     object: u16,
     echo: u32,
 }
 
 /// The watch that a datagram is, if it is one.
-fn watched_in(body: &Body) -> Option<Watched>
+fn watched_in(body: &Body) -> Option<WatchAsked>
     ensures watch { IfSome result (λ watched. body.now ≡ Watch watched.object watched.echo) }
     ensures other { result ≡ None → is_watch body.now ≡ false }
 {
     match *body {
-        Body::Watch(object, echo) => Some(Watched { object, echo }),
+        Body::Watch(object, echo) => Some(WatchAsked { object, echo }),
         Body::Ask(_) => None,
         Body::Take(_, _, _) => None,
         Body::Drop(_, _, _) => None,
@@ -298,7 +298,7 @@ impl<'a> Core<'a> {
         &mut self,
         out: &mut Out,
         datagram: &Datagram,
-        watched: Watched,
+        watched: WatchAsked,
     ) -> Result<Heard, StepFault>
         requires runs { self.old.is_stopped ≡ false }
         requires accepted { refusal_of_message (tree_of self.old) (number_of self.old) datagram.now ≡ None }

@@ -1,7 +1,7 @@
 //! Worked rows byte for byte: what stations send, and the rows that they save, as docs/EXAMPLES.md and docs/FORMATS.md
 //! write them.
 
-use crate::plays::{Input, Made, Play};
+use crate::plays::{Expected, Play, PlayedInput};
 use crate::tables;
 use crate::tables::{A, B, BOB, Bytes, CONFIGURE, DCS, READY, START, TPC, Table};
 use smi_message::encode;
@@ -131,11 +131,11 @@ const fn boot(station: u16) -> Saved {
     )
 }
 
-const fn row(station: u16, input: Input, sent: &'static [Bytes], saved: Saved) -> Play {
+const fn row(station: u16, input: PlayedInput, sent: &'static [Bytes], saved: Saved) -> Play {
     Play {
         station,
         input,
-        made: Made::Bytes(sent, saved),
+        made: Expected::Bytes(sent, saved),
     }
 }
 
@@ -166,17 +166,27 @@ pub(crate) fn sent() -> [Play; 11] {
     let configure = Order::Do(DCS, CONFIGURE);
     let manual = Order::Manual(DCS, TPC);
     [
-        row(B, Input::Order(BOB, Order::Take(DCS)), &[TAKE], boot(B)),
-        row(A, Input::Deliver(1), &[TOLD], of_dcs(ROW_TAKEN)),
-        row(B, Input::Deliver(2), &[], boot(B)),
-        row(B, Input::Order(BOB, configure), &[RUN], boot(B)),
-        row(A, Input::Deliver(3), &[DONE], of_dcs(ROW_RUN)),
-        row(B, Input::Deliver(4), &[], boot(B)),
-        row(B, Input::Order(BOB, manual), &[MANUAL], boot(B)),
-        row(A, Input::Deliver(5), &[NOT_HELD], of_dcs(ROW_NOT_HELD)),
-        row(A, Input::Tick, &[WATCH], boot(A)),
-        row(B, Input::Deliver(7), &[STATE_OFF], boot(B)),
-        row(B, Input::Report(1, READY), &[STATE_READY], boot(B)),
+        row(
+            B,
+            PlayedInput::Order(BOB, Order::Take(DCS)),
+            &[TAKE],
+            boot(B),
+        ),
+        row(A, PlayedInput::Deliver(1), &[TOLD], of_dcs(ROW_TAKEN)),
+        row(B, PlayedInput::Deliver(2), &[], boot(B)),
+        row(B, PlayedInput::Order(BOB, configure), &[RUN], boot(B)),
+        row(A, PlayedInput::Deliver(3), &[DONE], of_dcs(ROW_RUN)),
+        row(B, PlayedInput::Deliver(4), &[], boot(B)),
+        row(B, PlayedInput::Order(BOB, manual), &[MANUAL], boot(B)),
+        row(
+            A,
+            PlayedInput::Deliver(5),
+            &[NOT_HELD],
+            of_dcs(ROW_NOT_HELD),
+        ),
+        row(A, PlayedInput::Tick, &[WATCH], boot(A)),
+        row(B, PlayedInput::Deliver(7), &[STATE_OFF], boot(B)),
+        row(B, PlayedInput::Report(1, READY), &[STATE_READY], boot(B)),
     ]
 }
 
@@ -187,19 +197,24 @@ pub(crate) fn saved() -> [Play; 5] {
     [
         row(
             B,
-            Input::Order(BOB, Order::Take(TPC)),
+            PlayedInput::Order(BOB, Order::Take(TPC)),
             &[TAKE_TPC],
             of_bob(ROW_TAKING),
         ),
-        row(B, Input::Deliver(1), &[TOLD_TPC], of_bob(ROW_TAKING)),
-        row(B, Input::Deliver(2), &[], of_bob(ROW_HELD)),
+        row(B, PlayedInput::Deliver(1), &[TOLD_TPC], of_bob(ROW_TAKING)),
+        row(B, PlayedInput::Deliver(2), &[], of_bob(ROW_HELD)),
         row(
             B,
-            Input::Order(BOB, configure),
+            PlayedInput::Order(BOB, configure),
             &[RUN_TPC],
             of_bob(ROW_PENDING),
         ),
-        row(B, Input::Order(BOB, start), &[START_TPC], of_bob(ROW_TWO)),
+        row(
+            B,
+            PlayedInput::Order(BOB, start),
+            &[START_TPC],
+            of_bob(ROW_TWO),
+        ),
     ]
 }
 

@@ -1,7 +1,7 @@
 //! Migrations of rows of older schemas, also such that stop in the middle (docs/FORMATS.md, "Stable rows"): how many
 //! rows were saved anew, what the rows are then, and that another one saves the rest, and a third nothing.
 
-use crate::starts::{BOOT_1, HELD_1, HELD_2, Rows, SHORT_1, TAKEN_1, filled, has, rows_of};
+use crate::starts::{BOOT_1, HELD_1, HELD_2, SHORT_1, StoredRows, TAKEN_1, filled, has, rows_of};
 use crate::tables;
 use crate::tables::{A, B, Store, Table};
 use smi_protocol::OpenFault;
@@ -12,23 +12,23 @@ use smi_tree::Tree;
 use std::alloc::Global;
 use std::test::Fail;
 
-type End = Result<u32, OpenFault>;
+type MigrationResult = Result<u32, OpenFault>;
 
 /// Migrations of a station's rows: the first, whose save of this number fails so, and a second.
 #[derive(Clone, Copy)]
-struct Case {
+struct MigrationCase {
     station: u16,
     fails: Option<(u64, Plan)>,
-    before: Rows,
-    first: End,
-    between: Rows,
-    second: End,
-    after: Rows,
+    before: StoredRows,
+    first: MigrationResult,
+    between: StoredRows,
+    second: MigrationResult,
+    after: StoredRows,
 }
 
 /// Migrations of which none fails.
-fn whole(station: u16, before: Rows, count: u32, after: Rows) -> Case {
-    Case {
+fn whole(station: u16, before: StoredRows, count: u32, after: StoredRows) -> MigrationCase {
+    MigrationCase {
         station,
         fails: None,
         before,
@@ -40,8 +40,8 @@ fn whole(station: u16, before: Rows, count: u32, after: Rows) -> Case {
 }
 
 /// Migrations that are refused.
-fn refused(station: u16, rows: Rows, fault: OpenFault) -> Case {
-    Case {
+fn refused(station: u16, rows: StoredRows, fault: OpenFault) -> MigrationCase {
+    MigrationCase {
         station,
         fails: None,
         before: rows,
@@ -53,8 +53,14 @@ fn refused(station: u16, rows: Rows, fault: OpenFault) -> Case {
 }
 
 /// Migrations of station A's rows of schema 1, of which the first stops.
-fn stopped(nth: u64, plan: Plan, fault: StoreFault, between: Rows, left: u32) -> Case {
-    Case {
+fn stopped(
+    nth: u64,
+    plan: Plan,
+    fault: StoreFault,
+    between: StoredRows,
+    left: u32,
+) -> MigrationCase {
+    MigrationCase {
         station: A,
         fails: Some((nth, plan)),
         before: rows_of(BOOT_1, TAKEN_1, HELD_1),
@@ -65,7 +71,7 @@ fn stopped(nth: u64, plan: Plan, fault: StoreFault, between: Rows, left: u32) ->
     }
 }
 
-fn cases() -> [Case; 11] {
+fn cases() -> [MigrationCase; 11] {
     let none = rows_of(BOOT_1, TAKEN_1, HELD_1);
     let one = rows_of(BOOT, TAKEN_1, HELD_1);
     let both = rows_of(BOOT, TAKEN, HELD_1);
@@ -89,7 +95,7 @@ fn cases() -> [Case; 11] {
 }
 
 /// Whether a case comes out as told at a store that has its rows.
-fn is_so(alloc: Global, tree: &Tree, store: &mut Store, case: &Case) -> bool {
+fn is_so(alloc: Global, tree: &Tree, store: &mut Store, case: &MigrationCase) -> bool {
     if let Some((nth, plan)) = case.fails {
         if nth > 0 {
             store.plan(nth, plan);
@@ -104,11 +110,11 @@ fn is_so(alloc: Global, tree: &Tree, store: &mut Store, case: &Case) -> bool {
     first == case.first && second == case.second && is_between && is_after && is_last
 }
 
-fn migrated(alloc: Global, tree: &Tree, store: &mut Store, station: u16) -> End {
+fn migrated(alloc: Global, tree: &Tree, store: &mut Store, station: u16) -> MigrationResult {
     migrate(alloc, tree, station, store)
 }
 
-fn is_as_told(alloc: Global, tree: &Tree, case: &Case) -> bool {
+fn is_as_told(alloc: Global, tree: &Tree, case: &MigrationCase) -> bool {
     let mut store = filled(alloc, case.before);
     is_so(alloc, tree, &mut store, case)
 }

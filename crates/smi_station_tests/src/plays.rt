@@ -24,7 +24,7 @@ const TELL: u8 = 5;
 
 /// What comes to a station: an order, a report, a tick, or the datagram that was sent as this one, from 1.
 #[derive(Clone, Copy)]
-pub(crate) enum Input {
+pub(crate) enum PlayedInput {
     Order(u16, Order),
     Report(u16, u16),
     Tick,
@@ -33,7 +33,7 @@ pub(crate) enum Input {
 
 /// What the station has to make of it.
 #[derive(Clone, Copy)]
-pub(crate) enum Made {
+pub(crate) enum Expected {
     /// What it hears, the kinds and receivers of what it sends, and whom it answers with which code.
     Told(Heard, &'static [(u8, u16)], &'static [(u16, u16)]),
     /// The bytes that it sends, and a row that it has then.
@@ -44,13 +44,13 @@ pub(crate) enum Made {
 #[derive(Clone, Copy)]
 pub(crate) struct Play {
     pub station: u16,
-    pub input: Input,
-    pub made: Made,
+    pub input: PlayedInput,
+    pub made: Expected,
 }
 
 const fn row(
     station: u16,
-    input: Input,
+    input: PlayedInput,
     heard: Heard,
     sent: &'static [(u8, u16)],
     answers: &'static [(u16, u16)],
@@ -58,7 +58,7 @@ const fn row(
     Play {
         station,
         input,
-        made: Made::Told(heard, sent, answers),
+        made: Expected::Told(heard, sent, answers),
     }
 }
 
@@ -67,48 +67,48 @@ fn configured() -> [Play; 14] {
     [
         row(
             A,
-            Input::Order(ANN, Order::Take(DCS)),
+            PlayedInput::Order(ANN, Order::Take(DCS)),
             Heard::Done,
             &[(TAKE, A)],
             &[],
         ),
-        row(A, Input::Deliver(1), Heard::Done, &[(TELL, A)], &[]),
-        row(A, Input::Deliver(2), Heard::Done, &[], &[(ANN, 0)]),
+        row(A, PlayedInput::Deliver(1), Heard::Done, &[(TELL, A)], &[]),
+        row(A, PlayedInput::Deliver(2), Heard::Done, &[], &[(ANN, 0)]),
         row(
             A,
-            Input::Order(ANN, Order::Include(DCS, TPC)),
+            PlayedInput::Order(ANN, Order::Include(DCS, TPC)),
             Heard::Done,
             &[(RUN, A)],
             &[],
         ),
         row(
             A,
-            Input::Deliver(3),
+            PlayedInput::Deliver(3),
             Heard::Done,
             &[(TELL, A), (TAKE, B)],
             &[],
         ),
-        row(B, Input::Deliver(5), Heard::Done, &[(TELL, A)], &[]),
-        row(A, Input::Deliver(6), Heard::Done, &[(TELL, A)], &[]),
-        row(A, Input::Deliver(7), Heard::Done, &[], &[(ANN, 0)]),
+        row(B, PlayedInput::Deliver(5), Heard::Done, &[(TELL, A)], &[]),
+        row(A, PlayedInput::Deliver(6), Heard::Done, &[(TELL, A)], &[]),
+        row(A, PlayedInput::Deliver(7), Heard::Done, &[], &[(ANN, 0)]),
         row(
             A,
-            Input::Order(ANN, Order::Do(DCS, CONFIGURE)),
+            PlayedInput::Order(ANN, Order::Do(DCS, CONFIGURE)),
             Heard::Done,
             &[(RUN, A)],
             &[],
         ),
         row(
             A,
-            Input::Deliver(8),
+            PlayedInput::Deliver(8),
             Heard::Done,
             &[(TELL, A), (RUN, B)],
             &[],
         ),
-        row(B, Input::Deliver(10), Heard::Done, &[(TELL, A)], &[]),
-        row(A, Input::Deliver(11), Heard::Done, &[(TELL, A)], &[]),
-        row(A, Input::Deliver(12), Heard::Done, &[], &[(ANN, 0)]),
-        row(A, Input::Deliver(1), Heard::Same, &[(TELL, A)], &[]),
+        row(B, PlayedInput::Deliver(10), Heard::Done, &[(TELL, A)], &[]),
+        row(A, PlayedInput::Deliver(11), Heard::Done, &[(TELL, A)], &[]),
+        row(A, PlayedInput::Deliver(12), Heard::Done, &[], &[(ANN, 0)]),
+        row(A, PlayedInput::Deliver(1), Heard::Same, &[(TELL, A)], &[]),
     ]
 }
 
@@ -117,31 +117,31 @@ fn taken_and_dropped() -> [Play; 9] {
     [
         row(
             B,
-            Input::Order(BOB, Order::Take(TPC)),
+            PlayedInput::Order(BOB, Order::Take(TPC)),
             Heard::Done,
             &[(TAKE, B)],
             &[],
         ),
-        row(B, Input::Deliver(1), Heard::Done, &[(TELL, B)], &[]),
-        row(B, Input::Deliver(2), Heard::Done, &[], &[(BOB, 0)]),
+        row(B, PlayedInput::Deliver(1), Heard::Done, &[(TELL, B)], &[]),
+        row(B, PlayedInput::Deliver(2), Heard::Done, &[], &[(BOB, 0)]),
         row(
             B,
-            Input::Order(BOB, Order::Drop(TPC)),
+            PlayedInput::Order(BOB, Order::Drop(TPC)),
             Heard::Done,
             &[(DROP, B)],
             &[],
         ),
-        row(B, Input::Deliver(3), Heard::Done, &[(TELL, B)], &[]),
-        row(B, Input::Deliver(4), Heard::Done, &[], &[(BOB, 0)]),
-        row(B, Input::Deliver(1), Heard::Same, &[(TELL, B)], &[]),
+        row(B, PlayedInput::Deliver(3), Heard::Done, &[(TELL, B)], &[]),
+        row(B, PlayedInput::Deliver(4), Heard::Done, &[], &[(BOB, 0)]),
+        row(B, PlayedInput::Deliver(1), Heard::Same, &[(TELL, B)], &[]),
         row(
             B,
-            Input::Order(ANN, Order::Take(TPC)),
+            PlayedInput::Order(ANN, Order::Take(TPC)),
             Heard::Refused(26),
             &[],
             &[(ANN, 26)],
         ),
-        row(A, Input::Deliver(1), Heard::Refused(8), &[], &[]),
+        row(A, PlayedInput::Deliver(1), Heard::Refused(8), &[], &[]),
     ]
 }
 
@@ -172,12 +172,12 @@ fn keep(sent: &mut Vec<Bytes>, out: &Out) -> Result<(), AllocError> {
     Ok(())
 }
 
-fn event_of(sent: &[Bytes], input: Input) -> Option<Event<'_>> {
+fn event_of(sent: &[Bytes], input: PlayedInput) -> Option<Event<'_>> {
     match input {
-        Input::Order(operator, order) => Some(Event::Order(operator, order)),
-        Input::Report(device, state) => Some(Event::Report(device, state)),
-        Input::Tick => Some(Event::Tick),
-        Input::Deliver(number) => match sent.get(number.wrapping_sub(1)) {
+        PlayedInput::Order(operator, order) => Some(Event::Order(operator, order)),
+        PlayedInput::Report(device, state) => Some(Event::Report(device, state)),
+        PlayedInput::Tick => Some(Event::Tick),
+        PlayedInput::Deliver(number) => match sent.get(number.wrapping_sub(1)) {
             Some(bytes) => Some(Event::Datagram(bytes)),
             None => None,
         },
@@ -199,8 +199,9 @@ fn act(station: &mut Tried<'_>, out: &mut Out, sent: &[Bytes], play: &Play) -> b
     };
     let heard = step(station, out, event);
     match play.made {
-        Made::Told(wanted, sent, answers) => heard == Ok(wanted) && is_as_told(out, sent, answers),
-        Made::Bytes(sent, saved) => {
+        Expected::Told(wanted, sent, answers) => heard == Ok(wanted)
+            && is_as_told(out, sent, answers),
+        Expected::Bytes(sent, saved) => {
             heard.is_ok() && bytes::are_sent(out, sent) && has(station, saved)
         }
     }
@@ -244,9 +245,9 @@ fn play_all(
 type Stands = (u64, Holder, u32);
 
 /// What a station tells of itself: of a domain, and what that and the device show.
-type Told = (Option<Stands>, Option<Shown>, Option<Shown>);
+type StationTold = (Option<Stands>, Option<Shown>, Option<Shown>);
 
-fn told(station: &Tried<'_>, domain: u16) -> Told {
+fn told(station: &Tried<'_>, domain: u16) -> StationTold {
     let stands = station
         .record(domain)
         .map(|record| (record.epoch, record.holder, record.last));
@@ -254,7 +255,7 @@ fn told(station: &Tried<'_>, domain: u16) -> Told {
 }
 
 /// One more where A tells this of DCS at the end, and B this of TPC.
-fn ended(good: usize, a: &Tried<'_>, b: &Tried<'_>, of_a: Told, of_b: Told) -> usize {
+fn ended(good: usize, a: &Tried<'_>, b: &Tried<'_>, of_a: StationTold, of_b: StationTold) -> usize {
     if told(a, DCS) == of_a && told(b, TPC) == of_b {
         good.wrapping_add(1)
     } else {

@@ -12,7 +12,7 @@ use std::test::Fail;
 
 /// What comes to a station.
 #[derive(Clone, Copy)]
-pub(crate) enum Input {
+pub(crate) enum RefusedInput {
     /// The take of "A take".
     Take,
     /// The same with another byte at this place.
@@ -41,118 +41,136 @@ pub(crate) enum Wanted {
     Same(usize),
 }
 
-pub(crate) type Row = (Input, Wanted);
+pub(crate) type RefusalRow = (RefusedInput, Wanted);
 
 /// Of a datagram, in the order in which the tests are made.
-pub(crate) fn of_datagrams() -> [Row; 17] {
+pub(crate) fn of_datagrams() -> [RefusalRow; 17] {
     [
-        (Input::Short, Wanted::Refused(1)),
-        (Input::Changed(0, 0x54), Wanted::Refused(2)),
-        (Input::Changed(2, 3), Wanted::Refused(3)),
-        (Input::Changed(3, 9), Wanted::Refused(4)),
+        (RefusedInput::Short, Wanted::Refused(1)),
+        (RefusedInput::Changed(0, 0x54), Wanted::Refused(2)),
+        (RefusedInput::Changed(2, 3), Wanted::Refused(3)),
+        (RefusedInput::Changed(3, 9), Wanted::Refused(4)),
         // Nobody takes; no domain; no station.
-        (Input::Changed(10, 0), Wanted::Refused(5)),
-        (Input::Changed(9, 0), Wanted::Refused(5)),
-        (Input::Changed(5, 0), Wanted::Refused(5)),
-        (Input::Changed(43, 1), Wanted::Refused(6)),
-        (Input::Changed(31, 18), Wanted::Refused(7)),
-        (Input::Changed(7, 2), Wanted::Refused(8)),
+        (RefusedInput::Changed(10, 0), Wanted::Refused(5)),
+        (RefusedInput::Changed(9, 0), Wanted::Refused(5)),
+        (RefusedInput::Changed(5, 0), Wanted::Refused(5)),
+        (RefusedInput::Changed(43, 1), Wanted::Refused(6)),
+        (RefusedInput::Changed(31, 18), Wanted::Refused(7)),
+        (RefusedInput::Changed(7, 2), Wanted::Refused(8)),
         // A domain of another keeper, and none of the tree.
-        (Input::Changed(9, 2), Wanted::Refused(9)),
-        (Input::Changed(9, 3), Wanted::Refused(9)),
+        (RefusedInput::Changed(9, 2), Wanted::Refused(9)),
+        (RefusedInput::Changed(9, 3), Wanted::Refused(9)),
         // Another station than the operator's, and none of the tree; no such operator.
-        (Input::Changed(5, 1), Wanted::Refused(9)),
-        (Input::Changed(5, 3), Wanted::Refused(9)),
-        (Input::Changed(13, 3), Wanted::Refused(9)),
-        (Input::Take, Wanted::Done(1)),
-        (Input::Take, Wanted::Same(1)),
+        (RefusedInput::Changed(5, 1), Wanted::Refused(9)),
+        (RefusedInput::Changed(5, 3), Wanted::Refused(9)),
+        (RefusedInput::Changed(13, 3), Wanted::Refused(9)),
+        (RefusedInput::Take, Wanted::Done(1)),
+        (RefusedInput::Take, Wanted::Same(1)),
     ]
 }
 
 /// Of an operator who holds nothing, and then takes TPC.
-pub(crate) fn of_orders() -> [Row; 12] {
+pub(crate) fn of_orders() -> [RefusalRow; 12] {
     let take = Order::Take(TPC);
     [
-        (Input::Order(ANN, take), Wanted::Refused(26)),
-        (Input::Order(3, take), Wanted::Refused(26)),
-        (Input::Order(BOB, Order::Take(3)), Wanted::Refused(26)),
-        (Input::Order(BOB, Order::Do(TPC, 4)), Wanted::Refused(26)),
+        (RefusedInput::Order(ANN, take), Wanted::Refused(26)),
+        (RefusedInput::Order(3, take), Wanted::Refused(26)),
         (
-            Input::Order(BOB, Order::Include(TPC, 3)),
+            RefusedInput::Order(BOB, Order::Take(3)),
             Wanted::Refused(26),
         ),
-        (Input::Order(BOB, Order::Watch(4)), Wanted::Refused(26)),
-        (Input::Order(BOB, Order::Drop(TPC)), Wanted::Refused(21)),
         (
-            Input::Order(BOB, Order::Do(TPC, CONFIGURE)),
+            RefusedInput::Order(BOB, Order::Do(TPC, 4)),
+            Wanted::Refused(26),
+        ),
+        (
+            RefusedInput::Order(BOB, Order::Include(TPC, 3)),
+            Wanted::Refused(26),
+        ),
+        (
+            RefusedInput::Order(BOB, Order::Watch(4)),
+            Wanted::Refused(26),
+        ),
+        (
+            RefusedInput::Order(BOB, Order::Drop(TPC)),
             Wanted::Refused(21),
         ),
-        (Input::Order(BOB, take), Wanted::Done(1)),
-        (Input::Order(BOB, take), Wanted::Refused(23)),
-        (Input::Order(BOB, Order::Drop(TPC)), Wanted::Refused(21)),
-        (Input::Order(BOB, Order::Ask(DCS)), Wanted::Same(1)),
+        (
+            RefusedInput::Order(BOB, Order::Do(TPC, CONFIGURE)),
+            Wanted::Refused(21),
+        ),
+        (RefusedInput::Order(BOB, take), Wanted::Done(1)),
+        (RefusedInput::Order(BOB, take), Wanted::Refused(23)),
+        (
+            RefusedInput::Order(BOB, Order::Drop(TPC)),
+            Wanted::Refused(21),
+        ),
+        (RefusedInput::Order(BOB, Order::Ask(DCS)), Wanted::Same(1)),
     ]
 }
 
 /// Of an operator who holds the first domain with the last number used and the second with eight commands pending, and
 /// takes the next fourteen.
-fn of_a_crowd() -> [Row; 10] {
+fn of_a_crowd() -> [RefusalRow; 10] {
     [
-        (Input::Order(1, Order::Do(1, 1)), Wanted::Refused(24)),
-        (Input::Order(1, Order::Do(2, 1)), Wanted::Refused(22)),
-        (Input::Order(1, Order::Drop(2)), Wanted::Refused(22)),
-        (Input::Order(1, Order::Take(17)), Wanted::Refused(25)),
+        (RefusedInput::Order(1, Order::Do(1, 1)), Wanted::Refused(24)),
+        (RefusedInput::Order(1, Order::Do(2, 1)), Wanted::Refused(22)),
+        (RefusedInput::Order(1, Order::Drop(2)), Wanted::Refused(22)),
+        (RefusedInput::Order(1, Order::Take(17)), Wanted::Refused(25)),
         // 23 comes before 25, and 26 before both.
-        (Input::Order(1, Order::Take(1)), Wanted::Refused(23)),
-        (Input::Order(1, Order::Take(19)), Wanted::Refused(26)),
-        (Input::Order(1, Order::Do(3, 1)), Wanted::Refused(21)),
+        (RefusedInput::Order(1, Order::Take(1)), Wanted::Refused(23)),
+        (RefusedInput::Order(1, Order::Take(19)), Wanted::Refused(26)),
+        (RefusedInput::Order(1, Order::Do(3, 1)), Wanted::Refused(21)),
         // A domain that is given back is not out yet.
-        (Input::Order(1, Order::Drop(1)), Wanted::Done(1)),
-        (Input::Order(1, Order::Take(17)), Wanted::Refused(25)),
-        (Input::Tick, Wanted::Same(23)),
+        (RefusedInput::Order(1, Order::Drop(1)), Wanted::Done(1)),
+        (RefusedInput::Order(1, Order::Take(17)), Wanted::Refused(25)),
+        (RefusedInput::Tick, Wanted::Same(23)),
     ]
 }
 
 /// Of an order whose save fails, and of what comes then.
-pub(crate) fn of_saves() -> [Row; 14] {
+pub(crate) fn of_saves() -> [RefusalRow; 14] {
     let (take, drop) = (Order::Take(TPC), Order::Drop(TPC));
     let stopped = Wanted::Fault(StepFault::Stopped);
     [
         (
-            Input::Failing(Plan::Device, BOB, take),
+            RefusedInput::Failing(Plan::Device, BOB, take),
             Wanted::Fault(StepFault::NotStored),
         ),
-        (Input::Failing(Plan::Before, BOB, take), stopped),
-        (Input::Order(BOB, take), stopped),
-        (Input::Order(ANN, take), stopped),
-        (Input::Tick, stopped),
-        (Input::Short, stopped),
-        (Input::Restart, Wanted::Done(0)),
+        (RefusedInput::Failing(Plan::Before, BOB, take), stopped),
+        (RefusedInput::Order(BOB, take), stopped),
+        (RefusedInput::Order(ANN, take), stopped),
+        (RefusedInput::Tick, stopped),
+        (RefusedInput::Short, stopped),
+        (RefusedInput::Restart, Wanted::Done(0)),
         // Nothing was saved, so that nothing is taken.
-        (Input::Order(BOB, drop), Wanted::Refused(21)),
+        (RefusedInput::Order(BOB, drop), Wanted::Refused(21)),
         (
-            Input::Failing(Plan::After, BOB, take),
+            RefusedInput::Failing(Plan::After, BOB, take),
             Wanted::Saved(StepFault::Stopped),
         ),
-        (Input::Order(BOB, drop), stopped),
-        (Input::Restart, Wanted::Done(0)),
+        (RefusedInput::Order(BOB, drop), stopped),
+        (RefusedInput::Restart, Wanted::Done(0)),
         // It was saved: the domain is being taken.
-        (Input::Order(BOB, take), Wanted::Refused(23)),
+        (RefusedInput::Order(BOB, take), Wanted::Refused(23)),
         // A refused order saves nothing, so that no save fails.
-        (Input::Failing(Plan::Before, BOB, take), Wanted::Refused(23)),
-        (Input::Order(BOB, drop), Wanted::Refused(21)),
+        (
+            RefusedInput::Failing(Plan::Before, BOB, take),
+            Wanted::Refused(23),
+        ),
+        (RefusedInput::Order(BOB, drop), Wanted::Refused(21)),
     ]
 }
 
 /// The bytes of the take come, with what the input changes of them.
-fn read(station: &mut Tried<'_>, out: &mut Out, input: Input) -> Result<Heard, StepFault> {
+fn read(station: &mut Tried<'_>, out: &mut Out, input: RefusedInput) -> Result<Heard, StepFault> {
     let mut bytes = TAKE;
-    if let Input::Changed(place, value) = input {
+    if let RefusedInput::Changed(place, value) = input {
         if let Some(byte) = bytes.get_mut(place) {
             *byte = value;
         }
     }
-    let length = if matches!(input, Input::Short) {
+    let length = if matches!(input, RefusedInput::Short) {
         43
     } else {
         44
@@ -181,27 +199,29 @@ fn come(
     alloc: Global,
     station: &mut Tried<'_>,
     out: &mut Out,
-    input: Input,
+    input: RefusedInput,
 ) -> Result<Heard, StepFault> {
     match input {
-        Input::Take | Input::Changed(_, _) | Input::Short => read(station, out, input),
-        Input::Order(operator, what) => step(station, out, Event::Order(operator, what)),
-        Input::Failing(plan, operator, what) => {
+        RefusedInput::Take | RefusedInput::Changed(_, _) | RefusedInput::Short => read(
+            station, out, input,
+        ),
+        RefusedInput::Order(operator, what) => step(station, out, Event::Order(operator, what)),
+        RefusedInput::Failing(plan, operator, what) => {
             fail(station, plan);
             let heard = step(station, out, Event::Order(operator, what));
             fail_no_more(station);
             heard
         }
-        Input::Tick => step(station, out, Event::Tick),
-        Input::Restart => restart(alloc, station, out),
+        RefusedInput::Tick => step(station, out, Event::Tick),
+        RefusedInput::Restart => restart(alloc, station, out),
     }
 }
 
 /// Whether the one answer is this code to the operator who ordered, and there is none to bytes.
-fn is_answered(out: &Out, input: Input, code: u16) -> bool {
+fn is_answered(out: &Out, input: RefusedInput, code: u16) -> bool {
     let answers = out.answers();
     match input {
-        Input::Order(operator, what) | Input::Failing(_, operator, what) => {
+        RefusedInput::Order(operator, what) | RefusedInput::Failing(_, operator, what) => {
             answers.len() == 1
                 && answers.iter().all(|it| it.operator == operator
                     && it.told.order == what
@@ -212,7 +232,7 @@ fn is_answered(out: &Out, input: Input, code: u16) -> bool {
 }
 
 /// Whether the input came out as wanted, where the rows are as before or not.
-fn is_so(row: Row, heard: Result<Heard, StepFault>, out: &Out, are_as_before: bool) -> bool {
+fn is_so(row: RefusalRow, heard: Result<Heard, StepFault>, out: &Out, are_as_before: bool) -> bool {
     let sent = out.datagrams().len();
     match row.1 {
         Wanted::Refused(code) => {
@@ -244,7 +264,7 @@ fn is_as_wanted(
     station: &mut Tried<'_>,
     out: &mut Out,
     before: &[SavedRow],
-    row: Row,
+    row: RefusalRow,
 ) -> bool {
     let heard = come(alloc, station, out, row.0);
     match rows_in(station.stable_mut()) {
@@ -253,7 +273,7 @@ fn is_as_wanted(
     }
 }
 
-fn is_good(alloc: Global, station: &mut Tried<'_>, out: &mut Out, row: Row) -> bool {
+fn is_good(alloc: Global, station: &mut Tried<'_>, out: &mut Out, row: RefusalRow) -> bool {
     match rows_in(station.stable_mut()) {
         Ok(before) => is_as_wanted(alloc, station, out, &before, row),
         Err(_) => false,
@@ -265,7 +285,7 @@ pub(crate) fn count_of(
     alloc: Global,
     station: &mut Tried<'_>,
     out: &mut Out,
-    rows: &[Row],
+    rows: &[RefusalRow],
 ) -> usize {
     let mut good = 0;
     for row in rows {

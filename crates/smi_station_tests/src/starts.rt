@@ -43,9 +43,13 @@ pub(crate) const HELD_1: &[u8] = &[
     1, 0, 0, 1, 0, 2, 2, 0, 0, 0, 0, 0, 0, 0, 0, 1, 0, 0, 0, 0, 0, 0, 0, 0,
 ];
 
-pub(crate) type Rows = [(Key, &'static [u8]); 3];
+pub(crate) type StoredRows = [(Key, &'static [u8]); 3];
 
-pub(crate) fn rows_of(boot: &'static [u8], domain: &'static [u8], operator: &'static [u8]) -> Rows {
+pub(crate) fn rows_of(
+    boot: &'static [u8],
+    domain: &'static [u8],
+    operator: &'static [u8],
+) -> StoredRows {
     [
         (key(A, 0, 0), boot),
         (key(A, 1, 0), domain),
@@ -54,7 +58,7 @@ pub(crate) fn rows_of(boot: &'static [u8], domain: &'static [u8], operator: &'st
 }
 
 /// A store with these rows. One that memory was refused for has fewer, so that nothing comes out as told.
-pub(crate) fn filled(alloc: Global, rows: Rows) -> Store {
+pub(crate) fn filled(alloc: Global, rows: StoredRows) -> Store {
     let mut store = blank(alloc);
     for (key, bytes) in rows {
         let _ = store.save(key, bytes);
@@ -62,14 +66,14 @@ pub(crate) fn filled(alloc: Global, rows: Rows) -> Store {
     store
 }
 
-fn are(list: &[SavedRow], rows: Rows) -> bool {
+fn are(list: &[SavedRow], rows: StoredRows) -> bool {
     list.len() == 3
         && list.iter().zip(rows).all(|(row, wanted)| row.key == wanted.0
             && row.bytes.as_slice() == wanted.1)
 }
 
 /// Whether the store has these rows and no other.
-pub(crate) fn has(store: &mut Store, rows: Rows) -> bool {
+pub(crate) fn has(store: &mut Store, rows: StoredRows) -> bool {
     match rows_in(store) {
         Ok(list) => are(&list, rows),
         Err(_) => false,
@@ -77,9 +81,9 @@ pub(crate) fn has(store: &mut Store, rows: Rows) -> bool {
 }
 
 /// The boot of a station, and who holds DCS there; or why it does not start.
-type Outcome = Result<(u32, Option<Holder>), OpenFault>;
+type StartResult = Result<(u32, Option<Holder>), OpenFault>;
 
-fn told(station: &Tried<'_>) -> Outcome {
+fn told(station: &Tried<'_>) -> StartResult {
     Ok((
         station.boot(),
         station.record(1).map(|record| record.holder),
@@ -87,7 +91,7 @@ fn told(station: &Tried<'_>) -> Outcome {
 }
 
 /// What a start at a store comes to, and the store then.
-fn started(alloc: Global, tree: &Tree, station: u16, store: Store) -> (Outcome, Store) {
+fn started(alloc: Global, tree: &Tree, station: u16, store: Store) -> (StartResult, Store) {
     match Station::open(alloc, tree, station, store) {
         Ok(station) => (told(&station), station.into_stable()),
         Err((fault, store)) => (Err(fault), store),
@@ -95,7 +99,7 @@ fn started(alloc: Global, tree: &Tree, station: u16, store: Store) -> (Outcome, 
 }
 
 /// A station, the rows of its store before and after the start, and what it comes to.
-type Start = (u16, Rows, Rows, Outcome);
+type Start = (u16, StoredRows, StoredRows, StartResult);
 
 fn starts() -> [Start; 7] {
     let rows = rows_of(BOOT, TAKEN, HELD);

@@ -6,7 +6,7 @@ use Rattle.std.proofs.lemmas.List.{at_drop_more, at_drop_all}
 use Rattle.std.specs.List.{slice_split, position_or_len}
 use Rattle.std.specs.Str.Lines.{lines, lines_of_parts, strip_carriage_return}
 use Rattle.smi_tree.specs.Text.{cuts, is_line_feed, words, is_empty}
-use Rattle.smi_tree.specs.declared.text.Mark.TheVariants.{Blank}
+use Rattle.smi_tree.specs.declared.text.Separator.TheVariants.{Blank}
 
 pub either : (b : Bool) → (b ≡ true) ⊎ (b ≡ false)
 either true = inl refl

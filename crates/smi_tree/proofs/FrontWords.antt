@@ -7,7 +7,7 @@ use Rattle.smi_limits.specs.declared.trees.TheConstants.{MOST_BYTES_OF_A_NAME}
 use Rattle.smi_tree.proofs.Kept.{both-left, both-right}
 use Rattle.smi_tree.specs.Name.{is_name, is_name_byte, begins_with_letter}
 use Rattle.smi_tree.specs.Text.{cuts, words}
-use Rattle.smi_tree.specs.declared.text.Mark.TheVariants.{Blank}
+use Rattle.smi_tree.specs.declared.text.Separator.TheVariants.{Blank}
 
 -- no byte is cut at
 abbrev pub is_whole : (ℕ → Bool) → List ℕ → Bool

@@ -4,8 +4,8 @@ use Rattle.smi_tree.specs.Fault.{Becomes}
 use Rattle.smi_tree.specs.Hierarchy.{Hierarchy}
 use Rattle.smi_tree.specs.File.{with_line, with_lines, at_line, refused_at, Reads}
 use Rattle.smi_tree.specs.declared.fault.Fault.{Fault}
-use Rattle.smi_tree.specs.declared.fault.Refusal.{Refusal}
-use Rattle.smi_tree.specs.declared.fault.Refusal.TheVariants as refusal
+use Rattle.smi_tree.specs.declared.fault.LineRefusal.{LineRefusal}
+use Rattle.smi_tree.specs.declared.fault.LineRefusal.TheVariants as refusal
 use Rattle.smi_tree.specs.declared.fault.TreeFault.{TreeFault}
 
 -- no line is left
@@ -30,7 +30,7 @@ with_lines-fault number h line more left fault cut faulty = rw cut (rw faulty re
 -- what is refused is the fault of the lines, or memory
 pub Reads-refused : (number : ℕ) (h : Hierarchy) (line : List ℕ) (more left : List (List ℕ))
     (said : Result Hierarchy TreeFault)
-    (new : Hierarchy) (why : Refusal) → left ≡ line ∷ more → with_lines number h left ≡ said →
+    (new : Hierarchy) (why : LineRefusal) → left ≡ line ∷ more → with_lines number h left ≡ said →
     Becomes {Y = Unit {0}} new (Err why) (with_line h line) → Reads (Err (refused_at number why)) said
 Reads-refused number h line more left said new (refusal.Faulty fault) cut same faulty =
     sym same ∙ with_lines-fault number h line more left fault cut faulty

@@ -4,8 +4,8 @@ use Rattle.smi_tree.specs.declared.fault.Fault.{Fault}
 use Rattle.smi_tree.specs.declared.fault.Fault.TheVariants.{UnknownWord, WordCount, Malformed, Twice, UnknownName}
 use Rattle.smi_tree.specs.declared.fault.Fault.TheVariants.{OverLimit, TreeLine, BadAddress, OtherKind, LineTooLong}
 use Rattle.smi_tree.specs.declared.fault.Fault.TheVariants.{FileTooLong, Incomplete}
-use Rattle.smi_tree.specs.declared.fault.Refusal.{Refusal}
-use Rattle.smi_tree.specs.declared.fault.Refusal.TheVariants.{Memory, Faulty}
+use Rattle.smi_tree.specs.declared.fault.LineRefusal.{LineRefusal}
+use Rattle.smi_tree.specs.declared.fault.LineRefusal.TheVariants.{Memory, Faulty}
 
 -- the number that stands for a fault
 abbrev pub fault_code : Fault → ℕ
@@ -34,7 +34,7 @@ Gives view (Ok x) reading = reading ≡ Ok (view x)
 Gives view (Err fault) reading = reading ≡ Err fault
 
 -- What a step left of a value is what it says of itself, unless memory ran out.
-abbrev pub Becomes : {X Y : Type 0} → X → Result Y Refusal → Result X Fault → Type 0
+abbrev pub Becomes : {X Y : Type 0} → X → Result Y LineRefusal → Result X Fault → Type 0
 Becomes new (Ok done) said = said ≡ Ok new
 Becomes new (Err Memory) said = Unit {0}
 Becomes new (Err (Faulty fault)) said = said ≡ Err fault

@@ -12,8 +12,8 @@ use Rattle.smi_tree.specs.Additions.{with_words_of}
 use Rattle.smi_tree.specs.declared.fault.Fault.{Fault}
 use Rattle.smi_tree.specs.declared.fault.Fault.TheVariants.{UnknownWord, TreeLine, LineTooLong, FileTooLong}
 use Rattle.smi_tree.specs.declared.fault.Fault.TheVariants.{Incomplete}
-use Rattle.smi_tree.specs.declared.fault.Refusal.{Refusal}
-use Rattle.smi_tree.specs.declared.fault.Refusal.TheVariants as refusal
+use Rattle.smi_tree.specs.declared.fault.LineRefusal.{LineRefusal}
+use Rattle.smi_tree.specs.declared.fault.LineRefusal.TheVariants as refusal
 use Rattle.smi_tree.specs.declared.fault.TreeFault.{TreeFault}
 use Rattle.smi_tree.specs.declared.fault.TreeFault.TheVariants.{Line, Memory}
 
@@ -52,7 +52,7 @@ abbrev pub at_line : ℕ → Fault → TreeFault
 at_line number fault = Line number (fault_code fault)
 
 -- the refusal of the line of this number
-abbrev pub refused_at : ℕ → Refusal → TreeFault
+abbrev pub refused_at : ℕ → LineRefusal → TreeFault
 refused_at number (refusal.Faulty fault) = at_line number fault
 refused_at number refusal.Memory = Memory
 

@@ -4,8 +4,8 @@ use Rattle.std.specs.Prelude.{None, if◌then◌else◌}
 use Rattle.std.specs.List.{list_all, position_or_len, before_first, after_first}
 use Rattle.smi_tree.specs.Name.{is_digit}
 use Rattle.smi_tree.specs.Text.{cuts}
-use Rattle.smi_tree.specs.declared.text.Mark.{Mark}
-use Rattle.smi_tree.specs.declared.text.Mark.TheVariants.{Dot, Colon}
+use Rattle.smi_tree.specs.declared.text.Separator.{Separator}
+use Rattle.smi_tree.specs.declared.text.Separator.TheVariants.{Dot, Colon}
 use Rattle.smi_tree.specs.declared.number.Address.{Address}
 
 -- what decimal digits stand for
@@ -27,7 +27,7 @@ abbrev pub ◌>>=◌ : {A B : Type 0} → Option A → (A → Option B) → Opti
 None >>= next = None
 
 -- a number up to 255 before a mark, and what follows the mark
-abbrev pub part_before : Mark → List ℕ → Option (ℕ × List ℕ)
+abbrev pub part_before : Separator → List ℕ → Option (ℕ × List ℕ)
 part_before mark text =
     if nat_lt (position_or_len (cuts mark) text) (length text)
     then (do

@@ -8,7 +8,7 @@ ghost use Rattle.smi_tree.specs.Additions.{known};
 use crate::declaration::{
     ClassKind, Declaration, Keyword, Quantifier, four_names, one_name, two_names,
 };
-use crate::fault::{Fault, Refusal};
+use crate::fault::{Fault, LineRefusal};
 use crate::name::Name;
 use crate::names::Names;
 use crate::number::Address;
@@ -118,17 +118,17 @@ impl Tables {
         alloc: Global,
         keyword: Keyword,
         text: &[u8],
-    ) -> Result<(), Refusal>
+    ) -> Result<(), LineRefusal>
         ensures { Becomes self.new result (with_words_of self.old keyword (words text.now)) }
     {
         match &Declaration::read(keyword, text) {
             Ok(declaration) => self.declare(alloc, declaration),
-            Err(fault) => Err(Refusal::Faulty(*fault)),
+            Err(fault) => Err(LineRefusal::Faulty(*fault)),
         }
     }
 
     /// Adds the move that the words after `move` declare.
-    pub(crate) fn read_move(&mut self, text: &[u8]) -> Result<(), Refusal>
+    pub(crate) fn read_move(&mut self, text: &[u8]) -> Result<(), LineRefusal>
         ensures { Becomes self.new result (with_words_of self.old keywords.Move (words text.now)) }
     {
         // The rows of a class mostly stand together, by state and then by action.
@@ -162,7 +162,7 @@ impl Tables {
         Some((table.kind, rest))
     }
 
-    fn declare(&mut self, alloc: Global, declaration: &Declaration<'_>) -> Result<(), Refusal>
+    fn declare(&mut self, alloc: Global, declaration: &Declaration<'_>) -> Result<(), LineRefusal>
         ensures { Becomes self.new result (with_declaration self.old declaration.now) }
     {
         match declaration {
@@ -212,21 +212,21 @@ impl Tables {
     }
 
     #[tactic(auto, unfolding(crate::specs::Additions::with_state))]
-    fn add_state(&mut self, name: &Name) -> Result<(), Refusal>
+    fn add_state(&mut self, name: &Name) -> Result<(), LineRefusal>
         ensures { Becomes self.new result (with_state self.old name.now) }
     {
         self.state_names.add(name, usize::from(MOST_STATES))
     }
 
     #[tactic(auto, unfolding(crate::specs::Additions::with_action))]
-    fn add_action(&mut self, name: &Name) -> Result<(), Refusal>
+    fn add_action(&mut self, name: &Name) -> Result<(), LineRefusal>
         ensures { Becomes self.new result (with_action self.old name.now) }
     {
         self.action_names.add(name, usize::from(MOST_ACTIONS))
     }
 
     #[tactic(auto, unfolding(crate::specs::Additions::with_station))]
-    fn add_station(&mut self, name: &Name, address: Address) -> Result<(), Refusal>
+    fn add_station(&mut self, name: &Name, address: Address) -> Result<(), LineRefusal>
         ensures { Becomes self.new result (with_station self.old name.now address) }
     {
         self.station_names.add(name, usize::from(MOST_STATIONS))?;
@@ -235,17 +235,17 @@ impl Tables {
     }
 
     #[tactic(auto, unfolding(crate::specs::Additions::with_operator))]
-    fn add_operator(&mut self, name: &Name, station: &Name) -> Result<(), Refusal>
+    fn add_operator(&mut self, name: &Name, station: &Name) -> Result<(), LineRefusal>
         ensures { Becomes self.new result (with_operator self.old name.now station.now) }
     {
         let home = known(&self.station_names, station)?;
         if self.is_taken(name) {
-            return Err(Refusal::Faulty(Fault::Twice));
+            return Err(LineRefusal::Faulty(Fault::Twice));
         }
         if self.operator_names.len() >= usize::from(MOST_OPERATORS)
             || count_of(&self.homes, home) >= MOST_OPERATORS_OF_A_STATION
         {
-            return Err(Refusal::Faulty(Fault::OverLimit));
+            return Err(LineRefusal::Faulty(Fault::OverLimit));
         }
         self.operator_names.push(name)?;
         self.homes.push(home)?;
@@ -259,7 +259,7 @@ impl Tables {
         kind: ClassKind,
         name: &Name,
         first: &Name,
-    ) -> Result<(), Refusal>
+    ) -> Result<(), LineRefusal>
         ensures { Becomes self.new result (with_class self.old kind name.now first.now) }
     {
         let first = known(&self.state_names, first)?;
@@ -286,7 +286,7 @@ impl Tables {
         from: &Name,
         action: &Name,
         to: &Name,
-    ) -> Result<(), Refusal>
+    ) -> Result<(), LineRefusal>
         ensures { Becomes self.new result (with_move self.old class.now from.now action.now to.now) }
     {
         let (class, table) = self.known_class(class)?;
@@ -304,7 +304,7 @@ impl Tables {
         from: u16,
         action: u16,
         to: &Name,
-    ) -> Result<(), Refusal>
+    ) -> Result<(), LineRefusal>
         ensures { (class_name from_name action_name : List ℕ) → (table : ClassTable)
             → known_class self.old class_name ≡ Ok (class, table) → table.kind ≡ kind
             → known self.old.state_names from_name ≡ Ok from
@@ -313,10 +313,10 @@ impl Tables {
     {
         let to = known(&self.state_names, to)?;
         if self.moves.find(class, from, action).is_some() {
-            return Err(Refusal::Faulty(Fault::Twice));
+            return Err(LineRefusal::Faulty(Fault::Twice));
         }
         if kind != ClassKind::Device {
-            return Err(Refusal::Faulty(Fault::OtherKind));
+            return Err(LineRefusal::Faulty(Fault::OtherKind));
         }
         self.moves.push(Move {
             class,
@@ -328,16 +328,16 @@ impl Tables {
     }
 
     #[tactic(auto, unfolding(crate::specs::Additions::with_accepted))]
-    fn accept(&mut self, class: &Name, action: &Name) -> Result<(), Refusal>
+    fn accept(&mut self, class: &Name, action: &Name) -> Result<(), LineRefusal>
         ensures { Becomes self.new result (with_accepted self.old class.now action.now) }
     {
         let (class, table) = self.known_class(class)?;
         let action = known(&self.action_names, action)?;
         if table.accepts(action) {
-            return Err(Refusal::Faulty(Fault::Twice));
+            return Err(LineRefusal::Faulty(Fault::Twice));
         }
         if !table.is_kind(ClassKind::Unit) {
-            return Err(Refusal::Faulty(Fault::OtherKind));
+            return Err(LineRefusal::Faulty(Fault::OtherKind));
         }
         let table = &mut self.classes[usize::from(class) - 1];
         table.accept(action)?;
@@ -351,17 +351,17 @@ impl Tables {
         class: &Name,
         state: &Name,
         target: &Name,
-    ) -> Result<(), Refusal>
+    ) -> Result<(), LineRefusal>
         ensures { Becomes self.new result (with_rule self.old quantifier class.now state.now target.now) }
     {
         let (class, table) = self.known_class(class)?;
         let state = known(&self.state_names, state)?;
         let target = known(&self.state_names, target)?;
         if !table.is_kind(ClassKind::Unit) {
-            return Err(Refusal::Faulty(Fault::OtherKind));
+            return Err(LineRefusal::Faulty(Fault::OtherKind));
         }
         if table.rule_count() >= MOST_RULES_OF_A_CLASS {
-            return Err(Refusal::Faulty(Fault::OverLimit));
+            return Err(LineRefusal::Faulty(Fault::OverLimit));
         }
         let table = &mut self.classes[usize::from(class) - 1];
         table.add_rule(Rule {
@@ -404,7 +404,7 @@ impl Tables {
         station: &Name,
         class: &Name,
         parent: &Option<Name>,
-    ) -> Result<(), Refusal>
+    ) -> Result<(), LineRefusal>
         ensures { Becomes self.new result (with_domain self.old name.now station.now class.now parent.now) }
     {
         let station = known(&self.station_names, station)?;
@@ -412,13 +412,13 @@ impl Tables {
         let kind = table.kind;
         let parent = self.known_parent(parent)?;
         if self.is_taken(name) {
-            return Err(Refusal::Faulty(Fault::Twice));
+            return Err(LineRefusal::Faulty(Fault::Twice));
         }
         if kind != ClassKind::Unit {
-            return Err(Refusal::Faulty(Fault::OtherKind));
+            return Err(LineRefusal::Faulty(Fault::OtherKind));
         }
         if self.domain_names.len() >= usize::from(MOST_DOMAINS) || !self.has_room(parent) {
-            return Err(Refusal::Faulty(Fault::OverLimit));
+            return Err(LineRefusal::Faulty(Fault::OverLimit));
         }
         self.domain_names.push(name)?;
         self.domains.push(Domain {
@@ -430,22 +430,22 @@ impl Tables {
     }
 
     #[tactic(auto, unfolding(crate::specs::Additions::with_device))]
-    fn add_device(&mut self, name: &Name, domain: &Name, class: &Name) -> Result<(), Refusal>
+    fn add_device(&mut self, name: &Name, domain: &Name, class: &Name) -> Result<(), LineRefusal>
         ensures { Becomes self.new result (with_device self.old name.now domain.now class.now) }
     {
         let domain = known(&self.domain_names, domain)?;
         let (class, table) = self.known_class(class)?;
         let kind = table.kind;
         if self.is_taken(name) {
-            return Err(Refusal::Faulty(Fault::Twice));
+            return Err(LineRefusal::Faulty(Fault::Twice));
         }
         if kind != ClassKind::Device {
-            return Err(Refusal::Faulty(Fault::OtherKind));
+            return Err(LineRefusal::Faulty(Fault::OtherKind));
         }
         if self.device_names.len() >= usize::from(MOST_DEVICES)
             || self.devices.count_in(domain) >= MOST_DEVICES_OF_A_DOMAIN
         {
-            return Err(Refusal::Faulty(Fault::OverLimit));
+            return Err(LineRefusal::Faulty(Fault::OverLimit));
         }
         self.device_names.push(name)?;
         self.devices.push(Device { domain, class })?;

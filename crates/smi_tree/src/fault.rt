@@ -1,7 +1,7 @@
 //! What may be wrong with a tree file.
 
 ghost use Rattle.std.specs.Prelude.{◌≡◌};
-ghost use Rattle.smi_tree.specs.declared.fault.Refusal.TheVariants.{Memory, Faulty};
+ghost use Rattle.smi_tree.specs.declared.fault.LineRefusal.TheVariants.{Memory, Faulty};
 
 use std::alloc::{AllocError, AllocFailed};
 use thiserror::Error;
@@ -74,32 +74,32 @@ impl Fault {
 
 /// Why a line was not taken.
 #[derive(Drop)]
-pub(crate) enum Refusal {
+pub(crate) enum LineRefusal {
     Faulty(Fault),
     Memory,
 }
 
-impl From<Fault> for Refusal {
+impl From<Fault> for LineRefusal {
     ghost from_gives = { λ fault refusal. refusal ≡ Faulty fault };
 
-    fn from(fault: Fault) -> Refusal {
-        Refusal::Faulty(fault)
+    fn from(fault: Fault) -> LineRefusal {
+        LineRefusal::Faulty(fault)
     }
 }
 
-impl From<AllocError> for Refusal {
+impl From<AllocError> for LineRefusal {
     ghost from_gives = { λ _ refusal. refusal ≡ Memory };
 
-    fn from(_refused: AllocError) -> Refusal {
-        Refusal::Memory
+    fn from(_refused: AllocError) -> LineRefusal {
+        LineRefusal::Memory
     }
 }
 
-impl<T: Drop> From<AllocFailed<T>> for Refusal {
+impl<T: Drop> From<AllocFailed<T>> for LineRefusal {
     ghost from_gives = { λ _ refusal. refusal ≡ Memory };
 
-    fn from(_refused: AllocFailed<T>) -> Refusal {
-        Refusal::Memory
+    fn from(_refused: AllocFailed<T>) -> LineRefusal {
+        LineRefusal::Memory
     }
 }
 
@@ -126,7 +126,7 @@ impl From<AllocError> for TreeFault {
     }
 }
 
-impl Refusal {
+impl LineRefusal {
     ghost use Rattle.std.specs.Prelude.{◌≡◌};
     ghost use Rattle.smi_tree.specs.File.{refused_at};
 
@@ -135,8 +135,8 @@ impl Refusal {
         ensures { result ≡ refused_at number self }
     {
         match self {
-            Refusal::Faulty(fault) => TreeFault::Line(number, fault.code()),
-            Refusal::Memory => TreeFault::Memory,
+            LineRefusal::Faulty(fault) => TreeFault::Line(number, fault.code()),
+            LineRefusal::Memory => TreeFault::Memory,
         }
     }
 }

@@ -5,7 +5,7 @@ ghost use Rattle.std.specs.Str.{bytes_eq};
 ghost use Rattle.smi_tree.specs.Fault.{Becomes};
 ghost use Rattle.smi_tree.specs.Name.{number_of};
 
-use crate::fault::{Fault, Refusal};
+use crate::fault::{Fault, LineRefusal};
 use crate::name::{Name, NameBuf, Sought};
 use crate::row::entry;
 use crate::text::after_word;
@@ -151,15 +151,15 @@ impl Names {
     }
 
     /// Puts a name at the end, where it is new and there is room for one more.
-    pub(crate) fn add(&mut self, name: &Name, limit: usize) -> Result<(), Refusal>
+    pub(crate) fn add(&mut self, name: &Name, limit: usize) -> Result<(), LineRefusal>
         requires { limit < 2 ^ 16 }
         ensures { Becomes self.new result (added limit self.old name.now) }
     {
         if self.number(name).is_some() {
-            return Err(Refusal::Faulty(Fault::Twice));
+            return Err(LineRefusal::Faulty(Fault::Twice));
         }
         if self.names.len() >= limit {
-            return Err(Refusal::Faulty(Fault::OverLimit));
+            return Err(LineRefusal::Faulty(Fault::OverLimit));
         }
         self.push(name)?;
         Ok(())

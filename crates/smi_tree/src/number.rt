@@ -5,7 +5,7 @@ ghost use Rattle.std.specs.List.{list_all};
 ghost use Rattle.smi_tree.specs.Name.{is_digit};
 ghost use Rattle.smi_tree.specs.Number.{decimal, is_number, number_within, part_before, address_of};
 
-use crate::text::{Mark, length_before};
+use crate::text::{Separator, length_before};
 
 /// Where a station is reached: four parts of a host, and a port from 1.
 #[derive(Clone, Copy, Debug, PartialEq, Eq)]
@@ -52,7 +52,7 @@ pub fn number_within(least: u64, most: u64, word: &[u8]) -> Option<u64>
 }
 
 /// A number up to 255 before a mark, and what follows the mark.
-fn part_before(mark: Mark, text: &[u8]) -> Option<(u8, &[u8])>
+fn part_before(mark: Separator, text: &[u8]) -> Option<(u8, &[u8])>
     ensures { option_map (λ part. (part.0, part.1.now)) result ≡ part_before mark text.now }
 {
     let end = length_before(text, mark);
@@ -74,10 +74,10 @@ impl Address {
     pub(crate) fn read(word: &[u8]) -> Option<Address>
         ensures { result ≡ address_of word.now }
     {
-        let (first, rest) = part_before(Mark::Dot, word)?;
-        let (second, rest) = part_before(Mark::Dot, rest)?;
-        let (third, rest) = part_before(Mark::Dot, rest)?;
-        let (fourth, rest) = part_before(Mark::Colon, rest)?;
+        let (first, rest) = part_before(Separator::Dot, word)?;
+        let (second, rest) = part_before(Separator::Dot, rest)?;
+        let (third, rest) = part_before(Separator::Dot, rest)?;
+        let (fourth, rest) = part_before(Separator::Colon, rest)?;
         let port = number_within(1, 65_535, rest)?;
         Some(Address {
             host: [first, second, third, fourth],

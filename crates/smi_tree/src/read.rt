@@ -6,7 +6,7 @@ ghost use Rattle.smi_tree.specs.Hierarchy.{undeclared};
 ghost use Rattle.smi_tree.specs.File.{is_comment, is_tree, has_one, with_lines, Reads};
 
 use crate::declaration::Keyword;
-use crate::fault::{Fault, Refusal, TreeFault};
+use crate::fault::{Fault, LineRefusal, TreeFault};
 use crate::names::Names;
 use crate::tables::Tables;
 use crate::text::{after_word, first_line, first_word};
@@ -71,11 +71,11 @@ impl Tables {
 
     /// Adds what a line declares.
     #[tactic(auto, unfolding(crate::specs::File::with_line, crate::specs::File::with_words))]
-    fn read_line(&mut self, alloc: Global, line: &[u8]) -> Result<(), Refusal>
+    fn read_line(&mut self, alloc: Global, line: &[u8]) -> Result<(), LineRefusal>
         ensures { Becomes self.new result (with_line self.old line.now) }
     {
         if line.len() > MOST_BYTES_OF_A_LINE {
-            return Err(Refusal::Faulty(Fault::LineTooLong));
+            return Err(LineRefusal::Faulty(Fault::LineTooLong));
         }
         if self.is_begun()
             && let Some(text) = after_word(line, b"move")
@@ -91,7 +91,7 @@ impl Tables {
             return Ok(());
         }
         if self.is_out_of_place(word) {
-            return Err(Refusal::Faulty(Fault::TreeLine));
+            return Err(LineRefusal::Faulty(Fault::TreeLine));
         }
         let keyword = Keyword::read(word).ok_or(Fault::UnknownWord)?;
         self.read_words(alloc, keyword, rest)

@@ -6,7 +6,7 @@ ghost use Rattle.std.specs.Str.{bytes_eq};
 ghost use Rattle.std.specs.Str.Lines.{lines, strip_carriage_return};
 ghost use Rattle.smi_tree.specs.Text.{cuts, is_line_feed, words};
 ghost use Rattle.smi_tree.specs.Name.{is_name_byte};
-ghost use Rattle.smi_tree.specs.declared.text.Mark.TheVariants.{Blank};
+ghost use Rattle.smi_tree.specs.declared.text.Separator.TheVariants.{Blank};
 
 use crate::name::is_name_byte;
 use memchr::memchr;
@@ -14,14 +14,14 @@ use std::marker::Model;
 
 /// What a line is cut at.
 #[derive(Clone, Copy)]
-pub(crate) enum Mark {
+pub(crate) enum Separator {
     /// A space or a tab.
     Blank,
     Dot,
     Colon,
 }
 
-impl Mark {
+impl Separator {
     ghost use Rattle.std.specs.Prelude.{◌≡◌};
     ghost use Rattle.smi_tree.specs.Text.{cuts};
 
@@ -31,16 +31,16 @@ impl Mark {
     {
         match self {
             // Most bytes lie above both.
-            Mark::Blank => byte <= b' ' && (byte == b' ' || byte == b'\t'),
-            Mark::Dot => byte == b'.',
-            Mark::Colon => byte == b':',
+            Separator::Blank => byte <= b' ' && (byte == b' ' || byte == b'\t'),
+            Separator::Dot => byte == b'.',
+            Separator::Colon => byte == b':',
         }
     }
 }
 
 /// How many bytes stand before the first mark of a text, all where there is none.
 #[inline(always)]
-pub(crate) fn length_before(text: &[u8], mark: Mark) -> usize
+pub(crate) fn length_before(text: &[u8], mark: Separator) -> usize
     ensures place { result ≡ position_or_len (cuts mark) text.now }
     ensures within { result ≤ length text.now }
 {
@@ -180,7 +180,7 @@ fn word_before_blank(text: &[u8]) -> (usize, bool)
     for (place, byte) in text.iter().enumerate() {
         // Most bytes are a name's.
         if !is_name_byte(*byte) {
-            if Mark::Blank.is_at(*byte) {
+            if Separator::Blank.is_at(*byte) {
                 return (place, has_name_bytes_alone);
             }
             has_name_bytes_alone = false;
@@ -195,7 +195,7 @@ pub fn first_word(line: &[u8]) -> Option<(Word<'_>, &[u8])>
     ensures { MatchOption result (words line.now ≡ []) (λ cut. words line.now ≡ cut.0 ∷ words cut.1.now) }
 {
     for start in 0..line.len() {
-        if !Mark::Blank.is_at(line[start]) {
+        if !Separator::Blank.is_at(line[start]) {
             let (_, rest) = line.split_at(start);
             let (end, has_name_bytes_alone) = word_before_blank(rest);
             let (text, after) = rest.split_at(end);

@@ -47,14 +47,17 @@ impl Model for Tree {
 }
 
 /// Numbers, grouped by what they belong to.
-type Lists = Vec<Vec<u16>>;
+type NumberLists = Vec<Vec<u16>>;
 
 ghost use Rattle.std.specs.Prelude.{IfOk};
 ghost use Rattle.smi_tree.specs.Lawful.{IsTree};
 ghost use Rattle.smi_tree.specs.Indexed.{IsIndexed};
 
 /// The children and the devices of each domain, and the operators of each station.
-fn lists_of(alloc: Global, tables: &Tables) -> Result<(Lists, Lists, Lists), AllocError>
+fn lists_of(
+    alloc: Global,
+    tables: &Tables,
+) -> Result<(NumberLists, NumberLists, NumberLists), AllocError>
     requires { IsTree tables.now }
     ensures { IfOk result (λ lists. IsIndexed tables.now lists.0.items lists.1.items lists.2.items) }
 {

@@ -12,10 +12,10 @@ ghost use Rattle.smi_view.specs.Shows.{HasSeenNothing, IsRefused};
 
 use crate::glance::{Glance, News};
 use crate::growth::BoardGrowth;
-use crate::history::{Blank, BoardId, Counter, Rows};
-use crate::page::Name;
-use crate::rule::{Finds, Names, OneHistory};
-use crate::sheet::{Entry, Sheet};
+use crate::history::{Blank, BoardId, RowCounter, Rows};
+use crate::page::HistoryId;
+use crate::rule::{Finds, OneHistory, TellsHistory};
+use crate::sheet::{MarkedRow, Sheet};
 use left_right::Absorb;
 use left_right::writer::Writer;
 use smi_grant::Shown;
@@ -24,7 +24,7 @@ use std::collections::VecDeque;
 use std::marker::Model;
 use std::sync::Wait;
 
-pub(crate) type BoardWriter = Writer<Sheet, Entry, Option<Name>, OneHistory>;
+pub(crate) type BoardWriter = Writer<Sheet, MarkedRow, Option<HistoryId>, OneHistory>;
 
 /// The end of a board that one thread writes.
 ///
@@ -34,8 +34,8 @@ pub(crate) type BoardWriter = Writer<Sheet, Entry, Option<Name>, OneHistory>;
 pub struct Board<J: BoardId> {
     writer: BoardWriter,
     /// What was put and not handed to the writer yet.
-    waiting: VecDeque<Entry>,
-    counter: Counter<J>,
+    waiting: VecDeque<MarkedRow>,
+    counter: RowCounter<J>,
     /// All that was put.
     rows: Rows<J>,
     /// No rows, as at the opening.
@@ -68,7 +68,7 @@ impl<J: BoardId> Model for Board<J> {
 fn hand_over(
     growth: &mut BoardGrowth,
     writer: &mut BoardWriter,
-    waiting: &mut VecDeque<Entry>,
+    waiting: &mut VecDeque<MarkedRow>,
 ) -> Result<(), AllocError>
     ensures desk { writer.new.desk ≡ writer.old.desk }
     ensures entries { drop writer.new.behind writer.new.log.items ++ waiting.new.items
@@ -118,7 +118,7 @@ impl<J: BoardId> Board<J> {
     {
         self.growth.reserve(&mut self.waiting)?;
         let rows = self.growth.with(&self.rows, &self.counter, shown)?;
-        let entry = Entry {
+        let entry = MarkedRow {
             row: shown,
             mark: rows.mark(),
         };
@@ -168,7 +168,7 @@ impl<J: BoardId> Board<J> {
         ensures new { IfOk result HasSeenNothing }
     {
         let mut reader = self.writer.factory().reader()?;
-        reader.learn::<Names>(self.writer.tell::<Names>());
+        reader.learn::<TellsHistory>(self.writer.tell::<TellsHistory>());
         Ok(Glance {
             reader,
             seen: self.none.again(),

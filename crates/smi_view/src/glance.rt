@@ -7,7 +7,7 @@ ghost use Rattle.smi_view.specs.Pages.{name_of};
 ghost use Rattle.left_right.specs.Sides.{view};
 
 use crate::history::{BoardId, Rows};
-use crate::page::Name;
+use crate::page::HistoryId;
 use crate::rule::{Finds, OneHistory};
 use crate::sheet::Sheet;
 use core::mem::replace_with;
@@ -16,7 +16,7 @@ use smi_grant::Shown;
 use std::marker::Model;
 use thiserror::Error;
 
-pub(crate) type BoardReader = Reader<Sheet, Option<Name>, OneHistory>;
+pub(crate) type BoardReader = Reader<Sheet, Option<HistoryId>, OneHistory>;
 
 /// The board gave no reading: it is closed, or its copy could not be held.
 #[derive(Clone, Copy, Debug, PartialEq, Eq, Error)]

@@ -7,8 +7,8 @@ ghost use Rattle.smi_view.specs.Entries.{entries_of};
 ghost use Rattle.smi_view.specs.Pages.{name_of, page_of, turned};
 
 use crate::board::{BoardWriter, publish};
-use crate::history::{BoardId, Counter, Rows};
-use crate::sheet::Entry;
+use crate::history::{BoardId, RowCounter, Rows};
+use crate::sheet::MarkedRow;
 use core::mem::replace_with;
 use smi_grant::Shown;
 use std::alloc::AllocError;
@@ -50,7 +50,7 @@ impl BoardGrowth {
     }
 
     /// Makes room for one more entry that waits.
-    pub(crate) fn reserve(&mut self, waiting: &mut VecDeque<Entry>) -> Result<(), AllocError>
+    pub(crate) fn reserve(&mut self, waiting: &mut VecDeque<MarkedRow>) -> Result<(), AllocError>
         ensures unchanged { waiting.new.items ≡ waiting.old.items }
         ensures grown { OnOk result (self.new.count ≡ self.old.count) }
         ensures refused { OnErr result (IsRefused self.old.count self.new.count) }
@@ -67,7 +67,7 @@ impl BoardGrowth {
     pub(crate) fn with<J: BoardId>(
         &mut self,
         rows: &Rows<J>,
-        counter: &Counter<J>,
+        counter: &RowCounter<J>,
         row: Shown,
     ) -> Result<Rows<J>, AllocError>
         ensures more { IfOk result (λ more. more ≡ rows.now ++ row ∷ []) }
@@ -84,7 +84,11 @@ impl BoardGrowth {
     }
 
     /// Hands an entry to a writer, or gives it back.
-    pub(crate) fn append(&mut self, writer: &mut BoardWriter, entry: Entry) -> Result<(), Entry>
+    pub(crate) fn append(
+        &mut self,
+        writer: &mut BoardWriter,
+        entry: MarkedRow,
+    ) -> Result<(), MarkedRow>
         ensures desk { writer.new.desk ≡ writer.old.desk }
         ensures pending { MatchResult result (λ _. drop writer.new.behind writer.new.log.items
             ≡ drop writer.old.behind writer.old.log.items ++ entry ∷ [])

@@ -88,13 +88,13 @@ impl Blank {
         }
     }
 
-    pub(crate) fn named<J: BoardId>(self) -> (Counter<J>, Rows<J>)
+    pub(crate) fn named<J: BoardId>(self) -> (RowCounter<J>, Rows<J>)
         requires { self.seen.book ≡ J.book }
         ensures { result.1 ≡ [] }
     {
         let Blank { counter, seen } = self;
         (
-            Counter {
+            RowCounter {
                 counter,
                 of: PhantomData,
             },
@@ -109,7 +109,7 @@ impl Blank {
 
 /// The word that counts all rows that were put on a board.
 #[derive(Drop)]
-pub(crate) struct Counter<J: BoardId> {
+pub(crate) struct RowCounter<J: BoardId> {
     counter: Word<Shown, u64, Counted>,
     of: PhantomData<J>,
     ghost counter_is: { counter ≡ counter_of J.book },
@@ -157,7 +157,7 @@ impl<J: BoardId> Rows<J> {
     }
 
     /// These rows and one more; none where more were put already.
-    pub(crate) fn with(&self, counter: &Counter<J>, row: Shown) -> Option<Rows<J>>
+    pub(crate) fn with(&self, counter: &RowCounter<J>, row: Shown) -> Option<Rows<J>>
         ensures { IfSome result (λ rows. rows ≡ self.now ++ row ∷ []) }
     {
         if self.count == u64::MAX {
@@ -185,11 +185,11 @@ impl<J: BoardId> Rows<J> {
     }
 
     /// The same rows, for a copy of the board.
-    pub(crate) fn mark(&self) -> Mark
+    pub(crate) fn mark(&self) -> HistoryMark
         ensures rows { result.seen.log ≡ self.now }
         ensures book { result.seen.book ≡ J.book }
     {
-        Mark {
+        HistoryMark {
             count: self.count,
             seen: self.seen.again(),
         }
@@ -199,18 +199,18 @@ impl<J: BoardId> Rows<J> {
 /// Rows with which the history of some board begins. The copies of a board have no type parameter, so
 /// which board it is stands in a mark's value and not in its type.
 #[derive(Drop)]
-pub struct Mark {
+pub struct HistoryMark {
     count: u64,
     pub(crate) seen: Seen<Shown, u64, Counted>,
     ghost counted: { count ≡ length seen.log },
 }
 
-impl Mark {
+impl HistoryMark {
     /// A copy.
-    pub(crate) fn again(&self) -> Mark
+    pub(crate) fn again(&self) -> HistoryMark
         ensures { result ≡ self.now }
     {
-        Mark {
+        HistoryMark {
             count: self.count,
             seen: self.seen.again(),
         }

@@ -3,7 +3,7 @@
 use smi_grant::Shown;
 
 /// Which history the rows of a copy belong to.
-pub struct Name {
+pub struct HistoryId {
     pub number: u64,
     pub log: u64,
     pub cells: u64,
@@ -13,5 +13,5 @@ pub struct Name {
 pub struct Page {
     pub entries: [(u16, Shown); 0],
     pub rows: [Shown; 0],
-    pub name: Name,
+    pub name: HistoryId,
 }

@@ -4,7 +4,7 @@
 ghost use Rattle.std.specs.Prelude.{None};
 ghost use Rattle.smi_view.specs.Pages.{Keeps, Finds};
 
-use crate::page::Name;
+use crate::page::HistoryId;
 use crate::sheet::Sheet;
 use atomic_table::{Join, Split};
 use crossbeam_utils::rule::{Outcome, Protocol};
@@ -12,7 +12,7 @@ use crossbeam_utils::rule::{Outcome, Protocol};
 /// The rule that every step on a board keeps.
 pub struct OneHistory;
 
-impl Protocol<Sheet, Option<Name>> for OneHistory {
+impl Protocol<Sheet, Option<HistoryId>> for OneHistory {
     ghost holds = { Keeps };
 
     ghost first = { None };
@@ -21,20 +21,20 @@ impl Protocol<Sheet, Option<Name>> for OneHistory {
 /// What a reading and a publication show: which history it is.
 pub struct Finds;
 
-impl Outcome<Sheet, Option<Name>> for Finds {
+impl Outcome<Sheet, Option<HistoryId>> for Finds {
     ghost then = { Finds };
 }
 
 /// What the writer tells a new glance, and this learns: which history it is.
-pub struct Names;
+pub struct TellsHistory;
 
-impl Split<Option<Name>> for Names {
+impl Split<Option<HistoryId>> for TellsHistory {
     ghost left = { λ v. v };
 
     ghost right = { λ v. v };
 }
 
-impl Join<Option<Name>> for Names {
+impl Join<Option<HistoryId>> for TellsHistory {
     ghost both = { λ v w. w };
 
     ghost spent = { None };

@@ -5,7 +5,7 @@ ghost use Rattle.smi_view.specs.Entries.{entries_of};
 ghost use Rattle.smi_view.specs.Rows.{last_row};
 ghost use Rattle.smi_view.specs.Pages.{page_of, turned};
 
-use crate::history::Mark;
+use crate::history::HistoryMark;
 use crate::page::Page;
 use left_right::Absorb;
 use smi_grant::Shown;
@@ -14,21 +14,21 @@ use std::collections::BTreeMap;
 
 /// A row, with the rows that end with it.
 #[derive(Drop)]
-pub struct Entry {
+pub struct MarkedRow {
     pub(crate) row: Shown,
-    pub(crate) mark: Mark,
+    pub(crate) mark: HistoryMark,
 }
 
 /// The last row of each object, and which rows these are of.
 #[derive(Drop)]
 pub struct Sheet {
     last: BTreeMap<u16, Shown>,
-    pub(crate) mark: Mark,
+    pub(crate) mark: HistoryMark,
 }
 
 impl Sheet {
     /// A copy with no row of any object.
-    pub(crate) fn new(alloc: Global, mark: Mark) -> Sheet
+    pub(crate) fn new(alloc: Global, mark: HistoryMark) -> Sheet
         ensures entries { result.last.entries ≡ [] }
         ensures mark { result.mark ≡ mark }
     {
@@ -47,14 +47,14 @@ impl Sheet {
     }
 }
 
-impl Absorb<Entry> for Sheet {
+impl Absorb<MarkedRow> for Sheet {
     type State = Page;
 
     ghost state = { page_of };
 
     ghost applied = { turned };
 
-    fn absorb_first(&mut self, operation: &Entry, _other: &Sheet) -> Result<(), AllocError> {
+    fn absorb_first(&mut self, operation: &MarkedRow, _other: &Sheet) -> Result<(), AllocError> {
         let Sheet { last, mark } = self;
         let Ok(_) = last.insert(operation.row.object, operation.row) else {
             return Err(AllocError);

@@ -11,17 +11,17 @@ use Rattle.std.proofs.option.Option.TheSendSync as Option
 use Rattle.std.proofs.Crossing.{frees}
 use Rattle.smi_watchers.specs.declared.cell.Cell.{Cell}
 use Rattle.smi_watchers.specs.Memory.{cells_own}
-use Rattle.smi_watchers.specs.contracts.cell.Place as Place
-use Rattle.smi_watchers.specs.contracts.cell.Links as Links
+use Rattle.smi_watchers.specs.contracts.cell.Spot as Spot
+use Rattle.smi_watchers.specs.contracts.cell.Sides as Sides
 use Rattle.smi_watchers.specs.contracts.cell.Cell as Whole
 use Rattle.smi_watchers.specs.contracts.cells.Cells as Cells
 
-place_send : IsSend Place.the_row
+place_send : IsSend Spot.the_row
 place_send = search sendable
 
-links_field_send : IsSend (Links.the_field).row
-links_field_send = struct_send (Declared.shape Links.the_type)
-    (Option.the_field_send Place.the_row place_send, (Option.the_field_send Place.the_row place_send, tt))
+links_field_send : IsSend (Sides.the_field).row
+links_field_send = struct_send (Declared.shape Sides.the_type)
+    (Option.the_field_send Spot.the_row place_send, (Option.the_field_send Spot.the_row place_send, tt))
 
 cell_send : IsSend Whole.the_row
 cell_send = recorded_send (Whole.the_field).row _ _ (Whole.the_type).to_one

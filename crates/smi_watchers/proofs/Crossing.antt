@@ -4,8 +4,8 @@ use Rattle.std.proofs.Common.{refl, sym, ap, ◌∙◌, subst, get_or-set_other}
 use denote.RawPtr.{Ptr}
 use Rattle.smi_watchers.specs.Held.{is_same, found}
 use Rattle.smi_watchers.specs.declared.cell.Cell.{Cell}
-use Rattle.smi_watchers.specs.declared.cell.Links.{Links}
-use Rattle.smi_watchers.specs.declared.cell.Place.{Place}
+use Rattle.smi_watchers.specs.declared.cell.Sides.{Sides}
+use Rattle.smi_watchers.specs.declared.cell.Spot.{Spot}
 use Rattle.smi_watchers.specs.declared.lists.Axis.{Axis}
 use Rattle.smi_watchers.specs.declared.lists.Axis.TheVariants.{Object, Station}
 use Rattle.smi_watchers.specs.Ring.{Node, is_node, but, Path, Fresh, Apart, last_of, first_of}
@@ -28,13 +28,13 @@ but_own k f m =
     [ true ↦ λ e. ap f (node_is k m e) | false ↦ λ e. refl ]) refl
 
 module _ (axis : Axis) (list : ℕ) (k : Node) (n : Net) (there : IsNode axis list k n) where
-  pub next_put : (l : Links) → next axis list (with_links axis list k l n) ≡ but k l.after (next axis list n)
-  next_put l = λ i m. (ap (λ (x : Links). x.after) (links_put axis list k l n m there)
+  pub next_put : (l : Sides) → next axis list (with_links axis list k l n) ≡ but k l.after (next axis list n)
+  next_put l = λ i m. (ap (λ (x : Sides). x.after) (links_put axis list k l n m there)
       ∙ elim (is_node k m) as (λ y. (if y then l else neighbours axis list n m).after
       ≡ (if y then l.after else next axis list n m)) [ true ↦ refl | false ↦ refl ]) i
 
-  pub prev_put : (l : Links) → prev axis list (with_links axis list k l n) ≡ but k l.before (prev axis list n)
-  prev_put l = λ i m. (ap (λ (x : Links). x.before) (links_put axis list k l n m there)
+  pub prev_put : (l : Sides) → prev axis list (with_links axis list k l n) ≡ but k l.before (prev axis list n)
+  prev_put l = λ i m. (ap (λ (x : Sides). x.before) (links_put axis list k l n m there)
       ∙ elim (is_node k m) as (λ y. (if y then l else neighbours axis list n m).before
       ≡ (if y then l.before else prev axis list n m)) [ true ↦ refl | false ↦ refl ]) i
 
@@ -50,12 +50,12 @@ module _ (axis : Axis) (list : ℕ) (k : Node) (n : Net) (there : IsNode axis li
   pub prev_prev : (v : Node) → prev axis list (with_prev axis list k v n) ≡ but k v (prev axis list n)
   prev_prev v = prev_put (record (neighbours axis list n k) { before = v })
 
-last_is : (f g : Node → Node) (a : Node) (ps : List Place) → Path f g a ps → g None ≡ last_of a ps
+last_is : (f g : Node → Node) (a : Node) (ps : List Spot) → Path f g a ps → g None ≡ last_of a ps
 last_is f g a [] h = h.1
 last_is f g a (p ∷ ps) h = last_is f g (Some p) ps h.2
 
 -- the list's ring as it is after
-pub unlinked_ring : (axis : Axis) (list : ℕ) (p : Place) (n : Net) (xs ys : List Place) → IsLinked axis list p n
+pub unlinked_ring : (axis : Axis) (list : ℕ) (p : Spot) (n : Net) (xs ys : List Spot) → IsLinked axis list p n
     → Apart None (xs ++ p ∷ ys) → Path (next axis list n) (prev axis list n) None (xs ++ p ∷ ys)
     → Path (next axis list (unlinked axis list p n)) (prev axis list (unlinked axis list p n)) None (xs ++ ys)
 unlinked_ring axis list p n xs ys may d h =
@@ -70,12 +70,12 @@ unlinked_ring axis list p n xs ys may d h =
     subst (λ (u : (Node → Node) × (Node → Node)). Path u.0 u.1 None (xs ++ ys)) (λ i. (sym f' i, sym g' i))
     (path_without f g None xs p ys d h)
 
-pub linked_ring : (axis : Axis) (list : ℕ) (p : Place) (n : Net) (ps : List Place) → MayLink axis list p n
+pub linked_ring : (axis : Axis) (list : ℕ) (p : Spot) (n : Net) (ps : List Spot) → MayLink axis list p n
     → Apart None ps → Fresh (Some p) ps → Path (next axis list n) (prev axis list n) None ps
     → Path (next axis list (linked axis list p n)) (prev axis list (linked axis list p n)) None (ps ++ p ∷ [])
 linked_ring axis list p n ps may d fresh h =
     let f = next axis list n in let g = prev axis list n in let l = g None in
-    let links : Links = record { before = l; after = None } in
+    let links : Sides = record { before = l; after = None } in
     let n1 = with_links axis list (Some p) links n in let n2 = with_next axis list l (Some p) n1 in
     let may1 = node_put axis list (Some p) links n l may.2 in
     let may2 = node_put axis list l (record (neighbours axis list n1 l) { after = Some p }) n1 None
@@ -93,7 +93,7 @@ linked_ring axis list p n ps may d fresh h =
     (path_with f g None ps p d fresh refl h)
 
 -- along the other axis nothing changes
-other_cell : (axis other : Axis) (l : Links) (c : Cell) → axis ≢ other
+other_cell : (axis other : Axis) (l : Sides) (c : Cell) → axis ≢ other
     → links_in other (relinked axis l c) ≡ links_in other c
 other_cell Object Object l c e = absurd (e refl)
 other_cell Object Station l c e = refl
@@ -101,7 +101,7 @@ other_cell Station Object l c e = refl
 other_cell Station Station l c e = absurd (e refl)
 
 -- what a write along one axis leaves of the other
-pub links_other : (axis other : Axis) (i j : ℕ) (k : Node) (l : Links) (n : Net) (m : Node) → axis ≢ other
+pub links_other : (axis other : Axis) (i j : ℕ) (k : Node) (l : Sides) (n : Net) (m : Node) → axis ≢ other
     → neighbours other j (with_links axis i k l n) m ≡ neighbours other j n m
 links_other Object Object i j k l n m e = absurd (e refl)
 links_other Station Station i j k l n m e = absurd (e refl)
@@ -131,37 +131,37 @@ links_other Station Object i j (Some p) l n (Some q) e =
     ]) refl
 
 -- the rings of the other axis are unchanged
-pub crossed_unlinked : (axis other : Axis) (i j : ℕ) (p : Place) (n : Net) (ps : List Place) → axis ≢ other
+pub crossed_unlinked : (axis other : Axis) (i j : ℕ) (p : Spot) (n : Net) (ps : List Spot) → axis ≢ other
     → Path (next other j n) (prev other j n) None ps
     → Path (next other j (unlinked axis i p n)) (prev other j (unlinked axis i p n)) None ps
 crossed_unlinked axis other i j p n ps e h =
     let b = prev axis i n (Some p) in let c = next axis i n (Some p) in
-    let l1 : Links = record (neighbours axis i n b) { after = c } in let n1 = with_links axis i b l1 n in
-    let l2 : Links = record (neighbours axis i n1 c) { before = b } in
+    let l1 : Sides = record (neighbours axis i n b) { after = c } in let n1 = with_links axis i b l1 n in
+    let l2 : Sides = record (neighbours axis i n1 c) { before = b } in
     let same : (m : Node) → neighbours other j (unlinked axis i p n) m
     ≡ neighbours other j n m = λ m. links_other axis other i j c l2 n1 m e ∙ links_other axis other i j b l1 n m e in
-    subst (λ (u : Node → Links). Path (λ m. (u m).after) (λ m. (u m).before) None ps) (λ k m. sym (same m) k) h
+    subst (λ (u : Node → Sides). Path (λ m. (u m).after) (λ m. (u m).before) None ps) (λ k m. sym (same m) k) h
 
-pub crossed_linked : (axis other : Axis) (i j : ℕ) (p : Place) (n : Net) (ps : List Place) → axis ≢ other
+pub crossed_linked : (axis other : Axis) (i j : ℕ) (p : Spot) (n : Net) (ps : List Spot) → axis ≢ other
     → Path (next other j n) (prev other j n) None ps
     → Path (next other j (linked axis i p n)) (prev other j (linked axis i p n)) None ps
 crossed_linked axis other i j p n ps e h =
     let b = prev axis i n None in
-    let l0 : Links = record { before = b; after = None } in let n0 = with_links axis i (Some p) l0 n in
-    let l1 : Links = record (neighbours axis i n0 b) { after = Some p } in let n1 = with_links axis i b l1 n0 in
-    let l2 : Links = record (neighbours axis i n1 None) { before = Some p } in
+    let l0 : Sides = record { before = b; after = None } in let n0 = with_links axis i (Some p) l0 n in
+    let l1 : Sides = record (neighbours axis i n0 b) { after = Some p } in let n1 = with_links axis i b l1 n0 in
+    let l2 : Sides = record (neighbours axis i n1 None) { before = Some p } in
     let same : (m : Node) → neighbours other j (linked axis i p n) m ≡ neighbours other j n m =
     λ m. links_other axis other i j None l2 n1 m e ∙ links_other axis other i j b l1 n0 m e
     ∙ links_other axis other i j (Some p) l0 n m e in
-    subst (λ (u : Node → Links). Path (λ m. (u m).after) (λ m. (u m).before) None ps) (λ k m. sym (same m) k) h
+    subst (λ (u : Node → Sides). Path (λ m. (u m).after) (λ m. (u m).before) None ps) (λ k m. sym (same m) k) h
 
 -- a node that the ring of another list does not read
-abbrev pub Misses : Node → List Place → Type 0
+abbrev pub Misses : Node → List Spot → Type 0
 Misses None ps = Unit {0}
 Misses (Some p) ps = Fresh (Some p) ps
 
 -- the ring of another list of the same axis is unchanged
-pub aside : (axis : Axis) (i j : ℕ) (k : Node) (l : Links) (n : Net) (ps : List Place) → j ≢ i → IsNode axis i k n
+pub aside : (axis : Axis) (i j : ℕ) (k : Node) (l : Sides) (n : Net) (ps : List Spot) → j ≢ i → IsNode axis i k n
     → Misses k ps → Path (next axis j n) (prev axis j n) None ps
     → Path (next axis j (with_links axis i k l n)) (prev axis j (with_links axis i k l n)) None ps
 aside Object i j None l n ps e there f h =
@@ -169,13 +169,13 @@ aside Object i j None l n ps e there f h =
     ≡ neighbours Object j n m = λ m. elim m as
     (λ m. neighbours Object j (with_links Object i None l n) m ≡ neighbours Object j n m)
     [ None ↦ get_or-set_other n.objects i j l no_links e | Some q ↦ refl ] in
-    subst (λ (u : Node → Links). Path (λ m. (u m).after) (λ m. (u m).before) None ps) (λ k m. sym (same m) k) h
+    subst (λ (u : Node → Sides). Path (λ m. (u m).after) (λ m. (u m).before) None ps) (λ k m. sym (same m) k) h
 aside Station i j None l n ps e there f h =
     let same : (m : Node) → neighbours Station j (with_links Station i None l n) m
     ≡ neighbours Station j n m = λ m. elim m as
     (λ m. neighbours Station j (with_links Station i None l n) m ≡ neighbours Station j n m)
     [ None ↦ get_or-set_other n.stations i j l no_links e | Some q ↦ refl ] in
-    subst (λ (u : Node → Links). Path (λ m. (u m).after) (λ m. (u m).before) None ps) (λ k m. sym (same m) k) h
+    subst (λ (u : Node → Sides). Path (λ m. (u m).after) (λ m. (u m).before) None ps) (λ k m. sym (same m) k) h
 aside axis i j (Some p) l n ps e there f h =
     subst (λ (u : (Node → Node) × (Node → Node)). Path u.0 u.1 None ps)
     (λ k. (sym (next_put axis j (Some p) n there l) k, sym (prev_put axis j (Some p) n there l) k))

@@ -4,8 +4,8 @@ use Rattle.std.proofs.Common.{ap, ◌∙◌, subst, map}
 use Rattle.std.proofs.lemmas.Option.{unwrap_or-slice_get}
 use Rattle.std.proofs.lemmas.List.{get_or-replicate, length-replicate, get_or-map, get_or_past, ext_get_or}
 use Rattle.smi_watchers.specs.declared.cell.Cell.{Cell}
-use Rattle.smi_watchers.specs.declared.cell.Links.{Links}
-use Rattle.smi_watchers.specs.declared.cell.Place.{Place}
+use Rattle.smi_watchers.specs.declared.cell.Sides.{Sides}
+use Rattle.smi_watchers.specs.declared.cell.Spot.{Spot}
 use Rattle.smi_watchers.specs.declared.watcher.Watcher.{Watcher}
 use Rattle.smi_watchers.specs.declared.lists.Axis.{Axis}
 use Rattle.smi_watchers.specs.declared.lists.Axis.TheVariants.{Object, Station}
@@ -33,7 +33,7 @@ no_list k i = elim (below i k) as (λ _. get_or (replicate k nobody_here) i [] �
 ]
 
 module _ (n : Net) (none : n.held ≡ []) where
-  nobody : (p : Place) (c : Cell) → found p.at n.held ≡ Some c → ⊥
+  nobody : (p : Spot) (c : Cell) → found p.at n.held ≡ Some c → ⊥
   nobody p c e = let clash : None ≡ Some c = ap (found p.at) (sym none) ∙ e in cc
 
   alone : (axis : Axis) (k i : ℕ) → heads axis n ≡ replicate k no_links → i < length (heads axis n)
@@ -45,8 +45,8 @@ module _ (n : Net) (none : n.held ≡ []) where
   empty_axis : (axis : Axis) (k : ℕ) → heads axis n ≡ replicate k no_links → IsAxis axis (λ _. []) n
   empty_axis axis k free = record {
     path = λ i lt. (
-      ap (λ (l : Links). l.after) (alone axis k i free lt),
-      ap (λ (l : Links). l.before) (alone axis k i free lt),
+      ap (λ (l : Sides). l.after) (alone axis k i free lt),
+      ap (λ (l : Sides). l.before) (alone axis k i free lt),
     );
     apart = λ i. tt;
     belongs = λ i p m. absurd m;
@@ -61,8 +61,8 @@ module _ (n : Net) (none : n.held ≡ []) where
     empty_lists = ext_get_or [] (lists_of n) (replicate k [])
         (many n ∙ ap length objects ∙ length-replicate k no_links ∙ sym (length-replicate k nobody_here)) (λ i lt.
         let ilt : i < length n.objects = subst (λ m. i < m) (many n) lt in
-        get_or-map (λ (head : Links). watchers_from n head.after) n.objects i no_links [] ilt
-        ∙ ap (λ (l : Links). watchers_from n l.after) (alone Object k i objects ilt)
+        get_or-map (λ (head : Sides). watchers_from n head.after) n.objects i no_links [] ilt
+        ∙ ap (λ (l : Sides). watchers_from n l.after) (alone Object k i objects ilt)
         ∙ ap (λ ps. map watcher_in (map (step_at n) ps)) (trace_none (length n.held) n)
         ∙ sym (no_list k i))
 

@@ -10,7 +10,7 @@ use Rattle.std.proofs.Math.Seq.{map-set_same}
 use Rattle.std.proofs.Math.ListN.{get_or-map}
 use Rattle.std.proofs.lemmas.Option.{unwrap_or-slice_get}
 use Rattle.smi_watchers.specs.declared.cell.Cell.{Cell}
-use Rattle.smi_watchers.specs.declared.cell.Place.{Place}
+use Rattle.smi_watchers.specs.declared.cell.Spot.{Spot}
 use Rattle.smi_watchers.specs.declared.watcher.Watcher.{Watcher}
 use Rattle.smi_watchers.specs.declared.lists.Axis.TheVariants.{Object, Station}
 use Rattle.smi_watchers.specs.Held.{found}
@@ -62,14 +62,14 @@ below i k = (elim (nat_lt i k) as (λ b. nat_lt i k ≡ b → (i < k) ⊎ (k ≤
     [ true ↦ λ e. inl (grind (arith, nat_tests)) | false ↦ λ e. inr (grind (arith, nat_tests)) ]) refl
 
 -- a cell that is held, in its station's count
-own_count : (n : Net) (K : IsKept n) (p : Place) (held : IsSome (found p.at n.held))
+own_count : (n : Net) (K : IsKept n) (p : Spot) (held : IsSome (found p.at n.held))
     → count_by (is_of (cell_at n p).station) (get_or (lists_of n) (cell_at n p).object []) ≡ 1
 own_count n K p held =
     ap (count_by (is_of (cell_at n p).station)) (split n K p held)
     ∙ count_found (cell_at n p).station _ (watcher_at n p) (apart n K p held)
     (find_split _ _ (watcher_at n p) (apart n K p held))
 
-module _ (n : Net) (K : IsKept n) (p : Place) (held : IsSome (found p.at n.held)) where
+module _ (n : Net) (K : IsKept n) (p : Spot) (held : IsSome (found p.at n.held)) where
   -- its station has one entry less without it
   fewer : entries_of (cell_at n p).station (lists_of (taken_out p n)) + 1
       ≡ entries_of (cell_at n p).station (lists_of n)
@@ -94,7 +94,7 @@ module _ (s : ℕ) (slt : s < 129) (first n : Net) (visits : ℕ) (so : IsLeavin
   there = let heads = so.kept.stations in omega (arith, slt, heads)
 
   -- a look at a front cell
-  module _ (p : Place) (front : next Station s n None ≡ Some p) where
+  module _ (p : Spot) (front : next Station s n None ≡ Some p) where
     held : IsSome (found p.at n.held) × ((cell_at n p).station ≡ s)
     held = front_held so.kept.whole.0 so.kept.whole.1 n so.kept.whole.2 s p there front
 
@@ -119,7 +119,7 @@ module _ (s : ℕ) (slt : s < 129) (first n : Net) (visits : ℕ) (so : IsLeavin
 
   -- no cell is left
   module _ (empty : next Station s n None ≡ None) where
-    absent : (ps : List Place) → ((q : Place) → In q ps → IsSome (found q.at n.held)) → NoneOf s (map (watcher_at n) ps)
+    absent : (ps : List Spot) → ((q : Spot) → In q ps → IsSome (found q.at n.held)) → NoneOf s (map (watcher_at n) ps)
     absent [] h = tt
     absent (q ∷ qs) h =
         let other : (cell_at n q).station ≢ s = none_held so.kept.whole.0 so.kept.whole.1 n so.kept.whole.2 s there
@@ -176,7 +176,7 @@ one_station s lists none t lt = elim (same_number t s) as (λ _. entries_of t (l
 nothing : (n : Net) (K : IsKept n) (hs : List (Ptr × Cell)) → n.held ≡ hs → NoneBelow 129 (lists_of n) → hs ≡ []
 nothing n K [] e none = refl
 nothing n K (h ∷ hs) e none =
-    let p : Place = record { at = h.0 } in
+    let p : Spot = record { at = h.0 } in
     let held : IsSome (found p.at n.held) = subst (λ l. IsSome (found h.0 l)) (sym e)
     (subst (λ b. IsSome (cond b (Some h.1) (found h.0 hs))) (sym (same_refl h.0)) refl) in
     let own = own_count n K p held in

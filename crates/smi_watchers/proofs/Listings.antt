@@ -7,8 +7,8 @@ use Rattle.std.proofs.lemmas.Bool.Decides.{nat_tests}
 use Rattle.std.proofs.lemmas.List.{ext_get_or, get_or-map, length-map, map-append, set-get_or}
 use Rattle.std.proofs.lemmas.Option.{unwrap_or-slice_get}
 use Rattle.smi_watchers.specs.declared.cell.Cell.{Cell}
-use Rattle.smi_watchers.specs.declared.cell.Links.{Links}
-use Rattle.smi_watchers.specs.declared.cell.Place.{Place}
+use Rattle.smi_watchers.specs.declared.cell.Sides.{Sides}
+use Rattle.smi_watchers.specs.declared.cell.Spot.{Spot}
 use Rattle.smi_watchers.specs.declared.watcher.Watcher.{Watcher}
 use Rattle.smi_watchers.specs.declared.lists.Axis.TheVariants.{Object, Station}
 use Rattle.smi_watchers.specs.Held.{is_same, found}
@@ -30,18 +30,18 @@ use Rattle.smi_watchers.proofs.Frames.{echo_beside, map_same}
 use Rattle.smi_watchers.proofs.ListLemmas.{NoneOf, others_split, watch_split, IsAudience-filter, IsAudience-append}
 use Rattle.smi_watchers.proofs.ListLemmas.{IsAudience-same}
 
-map_in : (n : Net) (ps : List Place) → map watcher_in (map (step_at n) ps) ≡ map (watcher_at n) ps
+map_in : (n : Net) (ps : List Spot) → map watcher_in (map (step_at n) ps) ≡ map (watcher_at n) ps
 map_in n [] = refl
 map_in n (p ∷ ps) = ap (λ ws. watcher_at n p ∷ ws) (map_in n ps)
 
 pub many : (n : Net) → length (lists_of n) ≡ length n.objects
-many n = length-map n.objects (λ (head : Links). watchers_from n head.after)
+many n = length-map n.objects (λ (head : Sides). watchers_from n head.after)
 
 -- an object's list, by the places of its cells
-pub row_list : (rows columns : ℕ → List Place) (n : Net) → IsMesh rows columns n → (i : ℕ) → i < length n.objects
+pub row_list : (rows columns : ℕ → List Spot) (n : Net) → IsMesh rows columns n → (i : ℕ) → i < length n.objects
     → get_or (lists_of n) i [] ≡ map (watcher_at n) (rows i)
 row_list rows columns n M i lt =
-    get_or-map (λ (head : Links). watchers_from n head.after) n.objects i no_links [] lt
+    get_or-map (λ (head : Sides). watchers_from n head.after) n.objects i no_links [] lt
     ∙ ap (λ ps. map watcher_in (map (step_at n) ps)) (row_walked rows columns n M i lt).0
     ∙ map_in n (rows i)
 
@@ -60,9 +60,9 @@ changed old new r l same rlt here there =
       | inr ne ↦ there i (omega (arith, lt, same)) ne ∙ sym (get_or-set_other old r i l [] ne)
     ])
 
-rows_changed : (n m : Net) (rows columns left right : ℕ → List Place) → IsMesh rows columns n → IsMesh left right m
+rows_changed : (n m : Net) (rows columns left right : ℕ → List Spot) → IsMesh rows columns n → IsMesh left right m
     → (r : ℕ) → length m.objects ≡ length n.objects → r < length n.objects
-    → ((i : ℕ) → i ≢ r → left i ≡ rows i) → ((i : ℕ) (q : Place) → i ≢ r → In q (rows i)
+    → ((i : ℕ) → i ≢ r → left i ≡ rows i) → ((i : ℕ) (q : Spot) → i ≢ r → In q (rows i)
     → watcher_at m q ≡ watcher_at n q)
     → lists_of m ≡ set (lists_of n) r (map (watcher_at m) (left r))
 rows_changed n m rows columns left right M L r same rlt others keeps =
@@ -96,12 +96,12 @@ kept_by n m r l K whole objects stations lists audience = record {
   stations = stations ∙ K.stations;
 }
 
-in_front : (q : Place) (xs ys : List Place) → In q xs → In q (xs ++ ys)
+in_front : (q : Spot) (xs ys : List Spot) → In q xs → In q (xs ++ ys)
 in_front q [] ys m = absurd m
 in_front q (x ∷ xs) ys (inl e) = inl e
 in_front q (x ∷ xs) ys (inr m) = inr (in_front q xs ys m)
 
-in_rear : (q : Place) (xs ys : List Place) → In q ys → In q (xs ++ ys)
+in_rear : (q : Spot) (xs ys : List Spot) → In q ys → In q (xs ++ ys)
 in_rear q [] ys m = m
 in_rear q (x ∷ xs) ys m = inr (in_rear q xs ys m)
 
@@ -112,11 +112,11 @@ max_older : (a b : ℕ) → nat_lt a b ≡ false → max a b ≡ a
 max_older a b is = let most : b ≤ a = grind (arith, nat_tests) in omega (arith, most)
 
 -- a cell that is held, in the list of its object
-module _ (n : Net) (K : IsKept n) (p : Place) (held : IsSome (found p.at n.held)) where
-  abbrev pub rows : ℕ → List Place
+module _ (n : Net) (K : IsKept n) (p : Spot) (held : IsSome (found p.at n.held)) where
+  abbrev pub rows : ℕ → List Spot
   rows = K.whole.0
 
-  abbrev pub columns : ℕ → List Place
+  abbrev pub columns : ℕ → List Spot
   columns = K.whole.1
 
   abbrev pub M : IsMesh rows columns n
@@ -131,7 +131,7 @@ module _ (n : Net) (K : IsKept n) (p : Place) (held : IsSome (found p.at n.held)
   abbrev pub here : (r < length n.objects) × In p (rows r)
   here = in_row rows columns n M p held
 
-  abbrev pub cut : (xs : List Place) × (ys : List Place) × (rows r ≡ xs ++ p ∷ ys)
+  abbrev pub cut : (xs : List Spot) × (ys : List Spot) × (rows r ≡ xs ++ p ∷ ys)
   cut = parted p (rows r) here.1
 
   abbrev pub before : List Watcher
@@ -153,11 +153,11 @@ module _ (n : Net) (K : IsKept n) (p : Place) (held : IsSome (found p.at n.held)
   without : dropped p (rows r) ≡ cut.0 ++ cut.1
   without = ap (dropped p) cut.2 ∙ dropped_one None cut.0 p cut.1 (subst (Apart None) cut.2 (M.objects.apart r))
 
-  aside : (q : Place) → In q (cut.0 ++ cut.1) → is_same q.at p.at ≡ false
+  aside : (q : Spot) → In q (cut.0 ++ cut.1) → is_same q.at p.at ≡ false
   aside q m = same_sym q.at p.at ∙ fresh_at p q (dropped p (rows r)) (dropped_gone p (rows r))
       (subst (In q) (sym without) m)
 
-  elsewhere : (i : ℕ) (q : Place) → i ≢ r → In q (rows i) → is_same q.at p.at ≡ false
+  elsewhere : (i : ℕ) (q : Spot) → i ≢ r → In q (rows i) → is_same q.at p.at ≡ false
   elsewhere i q ne m = same_sym q.at p.at ∙ fresh_at p q (rows i) (strangers Object rows n M.objects r i p here.1 ne) m
 
   pub others_is : others_of (cell_at n p).station ws ≡ before ++ behind
@@ -237,7 +237,7 @@ module _ (n : Net) (K : IsKept n) (p : Place) (held : IsSome (found p.at n.held)
       (newer_lists e) (IsAudience-same (watch_in ws (cell_at n p).station e) ws (same_stations e) (audience_at n K r))
 
 -- a new cell, in the list of its object
-module _ (n : Net) (K : IsKept n) (p : Place) (c : Cell) (none : found p.at n.held ≡ None)
+module _ (n : Net) (K : IsKept n) (p : Spot) (c : Cell) (none : found p.at n.held ≡ None)
     (ilt : c.object < length n.objects) (jlt : c.station < length n.stations) where
   abbrev pub known : List Watcher
   known = get_or (lists_of n) c.object []
@@ -245,7 +245,7 @@ module _ (n : Net) (K : IsKept n) (p : Place) (c : Cell) (none : found p.at n.he
   more : IsMesh (joined c.object p K.whole.0) (joined c.station p K.whole.1) (put_in p c n)
   more = added_mesh K.whole.0 K.whole.1 n K.whole.2 p c none c.object c.station refl refl ilt jlt
 
-  stranger : (i : ℕ) (q : Place) → In q (K.whole.0 i) → is_same q.at p.at ≡ false
+  stranger : (i : ℕ) (q : Spot) → In q (K.whole.0 i) → is_same q.at p.at ≡ false
   stranger i q m = same_sym q.at p.at ∙ fresh_at p q (K.whole.0 i)
       (outside Object K.whole.0 n p K.whole.2.objects none i) m
 

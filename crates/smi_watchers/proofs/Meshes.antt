@@ -4,8 +4,8 @@ use Rattle.std.proofs.Common.{length, Some, None, IsSome, unwrap_or, refl, sym, 
 use Rattle.std.proofs.Common.{arith, ◌≤◌}
 use denote.RawPtr.{Ptr}
 use Rattle.smi_watchers.specs.declared.cell.Cell.{Cell}
-use Rattle.smi_watchers.specs.declared.cell.Links.{Links}
-use Rattle.smi_watchers.specs.declared.cell.Place.{Place}
+use Rattle.smi_watchers.specs.declared.cell.Sides.{Sides}
+use Rattle.smi_watchers.specs.declared.cell.Spot.{Spot}
 use Rattle.smi_watchers.specs.declared.lists.Axis.{Axis}
 use Rattle.smi_watchers.specs.declared.lists.Axis.TheVariants.{Object, Station}
 use Rattle.smi_watchers.specs.Held.{is_same, found, without}
@@ -18,20 +18,20 @@ use Rattle.smi_watchers.proofs.Rings.{same_sym, same_refl}
 use Rattle.smi_watchers.proofs.Nets.{node_put, found_put, found_other}
 use Rattle.smi_watchers.proofs.Crossing.{Misses, aside, unlinked_ring, crossed_unlinked}
 
-pub place_is : (p q : Place) → is_same p.at q.at ≡ true → p ≡ q
+pub place_is : (p q : Spot) → is_same p.at q.at ≡ true → p ≡ q
 place_is p q e = λ i. record { at = same_is p.at q.at e i }
 
 -- a write keeps what list each cell belongs to
-list_relinked : (axis a : Axis) (l : Links) (c : Cell) → list_of axis (relinked a l c) ≡ list_of axis c
+list_relinked : (axis a : Axis) (l : Sides) (c : Cell) → list_of axis (relinked a l c) ≡ list_of axis c
 list_relinked Object Object l c = refl
 list_relinked Object Station l c = refl
 list_relinked Station Object l c = refl
 list_relinked Station Station l c = refl
 
-pub cell_of : (n : Net) (p : Place) (c : Cell) → found p.at n.held ≡ Some c → cell_at n p ≡ c
+pub cell_of : (n : Net) (p : Spot) (c : Cell) → found p.at n.held ≡ Some c → cell_at n p ≡ c
 cell_of n p c e = ap (λ o. unwrap_or o no_cell) e
 
-pub belongs_put : (axis a : Axis) (i j : ℕ) (k : Node) (l : Links) (n : Net) (q : Place) → Belongs axis j q n
+pub belongs_put : (axis a : Axis) (i j : ℕ) (k : Node) (l : Sides) (n : Net) (q : Spot) → Belongs axis j q n
     → Belongs axis j q (with_links a i k l n)
 belongs_put axis Object i j None l n q b = b
 belongs_put axis Station i j None l n q b = b
@@ -42,7 +42,7 @@ belongs_put axis a i j (Some p) l n q b =
         found_put q.at p.at (relinked a l (cell_at n p)) n.held
             ∙ ap (λ y. if y then Some (relinked a l (cell_at n p)) else found q.at n.held) s,
         list_relinked axis a l (cell_at n p) ∙ ap (list_of axis)
-            (cell_of n p b.0 (ap (λ (z : Place). found z.at n.held) (place_is p q s) ∙ b.1)) ∙ b.2,
+            (cell_of n p b.0 (ap (λ (z : Spot). found z.at n.held) (place_is p q s) ∙ b.1)) ∙ b.2,
       )
       | false ↦ λ s. (
         b.0,
@@ -53,7 +53,7 @@ belongs_put axis a i j (Some p) l n q b =
     ]) refl
 
 -- and back: a cell that is there after was there before, in the same list
-pub belonged : (axis a : Axis) (i j : ℕ) (k : Node) (l : Links) (n : Net) (q : Place) → IsNode a i k n
+pub belonged : (axis a : Axis) (i j : ℕ) (k : Node) (l : Sides) (n : Net) (q : Spot) → IsNode a i k n
     → Belongs axis j q (with_links a i k l n) → Belongs axis j q n
 belonged axis Object i j None l n q t b = b
 belonged axis Station i j None l n q t b = b
@@ -64,14 +64,14 @@ belonged axis a i j (Some p) l n q t b =
     → (if y then Some (relinked a l (cell_at n p)) else found q.at n.held) ≡ Some b.0 → Belongs axis j q n) [
       | true ↦ λ s e. let same : relinked a l (cell_at n p) ≡ b.0 = cc in (
         it.0,
-        ap (λ (z : Place). found z.at n.held) (sym (place_is p q s)) ∙ it.1,
+        ap (λ (z : Spot). found z.at n.held) (sym (place_is p q s)) ∙ it.1,
         ap (list_of axis) (sym (cell_of n p it.0 it.1)) ∙ sym (list_relinked axis a l (cell_at n p))
             ∙ ap (list_of axis) same ∙ b.2,
       )
       | false ↦ λ s e. (b.0, e, b.2)
     ]) refl put
 
-pub heads_put : (axis a : Axis) (i : ℕ) (k : Node) (l : Links) (n : Net)
+pub heads_put : (axis a : Axis) (i : ℕ) (k : Node) (l : Sides) (n : Net)
     → length (heads axis (with_links a i k l n)) ≡ length (heads axis n)
 heads_put Object Object i None l n = length-set n.objects i l
 heads_put Object Station i None l n = refl
@@ -81,30 +81,30 @@ heads_put Object a i (Some p) l n = refl
 heads_put Station a i (Some p) l n = refl
 
 -- members
-pub parted : (p : Place) (ps : List Place) → In p ps → (xs : List Place) × (ys : List Place) × (ps ≡ xs ++ p ∷ ys)
+pub parted : (p : Spot) (ps : List Spot) → In p ps → (xs : List Spot) × (ys : List Spot) × (ps ≡ xs ++ p ∷ ys)
 parted p [] h = absurd h
 parted p (q ∷ qs) (inl e) = ([], qs, λ i. sym e i ∷ qs)
 parted p (q ∷ qs) (inr h) = let r = parted p qs h in (q ∷ r.0, r.1, ap (λ l. q ∷ l) r.2)
 
-pub fresh_by : (p : Place) (ps : List Place) → ((q : Place) → In q ps → is_same p.at q.at ≡ false) → Fresh (Some p) ps
+pub fresh_by : (p : Spot) (ps : List Spot) → ((q : Spot) → In q ps → is_same p.at q.at ≡ false) → Fresh (Some p) ps
 fresh_by p [] h = tt
 fresh_by p (q ∷ qs) h = (h q (inl refl), fresh_by p qs (λ r m. h r (inr m)))
 
-pub dropped_none : (p : Place) (ps : List Place) → Fresh (Some p) ps → dropped p ps ≡ ps
+pub dropped_none : (p : Spot) (ps : List Spot) → Fresh (Some p) ps → dropped p ps ≡ ps
 dropped_none p [] f = refl
 dropped_none p (q ∷ qs) f = ap (λ y. if y then dropped p qs else q ∷ dropped p qs) f.0
     ∙ ap (λ l. q ∷ l) (dropped_none p qs f.1)
 
-apart_fresh : (p : Place) (ps : List Place) → Apart (Some p) ps → Fresh (Some p) ps
+apart_fresh : (p : Spot) (ps : List Spot) → Apart (Some p) ps → Fresh (Some p) ps
 apart_fresh p [] d = tt
 apart_fresh p (q ∷ qs) d = d.0
 
-met : (x : Place) (xs : List Place) (p : Place) (ys : List Place) → Fresh (Some x) (xs ++ p ∷ ys)
+met : (x : Spot) (xs : List Spot) (p : Spot) (ys : List Spot) → Fresh (Some x) (xs ++ p ∷ ys)
     → is_same x.at p.at ≡ false
 met x [] p ys f = f.0
 met x (z ∷ xs) p ys f = met x xs p ys f.1
 
-pub dropped_one : (a : Node) (xs : List Place) (p : Place) (ys : List Place) → Apart a (xs ++ p ∷ ys)
+pub dropped_one : (a : Node) (xs : List Spot) (p : Spot) (ys : List Spot) → Apart a (xs ++ p ∷ ys)
     → dropped p (xs ++ p ∷ ys) ≡ xs ++ ys
 dropped_one a [] p ys d = ap (λ y. if y then dropped p ys else p ∷ dropped p ys) (same_refl p.at)
     ∙ dropped_none p ys (apart_fresh p ys d.1)
@@ -113,7 +113,7 @@ dropped_one a (x ∷ xs) p ys d =
     (same_sym p.at x.at ∙ met x xs p ys (apart_fresh x (xs ++ p ∷ ys) d.1))
     ∙ ap (λ l. x ∷ l) (dropped_one (Some x) xs p ys d.1)
 
-pub dropped_sub : (p q : Place) (ps : List Place) → In q (dropped p ps) → In q ps
+pub dropped_sub : (p q : Spot) (ps : List Spot) → In q (dropped p ps) → In q ps
 dropped_sub p q [] h = h
 dropped_sub p q (r ∷ rs) h =
     (elim (is_same p.at r.at) as (λ y. In q (if y then dropped p rs else r ∷ dropped p rs) → In q (r ∷ rs)) [
@@ -121,21 +121,21 @@ dropped_sub p q (r ∷ rs) h =
       | false ↦ λ m. elim m as (λ _. In q (r ∷ rs)) [ inl e ↦ inl e | inr k ↦ inr (dropped_sub p q rs k) ]
     ]) h
 
-pub dropped_keeps : (p q : Place) (ps : List Place) → In q ps → is_same p.at q.at ≡ false → In q (dropped p ps)
+pub dropped_keeps : (p q : Spot) (ps : List Spot) → In q ps → is_same p.at q.at ≡ false → In q (dropped p ps)
 dropped_keeps p q [] h e = h
 dropped_keeps p q (r ∷ rs) (inl m) e = subst (λ y. In q (if y then dropped p rs else r ∷ dropped p rs))
-    (sym (ap (λ (z : Place). is_same p.at z.at) (sym m) ∙ e)) (inl m)
+    (sym (ap (λ (z : Spot). is_same p.at z.at) (sym m) ∙ e)) (inl m)
 dropped_keeps p q (r ∷ rs) (inr m) e =
     elim (is_same p.at r.at) as (λ y. In q (if y then dropped p rs else r ∷ dropped p rs))
     [ true ↦ dropped_keeps p q rs m e | false ↦ inr (dropped_keeps p q rs m e) ]
 
-pub dropped_fresh : (a : Node) (p : Place) (ps : List Place) → Fresh a ps → Fresh a (dropped p ps)
+pub dropped_fresh : (a : Node) (p : Spot) (ps : List Spot) → Fresh a ps → Fresh a (dropped p ps)
 dropped_fresh a p [] f = tt
 dropped_fresh a p (r ∷ rs) f = elim (is_same p.at r.at) as
     (λ y. Fresh a (if y then dropped p rs else r ∷ dropped p rs))
     [ true ↦ dropped_fresh a p rs f.1 | false ↦ (f.0, dropped_fresh a p rs f.1) ]
 
-pub dropped_gone : (p : Place) (ps : List Place) → Fresh (Some p) (dropped p ps)
+pub dropped_gone : (p : Spot) (ps : List Spot) → Fresh (Some p) (dropped p ps)
 dropped_gone p [] = tt
 dropped_gone p (r ∷ rs) =
     (elim (is_same p.at r.at) as (λ y. is_same p.at r.at ≡ y
@@ -143,15 +143,15 @@ dropped_gone p (r ∷ rs) =
     [ true ↦ λ s. dropped_gone p rs | false ↦ λ s. (s, dropped_gone p rs) ]) refl
 
 -- a ring from any node on
-apart_from : (a b : Node) (ps : List Place) → Fresh b ps → Apart a ps → Apart b ps
+apart_from : (a b : Node) (ps : List Spot) → Fresh b ps → Apart a ps → Apart b ps
 apart_from a b [] f d = tt
 apart_from a b (p ∷ ps) f d = (f, d.1)
 
-apart_tail : (a : Node) (r : Place) (rs : List Place) → Apart a (r ∷ rs) → Apart a rs
+apart_tail : (a : Node) (r : Spot) (rs : List Spot) → Apart a (r ∷ rs) → Apart a rs
 apart_tail a r [] d = tt
 apart_tail a r (q ∷ qs) d = (d.0.1, d.1.1)
 
-pub dropped_apart : (a : Node) (p : Place) (ps : List Place) → Apart a ps → Apart a (dropped p ps)
+pub dropped_apart : (a : Node) (p : Spot) (ps : List Spot) → Apart a ps → Apart a (dropped p ps)
 dropped_apart a p [] d = tt
 dropped_apart a p (r ∷ rs) d =
     elim (is_same p.at r.at) as (λ y. Apart a (if y then dropped p rs else r ∷ dropped p rs)) [
@@ -160,49 +160,49 @@ dropped_apart a p (r ∷ rs) d =
     ]
 
 -- the nodes beside a member
-abbrev pub NodeIn : Node → List Place → Type 0
+abbrev pub NodeIn : Node → List Spot → Type 0
 NodeIn None ps = Unit {0}
 NodeIn (Some q) ps = In q ps
 
-node_more : (m : Node) (q : Place) (qs : List Place) → NodeIn m qs → NodeIn m (q ∷ qs)
+node_more : (m : Node) (q : Spot) (qs : List Spot) → NodeIn m qs → NodeIn m (q ∷ qs)
 node_more None q qs h = tt
 node_more (Some r) q qs h = inr h
 
-prev_in : (f g : Node → Node) (a : Node) (ps : List Place) (p : Place) → Path f g a ps → In p ps
+prev_in : (f g : Node → Node) (a : Node) (ps : List Spot) (p : Spot) → Path f g a ps → In p ps
     → (g (Some p) ≡ a) ⊎ NodeIn (g (Some p)) ps
 prev_in f g a [] p h m = absurd m
-prev_in f g a (q ∷ qs) p h (inl e) = inl (ap (λ (z : Place). g (Some z)) e ∙ h.1)
+prev_in f g a (q ∷ qs) p h (inl e) = inl (ap (λ (z : Spot). g (Some z)) e ∙ h.1)
 prev_in f g a (q ∷ qs) p h (inr m) =
     elim (prev_in f g (Some q) qs p h.2 m) as (λ _. (g (Some p) ≡ a) ⊎ NodeIn (g (Some p)) (q ∷ qs)) [
       | inl e ↦ inr (subst (λ (k : Node). NodeIn k (q ∷ qs)) (sym e) (inl refl))
       | inr k ↦ inr (node_more (g (Some p)) q qs k)
     ]
 
-next_first : (f g : Node → Node) (a : Node) (ps : List Place) → Path f g a ps → NodeIn (f a) ps
+next_first : (f g : Node → Node) (a : Node) (ps : List Spot) → Path f g a ps → NodeIn (f a) ps
 next_first f g a [] h = subst (λ (k : Node). NodeIn k []) (sym h.0) tt
 next_first f g a (q ∷ qs) h = subst (λ (k : Node). NodeIn k (q ∷ qs)) (sym h.0) (inl refl)
 
-next_in : (f g : Node → Node) (a : Node) (ps : List Place) (p : Place) → Path f g a ps → In p ps
+next_in : (f g : Node → Node) (a : Node) (ps : List Spot) (p : Spot) → Path f g a ps → In p ps
     → NodeIn (f (Some p)) ps
 next_in f g a [] p h m = absurd m
 next_in f g a (q ∷ qs) p h (inl e) = node_more (f (Some p)) q qs
-    (subst (λ (z : Place). NodeIn (f (Some z)) qs) (sym e) (next_first f g (Some q) qs h.2))
+    (subst (λ (z : Spot). NodeIn (f (Some z)) qs) (sym e) (next_first f g (Some q) qs h.2))
 next_in f g a (q ∷ qs) p h (inr m) = node_more (f (Some p)) q qs (next_in f g (Some q) qs p h.2 m)
 
-module _ (axis : Axis) (qs : ℕ → List Place) (n : Net) (A : IsAxis axis qs n) where
-  pub held_by : (i : ℕ) (p : Place) → In p (qs i) → IsSome (found p.at n.held)
+module _ (axis : Axis) (qs : ℕ → List Spot) (n : Net) (A : IsAxis axis qs n) where
+  pub held_by : (i : ℕ) (p : Spot) → In p (qs i) → IsSome (found p.at n.held)
   held_by i p m = subst IsSome (sym (A.belongs i p m).1) refl
 
   pub node_there : (i : ℕ) (m : Node) → i < length (heads axis n) → NodeIn m (qs i) → IsNode axis i m n
   node_there i None lt h = lt
   node_there i (Some q) lt h = held_by i q h
 
-  pub strangers : (i j : ℕ) (x : Place) → In x (qs i) → j ≢ i → Fresh (Some x) (qs j)
+  pub strangers : (i j : ℕ) (x : Spot) → In x (qs i) → j ≢ i → Fresh (Some x) (qs j)
   strangers i j x m ne = fresh_by x (qs j) (λ q k.
       let b = A.belongs i x m in let d = A.belongs j q k in
       (elim (is_same x.at q.at) as (λ y. is_same x.at q.at ≡ y → y ≡ false) [
         | true ↦ λ s. let one : Some b.0 ≡ Some d.0 = sym b.1
-            ∙ ap (λ (z : Place). found z.at n.held) (place_is x q s) ∙ d.1 in
+            ∙ ap (λ (z : Spot). found z.at n.held) (place_is x q s) ∙ d.1 in
             let c : b.0 ≡ d.0 = cc in absurd (ne (sym d.2 ∙ ap (list_of axis) (sym c) ∙ b.2))
         | false ↦ λ s. refl
       ]) refl)
@@ -211,14 +211,14 @@ module _ (axis : Axis) (qs : ℕ → List Place) (n : Net) (A : IsAxis axis qs n
   misses i j None h ne = tt
   misses i j (Some x) h ne = strangers i j x h ne
 
-  before_in : (i : ℕ) (p : Place) → i < length (heads axis n) → In p (qs i) → NodeIn (prev axis i n (Some p)) (qs i)
+  before_in : (i : ℕ) (p : Spot) → i < length (heads axis n) → In p (qs i) → NodeIn (prev axis i n (Some p)) (qs i)
   before_in i p lt m = elim (prev_in (next axis i n) (prev axis i n) None (qs i) p (A.path i lt) m) as
       (λ _. NodeIn (prev axis i n (Some p)) (qs i)) [
         | inl e ↦ subst (λ (k : Node). NodeIn k (qs i)) (sym e) tt
         | inr k ↦ k
       ]
 
-  pub may_unlink : (i : ℕ) (p : Place) → i < length (heads axis n) → In p (qs i) → IsLinked axis i p n
+  pub may_unlink : (i : ℕ) (p : Spot) → i < length (heads axis n) → In p (qs i) → IsLinked axis i p n
   may_unlink i p lt m = (
     held_by i p m,
     node_there i (prev axis i n (Some p)) lt (before_in i p lt m),
@@ -231,14 +231,14 @@ same_number j i =
     [ true ↦ λ e. inl (grind rules) | false ↦ λ e. inr (λ h. grind rules) ]) refl
 
 -- a cell leaves its list of one axis
-pub unlinked_axis : (axis : Axis) (qs : ℕ → List Place) (n : Net) (A : IsAxis axis qs n) (i : ℕ) (p : Place)
+pub unlinked_axis : (axis : Axis) (qs : ℕ → List Spot) (n : Net) (A : IsAxis axis qs n) (i : ℕ) (p : Spot)
     → i < length (heads axis n) → In p (qs i)
     → IsAxis axis (λ j. dropped p (qs j)) (unlinked axis i p n)
 unlinked_axis axis qs n A i p lt m =
     let may = may_unlink axis qs n A i p lt m in
     let b = prev axis i n (Some p) in let c = next axis i n (Some p) in
-    let l1 : Links = record (neighbours axis i n b) { after = c } in let n1 = with_links axis i b l1 n in
-    let l2 : Links = record (neighbours axis i n1 c) { before = b } in
+    let l1 : Sides = record (neighbours axis i n b) { after = c } in let n1 = with_links axis i b l1 n in
+    let l2 : Sides = record (neighbours axis i n1 c) { before = b } in
     let there1 = node_put axis i b l1 n c may.2 in
     let count : length (heads axis (unlinked axis i p n)) ≡ length (heads axis n) = heads_put axis axis i c l2 n1
     ∙ heads_put axis axis i b l1 n in
@@ -267,12 +267,12 @@ unlinked_axis axis qs n A i p lt m =
     }
 
 -- the other axis keeps its lists
-pub crossed_axis : (axis other : Axis) (qs : ℕ → List Place) (n : Net) (i : ℕ) (p : Place) → axis ≢ other
+pub crossed_axis : (axis other : Axis) (qs : ℕ → List Spot) (n : Net) (i : ℕ) (p : Spot) → axis ≢ other
     → IsAxis other qs n → IsAxis other qs (unlinked axis i p n)
 crossed_axis axis other qs n i p ne A =
     let b = prev axis i n (Some p) in let c = next axis i n (Some p) in
-    let l1 : Links = record (neighbours axis i n b) { after = c } in let n1 = with_links axis i b l1 n in
-    let l2 : Links = record (neighbours axis i n1 c) { before = b } in
+    let l1 : Sides = record (neighbours axis i n b) { after = c } in let n1 = with_links axis i b l1 n in
+    let l2 : Sides = record (neighbours axis i n1 c) { before = b } in
     record {
       path = λ j jlt. crossed_unlinked axis other i j p n (qs j) ne
           (A.path j (subst (λ k. j < k) (heads_put other axis i c l2 n1 ∙ heads_put other axis i b l1 n) jlt));
@@ -281,37 +281,37 @@ crossed_axis axis other qs n i p ne A =
     }
 
 -- a path reads nothing of a place that it misses
-pub path_same : (f g f' g' : Node → Node) (p : Place) (a : Node) (ps : List Place)
+pub path_same : (f g f' g' : Node → Node) (p : Spot) (a : Node) (ps : List Spot)
     → ((m : Node) → is_node (Some p) m ≡ false → f' m ≡ f m) → ((m : Node) → is_node (Some p) m ≡ false → g' m ≡ g m)
     → is_node (Some p) a ≡ false → Fresh (Some p) ps → Path f g a ps → Path f' g' a ps
 path_same f g f' g' p a [] sf sg na fr h = (sf a na ∙ h.0, sg None refl ∙ h.1)
 path_same f g f' g' p a (q ∷ qs) sf sg na fr h =
     (sf a na ∙ h.0, sg (Some q) fr.0 ∙ h.1, path_same f g f' g' p (Some q) qs sf sg fr.0 fr.1 h.2)
 
-freed_links : (axis : Axis) (i : ℕ) (p : Place) (n : Net) (m : Node) → is_node (Some p) m ≡ false
+freed_links : (axis : Axis) (i : ℕ) (p : Spot) (n : Net) (m : Node) → is_node (Some p) m ≡ false
     → neighbours axis i (without_cell p n) m ≡ neighbours axis i n m
 freed_links Object i p n None e = refl
 freed_links Station i p n None e = refl
 freed_links axis i p n (Some q) e = ap (λ o. links_in axis (unwrap_or o no_cell))
     (found_other q.at p.at n.held (same_sym q.at p.at ∙ e))
 
-heads_freed : (axis : Axis) (p : Place) (n : Net) → heads axis (without_cell p n) ≡ heads axis n
+heads_freed : (axis : Axis) (p : Spot) (n : Net) → heads axis (without_cell p n) ≡ heads axis n
 heads_freed Object p n = refl
 heads_freed Station p n = refl
 
-pub fresh_at : (p q : Place) (ps : List Place) → Fresh (Some p) ps → In q ps → is_same p.at q.at ≡ false
+pub fresh_at : (p q : Spot) (ps : List Spot) → Fresh (Some p) ps → In q ps → is_same p.at q.at ≡ false
 fresh_at p q [] f m = absurd m
-fresh_at p q (r ∷ rs) f (inl e) = ap (λ (z : Place). is_same p.at z.at) e ∙ f.0
+fresh_at p q (r ∷ rs) f (inl e) = ap (λ (z : Spot). is_same p.at z.at) e ∙ f.0
 fresh_at p q (r ∷ rs) f (inr m) = fresh_at p q rs f.1 m
 
 -- a cell that stands in no list is given back
-pub freed_axis : (axis : Axis) (qs : ℕ → List Place) (n : Net) (p : Place) → ((i : ℕ) → Fresh (Some p) (qs i))
+pub freed_axis : (axis : Axis) (qs : ℕ → List Spot) (n : Net) (p : Spot) → ((i : ℕ) → Fresh (Some p) (qs i))
     → IsAxis axis qs n → IsAxis axis qs (without_cell p n)
 freed_axis axis qs n p free A = record {
   path = λ i lt. path_same (next axis i n) (prev axis i n) (next axis i (without_cell p n))
       (prev axis i (without_cell p n)) p None (qs i)
-      (λ m e. ap (λ (l : Links). l.after) (freed_links axis i p n m e))
-      (λ m e. ap (λ (l : Links). l.before) (freed_links axis i p n m e)) refl (free i)
+      (λ m e. ap (λ (l : Sides). l.after) (freed_links axis i p n m e))
+      (λ m e. ap (λ (l : Sides). l.before) (freed_links axis i p n m e)) refl (free i)
       (A.path i (subst (λ hs. i < length hs) (heads_freed axis p n) lt));
   apart = A.apart;
   belongs = λ i q m. let b = A.belongs i q m in
@@ -326,20 +326,20 @@ found_gone p (h ∷ hs) =
       | false ↦ λ s. ap (λ y. if y then Some h.1 else found p (without p hs)) s ∙ found_gone p hs
     ]) refl
 
-back : (axis a : Axis) (i : ℕ) (p : Place) (n : Net) → IsLinked a i p n → (j : ℕ) (q : Place)
+back : (axis a : Axis) (i : ℕ) (p : Spot) (n : Net) → IsLinked a i p n → (j : ℕ) (q : Spot)
     → Belongs axis j q (unlinked a i p n) → Belongs axis j q n
 back axis a i p n may j q b =
     let x = prev a i n (Some p) in let y = next a i n (Some p) in
-    let l1 : Links = record (neighbours a i n x) { after = y } in let n1 = with_links a i x l1 n in
-    let l2 : Links = record (neighbours a i n1 y) { before = x } in
+    let l1 : Sides = record (neighbours a i n x) { after = y } in let n1 = with_links a i x l1 n in
+    let l2 : Sides = record (neighbours a i n1 y) { before = x } in
     belonged axis a i j x l1 n q may.1 (belonged axis a i j y l2 n1 q (node_put a i x l1 n y may.2) b)
 
-heads_unlinked : (axis a : Axis) (i : ℕ) (p : Place) (n : Net)
+heads_unlinked : (axis a : Axis) (i : ℕ) (p : Spot) (n : Net)
     → length (heads axis (unlinked a i p n)) ≡ length (heads axis n)
 heads_unlinked axis a i p n =
     let x = prev a i n (Some p) in let y = next a i n (Some p) in
-    let l1 : Links = record (neighbours a i n x) { after = y } in let n1 = with_links a i x l1 n in
-    let l2 : Links = record (neighbours a i n1 y) { before = x } in
+    let l1 : Sides = record (neighbours a i n x) { after = y } in let n1 = with_links a i x l1 n in
+    let l2 : Sides = record (neighbours a i n1 y) { before = x } in
     heads_put axis a i y l2 n1 ∙ heads_put axis a i x l1 n
 
 pub station-object : Station ≢ Object
@@ -348,7 +348,7 @@ station-object e = cc
 pub object-station : Object ≢ Station
 object-station e = cc
 
-module _ (rows columns : ℕ → List Place) (n : Net) (M : IsMesh rows columns n) (i j : ℕ) (p : Place)
+module _ (rows columns : ℕ → List Spot) (n : Net) (M : IsMesh rows columns n) (i j : ℕ) (p : Spot)
     (ilt : i < length n.objects) (jlt : j < length n.stations) (im : In p (rows i)) (jm : In p (columns j)) where
   n1 : Net
   n1 = unlinked Object i p n
@@ -368,13 +368,13 @@ module _ (rows columns : ℕ → List Place) (n : Net) (M : IsMesh rows columns 
   pub may_second : IsLinked Station j p (unlinked Object i p n)
   may_second = may_unlink Station columns (unlinked Object i p n) crossed j p jlt1 jm
 
-  all_in : (axis : Axis) (qs : ℕ → List Place) → AllIn axis qs n → AllIn axis (λ k. dropped p (qs k)) (taken i j p n)
+  all_in : (axis : Axis) (qs : ℕ → List Spot) → AllIn axis qs n → AllIn axis (λ k. dropped p (qs k)) (taken i j p n)
   all_in axis qs every q c e =
       let n2 = unlinked Station j p (unlinked Object i p n) in
       (elim (is_same p.at q.at) as (λ y. is_same p.at q.at ≡ y
       → (list_of axis c < length (heads axis (taken i j p n))) × In q (dropped p (qs (list_of axis c)))) [
         | true ↦ λ s. let none : found q.at (without p.at n2.held)
-            ≡ None = ap (λ (z : Place). found z.at (without p.at n2.held)) (sym (place_is p q s))
+            ≡ None = ap (λ (z : Spot). found z.at (without p.at n2.held)) (sym (place_is p q s))
             ∙ found_gone p.at n2.held in
             let clash : None ≡ Some c = sym none ∙ e in cc
         | false ↦ λ s.
@@ -418,8 +418,8 @@ without_less p (h ∷ hs) t =
     ]) t
 
 -- a list has no more places than there are cells
-pub ring_fits : (hs : List (Ptr × Cell)) (a : Node) (ps : List Place) → Apart a ps
-    → ((q : Place) → In q ps → IsSome (found q.at hs)) → length ps ≤ length hs
+pub ring_fits : (hs : List (Ptr × Cell)) (a : Node) (ps : List Spot) → Apart a ps
+    → ((q : Spot) → In q ps → IsSome (found q.at hs)) → length ps ≤ length hs
 ring_fits hs a [] d h = omega arith
 ring_fits hs a (p ∷ ps) d h =
     let less = without_less p.at hs (h p (inl refl)) in
@@ -429,29 +429,29 @@ ring_fits hs a (p ∷ ps) d h =
     omega (arith, less, rest)
 
 -- the head leads to the first
-pub front_is : (f g : Node → Node) (p : Place) (ps : List Place) → Path f g None ps → f None ≡ Some p
-    → (qs : List Place) × (ps ≡ p ∷ qs)
+pub front_is : (f g : Node → Node) (p : Spot) (ps : List Spot) → Path f g None ps → f None ≡ Some p
+    → (qs : List Spot) × (ps ≡ p ∷ qs)
 front_is f g p [] h e = let clash : None ≡ Some p = sym h.0 ∙ e in cc
 front_is f g p (q ∷ qs) h e = (qs, ap (λ o. unwrap_or o p ∷ qs) (sym h.0 ∙ e))
 
-pub front_none : (f g : Node → Node) (ps : List Place) → Path f g None ps → f None ≡ None → ps ≡ []
+pub front_none : (f g : Node → Node) (ps : List Spot) → Path f g None ps → f None ≡ None → ps ≡ []
 front_none f g [] h e = refl
 front_none f g (q ∷ qs) h e = let clash : None ≡ Some q = sym e ∙ h.0 in cc
 
-put_held : (a : Axis) (i : ℕ) (k : Node) (l : Links) (n : Net) (q : Place) → IsSome (found q.at n.held)
+put_held : (a : Axis) (i : ℕ) (k : Node) (l : Sides) (n : Net) (q : Spot) → IsSome (found q.at n.held)
     → IsSome (found q.at (with_links a i k l n).held)
 put_held a i k l n q t = node_put a i k l n (Some q) t
 
-stays_held : (a : Axis) (i : ℕ) (p : Place) (n : Net) (q : Place) → IsSome (found q.at n.held)
+stays_held : (a : Axis) (i : ℕ) (p : Spot) (n : Net) (q : Spot) → IsSome (found q.at n.held)
     → IsSome (found q.at (unlinked a i p n).held)
 stays_held a i p n q t =
     let x = prev a i n (Some p) in let y = next a i n (Some p) in
-    let l1 : Links = record (neighbours a i n x) { after = y } in let n1 = with_links a i x l1 n in
-    let l2 : Links = record (neighbours a i n1 y) { before = x } in
+    let l1 : Sides = record (neighbours a i n x) { after = y } in let n1 = with_links a i x l1 n in
+    let l2 : Sides = record (neighbours a i n1 y) { before = x } in
     put_held a i y l2 n1 q (put_held a i x l1 n q t)
 
 -- a cell that is held stands in both of its lists, and may be taken out of them
-module _ (rows columns : ℕ → List Place) (n : Net) (M : IsMesh rows columns n) (p : Place)
+module _ (rows columns : ℕ → List Spot) (n : Net) (M : IsMesh rows columns n) (p : Spot)
     (held : IsSome (found p.at n.held)) where
   it : (c : Cell) × (found p.at n.held ≡ Some c)
   it = some_of (found p.at n.held) held
@@ -482,14 +482,14 @@ module _ (rows columns : ℕ → List Place) (n : Net) (M : IsMesh rows columns 
       in_column.1
 
 -- the heads are as many as before
-pub heads_out : (axis : Axis) (i j : ℕ) (p : Place) (n : Net)
+pub heads_out : (axis : Axis) (i j : ℕ) (p : Spot) (n : Net)
     → length (heads axis (taken i j p n)) ≡ length (heads axis n)
 heads_out axis i j p n =
     ap length (heads_freed axis p (unlinked Station j p (unlinked Object i p n)))
     ∙ heads_unlinked axis Station j p (unlinked Object i p n) ∙ heads_unlinked axis Object i p n
 
 -- the first cell of a station's list is held, and the station's
-pub front_held : (rows columns : ℕ → List Place) (n : Net) → IsMesh rows columns n → (s : ℕ) (p : Place)
+pub front_held : (rows columns : ℕ → List Spot) (n : Net) → IsMesh rows columns n → (s : ℕ) (p : Spot)
     → s < length n.stations → next Station s n None ≡ Some p
     → IsSome (found p.at n.held) × ((cell_at n p).station ≡ s)
 front_held rows columns n M s p slt front =
@@ -498,9 +498,9 @@ front_held rows columns n M s p slt front =
     (subst IsSome (sym b.1) refl, ap (λ (c : Cell). c.station) (cell_of n p b.0 b.1) ∙ b.2)
 
 -- where its list is empty, no cell is a station's
-pub none_held : (rows columns : ℕ → List Place) (n : Net) → IsMesh rows columns n → (s : ℕ) → s < length n.stations
+pub none_held : (rows columns : ℕ → List Spot) (n : Net) → IsMesh rows columns n → (s : ℕ) → s < length n.stations
     → next Station s n None ≡ None
-    → (p : Place) → IsSome (found p.at n.held) → (cell_at n p).station ≢ s
+    → (p : Spot) → IsSome (found p.at n.held) → (cell_at n p).station ≢ s
 none_held rows columns n M s slt empty p held same =
     let none = front_none (next Station s n) (prev Station s n) (columns s) (M.stations.path s slt) empty in
     let m = in_column rows columns n M p held in

@@ -3,7 +3,7 @@ use Rattle.std.proofs.Common.{◌≡◌, ℕ, ◌<◌, true, false, if◌then◌
 use Rattle.std.proofs.Common.{refl, sym, ap, ◌∙◌, subst, length-set, get_or-set_same}
 use denote.RawPtr.{Ptr}
 use Rattle.smi_watchers.specs.declared.cell.Cell.{Cell}
-use Rattle.smi_watchers.specs.declared.cell.Links.{Links}
+use Rattle.smi_watchers.specs.declared.cell.Sides.{Sides}
 use Rattle.smi_watchers.specs.declared.lists.Axis.{Axis}
 use Rattle.smi_watchers.specs.declared.lists.Axis.TheVariants.{Object, Station}
 use Rattle.smi_watchers.specs.Held.{is_same, found, without}
@@ -35,7 +35,7 @@ found_put q p c hs =
     ]) refl
 
 -- what a node has beside it after a write
-pub links_put : (axis : Axis) (list : ℕ) (k : Node) (l : Links) (n : Net) (m : Node) → IsNode axis list k n
+pub links_put : (axis : Axis) (list : ℕ) (k : Node) (l : Sides) (n : Net) (m : Node) → IsNode axis list k n
     → neighbours axis list (with_links axis list k l n) m ≡ (if is_node k m then l else neighbours axis list n m)
 links_put Object list None l n None here = get_or-set_same n.objects list l no_links here
 links_put Station list None l n None here = get_or-set_same n.stations list l no_links here
@@ -55,7 +55,7 @@ links_put Station list (Some p) l n (Some q) here =
     ≡ (if y then l else links_in Station (cell_at n q))) [ true ↦ refl | false ↦ refl ]
 
 -- a node stays one
-pub node_put : (axis : Axis) (list : ℕ) (k : Node) (l : Links) (n : Net) (m : Node) → IsNode axis list m n
+pub node_put : (axis : Axis) (list : ℕ) (k : Node) (l : Sides) (n : Net) (m : Node) → IsNode axis list m n
     → IsNode axis list m (with_links axis list k l n)
 node_put Object list None l n None here = subst (λ k. list < k) (sym (length-set n.objects list l)) here
 node_put Station list None l n None here = subst (λ k. list < k) (sym (length-set n.stations list l)) here

@@ -1,7 +1,7 @@
 -- A ring that a place leaves or comes into is a ring.
 use Rattle.std.proofs.Common.{◌≡◌, true, false, rules, if◌then◌else◌, List, [], ◌∷◌, ◌++◌, Some, None, refl, ap, ◌∙◌}
 use denote.RawPtr.{Ptr, block_ptr, null_ptr}
-use Rattle.smi_watchers.specs.declared.cell.Place.{Place}
+use Rattle.smi_watchers.specs.declared.cell.Spot.{Spot}
 use Rattle.smi_watchers.specs.Held.{is_same}
 use Rattle.smi_watchers.specs.Ring.{Node, is_node, but, Path, Fresh, Apart, last_of, first_of}
 
@@ -33,7 +33,7 @@ but_other k v f m e = ap (λ y. if y then v else f m) e
 
 module _ (next prev : Node → Node) where
   -- a change at nodes that the path does not read
-  pub path_past : (k v l w a : Node) (ps : List Place) → is_node k a ≡ false → Fresh k ps → is_node l None ≡ false
+  pub path_past : (k v l w a : Node) (ps : List Spot) → is_node k a ≡ false → Fresh k ps → is_node l None ≡ false
       → Fresh l ps
       → Path next prev a ps → Path (but k v next) (but l w prev) a ps
   path_past k v l w a [] ka fk ln fl h = (but_other k v next a ka ∙ h.0, but_other l w prev None ln ∙ h.1)
@@ -44,33 +44,33 @@ module _ (next prev : Node → Node) where
   )
 
   -- the nodes beside a place
-  pub beside : (a : Node) (xs : List Place) (p : Place) (ys : List Place) → Path next prev a (xs ++ p ∷ ys)
+  pub beside : (a : Node) (xs : List Spot) (p : Spot) (ys : List Spot) → Path next prev a (xs ++ p ∷ ys)
       → (prev (Some p) ≡ last_of a xs) × (next (Some p) ≡ first_of ys)
   beside a [] p [] h = (h.1, h.2.0)
   beside a [] p (y ∷ ys) h = (h.1, h.2.0)
   beside a (x ∷ xs) p ys h = beside (Some x) xs p ys h.2
 
-  fresh_last : (a : Node) (x : Place) (xs : List Place) (p : Place) (ys : List Place) → Fresh a (x ∷ (xs ++ p ∷ ys))
+  fresh_last : (a : Node) (x : Spot) (xs : List Spot) (p : Spot) (ys : List Spot) → Fresh a (x ∷ (xs ++ p ∷ ys))
       → is_node (last_of (Some x) xs) a ≡ false
   fresh_last a x [] p ys f = node_sym (Some x) a ∙ f.0
   fresh_last a x (z ∷ xs) p ys f = fresh_last a z xs p ys f.1
 
-  fresh_first : (x p : Place) (xs ys : List Place) → Fresh (Some x) (xs ++ p ∷ ys)
+  fresh_first : (x p : Spot) (xs ys : List Spot) → Fresh (Some x) (xs ++ p ∷ ys)
       → is_node (first_of ys) (Some x) ≡ false
   fresh_first x p [] [] f = refl
   fresh_first x p [] (y ∷ ys) f = node_sym (Some y) (Some x) ∙ f.1.0
   fresh_first x p (z ∷ xs) ys f = fresh_first x p xs ys f.1
 
-  first_apart : (x : Place) (ps : List Place) → Apart (Some x) ps → Fresh (Some x) ps
+  first_apart : (x : Spot) (ps : List Spot) → Apart (Some x) ps → Fresh (Some x) ps
   first_apart x [] d = tt
   first_apart x (p ∷ ps) d = d.0
 
-  fresh_end : (a : Node) (x : Place) (xs : List Place) → Fresh a (x ∷ xs) → is_node (last_of (Some x) xs) a ≡ false
+  fresh_end : (a : Node) (x : Spot) (xs : List Spot) → Fresh a (x ∷ xs) → is_node (last_of (Some x) xs) a ≡ false
   fresh_end a x [] f = node_sym (Some x) a ∙ f.0
   fresh_end a x (z ∷ xs) f = fresh_end a z xs f.1
 
   -- without the place
-  pub path_without : (a : Node) (xs : List Place) (p : Place) (ys : List Place) → Apart a (xs ++ p ∷ ys)
+  pub path_without : (a : Node) (xs : List Spot) (p : Spot) (ys : List Spot) → Apart a (xs ++ p ∷ ys)
       → Path next prev a (xs ++ p ∷ ys)
       → Path (but (last_of a xs) (first_of ys) next) (but (first_of ys) (last_of a xs) prev) a (xs ++ ys)
   path_without a [] p [] d h = (but_same a None next, but_same None a prev)
@@ -87,7 +87,7 @@ module _ (next prev : Node → Node) where
       )
 
   -- with one more place at the end
-  pub path_with : (a : Node) (ps : List Place) (p : Place) → Apart a ps → Fresh (Some p) ps
+  pub path_with : (a : Node) (ps : List Spot) (p : Spot) → Apart a ps → Fresh (Some p) ps
       → is_node a (Some p) ≡ false → Path next prev a ps
       → Path (but (last_of a ps) (Some p) (but (Some p) None next))
       (but None (Some p) (but (Some p) (last_of a ps) prev)) a (ps ++ p ∷ [])

@@ -6,7 +6,7 @@ use Rattle.std.proofs.lemmas.Bool.Decides.{nat_tests}
 use Rattle.std.proofs.lemmas.Option.{unwrap_or-slice_get}
 use Rattle.std.proofs.lemmas.List.{set-get_or}
 use Rattle.smi_watchers.specs.declared.cell.Cell.{Cell}
-use Rattle.smi_watchers.specs.declared.cell.Place.{Place}
+use Rattle.smi_watchers.specs.declared.cell.Spot.{Spot}
 use Rattle.smi_watchers.specs.declared.watcher.Watcher.{Watcher}
 use Rattle.smi_watchers.specs.declared.lists.Axis.TheVariants.{Object}
 use Rattle.smi_watchers.specs.Held.{found}
@@ -32,7 +32,7 @@ row_below n lists x view least most = let all = many n in let same = ap length v
     omega (arith, all, same, least, most)
 
 -- a station that does not watch comes in after the others
-pub joins : (n : Net) (K : IsKept n) (lists : List (List Watcher)) (view : lists_of n ≡ lists) (p : Place) (c : Cell)
+pub joins : (n : Net) (K : IsKept n) (lists : List (List Watcher)) (view : lists_of n ≡ lists) (p : Spot) (c : Cell)
     → found p.at n.held ≡ None → (x : ℕ)
     → c.object ≡ x - 1 → 1 ≤ x → x ≤ length lists → c.station ≤ 128
     → position (is_of c.station) (listed lists x) ≡ None → length (listed lists x) < most_watchers
@@ -54,15 +54,15 @@ joins n K lists view p c none x row least most few absent room =
 
 -- What a look for a station in an object's list finds.
 
-test_same : (s : ℕ) (n : Net) (p : Place) → is_step_of s (step_at n p) ≡ is_of s (watcher_at n p)
+test_same : (s : ℕ) (n : Net) (p : Spot) → is_step_of s (step_at n p) ≡ is_of s (watcher_at n p)
 test_same s n p = refl
 
-found_in : (s : ℕ) (n : Net) (ps : List Place) (p : Place) → place_in s (map (step_at n) ps) ≡ Some p
+found_in : (s : ℕ) (n : Net) (ps : List Spot) (p : Spot) → place_in s (map (step_at n) ps) ≡ Some p
     → In p ps × ((cell_at n p).station ≡ s) × (find (is_of s) (map (watcher_at n) ps) ≡ Some (watcher_at n p))
 found_in s n [] p e = cc
 found_in s n (q ∷ qs) p e =
     (elim (is_of s (watcher_at n q)) as (λ b. is_of s (watcher_at n q) ≡ b
-    → option_map (λ (x : Place × Cell). x.0) (cond b (Some (step_at n q)) (find (is_step_of s) (map (step_at n) qs)))
+    → option_map (λ (x : Spot × Cell). x.0) (cond b (Some (step_at n q)) (find (is_step_of s) (map (step_at n) qs)))
     ≡ Some p
     → In p (q ∷ qs) × ((cell_at n p).station ≡ s)
     × (cond b (Some (watcher_at n q)) (find (is_of s) (map (watcher_at n) qs)) ≡ Some (watcher_at n p))) [
@@ -70,17 +70,17 @@ found_in s n (q ∷ qs) p e =
           let same : q ≡ p = ap (λ o. unwrap_or o q) f in
           let own : (cell_at n q).station ≡ s = grind (arith, nat_tests) in (
             inl (sym same),
-            subst (λ (z : Place). (cell_at n z).station ≡ s) same own,
-            ap (λ (z : Place). Some (watcher_at n z)) same,
+            subst (λ (z : Spot). (cell_at n z).station ≡ s) same own,
+            ap (λ (z : Spot). Some (watcher_at n z)) same,
           )
       | false ↦ λ is f. let rest = found_in s n qs p f in (inr rest.0, rest.1, rest.2)
     ]) refl e
 
-missed : (s : ℕ) (n : Net) (ps : List Place) → place_in s (map (step_at n) ps) ≡ None → NoneOf s (map (watcher_at n) ps)
+missed : (s : ℕ) (n : Net) (ps : List Spot) → place_in s (map (step_at n) ps) ≡ None → NoneOf s (map (watcher_at n) ps)
 missed s n [] e = tt
 missed s n (q ∷ qs) e =
     (elim (is_of s (watcher_at n q)) as (λ b. is_of s (watcher_at n q) ≡ b
-    → option_map (λ (x : Place × Cell). x.0) (cond b (Some (step_at n q)) (find (is_step_of s) (map (step_at n) qs)))
+    → option_map (λ (x : Spot × Cell). x.0) (cond b (Some (step_at n q)) (find (is_step_of s) (map (step_at n) qs)))
     ≡ None
     → NoneOf s (map (watcher_at n) (q ∷ qs))) [
       | true ↦ λ is f. cc
@@ -102,7 +102,7 @@ module _ (n : Net) (K : IsKept n) (lists : List (List Watcher)) (view : lists_of
   pub nobody : place_in s (steps_of n (x - 1)) ≡ None → NoneOf s (listed lists x)
   nobody e = subst (NoneOf s) (sym all) (missed s n (K.whole.0 (x - 1)) (ap (place_in s) (sym along) ∙ e))
 
-  module _ (p : Place) (e : place_in s (steps_of n (x - 1)) ≡ Some p) where
+  module _ (p : Spot) (e : place_in s (steps_of n (x - 1)) ≡ Some p) where
     at : In p (K.whole.0 (x - 1)) × ((cell_at n p).station ≡ s)
         × (find (is_of s) (map (watcher_at n) (K.whole.0 (x - 1))) ≡ Some (watcher_at n p))
     at = found_in s n (K.whole.0 (x - 1)) p (ap (place_in s) (sym along) ∙ e)

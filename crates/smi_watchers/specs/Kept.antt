@@ -1,8 +1,8 @@
 -- The watcher lists that cells stand for.
 use Rattle.std.specs.Prelude.{◌≡◌, ℕ, ◌<◌, ◌^◌, List, [], length, map, slice_get, unwrap_or, Option}
 use Rattle.smi_watchers.specs.declared.cell.Cell.{Cell}
-use Rattle.smi_watchers.specs.declared.cell.Links.{Links}
-use Rattle.smi_watchers.specs.declared.cell.Place.{Place}
+use Rattle.smi_watchers.specs.declared.cell.Sides.{Sides}
+use Rattle.smi_watchers.specs.declared.cell.Spot.{Spot}
 use Rattle.smi_watchers.specs.declared.watcher.Watcher.{Watcher}
 use Rattle.smi_watchers.specs.Net.{Net}
 use Rattle.smi_watchers.specs.Mesh.{IsWhole}
@@ -13,16 +13,16 @@ use Rattle.smi_watchers.specs.Watching.{watcher, IsAudience}
 abbrev pub watcher_of : Cell → Watcher
 watcher_of c = watcher c.station c.echo
 
-abbrev pub watcher_in : Place × Cell → Watcher
+abbrev pub watcher_in : Spot × Cell → Watcher
 watcher_in s = watcher_of s.1
 
 -- the watchers from a node of an object's list on
-abbrev pub watchers_from : Net → Option Place → List Watcher
+abbrev pub watchers_from : Net → Option Spot → List Watcher
 watchers_from n m = map watcher_in (steps_from n m)
 
 -- the list of each object
 abbrev pub lists_of : Net → List (List Watcher)
-lists_of n = map (λ (head : Links). watchers_from n head.after) n.objects
+lists_of n = map (λ (head : Sides). watchers_from n head.after) n.objects
 
 -- stations are numbered from 1 to 128, and the list of number 0 is there so that a number is a place
 abbrev pub station_heads : ℕ

@@ -2,19 +2,19 @@ use std::marker::Send;
 
 /// Where a cell lies on the heap. It owns nothing.
 #[derive(Clone, Copy)]
-pub(crate) struct Place {
+pub(crate) struct Spot {
     pub(crate) at: *mut Cell,
 }
 
 // A bare number to each thread: what lies there is its owner's.
-unsafe impl Send for Place {}
+unsafe impl Send for Spot {}
 
 /// The cells before and after one in a list, none at an end. Of a list's head `after` is the first
 /// cell and `before` the last, so that a list with its head is a ring.
 #[derive(Clone, Copy)]
-pub(crate) struct Links {
-    pub(crate) before: Option<Place>,
-    pub(crate) after: Option<Place>,
+pub(crate) struct Sides {
+    pub(crate) before: Option<Spot>,
+    pub(crate) after: Option<Spot>,
 }
 
 /// One station that watches one object: an entry in the list of each.
@@ -26,6 +26,6 @@ pub(crate) struct Cell {
     pub(crate) station: u16,
     /// The boot of the station that its newest `WATCH` of the object named.
     pub(crate) echo: u32,
-    pub(crate) by_object: Links,
-    pub(crate) by_station: Links,
+    pub(crate) by_object: Sides,
+    pub(crate) by_station: Sides,
 }

@@ -6,7 +6,7 @@ ghost use Rattle.std.specs.Prelude.{List};
 ghost use denote.RawPtr.{Ptr};
 ghost use Rattle.smi_watchers.specs.declared.cell.Cell.{Cell};
 
-use crate::cell::{Cell, Place};
+use crate::cell::{Cell, Spot};
 use std::alloc::Global;
 use std::marker::{Model, Send};
 use std_alloc::room::Vacant;
@@ -49,18 +49,18 @@ impl Cells {
     }
 
     /// One more cell, in room that was taken before.
-    pub fn fill(&mut self, room: Vacant<Cell, Global>, cell: Cell) -> Place
+    pub fn fill(&mut self, room: Vacant<Cell, Global>, cell: Cell) -> Spot
         ensures { (self.new.held ≡ (result.at, cell) ∷ self.old.held) × (found result.at self.old.held ≡ None) }
     {
         let Vacant { ptr, alloc: _ } = room;
         unsafe {
             ptr.write(cell);
         }
-        Place { at: ptr }
+        Spot { at: ptr }
     }
 
     /// A cell is taken out, and its block is left empty.
-    pub fn empty(&mut self, place: Place, alloc: Global) -> Vacant<Cell, Global>
+    pub fn empty(&mut self, place: Spot, alloc: Global) -> Vacant<Cell, Global>
         requires { IsSome (found place.at self.old.held) }
         ensures { self.new.held ≡ without place.at self.old.held }
     {
@@ -71,7 +71,7 @@ impl Cells {
     }
 
     /// What a cell holds.
-    pub fn read(&self, place: Place) -> Cell
+    pub fn read(&self, place: Spot) -> Cell
         requires { IsSome (found place.at self.now.held) }
         ensures { found place.at self.now.held ≡ Some result }
     {
@@ -79,7 +79,7 @@ impl Cells {
     }
 
     /// A cell holds this from now on.
-    pub fn write(&mut self, place: Place, cell: Cell)
+    pub fn write(&mut self, place: Spot, cell: Cell)
         requires { IsSome (found place.at self.old.held) }
         ensures { self.new.held ≡ (place.at, cell) ∷ without place.at self.old.held }
     {

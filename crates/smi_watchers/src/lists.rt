@@ -1,6 +1,6 @@
 //! The lists in which the cells stand: linking, without a pointer.
 use crate::answer::WatchAnswer;
-use crate::cell::{Cell, Links, Place};
+use crate::cell::{Cell, Sides, Spot};
 use crate::cells::Cells;
 use crate::steps::Steps;
 use std::alloc::{AllocError, Global};
@@ -20,8 +20,8 @@ pub(crate) enum Axis {
 /// way wherever it stands. Contracts see the cells and the heads.
 pub(crate) struct Lists {
     cells: Cells,
-    objects: Vec<Links>,
-    stations: Vec<Links>,
+    objects: Vec<Sides>,
+    stations: Vec<Sides>,
     alloc: Global,
 }
 
@@ -59,7 +59,7 @@ impl Lists {
     ghost use Rattle.smi_watchers.specs.Walked.{steps_of, place_in};
     ghost use Rattle.smi_watchers.specs.Kept.{watcher_of};
     ghost use Rattle.smi_watchers.specs.Watching.{answer_at};
-    ghost use Rattle.smi_watchers.specs.declared.cell.Place.{Place as Spot};
+    ghost use Rattle.smi_watchers.specs.declared.cell.Spot.{Spot as CellAt};
 
     /// No cell, and a head for each list.
     ///
@@ -69,7 +69,7 @@ impl Lists {
         ensures objects { IfOk result (λ lists. lists.objects ≡ replicate objects no_links) }
         ensures stations { IfOk result (λ lists. lists.stations ≡ replicate stations no_links) }
     {
-        let none = Links {
+        let none = Sides {
             before: None,
             after: None,
         };
@@ -97,7 +97,7 @@ impl Lists {
     }
 
     /// What stands before and after a node of a list's ring: a cell, or the head where there is none.
-    fn links(&self, axis: Axis, list: usize, node: Option<Place>) -> Links
+    fn links(&self, axis: Axis, list: usize, node: Option<Spot>) -> Sides
         requires { IsNode axis list node self.now }
         ensures { result ≡ neighbours axis list self.now node }
     {
@@ -117,7 +117,7 @@ impl Lists {
     }
 
     /// A node has other neighbours.
-    fn set_links(&mut self, axis: Axis, list: usize, node: Option<Place>, links: Links)
+    fn set_links(&mut self, axis: Axis, list: usize, node: Option<Spot>, links: Sides)
         requires { IsNode axis list node self.old }
         ensures { self.new ≡ with_links axis list node links self.old }
     {
@@ -138,12 +138,12 @@ impl Lists {
     }
 
     /// Another node comes after one.
-    fn set_after(&mut self, axis: Axis, list: usize, node: Option<Place>, after: Option<Place>)
+    fn set_after(&mut self, axis: Axis, list: usize, node: Option<Spot>, after: Option<Spot>)
         requires { IsNode axis list node self.old }
         ensures { self.new ≡ with_next axis list node after self.old }
     {
         let links = self.links(axis, list, node);
-        let links = Links {
+        let links = Sides {
             before: links.before,
             after,
         };
@@ -151,12 +151,12 @@ impl Lists {
     }
 
     /// Another node comes before one.
-    fn set_before(&mut self, axis: Axis, list: usize, node: Option<Place>, before: Option<Place>)
+    fn set_before(&mut self, axis: Axis, list: usize, node: Option<Spot>, before: Option<Spot>)
         requires { IsNode axis list node self.old }
         ensures { self.new ≡ with_prev axis list node before self.old }
     {
         let links = self.links(axis, list, node);
-        let links = Links {
+        let links = Sides {
             before,
             after: links.after,
         };
@@ -164,22 +164,22 @@ impl Lists {
     }
 
     /// A cell is taken out of one of its lists: its neighbours are joined.
-    fn unlink(&mut self, axis: Axis, list: usize, place: Place)
+    fn unlink(&mut self, axis: Axis, list: usize, place: Spot)
         requires { IsLinked axis list place self.old }
         ensures { self.new ≡ unlinked axis list place self.old }
     {
-        let Links { before, after } = self.links(axis, list, Some(place));
+        let Sides { before, after } = self.links(axis, list, Some(place));
         self.set_after(axis, list, before, after);
         self.set_before(axis, list, after, before);
     }
 
     /// A cell becomes the last of a list.
-    fn link_last(&mut self, axis: Axis, list: usize, place: Place)
+    fn link_last(&mut self, axis: Axis, list: usize, place: Spot)
         requires { MayLink axis list place self.old }
         ensures { self.new ≡ linked axis list place self.old }
     {
         let last = self.links(axis, list, None).before;
-        let links = Links {
+        let links = Sides {
             before: last,
             after: None,
         };
@@ -189,7 +189,7 @@ impl Lists {
     }
 
     /// The first cell of a list.
-    pub fn first(&self, axis: Axis, list: usize) -> Option<Place>
+    pub fn first(&self, axis: Axis, list: usize) -> Option<Spot>
         requires { IsNode axis list None self.now }
         ensures { result ≡ next axis list self.now None }
     {
@@ -197,7 +197,7 @@ impl Lists {
     }
 
     /// What a cell holds.
-    pub fn cell(&self, place: Place) -> Cell
+    pub fn cell(&self, place: Spot) -> Cell
         requires { IsSome (found place.at self.now.held) }
         ensures { result ≡ cell_at self.now place }
     {
@@ -217,7 +217,7 @@ impl Lists {
     }
 
     /// Where the cell of a station stands in an object's list, if it does.
-    pub fn place_of(&self, object: usize, station: u16) -> Option<Place>
+    pub fn place_of(&self, object: usize, station: u16) -> Option<Spot>
         requires whole { IsWhole self.now }
         requires object { object < length self.now.objects }
         ensures { result ≡ place_in station (steps_of self.now object) }
@@ -241,14 +241,14 @@ impl Lists {
     }
 
     /// A new cell, in neither list yet.
-    fn fill(&mut self, room: Vacant<Cell, Global>, cell: Cell) -> Place
+    fn fill(&mut self, room: Vacant<Cell, Global>, cell: Cell) -> Spot
         ensures { (self.new ≡ with_cell result cell self.old) × (found result.at self.old.held ≡ None) }
     {
         self.cells.fill(room, cell)
     }
 
     /// A cell's block goes back to where it came from.
-    fn free(&mut self, place: Place)
+    fn free(&mut self, place: Spot)
         requires { IsSome (found place.at self.old.held) }
         ensures { self.new ≡ without_cell place self.old }
     {
@@ -261,7 +261,7 @@ impl Lists {
         requires whole { IsWhole self.old }
         requires object { cell.object < length self.old.objects }
         requires station { cell.station < length self.old.stations }
-        ensures { (place : Spot) × (found place.at self.old.held ≡ None) × (self.new ≡ put_in place cell self.old) }
+        ensures { (place : CellAt) × (found place.at self.old.held ≡ None) × (self.new ≡ put_in place cell self.old) }
     {
         let place = self.fill(room, cell);
         self.link_last(Axis::Object, usize::from(cell.object), place);
@@ -269,7 +269,7 @@ impl Lists {
     }
 
     /// A cell is taken out of both of its lists and given back.
-    pub fn take_out(&mut self, place: Place)
+    pub fn take_out(&mut self, place: Spot)
         requires whole { IsWhole self.old }
         requires held { IsSome (found place.at self.old.held) }
         ensures { self.new ≡ taken_out place self.old }
@@ -281,7 +281,7 @@ impl Lists {
     }
 
     /// A cell has this echo, if it is newer than its own.
-    pub fn renew_at(&mut self, place: Place, echo: u32) -> WatchAnswer
+    pub fn renew_at(&mut self, place: Spot, echo: u32) -> WatchAnswer
         requires { IsSome (found place.at self.old.held) }
         ensures answer { result ≡ answer_at (Some (watcher_of (cell_at self.old place))) echo }
         ensures lists { self.new ≡ with_newer place echo self.old }

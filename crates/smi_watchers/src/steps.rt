@@ -1,4 +1,4 @@
-use crate::cell::{Cell, Place};
+use crate::cell::{Cell, Spot};
 use crate::lists::Lists;
 use std::marker::Model;
 
@@ -6,16 +6,16 @@ use std::marker::Model;
 #[derive(Drop)]
 pub(crate) struct Steps<'a> {
     pub(crate) lists: &'a Lists,
-    pub(crate) next: Option<Place>,
+    pub(crate) next: Option<Spot>,
 }
 
 impl<'a> Model for Steps<'a> {
     ghost use Rattle.std.specs.Prelude.{List};
     ghost use Rattle.smi_watchers.specs.declared.cell.Cell.{Cell};
-    ghost use Rattle.smi_watchers.specs.declared.cell.Place.{Place};
+    ghost use Rattle.smi_watchers.specs.declared.cell.Spot.{Spot};
     ghost use Rattle.smi_watchers.specs.Walked.{Chain, walked, steps_from};
 
-    ghost Value = { List (Place × Cell) };
+    ghost Value = { List (Spot × Cell) };
 
     ghost view = { λ w. steps_from w.lists.now w.next };
 
@@ -25,13 +25,13 @@ impl<'a> Model for Steps<'a> {
 impl<'a> Iterator for Steps<'a> {
     ghost use Rattle.std.specs.Iterator.{YieldsFirst, item_count};
 
-    type Item = (Place, Cell);
+    type Item = (Spot, Cell);
 
     ghost next_gives = { YieldsFirst (λ s. s) };
 
     ghost remaining = { item_count (λ s. s) };
 
-    fn next(&mut self) -> Option<(Place, Cell)> {
+    fn next(&mut self) -> Option<(Spot, Cell)> {
         let place = self.next?;
         let cell = self.lists.cell(place);
         self.next = cell.by_object.after;

@@ -1,5 +1,5 @@
 use crate::answer::{WatchAnswer, WatchFault};
-use crate::cell::{Cell, Links};
+use crate::cell::{Cell, Sides};
 use crate::lists::{Axis, Lists};
 use crate::walk::Walk;
 use crate::watcher::Watcher;
@@ -14,7 +14,7 @@ pub const MOST_WATCHERS: usize = 64;
 const STATION_LISTS: u16 = 129;
 
 /// A cell that stands in no list.
-const NO_LINKS: Links = Links {
+const NO_LINKS: Sides = Sides {
     before: None,
     after: None,
 };

@@ -3,7 +3,7 @@ use Rattle.std.specs.Prelude.{ℕ, nat_le, ◌==◌, ◌&&◌, not, ◌++◌, Bo
 use Rattle.std.specs.Prelude.{is_some, if◌then◌else◌}
 use Rattle.std.specs.Fmt.{decimal}
 use Rattle.std.specs.List.{list_all, starts_with}
-use Rattle.smi_window.specs.declared.errand.Answer.{Answer}
+use Rattle.smi_window.specs.declared.errand.Reply.{Reply}
 use Rattle.smi_window.specs.declared.errand.Errand.{Errand}
 use Rattle.smi_window.specs.Line.{is_plain}
 
@@ -31,7 +31,7 @@ abbrev pub said : List ℕ → List ℕ
 said text = if list_all is_plain text then text else codes "?"
 
 -- the answer that a line is: what stands behind the tag, and when it came
-abbrev pub answer_by : Errand → List ℕ → ℕ → Answer
+abbrev pub answer_by : Errand → List ℕ → ℕ → Reply
 answer_by e line now = record { text = said (drop (length e.tag) line); at = now }
 
 abbrev pub answered : List ℕ → ℕ → Errand → Errand

@@ -3,7 +3,7 @@ use Rattle.std.specs.Prelude.{ℕ, Bool, ◌-◌, ◌/◌, ◌++◌, List, [], l
 use Rattle.std.specs.Option.{option_map_or}
 use Rattle.std.specs.Fmt.{decimal}
 use Rattle.smi_tree.specs.Hierarchy.{entry}
-use Rattle.smi_window.specs.declared.errand.Answer.{Answer}
+use Rattle.smi_window.specs.declared.errand.Reply.{Reply}
 use Rattle.smi_window.specs.declared.errand.Errand.{Errand}
 use Rattle.smi_window.specs.Ending.{code_of, words_of}
 use Rattle.smi_window.specs.Relay.{Relaying, is_waiting}
@@ -23,7 +23,7 @@ code_text None = codes ",\"code\":null,\"words\":null"
 code_text (Some code) = codes ",\"code\":" ++ decimal code ++ codes ",\"words\":" ++ quoted (words_of code)
 
 -- what the console said, the code in it, and what that means
-unfoldable pub answer_text : List ℕ → Option Answer → List ℕ
+unfoldable pub answer_text : List ℕ → Option Reply → List ℕ
 answer_text line None = codes ",\"answer\":null,\"code\":null,\"words\":null"
 answer_text line (Some answer) = codes ",\"answer\":" ++ quoted answer.text ++ code_text (code_of line answer.text)
 

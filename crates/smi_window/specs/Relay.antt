@@ -5,8 +5,8 @@ use Rattle.std.specs.Prelude.{is_some, if◌then◌else◌}
 use Rattle.std.specs.Option.{option_map_or}
 use Rattle.smi_tree.specs.Hierarchy.{Hierarchy}
 use Rattle.smi_window.specs.declared.errand.Errand.{Errand}
-use Rattle.smi_window.specs.declared.relay.Verdict.{Verdict}
-use Rattle.smi_window.specs.declared.relay.Verdict.TheVariants as verdict
+use Rattle.smi_window.specs.declared.relay.Admission.{Admission}
+use Rattle.smi_window.specs.declared.relay.Admission.TheVariants as verdict
 use Rattle.smi_window.specs.Errand as errand
 use Rattle.smi_window.specs.Line.{is_order_line}
 
@@ -45,7 +45,7 @@ has_room r =
     nat_lt r.next (2 ^ 64 - 1) && (nat_le (length r.unsent) most_unsent && can_keep r.first r.errands)
 
 -- first of all it has to be an order, then there has to be a connection, and then room
-abbrev pub verdict_of : Hierarchy → Relaying → List ℕ → Verdict
+abbrev pub verdict_of : Hierarchy → Relaying → List ℕ → Admission
 verdict_of h r line =
     if is_order_line h line
     then (if r.is_open then (if has_room r then verdict.Fit else verdict.Full) else verdict.Away)

@@ -19,12 +19,12 @@ pub struct Errand {
     pub line: Bytes,
     /// When it was given, in milliseconds.
     pub given: u64,
-    pub answer: Option<Answer>,
+    pub answer: Option<Reply>,
 }
 
 /// What the console said to an errand, without the tag, and when.
 #[derive(Drop)]
-pub struct Answer {
+pub struct Reply {
     pub text: Bytes,
     pub at: u64,
 }
@@ -119,11 +119,11 @@ impl Errand {
         alloc: Global,
         line: &[u8],
         now: u64,
-    ) -> Result<Answer, AllocError>
+    ) -> Result<Reply, AllocError>
         ensures { IfOk result (λ answer. answer ≡ spec.answer_by self.now line.now now) }
     {
         let text = said(behind(line, self.tag.len()));
-        Ok(Answer {
+        Ok(Reply {
             text: shared(Vec::from_slice(alloc, text)?)?,
             at: now,
         })

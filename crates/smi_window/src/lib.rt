@@ -41,13 +41,13 @@ mod window;
 mod words;
 
 pub use ending::{code_of, words_of};
-pub use errand::{Answer, Errand};
+pub use errand::{Errand, Reply};
 pub use figures::spell_figures;
 pub use frame::Frame;
 pub use line::is_order_line;
 pub use orders::Orders;
-pub use question::{Asked, Question, what_is_asked};
-pub use relay::{MOST_ERRANDS, MOST_UNSENT, Relay, Verdict};
+pub use question::{Question, Resource, what_is_asked};
+pub use relay::{Admission, MOST_ERRANDS, MOST_UNSENT, Relay};
 pub use scene::spell_picture;
 pub use shape::spell_tree;
 pub use told::spell_orders;

@@ -5,7 +5,7 @@ ghost use Rattle.std.specs.List.{list_any};
 ghost use Rattle.smi_window.specs.Answers as spec;
 
 use crate::orders::Orders;
-use crate::relay::Verdict;
+use crate::relay::Admission;
 use std::marker::Model;
 
 /// What a request says that matters here.
@@ -45,7 +45,7 @@ impl<'a> Model for Question<'a> {
 
 /// What a request asks for.
 #[derive(Clone, Copy, Debug, PartialEq, Eq)]
-pub enum Asked {
+pub enum Resource {
     Page,
     Tree,
     Picture,
@@ -104,29 +104,29 @@ fn reads_only(method: &[u8]) -> bool
     method == b"GET".as_slice() || method == b"HEAD".as_slice()
 }
 
-fn place_asked(path: &[u8], query: Option<&[u8]>, mark: &[u8], has_orders: bool) -> Asked
+fn place_asked(path: &[u8], query: Option<&[u8]>, mark: &[u8], has_orders: bool) -> Resource
     ensures { result ≡ spec.place_asked path.now (option_map (λ q. q.now) query.entry) mark.now has_orders }
 {
     if path == b"/".as_slice() {
-        return Asked::Page;
+        return Resource::Page;
     }
     if path == b"/api/tree".as_slice() {
-        return Asked::Tree;
+        return Resource::Tree;
     }
     if path == b"/api/picture".as_slice() {
         return if is_text(query, mark) {
-            Asked::Unchanged
+            Resource::Unchanged
         } else {
-            Asked::Picture
+            Resource::Picture
         };
     }
     if path == b"/metrics".as_slice() {
-        return Asked::Figures;
+        return Resource::Figures;
     }
     if has_orders && path == b"/api/orders".as_slice() {
-        return Asked::Orders;
+        return Resource::Orders;
     }
-    Asked::Nowhere
+    Resource::Nowhere
 }
 
 /// Whether a page of this host asks: where it came from is what a browser says, and no page can say otherwise.
@@ -149,36 +149,36 @@ fn is_trusted(key: &[u8], question: &Question<'_>) -> bool
 }
 
 /// What is asked by an order of which the relay says so.
-fn asked_by(verdict: Verdict) -> Asked
+fn asked_by(verdict: Admission) -> Resource
     ensures { result ≡ spec.asked_by verdict }
 {
     match verdict {
-        Verdict::Fit => Asked::Given,
-        Verdict::NoOrder => Asked::NoOrder,
-        Verdict::Away => Asked::Away,
-        Verdict::Full => Asked::Full,
+        Admission::Fit => Resource::Given,
+        Admission::NoOrder => Resource::NoOrder,
+        Admission::Away => Resource::Away,
+        Admission::Full => Resource::Full,
     }
 }
 
 /// What is asked by a request that would change something, where orders may be given.
-fn order_asked(orders: &Orders, question: &Question<'_>) -> Asked
+fn order_asked(orders: &Orders, question: &Question<'_>) -> Resource
     ensures { result ≡ spec.order_asked orders.now question.now }
 {
     if question.method != b"POST".as_slice() || question.path != b"/api/orders".as_slice() {
-        return Asked::Change;
+        return Resource::Change;
     }
     if !is_trusted(orders.key.as_slice(), question) {
-        return Asked::Stranger;
+        return Resource::Stranger;
     }
     asked_by(orders.relay.verdict(&orders.tree, question.body))
 }
 
-fn change_asked(orders: &Option<Orders>, question: &Question<'_>) -> Asked
+fn change_asked(orders: &Option<Orders>, question: &Question<'_>) -> Resource
     ensures { result ≡ spec.change_asked orders.now question.now }
 {
     match orders {
         Some(orders) => order_asked(orders, question),
-        None => Asked::Change,
+        None => Resource::Change,
     }
 }
 
@@ -190,11 +190,11 @@ pub fn what_is_asked(
     mark: &[u8],
     orders: &Option<Orders>,
     question: &Question<'_>,
-) -> Asked
+) -> Resource
     ensures { result ≡ spec.what_is_asked (map (λ h. h.items) hosts.now) mark.now orders.now question.now }
 {
     if question.is_absolute || !is_ours(hosts, question.host) {
-        return Asked::Elsewhere;
+        return Resource::Elsewhere;
     }
     if !reads_only(question.method) {
         return change_asked(orders, question);

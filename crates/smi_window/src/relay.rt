@@ -18,7 +18,7 @@ pub const MOST_UNSENT: usize = 8_192;
 
 /// What is said to an order that somebody would give.
 #[derive(Clone, Copy, Debug, PartialEq, Eq)]
-pub enum Verdict {
+pub enum Admission {
     /// It may be given.
     Fit,
     /// It is no order of an operator of the tree.
@@ -150,17 +150,17 @@ impl Relay {
     }
 
     /// What is said to a line that somebody would give.
-    pub fn verdict(&self, tree: &Tree, line: &[u8]) -> Verdict
+    pub fn verdict(&self, tree: &Tree, line: &[u8]) -> Admission
         ensures { result ≡ spec.verdict_of tree.now self.now line.now }
     {
         if !is_order_line(tree, line) {
-            Verdict::NoOrder
+            Admission::NoOrder
         } else if !self.is_open {
-            Verdict::Away
+            Admission::Away
         } else if !self.has_room() {
-            Verdict::Full
+            Admission::Full
         } else {
-            Verdict::Fit
+            Admission::Fit
         }
     }
 

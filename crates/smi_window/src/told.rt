@@ -16,7 +16,7 @@ ghost use Rattle.smi_window.specs.Orders.{
 };
 
 use crate::ending::{code_of, words_of};
-use crate::errand::{Answer, Errand};
+use crate::errand::{Errand, Reply};
 use crate::listed::{Listing, put_list};
 use crate::relay::Relay;
 use crate::words::{put, put_flag, put_number, put_text};
@@ -55,7 +55,7 @@ fn put_code(text: &mut Vec<u8>, code: Option<u64>) -> Result<(), AllocError>
 
 /// What was said to an order of this line.
 #[tactic(auto, unfolding(crate::specs::Orders::answer_text))]
-fn put_answer(text: &mut Vec<u8>, line: &[u8], answer: &Option<Answer>) -> Result<(), AllocError>
+fn put_answer(text: &mut Vec<u8>, line: &[u8], answer: &Option<Reply>) -> Result<(), AllocError>
     ensures { OnOk result (text.new.items ≡ text.old.items ++ answer_text line.now answer.now) }
 {
     match answer {

@@ -7,7 +7,7 @@ ghost use Rattle.smi_schedule.specs.Drawn.{items_drawn, schedule_drawn};
 ghost use Rattle.smi_trace.specs.Text.{trace_text};
 ghost use Rattle.smi_world.specs.Posts.{IsAt};
 
-use crate::streaming::{Desk, new_desk, write_item, write_opening};
+use crate::streaming::{Buffers, new_desk, write_item, write_opening};
 use crate::world::World;
 use smi_schedule::Drawer;
 use smi_trace::Unwritten;
@@ -21,7 +21,7 @@ pub(crate) fn stream_items<W: Write>(
     world: &mut World<'_>,
     drawer: &mut Drawer,
     steps: u64,
-    desk: &mut Desk,
+    desk: &mut Buffers,
     writer: &mut W,
 ) -> Result<(), Unwritten>
     ensures all { (w : Defined) → IsAt world.old w → OnOk result

@@ -3,7 +3,9 @@
 use crate::drawn::stream_items;
 use crate::naming::has_item;
 use crate::post::Post;
-use crate::streaming::{Desk, Streamed, new_desk, stream_on, unwritten, write_item, write_opening};
+use crate::streaming::{
+    Buffers, Streamed, new_desk, stream_on, unwritten, write_item, write_opening,
+};
 use crate::world::World;
 use smi_grant::{Holder, Phase};
 use smi_protocol::{Deed, Item};
@@ -85,7 +87,7 @@ fn write_counted<W: Write>(
     alloc: Global,
     world: &mut World<'_>,
     item: Item,
-    desk: &mut Desk,
+    desk: &mut Buffers,
     writer: &mut W,
     count: &mut u64,
 ) -> Result<(), Unwritten> {
@@ -100,7 +102,7 @@ fn write_counted<W: Write>(
 fn pass_time<W: Write>(
     alloc: Global,
     world: &mut World<'_>,
-    desk: &mut Desk,
+    desk: &mut Buffers,
     writer: &mut W,
     count: &mut u64,
 ) -> Result<(), Unwritten> {
@@ -119,7 +121,7 @@ fn deliver_behind<W: Write>(
     alloc: Global,
     world: &mut World<'_>,
     sent: u64,
-    desk: &mut Desk,
+    desk: &mut Buffers,
     writer: &mut W,
     count: &mut u64,
 ) -> Result<u64, Unwritten> {
@@ -137,7 +139,7 @@ fn deliver_behind<W: Write>(
 fn settle<W: Write>(
     alloc: Global,
     world: &mut World<'_>,
-    desk: &mut Desk,
+    desk: &mut Buffers,
     writer: &mut W,
 ) -> Result<Option<u64>, Unwritten> {
     let mut count: u64 = 0;
@@ -165,7 +167,7 @@ pub enum Settled {
 }
 
 /// Writes the line that says after how many items the world was at rest.
-fn write_count<W: Write>(desk: &mut Desk, count: u64, writer: &mut W) -> Result<(), Unwritten> {
+fn write_count<W: Write>(desk: &mut Buffers, count: u64, writer: &mut W) -> Result<(), Unwritten> {
     let text = desk.text();
     text.clear();
     match writeln!(text, "settled after {count} items") {
@@ -178,7 +180,7 @@ fn write_count<W: Write>(desk: &mut Desk, count: u64, writer: &mut W) -> Result<
 fn settle_whole<W: Write>(
     alloc: Global,
     world: &mut World<'_>,
-    desk: &mut Desk,
+    desk: &mut Buffers,
     writer: &mut W,
 ) -> Settled {
     match settle(alloc, world, desk, writer) {
@@ -198,7 +200,7 @@ trait Source {
         &mut self,
         alloc: Global,
         world: &mut World<'_>,
-        desk: &mut Desk,
+        desk: &mut Buffers,
         writer: &mut W,
     ) -> Streamed;
 }
@@ -214,7 +216,7 @@ impl<R: Read> Source for Lined<'_, R> {
         &mut self,
         alloc: Global,
         world: &mut World<'_>,
-        desk: &mut Desk,
+        desk: &mut Buffers,
         writer: &mut W,
     ) -> Streamed {
         stream_on(alloc, world, self.reader, desk, writer)
@@ -233,7 +235,7 @@ impl Source for Draws {
         &mut self,
         alloc: Global,
         world: &mut World<'_>,
-        desk: &mut Desk,
+        desk: &mut Buffers,
         writer: &mut W,
     ) -> Streamed {
         match stream_items(alloc, world, &mut self.drawer, self.steps, desk, writer) {
@@ -248,7 +250,7 @@ fn make_and_settle<S: Source, W: Write>(
     alloc: Global,
     world: &mut World<'_>,
     source: &mut S,
-    desk: &mut Desk,
+    desk: &mut Buffers,
     writer: &mut W,
 ) -> Settled {
     match source.make(alloc, world, desk, writer) {

@@ -36,13 +36,13 @@ pub enum Streamed {
 
 /// What is used anew for each item.
 #[derive(Drop)]
-pub(crate) struct Desk {
+pub(crate) struct Buffers {
     left: Left,
     lines: Vec<Line>,
     text: Vec<u8>,
 }
 
-impl Desk {
+impl Buffers {
     /// Room for a text.
     pub(crate) fn text(&mut self) -> &mut Vec<u8> {
         &mut self.text
@@ -54,7 +54,7 @@ pub(crate) fn write_item<W: Write>(
     alloc: Global,
     world: &mut World<'_>,
     item: &Item,
-    desk: &mut Desk,
+    desk: &mut Buffers,
     writer: &mut W,
 ) -> Result<(), Unwritten>
     requires { has_item world.old.tree item.now ≡ true }
@@ -78,7 +78,7 @@ pub(crate) fn write_item<W: Write>(
 /// Writes the lines of the opening.
 pub(crate) fn write_opening<W: Write>(
     tree: &Tree,
-    desk: &mut Desk,
+    desk: &mut Buffers,
     writer: &mut W,
 ) -> Result<(), Unwritten>
     ensures all { OnOk result (Appends (W.contents writer.old) (W.contents writer.new)
@@ -112,7 +112,7 @@ fn stream_line<W: Write>(
     world: &mut World<'_>,
     number: u64,
     line: &[u8],
-    desk: &mut Desk,
+    desk: &mut Buffers,
     writer: &mut W,
 ) -> Option<Streamed>
     ensures next { (w : Defined) → IsAt world.old w → result ≡ None
@@ -148,7 +148,7 @@ pub(crate) fn stream_on<R: Read, W: Write>(
     alloc: Global,
     world: &mut World<'_>,
     reader: &mut R,
-    desk: &mut Desk,
+    desk: &mut Buffers,
     writer: &mut W,
 ) -> Streamed
     ensures done { (w : Defined) → IsAt world.old w → IfSome (R.remaining reader.old) (λ input. IsDone result →
@@ -192,8 +192,8 @@ ghost use Rattle.smi_protocol.specs.Schedule.{trace_from};
 ghost use Rattle.smi_schedule.specs.Schedule.{items_before_fault};
 
 /// What is used anew for each item, empty.
-pub(crate) fn new_desk(alloc: Global) -> Desk {
-    Desk {
+pub(crate) fn new_desk(alloc: Global) -> Buffers {
+    Buffers {
         left: Left::new(),
         lines: Vec::new(alloc),
         text: Vec::new(alloc),

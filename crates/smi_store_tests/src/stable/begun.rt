@@ -1,6 +1,6 @@
 //! New files get short pages, and any other file is left alone.
 
-use super::disks::{Disks, Store, back, close, disk, found, open};
+use super::disks::{FusedFiles, FusedStore, back, close, disk, found, open};
 use smi_file::{PAGE_BYTES, begin};
 use smi_samples::{BOOT, key};
 use smi_stable::{SavedRow, Stable, StoreFault};
@@ -31,14 +31,14 @@ fn is_begun(bytes: &[u8]) -> bool {
     has_fields && bytes.len() == 512
 }
 
-fn begun(files: &mut Disks) -> io::Result<bool> {
+fn begun(files: &mut FusedFiles) -> io::Result<bool> {
     if !files.may_be_used() {
         return Err(io::Error::other("the files may not be used"));
     }
     begin(files)
 }
 
-fn files(alloc: Global, log: &[u8], db: &[u8], calls: u64) -> Result<Disks, Fail> {
+fn files(alloc: Global, log: &[u8], db: &[u8], calls: u64) -> Result<FusedFiles, Fail> {
     Ok(Files {
         log: disk(alloc, log, u64::MAX)?,
         db: disk(alloc, db, calls)?,
@@ -57,7 +57,7 @@ fn torn(page: &[u8], length: usize, zeros: usize) -> [u8; PAGE_BYTES] {
 }
 
 /// Whether files are begun, and the file is what it should be then.
-fn told_of(files: &mut Disks, db: &[u8]) -> Option<bool> {
+fn told_of(files: &mut FusedFiles, db: &[u8]) -> Option<bool> {
     let told = begun(files).ok()?;
     let bytes = files.db.inner().bytes();
     let is_so = if told { is_begun(bytes) } else { bytes == db };
@@ -110,7 +110,7 @@ fn is_row(row: Option<&SavedRow>) -> bool {
     row.is_some_and(|row| row.key == key(1, 0, 0) && row.bytes.as_slice() == BOOT)
 }
 
-fn save_times(store: &mut Store, saves: u8) -> Result<(), StoreFault> {
+fn save_times(store: &mut FusedStore, saves: u8) -> Result<(), StoreFault> {
     for _ in 0..saves {
         store.save(key(1, 0, 0), BOOT)?;
     }
@@ -126,7 +126,7 @@ fn written(log: &[u8]) -> usize {
 
 /// Saves a row so many times in files that were begun; how many bytes of the log are then written, and whether the row
 /// is found again.
-fn keeps_a_row(alloc: Global, files: Disks, saves: u8) -> Result<(usize, bool), Fail> {
+fn keeps_a_row(alloc: Global, files: FusedFiles, saves: u8) -> Result<(usize, bool), Fail> {
     match open(alloc, files) {
         Ok(mut store) => {
             let saved = save_times(&mut store, saves);

@@ -7,9 +7,9 @@ use std::alloc::Global;
 use std::test::Fail;
 
 /// The two files of a store.
-pub(super) type Disks = Files<Fuse<Memory>>;
+pub(super) type FusedFiles = Files<Fuse<Memory>>;
 
-pub(super) type Store = SqliteStable<FileStore<Fuse<Memory>>>;
+pub(super) type FusedStore = SqliteStable<FileStore<Fuse<Memory>>>;
 
 /// A disk with these bytes that passes so many calls on.
 pub(super) fn disk(alloc: Global, bytes: &[u8], calls: u64) -> Result<Fuse<Memory>, Fail> {
@@ -19,7 +19,7 @@ pub(super) fn disk(alloc: Global, bytes: &[u8], calls: u64) -> Result<Fuse<Memor
     Ok(Fuse::new(memory, calls))
 }
 
-fn adopted(conn: Connection<FileStore<Fuse<Memory>>>) -> Result<Store, Disks> {
+fn adopted(conn: Connection<FileStore<Fuse<Memory>>>) -> Result<FusedStore, FusedFiles> {
     match SqliteStable::adopt(conn) {
         Ok(store) => Ok(store),
         Err((_, conn)) => Err(conn.into_store().close()),
@@ -27,7 +27,7 @@ fn adopted(conn: Connection<FileStore<Fuse<Memory>>>) -> Result<Store, Disks> {
 }
 
 /// A store over the files, or the files.
-pub(super) fn open(alloc: Global, files: Disks) -> Result<Store, Disks> {
+pub(super) fn open(alloc: Global, files: FusedFiles) -> Result<FusedStore, FusedFiles> {
     if !files.may_be_used() {
         return Err(files);
     }
@@ -37,12 +37,12 @@ pub(super) fn open(alloc: Global, files: Disks) -> Result<Store, Disks> {
     }
 }
 
-pub(super) fn close(store: Store) -> Disks {
+pub(super) fn close(store: FusedStore) -> FusedFiles {
     store.release().into_store().close()
 }
 
 /// Empty files that never stop.
-fn blank(alloc: Global) -> Disks {
+fn blank(alloc: Global) -> FusedFiles {
     Files {
         log: Fuse::new(Memory::new(alloc), u64::MAX),
         db: Fuse::new(Memory::new(alloc), u64::MAX),
@@ -50,7 +50,7 @@ fn blank(alloc: Global) -> Disks {
 }
 
 /// A store over such files.
-pub(super) fn opened(alloc: Global) -> Result<Store, Fail> {
+pub(super) fn opened(alloc: Global) -> Result<FusedStore, Fail> {
     match open(alloc, blank(alloc)) {
         Ok(store) => Ok(store),
         Err(_) => Err("the files are not opened")?,
@@ -58,7 +58,7 @@ pub(super) fn opened(alloc: Global) -> Result<Store, Fail> {
 }
 
 /// The files once the machine is back.
-pub(super) fn back(files: Disks) -> Disks {
+pub(super) fn back(files: FusedFiles) -> FusedFiles {
     let mut files = files;
     files.log.crash();
     files.db.crash();
@@ -66,7 +66,7 @@ pub(super) fn back(files: Disks) -> Disks {
 }
 
 /// The rows that the next open finds, once the machine is back.
-pub(super) fn found(alloc: Global, files: Disks) -> Result<Vec<SavedRow>, Fail> {
+pub(super) fn found(alloc: Global, files: FusedFiles) -> Result<Vec<SavedRow>, Fail> {
     match open(alloc, back(files)) {
         Ok(mut store) => {
             let list = store.load();

@@ -1,6 +1,6 @@
 //! What was saved is loaded, by rising key, from each store.
 
-use super::disks::{Store, close, open, opened};
+use super::disks::{FusedStore, close, open, opened};
 use smi_samples::{BOOT, HELD, TAKEN, key};
 use smi_stable::{Key, MemoryStable, PlannedStable, SavedRow, Stable, StoreFault};
 use std::alloc::Global;
@@ -76,7 +76,7 @@ fn with_nothing_planned(rt: HostRuntime) {
 }
 
 /// The rows of the files that a store over SQL gave up, taken over again.
-fn found_again(alloc: Global, store: Store) -> Result<bool, Fail> {
+fn found_again(alloc: Global, store: FusedStore) -> Result<bool, Fail> {
     match open(alloc, close(store)) {
         Ok(mut again) => {
             let list = again.load();

@@ -1,6 +1,6 @@
 //! Saves over SQL on disks that stop after so many calls: the next open finds the row as before or as saved.
 
-use super::disks::{Disks, close, disk, found, open, opened};
+use super::disks::{FusedFiles, close, disk, found, open, opened};
 use smi_samples::{BOOT, TAKEN, key};
 use smi_stable::{SavedRow, Stable, StoreFault};
 use sqlite::Files;
@@ -10,28 +10,28 @@ use std::test::Fail;
 
 /// What a save came to: nothing where the store was not opened.
 #[derive(Clone, Copy, Debug, PartialEq, Eq)]
-enum End {
+enum SaveEnd {
     NotOpened,
     Saved,
     Refused(StoreFault),
 }
 
 /// The domain is taken, on files that may stop.
-fn save_on(alloc: Global, files: Disks) -> (End, Disks) {
+fn save_on(alloc: Global, files: FusedFiles) -> (SaveEnd, FusedFiles) {
     match open(alloc, files) {
         Ok(mut store) => {
             let end = match store.save(key(1, 1, 0), TAKEN) {
-                Ok(()) => End::Saved,
-                Err(fault) => End::Refused(fault),
+                Ok(()) => SaveEnd::Saved,
+                Err(fault) => SaveEnd::Refused(fault),
             };
             (end, close(store))
         }
-        Err(files) => (End::NotOpened, files),
+        Err(files) => (SaveEnd::NotOpened, files),
     }
 }
 
 /// The files of a store in which a boot is saved.
-fn begun(alloc: Global) -> Result<Disks, Fail> {
+fn begun(alloc: Global) -> Result<FusedFiles, Fail> {
     let mut store = opened(alloc)?;
     let saved = store.save(key(1, 0, 0), BOOT);
     let files = close(store);
@@ -40,7 +40,7 @@ fn begun(alloc: Global) -> Result<Disks, Fail> {
 }
 
 /// The same files, each of which passes so many calls on.
-fn copied(alloc: Global, files: &Disks, log: u64, db: u64) -> Result<Disks, Fail> {
+fn copied(alloc: Global, files: &FusedFiles, log: u64, db: u64) -> Result<FusedFiles, Fail> {
     Ok(Files {
         log: disk(alloc, files.log.inner().bytes(), log)?,
         db: disk(alloc, files.db.inner().bytes(), db)?,
@@ -59,19 +59,24 @@ fn count_rows(list: &[SavedRow]) -> Option<usize> {
 }
 
 /// What the save came to on disks that stop so, and how many rows were found afterwards.
-fn stopped(alloc: Global, files: &Disks, log: u64, db: u64) -> Result<(End, Option<usize>), Fail> {
+fn stopped(
+    alloc: Global,
+    files: &FusedFiles,
+    log: u64,
+    db: u64,
+) -> Result<(SaveEnd, Option<usize>), Fail> {
     let (end, left) = save_on(alloc, copied(alloc, files, log, db)?);
     let list = found(alloc, left)?;
     Ok((end, count_rows(&list)))
 }
 
 /// Whether the next open may find so many rows.
-fn may_find(end: End, rows: Option<usize>) -> bool {
+fn may_find(end: SaveEnd, rows: Option<usize>) -> bool {
     match end {
-        End::NotOpened => rows == Some(1),
-        End::Saved => rows == Some(2),
-        End::Refused(StoreFault::Unsure) => rows == Some(1) || rows == Some(2),
-        End::Refused(_) => false,
+        SaveEnd::NotOpened => rows == Some(1),
+        SaveEnd::Saved => rows == Some(2),
+        SaveEnd::Refused(StoreFault::Unsure) => rows == Some(1) || rows == Some(2),
+        SaveEnd::Refused(_) => false,
     }
 }
 
@@ -93,9 +98,9 @@ fn refused_saves(rt: &impl Abort, alloc: Global, which: usize) -> Result<Option<
         let (end, rows) = stopped(alloc, &files, log, db)?;
         assert!(rt; may_find(end, rows), "{end:?} and {rows:?} after {calls}");
         match end {
-            End::Saved => return Ok(Some(refused)),
-            End::Refused(_) => refused = refused.saturating_add(1),
-            End::NotOpened => {}
+            SaveEnd::Saved => return Ok(Some(refused)),
+            SaveEnd::Refused(_) => refused = refused.saturating_add(1),
+            SaveEnd::NotOpened => {}
         }
     }
     Ok(None)

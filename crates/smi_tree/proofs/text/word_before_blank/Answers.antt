@@ -1,7 +1,7 @@
 use Rattle.std.proofs.Common.{arith, sym}
 use Rattle.std.proofs.lemmas.List.Sums.{position_or_len_is}
 use Rattle.smi_tree.specs.Text.{cuts}
-use Rattle.smi_tree.specs.declared.text.Mark.TheVariants.{Blank}
+use Rattle.smi_tree.specs.declared.text.Separator.TheVariants.{Blank}
 use Rattle.smi_tree.proofs.text.word_before_blank.Goals as goal
 
 pub returns-then-is_at-clause-place : goal.returns-then-is_at-clause-place

@@ -2,7 +2,7 @@ use Rattle.std.proofs.Common.{◌≡◌, ℕ, ◌<◌, false, get_or, take}
 use Rattle.std.specs.List.{list_all}
 use Rattle.smi_tree.specs.Name.{is_name_byte}
 use Rattle.smi_tree.specs.Text.{cuts}
-use Rattle.smi_tree.specs.declared.text.Mark.TheVariants.{Blank}
+use Rattle.smi_tree.specs.declared.text.Separator.TheVariants.{Blank}
 use Rattle.smi_tree.proofs.text.word_before_blank.Given as goal
 
 -- no blank stands before this place, and the bytes before it are as it was found

@@ -1,7 +1,7 @@
 use Rattle.std.proofs.Common.{rules, ◌≡◌, ◌+◌, ◌∙◌, ap, refl, take, Some, append-nil}
 use Rattle.std.specs.Prelude.{slice_get}
 use Rattle.std.specs.List.{filter_map}
-use Rattle.smi_link.specs.declared.frame.Coming.TheVariants.{Datagram, Nothing, Fault}
+use Rattle.smi_link.specs.declared.frame.ToReceive.TheVariants.{Datagram, Nothing, Fault}
 use Rattle.smi_link.specs.Memory.{Memory, datagram_of, received_of, moved_on}
 use Rattle.smi_link.proofs.Given.{received_more}
 use Rattle.smi_link.proofs.memory.MemoryLinkDatagramLink.receive.Goals as goal

@@ -1,5 +1,5 @@
 use Rattle.std.proofs.Common.{Ok}
-use Rattle.smi_rows.specs.declared.fault.Fault.TheVariants.{Unknown}
+use Rattle.smi_rows.specs.declared.fault.RowFlaw.TheVariants.{Unknown}
 use Rattle.smi_rows.specs.Reading.{refused}
 use Rattle.smi_rows.proofs.Laws.{reads_row, reads-along, row_is_read, unknown_row, in_range}
 use Rattle.smi_rows.proofs.row.Row.read.Goals as goal

@@ -27,9 +27,9 @@ use Rattle.smi_watchers.specs.contracts.cells.Cells.empty as f
 use Rattle.smi_watchers.proofs.cells.Cells.empty.Statement.{statement}
 use Rattle.smi_watchers.proofs.cells.Cells.empty.Code as code
 use Rattle.smi_watchers.specs.contracts.cells.Cells.{the_row as R}
-use Rattle.smi_watchers.specs.contracts.cell.Place.{the_row as P}
+use Rattle.smi_watchers.specs.contracts.cell.Spot.{the_row as P}
 use Rattle.smi_watchers.specs.contracts.cell.Cell.{the_row as X}
-use Rattle.smi_watchers.proofs.cell.Place.TheLaws as place
+use Rattle.smi_watchers.proofs.cell.Spot.TheLaws as place
 use Rattle.smi_watchers.specs.Held.{found, without}
 use Rattle.smi_watchers.specs.Memory.{cell_owns, cells_own}
 use Rattle.smi_watchers.proofs.Memory.{cell_ty, cell_null, cell_room, some_of, take_out}

@@ -32,7 +32,7 @@ use Rattle.smi_watchers.specs.contracts.cells.Cells.fill as f
 use Rattle.smi_watchers.proofs.cells.Cells.fill.Statement.{statement}
 use Rattle.smi_watchers.proofs.cells.Cells.fill.Code as code
 use Rattle.smi_watchers.specs.contracts.cells.Cells.{the_row as R}
-use Rattle.smi_watchers.specs.contracts.cell.Place.{the_type as place_type}
+use Rattle.smi_watchers.specs.contracts.cell.Spot.{the_type as place_type}
 use denote.Struct.Declared as declared
 use Rattle.smi_watchers.specs.contracts.cell.Cell.{the_row as X}
 use Rattle.smi_watchers.proofs.cell.Cell.TheLaws as cell

@@ -28,9 +28,9 @@ use Rattle.smi_watchers.specs.contracts.cells.Cells.read as f
 use Rattle.smi_watchers.proofs.cells.Cells.read.Statement.{statement}
 use Rattle.smi_watchers.proofs.cells.Cells.read.Code as code
 use Rattle.smi_watchers.specs.contracts.cells.Cells.{the_row as R}
-use Rattle.smi_watchers.specs.contracts.cell.Place.{the_row as P}
+use Rattle.smi_watchers.specs.contracts.cell.Spot.{the_row as P}
 use Rattle.smi_watchers.specs.contracts.cell.Cell.{the_row as X}
-use Rattle.smi_watchers.proofs.cell.Place.TheLaws as place
+use Rattle.smi_watchers.proofs.cell.Spot.TheLaws as place
 use Rattle.smi_watchers.proofs.cell.Cell.TheLaws as cell
 use Rattle.smi_watchers.specs.Held.{found}
 use Rattle.smi_watchers.proofs.Memory.{cell_ty, some_of, lent_out}

@@ -3,7 +3,7 @@ use Rattle.rtrb.specs.Ring.{known_items}
 use Rattle.smi_operator.specs.Sides.{room}
 use Rattle.smi_operator.specs.Working.{may_join}
 use Rattle.smi_operator.proofs.Firsts.{first_refused, first_given}
-use Rattle.smi_operator.proofs.ends.Post.next.Goals as goal
+use Rattle.smi_operator.proofs.ends.SeatEnd.next.Goals as goal
 
 pub returns-then-not-may_join-clause-succeeds : goal.returns-then-not-may_join-clause-succeeds
 returns-then-not-may_join-clause-succeeds c =

@@ -2,7 +2,7 @@ use Rattle.std.proofs.Common.{◌<◌, ◌-◌, ◌++◌, length, map, refl, ap,
 use Rattle.rtrb.specs.Ring.{sent}
 use Rattle.smi_operator.specs.Working.{newest_marked, marked_by, order_told}
 use Rattle.smi_operator.proofs.Changing.{written_orders, written_length}
-use Rattle.smi_operator.proofs.ends.Post.mark.Goals as goal
+use Rattle.smi_operator.proofs.ends.SeatEnd.mark.Goals as goal
 
 pub invariant_of-self : goal.invariant_of-self
 invariant_of-self c =
