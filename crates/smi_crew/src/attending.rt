@@ -111,15 +111,15 @@ fn tell_ending<F: Write>(ending: Result<InputEnd, Unwritten>, faults: &mut F) {
 /// Hands on what the caller at the standard input is to be told, and tells its faults.
 fn print<J: BoardId, R: Wait, F: Write>(
     rt: &R,
-    post: &mut Attendant<J>,
+    attendant: &mut Attendant<J>,
     faults: &mut F,
 ) -> Result<(), Unwritten> {
-    let plain = &mut post.hall.plain;
+    let plain = &mut attendant.hall.plain;
     if !plain.faults().is_empty() {
         let _ = write_whole(faults, plain.faults());
         plain.faults_told();
     }
-    post.outlet.say(rt, plain)
+    attendant.outlet.say(rt, plain)
 }
 
 /// The standard input is heard, line by line, and told. Whether it has more.
@@ -127,20 +127,22 @@ fn serve_plain<J: BoardId, R: Wait, F: Write>(
     rt: &R,
     tree: &Tree,
     now: Option<Instant>,
-    post: &mut Attendant<J>,
+    attendant: &mut Attendant<J>,
     faults: &mut F,
 ) -> Result<bool, Unwritten> {
-    if post.hall.is_plain_lost() {
+    if attendant.hall.is_plain_lost() {
         return Err(Unwritten::Memory);
     }
-    post.front.tell_news(tree, &mut post.hall.plain)?;
-    post.front.go_on(tree, now, &mut post.hall.plain)?;
-    print(rt, post, faults)?;
+    attendant.front.tell_news(tree, &mut attendant.hall.plain)?;
+    attendant.front.go_on(tree, now, &mut attendant.hall.plain)?;
+    print(rt, attendant, faults)?;
     for _ in 0..LINES {
-        match post.next_line(rt) {
+        match attendant.next_line(rt) {
             Some(line) => {
-                post.front.hear(tree, now, &mut post.hall.plain, line)?;
-                print(rt, post, faults)?;
+                attendant
+                    .front
+                    .hear(tree, now, &mut attendant.hall.plain, line)?;
+                print(rt, attendant, faults)?;
             }
             None => return Ok(false),
         }
@@ -153,19 +155,19 @@ fn attend_plain<J: BoardId, R: Wait, F: Write>(
     rt: &R,
     tree: &Tree,
     now: Option<Instant>,
-    post: &mut Attendant<J>,
+    attendant: &mut Attendant<J>,
     faults: &mut F,
 ) -> bool {
-    if post.is_plain_over {
+    if attendant.is_plain_over {
         return false;
     }
-    let ending = match serve_plain(rt, tree, now, post, faults) {
+    let ending = match serve_plain(rt, tree, now, attendant, faults) {
         Ok(true) => return true,
-        Ok(false) => post.ended().map(Ok),
+        Ok(false) => attendant.ended().map(Ok),
         Err(unwritten) => Some(Err(unwritten)),
     };
     if let Some(ending) = ending {
-        post.is_plain_over = true;
+        attendant.is_plain_over = true;
         tell_ending(ending, faults);
     }
     false
@@ -175,18 +177,18 @@ fn attend_plain<J: BoardId, R: Wait, F: Write>(
 fn round<J: BoardId, R: Wait + Clock, F: Write>(
     rt: &R,
     tree: &Tree,
-    post: &mut Attendant<J>,
+    attendant: &mut Attendant<J>,
     faults: &mut F,
 ) -> bool {
     let now = Instant::now(rt).ok();
-    let has_more_news = post.note_news(rt);
-    post.tell_answers(tree);
-    let has_more_lines = attend_plain(rt, tree, now, post, faults);
-    post.hall.welcome_all();
-    post.hall.serve_guests(&mut post.front, tree, now);
-    post.front.forget_news();
-    if post.front.has_given() {
-        post.bell.ring();
+    let has_more_news = attendant.note_news(rt);
+    attendant.tell_answers(tree);
+    let has_more_lines = attend_plain(rt, tree, now, attendant, faults);
+    attendant.hall.welcome_all();
+    attendant.hall.serve_guests(&mut attendant.front, tree, now);
+    attendant.front.forget_news();
+    if attendant.front.has_given() {
+        attendant.bell.ring();
     }
     has_more_lines || has_more_news
 }
@@ -195,15 +197,15 @@ fn round<J: BoardId, R: Wait + Clock, F: Write>(
 pub(crate) fn attend<J: BoardId, R: Wait + Clock, F: Write>(
     rt: &R,
     tree: &Tree,
-    post: &mut Attendant<J>,
+    attendant: &mut Attendant<J>,
     faults: &mut F,
 ) {
     for _ in rt.forever() {
-        let has_more = round(rt, tree, post, faults);
-        if post.is_plain_over && post.hall.has_no_door() {
+        let has_more = round(rt, tree, attendant, faults);
+        if attendant.is_plain_over && attendant.hall.has_no_door() {
             return;
         }
-        if !post.hall.wait(&post.front, has_more) {
+        if !attendant.hall.wait(&attendant.front, has_more) {
             sleep(rt, Duration::from_millis(1));
         }
     }

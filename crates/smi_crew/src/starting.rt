@@ -77,11 +77,11 @@ fn begin_attending<
     J: BoardId + Send + Sync + 'static,
     H: Wait + Threads + Clock + AllocGlobal + Clone + Drop + Send + 'static,
     E: Write + Drop + Send + 'static,
->(rt: &H, tree: Arc<Tree, Global>, post: Attendant<J>, faults: E) -> Result<(), AllocError> {
+>(rt: &H, tree: Arc<Tree, Global>, attendant: Attendant<J>, faults: E) -> Result<(), AllocError> {
     let there = rt.clone()?;
     let begun = spawn(rt, move || {
-        let (mut post, mut faults) = (post, faults);
-        attend(&there, &tree, &mut post, &mut faults)
+        let (mut attendant, mut faults) = (attendant, faults);
+        attend(&there, &tree, &mut attendant, &mut faults)
     });
     match begun {
         Ok(_thread) => Ok(()),
@@ -119,7 +119,7 @@ fn open_ways(alloc: Global) -> Result<Ways, AllocError> {
 }
 
 /// What the thread at the front has, beside the chime to it.
-fn post_of<J: BoardId>(
+fn attendant_of<J: BoardId>(
     lobby: Lobby<J>,
     outlet: Outlet,
     lines: Receiver<Input>,
@@ -131,7 +131,7 @@ fn post_of<J: BoardId>(
         bell,
         chime,
     } = lobby;
-    let post = Attendant {
+    let attendant = Attendant {
         front,
         hall,
         bell,
@@ -140,7 +140,7 @@ fn post_of<J: BoardId>(
         news,
         is_plain_over: false,
     };
-    (post, chime)
+    (attendant, chime)
 }
 
 /// Starts the threads of a node's consoles, and answers the way by which they are told news.
@@ -169,8 +169,8 @@ pub(crate) fn begin_console<
         news_sender,
         news,
     } = open_ways(rt.alloc())?;
-    let (post, chime) = post_of(lobby, outlet, lines, news);
-    begin_attending(rt, tree, post, faults)?;
+    let (attendant, chime) = attendant_of(lobby, outlet, lines, news);
+    begin_attending(rt, tree, attendant, faults)?;
     begin_reading(rt, input, line_sender, chime)?;
     Ok(news_sender)
 }

@@ -48,14 +48,14 @@ pub(crate) fn sql(alloc: Global) -> Outcome {
 type MemoryFiles = Files<Memory>;
 
 // Over any store, as all below, since each function that names the store of SQLite is dear to prove.
-fn over_sql<S: OnDisks<MemoryFiles = MemoryFiles>>(alloc: Global) -> Outcome {
+fn over_sql<S: OnDisks<Disks = MemoryFiles>>(alloc: Global) -> Outcome {
     match opened::<S>(alloc) {
         Some((store, opened)) => opened.and(saves_over(alloc, store)),
         None => Outcome::Changed,
     }
 }
 
-fn saves_over<S: OnDisks<MemoryFiles = MemoryFiles>>(alloc: Global, store: S) -> Outcome {
+fn saves_over<S: OnDisks<Disks = MemoryFiles>>(alloc: Global, store: S) -> Outcome {
     let mut store = store;
     let seen = saved_all(&mut store);
     let disks = store.close();
@@ -118,7 +118,7 @@ fn are_as_saved(before: &[SavedRow], after: &[SavedRow], saved: KeyedRow) -> boo
 }
 
 /// A store over empty disks, at the second try where the first was refused an allocation.
-fn opened<S: OnDisks<MemoryFiles = MemoryFiles>>(alloc: Global) -> Option<(S, Outcome)> {
+fn opened<S: OnDisks<Disks = MemoryFiles>>(alloc: Global) -> Option<(S, Outcome)> {
     let (disks, made) = blank(alloc)?;
     match S::open(alloc, disks) {
         Ok(store) => Some((store, made)),
@@ -164,7 +164,7 @@ const CALLS: u32 = 4096;
 
 /// A save may be unsure where its disk failed, and nowhere else. The next open finds its row as before or as
 /// saved, and the same save then succeeds.
-fn found_again<S: OnDisks<MemoryFiles = MemoryFiles>>(
+fn found_again<S: OnDisks<Disks = MemoryFiles>>(
     alloc: Global,
     unsure: Unsure,
     disks: MemoryFiles,

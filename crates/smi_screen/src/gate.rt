@@ -53,7 +53,7 @@ impl Gate {
 
     /// A gate at an address, through which nobody has come. Its guests' headers are kept under these keys, so that
     /// nobody can choose names that are dear to look up.
-    pub fn open<R: Net<Listener = TcpListener, ConsoleStream = TcpStream>>(
+    pub fn open<R: Net<Listener = TcpListener, Stream = TcpStream>>(
         rt: &R,
         alloc: Global,
         keys: RandomState,

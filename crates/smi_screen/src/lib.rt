@@ -22,8 +22,8 @@ mod gate;
 mod guest;
 mod hosts;
 mod house;
-mod post;
 mod running;
+mod server;
 mod stage;
 
 pub use console::{ConsoleAddress, NodeConsole};

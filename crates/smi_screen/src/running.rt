@@ -3,7 +3,7 @@
 use crate::console::ConsoleAddress;
 use crate::gate::Gate;
 use crate::house::House;
-use crate::post::ScreenServer;
+use crate::server::ScreenServer;
 use crate::stage::{Stage, staged};
 use bytes::Bytes;
 use smi_link::UdpLink;
@@ -85,7 +85,7 @@ fn refused(error: io::Error, other: Ended) -> Ended {
 }
 
 /// A gate at an address.
-fn gate_at<R: Net<Listener = TcpListener, ConsoleStream = TcpStream>>(
+fn gate_at<R: Net<Listener = TcpListener, Stream = TcpStream>>(
     rt: &R,
     alloc: Global,
     keys: RandomState,
@@ -98,7 +98,7 @@ fn gate_at<R: Net<Listener = TcpListener, ConsoleStream = TcpStream>>(
 }
 
 /// The picture of a screen, and its house once its gate is open.
-fn housed<R: Net<Listener = TcpListener, ConsoleStream = TcpStream> + AllocGlobal>(
+fn housed<R: Net<Listener = TcpListener, Stream = TcpStream> + AllocGlobal>(
     rt: &R,
     tree: &Tree,
     keys: RandomState,
@@ -119,7 +119,7 @@ fn housed<R: Net<Listener = TcpListener, ConsoleStream = TcpStream> + AllocGloba
 }
 
 /// What a screen works with, in a box, since whoever drops one is dear to prove.
-fn posted<R: Net<Listener = TcpListener, ConsoleStream = TcpStream> + Wait + Clock + AllocGlobal>(
+fn server_of<R: Net<Listener = TcpListener, Stream = TcpStream> + Wait + Clock + AllocGlobal>(
     rt: &R,
     tree: &Tree,
     operator: u16,
@@ -131,9 +131,9 @@ fn posted<R: Net<Listener = TcpListener, ConsoleStream = TcpStream> + Wait + Clo
     };
     let (picture, house) = housed(rt, tree, keys, plan)?;
     let pace = Pace::new(tree.object_count(), tree.domain_count());
-    let post = ScreenServer::new(operator, start, pace, picture, house);
-    match Box::new(rt.alloc(), post) {
-        Ok(post) => Ok(post),
+    let server = ScreenServer::new(operator, start, pace, picture, house);
+    match Box::new(rt.alloc(), server) {
+        Ok(server) => Ok(server),
         Err(_) => Err(Ended::Memory),
     }
 }
@@ -153,7 +153,7 @@ fn linked<'a, R: Net + Clock + AllocGlobal>(
 /// Looks with a station that is open.
 fn looked<
     S: Stable,
-    R: Net<Listener = TcpListener, ConsoleStream = TcpStream> + Wait + Clock + AllocGlobal,
+    R: Net<Listener = TcpListener, Stream = TcpStream> + Wait + Clock + AllocGlobal,
 >(
     rt: &R,
     tree: &Tree,
@@ -165,8 +165,8 @@ fn looked<
         return Err(Ended::NoOperator);
     };
     let mut link = linked(rt, plan)?;
-    let mut post = posted(rt, tree, operator, keys, plan)?;
-    post.serve(rt, tree, station, &mut link, plan.turns)
+    let mut server = server_of(rt, tree, operator, keys, plan)?;
+    server.serve(rt, tree, station, &mut link, plan.turns)
 }
 
 fn how_it_ended(looked: Result<(), Ended>) -> Ended {
@@ -179,7 +179,7 @@ fn how_it_ended(looked: Result<(), Ended>) -> Ended {
 /// The station is opened on its store, and looks.
 fn opened<
     S: Stable,
-    R: Net<Listener = TcpListener, ConsoleStream = TcpStream> + Wait + Clock + AllocGlobal,
+    R: Net<Listener = TcpListener, Stream = TcpStream> + Wait + Clock + AllocGlobal,
 >(rt: &R, tree: &Tree, keys: RandomState, plan: &mut ScreenSetup, store: S) -> (Ended, S) {
     match Station::open(rt.alloc(), tree, plan.station, store) {
         Ok(station) => {
@@ -198,7 +198,7 @@ fn opened<
 /// What the plan has is taken out of it as it is needed.
 pub fn run<
     S: Stable,
-    R: Net<Listener = TcpListener, ConsoleStream = TcpStream> + Wait + Clock + AllocGlobal,
+    R: Net<Listener = TcpListener, Stream = TcpStream> + Wait + Clock + AllocGlobal,
 >(rt: &R, tree: &Tree, keys: RandomState, plan: &mut ScreenSetup, store: S) -> (Ended, S) {
     let mut store = store;
     match migrate(rt.alloc(), tree, plan.station, &mut store) {

@@ -5,7 +5,7 @@ use Rattle.smi_node.specs.Linked.{shown_by}
 use Rattle.smi_observer.specs.Looking.{Looks, View, view}
 use Rattle.smi_observer.proofs.Looks.{both}
 use Rattle.smi_screen.specs.Ending.{is_stopped}
-use Rattle.smi_screen.proofs.post.ScreenServer.turns.Goals as goal
+use Rattle.smi_screen.proofs.server.ScreenServer.turns.Goals as goal
 
 pub loop-preserved : goal.loop-preserved
 loop-preserved g c =

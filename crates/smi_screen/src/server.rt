@@ -37,12 +37,12 @@ pub(crate) struct ScreenServer {
     pace: Pace,
     out: Out,
     picture: Picture,
-    // Behind a box, so that whatever has a post is not dear to prove.
+    // Behind a box, so that whatever has a server is not dear to prove.
     house: Box<House>,
 }
 
 impl ScreenServer {
-    /// A post whose time begins at a moment, with its picture and its house.
+    /// A server whose time begins at a moment, with its picture and its house.
     pub(crate) fn new(
         operator: u16,
         start: Instant,

@@ -5,7 +5,7 @@ use Rattle.smi_node.specs.Linked.{shown_by}
 use Rattle.smi_observer.specs.Looking.{View, view}
 use Rattle.smi_screen.specs.Ending.{has_stopped}
 use Rattle.smi_screen.proofs.Turned.{same_look}
-use Rattle.smi_screen.proofs.post.ScreenServer.turn.Goals as goal
+use Rattle.smi_screen.proofs.server.ScreenServer.turn.Goals as goal
 
 pub returns-clause-looks : goal.returns-clause-looks
 returns-clause-looks g c =
