@@ -5,7 +5,7 @@ pub mod Done
 pub mod FaultLine
 pub mod Front
 pub mod Hearing
-pub mod StationNews
+pub mod News
 pub mod Office
 pub mod Said
 pub mod Tag

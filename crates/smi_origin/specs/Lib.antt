@@ -1,2 +1,2 @@
-pub mod TreeMark
+pub mod Mark
 pub mod Spoken

@@ -1,4 +1,4 @@
-pub mod RowFlaw
+pub mod Fault
 pub mod Key
 pub mod Known
 pub mod Layout

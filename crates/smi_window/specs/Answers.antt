@@ -5,8 +5,8 @@ use Rattle.std.specs.Option.{option_map_or}
 use Rattle.std.specs.List.{list_any, starts_with}
 use Rattle.http.specs.declared.request.Request.{Request}
 use Rattle.http_server.specs.declared.response.Response.{Response}
-use Rattle.smi_window.specs.declared.question.Resource.{Resource}
-use Rattle.smi_window.specs.declared.question.Resource.TheVariants as asked
+use Rattle.smi_window.specs.declared.question.PageRequest.{PageRequest}
+use Rattle.smi_window.specs.declared.question.PageRequest.TheVariants as asked
 use Rattle.smi_window.specs.declared.frame.Frame.{Frame}
 use Rattle.smi_window.specs.declared.relay.Admission.{Admission}
 use Rattle.smi_window.specs.declared.relay.Admission.TheVariants as verdict
@@ -29,7 +29,7 @@ abbrev pub reads_only : List ℕ → Bool
 reads_only method = bytes_eq method (codes "GET") || bytes_eq method (codes "HEAD")
 
 -- what stands at a place; with the mark as its query, a picture that whoever asks has
-abbrev pub place_asked : List ℕ → Option (List ℕ) → List ℕ → Bool → Resource
+abbrev pub place_asked : List ℕ → Option (List ℕ) → List ℕ → Bool → PageRequest
 place_asked path query mark has_orders =
     if bytes_eq path (codes "/") then asked.Page
     else (if bytes_eq path (codes "/api/tree") then asked.Tree
@@ -48,25 +48,25 @@ is_own_page None origin = false
 abbrev pub is_trusted : List ℕ → Asking → Bool
 is_trusted key q = is_text q.key key && is_own_page q.host q.origin
 
-abbrev pub asked_by : Admission → Resource
+abbrev pub asked_by : Admission → PageRequest
 asked_by verdict.Fit = asked.Given
 asked_by verdict.NoOrder = asked.NoOrder
 asked_by verdict.Away = asked.Away
 asked_by verdict.Full = asked.Full
 
 -- an order is given at one place, by the page alone, and what the relay says of it counts
-abbrev pub order_asked : Orders → Asking → Resource
+abbrev pub order_asked : Orders → Asking → PageRequest
 order_asked o q =
     if bytes_eq q.method (codes "POST") && bytes_eq q.path (codes "/api/orders")
     then (if is_trusted o.key q then asked_by (verdict_of o.tree o.relay q.body) else asked.Stranger)
     else asked.Change
 
-abbrev pub change_asked : Option Orders → Asking → Resource
+abbrev pub change_asked : Option Orders → Asking → PageRequest
 change_asked (Some o) q = order_asked o q
 change_asked None q = asked.Change
 
 -- first of all the host, then the method, then the place
-abbrev pub what_is_asked : List (List ℕ) → List ℕ → Option Orders → Asking → Resource
+abbrev pub what_is_asked : List (List ℕ) → List ℕ → Option Orders → Asking → PageRequest
 what_is_asked hosts mark orders q =
     if q.is_absolute then asked.Elsewhere
     else (if is_ours hosts q.host
@@ -74,10 +74,10 @@ what_is_asked hosts mark orders q =
     else asked.Elsewhere)
 
 -- what a request asks of a window
-abbrev pub asked_of : Window → Request (List ℕ) → Resource
+abbrev pub asked_of : Window → Request (List ℕ) → PageRequest
 asked_of w request = what_is_asked (map (λ h. h.items) w.hosts.items) w.frame.mark w.orders (asking_of request)
 
-abbrev pub status_of : Resource → ℕ
+abbrev pub status_of : PageRequest → ℕ
 status_of asked.Page = 200
 status_of asked.Tree = 200
 status_of asked.Picture = 200
@@ -94,7 +94,7 @@ status_of asked.Away = 503
 status_of asked.Full = 429
 
 -- the texts of the frame, and beside them some that tell nothing of the detector
-abbrev pub body_of : Frame → Resource → List ℕ
+abbrev pub body_of : Frame → PageRequest → List ℕ
 body_of frame asked.Page = frame.page
 body_of frame asked.Tree = frame.tree
 body_of frame asked.Picture = frame.picture
@@ -111,7 +111,7 @@ body_of frame asked.Away = codes "there is no connection with the console"
 body_of frame asked.Full = codes "too many orders wait"
 
 -- a response is the one to what was asked
-pub record Answers (frame : Frame) (what : Resource) (r : Response) : Type 0 where
+pub record Answers (frame : Frame) (what : PageRequest) (r : Response) : Type 0 where
   pub status : r.status ≡ status_of what
   pub body : r.body.items ≡ body_of frame what
 
@@ -121,7 +121,7 @@ ordered o line = record o { relay = given o.relay line o.time }
 
 -- what a request leaves of the window: an order that is given is given to the relay, once, and nothing else changes
 -- anything
-abbrev pub left_by : Resource → Window → List ℕ → Window
+abbrev pub left_by : PageRequest → Window → List ℕ → Window
 left_by asked.Given w line = record w { orders = option_map (λ o. ordered o line) w.orders }
 left_by _ w line = w
 

@@ -46,7 +46,7 @@ pub use figures::spell_figures;
 pub use frame::Frame;
 pub use line::is_order_line;
 pub use orders::Orders;
-pub use question::{Question, Resource, what_is_asked};
+pub use question::{PageRequest, Question, what_is_asked};
 pub use relay::{Admission, MOST_ERRANDS, MOST_UNSENT, Relay};
 pub use scene::spell_picture;
 pub use shape::spell_tree;

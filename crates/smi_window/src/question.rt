@@ -45,7 +45,7 @@ impl<'a> Model for Question<'a> {
 
 /// What a request asks for.
 #[derive(Clone, Copy, Debug, PartialEq, Eq)]
-pub enum Resource {
+pub enum PageRequest {
     Page,
     Tree,
     Picture,
@@ -104,29 +104,29 @@ fn reads_only(method: &[u8]) -> bool
     method == b"GET".as_slice() || method == b"HEAD".as_slice()
 }
 
-fn place_asked(path: &[u8], query: Option<&[u8]>, mark: &[u8], has_orders: bool) -> Resource
+fn place_asked(path: &[u8], query: Option<&[u8]>, mark: &[u8], has_orders: bool) -> PageRequest
     ensures { result ≡ spec.place_asked path.now (option_map (λ q. q.now) query.entry) mark.now has_orders }
 {
     if path == b"/".as_slice() {
-        return Resource::Page;
+        return PageRequest::Page;
     }
     if path == b"/api/tree".as_slice() {
-        return Resource::Tree;
+        return PageRequest::Tree;
     }
     if path == b"/api/picture".as_slice() {
         return if is_text(query, mark) {
-            Resource::Unchanged
+            PageRequest::Unchanged
         } else {
-            Resource::Picture
+            PageRequest::Picture
         };
     }
     if path == b"/metrics".as_slice() {
-        return Resource::Figures;
+        return PageRequest::Figures;
     }
     if has_orders && path == b"/api/orders".as_slice() {
-        return Resource::Orders;
+        return PageRequest::Orders;
     }
-    Resource::Nowhere
+    PageRequest::Nowhere
 }
 
 /// Whether a page of this host asks: where it came from is what a browser says, and no page can say otherwise.
@@ -149,36 +149,36 @@ fn is_trusted(key: &[u8], question: &Question<'_>) -> bool
 }
 
 /// What is asked by an order of which the relay says so.
-fn asked_by(verdict: Admission) -> Resource
+fn asked_by(verdict: Admission) -> PageRequest
     ensures { result ≡ spec.asked_by verdict }
 {
     match verdict {
-        Admission::Fit => Resource::Given,
-        Admission::NoOrder => Resource::NoOrder,
-        Admission::Away => Resource::Away,
-        Admission::Full => Resource::Full,
+        Admission::Fit => PageRequest::Given,
+        Admission::NoOrder => PageRequest::NoOrder,
+        Admission::Away => PageRequest::Away,
+        Admission::Full => PageRequest::Full,
     }
 }
 
 /// What is asked by a request that would change something, where orders may be given.
-fn order_asked(orders: &Orders, question: &Question<'_>) -> Resource
+fn order_asked(orders: &Orders, question: &Question<'_>) -> PageRequest
     ensures { result ≡ spec.order_asked orders.now question.now }
 {
     if question.method != b"POST".as_slice() || question.path != b"/api/orders".as_slice() {
-        return Resource::Change;
+        return PageRequest::Change;
     }
     if !is_trusted(orders.key.as_slice(), question) {
-        return Resource::Stranger;
+        return PageRequest::Stranger;
     }
     asked_by(orders.relay.verdict(&orders.tree, question.body))
 }
 
-fn change_asked(orders: &Option<Orders>, question: &Question<'_>) -> Resource
+fn change_asked(orders: &Option<Orders>, question: &Question<'_>) -> PageRequest
     ensures { result ≡ spec.change_asked orders.now question.now }
 {
     match orders {
         Some(orders) => order_asked(orders, question),
-        None => Resource::Change,
+        None => PageRequest::Change,
     }
 }
 
@@ -190,11 +190,11 @@ pub fn what_is_asked(
     mark: &[u8],
     orders: &Option<Orders>,
     question: &Question<'_>,
-) -> Resource
+) -> PageRequest
     ensures { result ≡ spec.what_is_asked (map (λ h. h.items) hosts.now) mark.now orders.now question.now }
 {
     if question.is_absolute || !is_ours(hosts, question.host) {
-        return Resource::Elsewhere;
+        return PageRequest::Elsewhere;
     }
     if !reads_only(question.method) {
         return change_asked(orders, question);

@@ -3,12 +3,12 @@
 ghost use Rattle.std.specs.Prelude.{◌≡◌, ◌++◌, codes, option_map, OnErr, OnOk};
 ghost use Rattle.http_server.specs.Response.{IsBlank};
 ghost use Rattle.smi_window.specs.Answers.{Answers, left_by, orders_told};
-ghost use Rattle.smi_window.specs.declared.question.Resource.TheVariants as asked;
+ghost use Rattle.smi_window.specs.declared.question.PageRequest.TheVariants as asked;
 ghost use Rattle.smi_window.specs.Asking.{asking_of, field_of};
 
 use crate::frame::Frame;
 use crate::orders::Orders;
-use crate::question::{Question, Resource, what_is_asked};
+use crate::question::{PageRequest, Question, what_is_asked};
 use bytes::Bytes;
 use http::{HeaderName, HeaderValue, Request, StatusCode, header};
 use http_server::{Response, Service};
@@ -176,34 +176,38 @@ impl Window {
         }
     }
 
-    fn answer(&self, what: Resource, response: &mut Response) -> Result<(), AllocError>
+    fn answer(&self, what: PageRequest, response: &mut Response) -> Result<(), AllocError>
         requires { IsBlank response.old }
         ensures { OnOk result (Answers self.now.frame what response.new) }
     {
         add_guards(response)?;
         let frame = &self.frame;
         match what {
-            Resource::Page => show(response, HeaderValue::from_static(HTML), &frame.page),
-            Resource::Tree => show(response, HeaderValue::from_static(JSON), &frame.tree),
-            Resource::Picture => show(response, HeaderValue::from_static(JSON), &frame.picture),
-            Resource::Figures => show(response, HeaderValue::from_static(FIGURES), &frame.figures),
-            Resource::Orders => show(response, HeaderValue::from_static(JSON), &frame.orders),
-            Resource::Unchanged => {
+            PageRequest::Page => show(response, HeaderValue::from_static(HTML), &frame.page),
+            PageRequest::Tree => show(response, HeaderValue::from_static(JSON), &frame.tree),
+            PageRequest::Picture => show(response, HeaderValue::from_static(JSON), &frame.picture),
+            PageRequest::Figures => show(
+                response,
+                HeaderValue::from_static(FIGURES),
+                &frame.figures,
+            ),
+            PageRequest::Orders => show(response, HeaderValue::from_static(JSON), &frame.orders),
+            PageRequest::Unchanged => {
                 response.status = StatusCode::NO_CONTENT;
                 Ok(())
             }
-            Resource::Nowhere => say(response, StatusCode::NOT_FOUND, "there is no such page"),
-            Resource::Change => refuse_change(response),
-            Resource::Elsewhere => {
+            PageRequest::Nowhere => say(response, StatusCode::NOT_FOUND, "there is no such page"),
+            PageRequest::Change => refuse_change(response),
+            PageRequest::Elsewhere => {
                 let status = StatusCode::MISDIRECTED_REQUEST;
                 say(response, status, "this is another host")
             }
-            Resource::Given => say(response, StatusCode::ACCEPTED, "the order is on its way"),
-            Resource::Stranger => {
+            PageRequest::Given => say(response, StatusCode::ACCEPTED, "the order is on its way"),
+            PageRequest::Stranger => {
                 let status = StatusCode::FORBIDDEN;
                 say(response, status, "orders are given from the page alone")
             }
-            Resource::NoOrder => {
+            PageRequest::NoOrder => {
                 let status = StatusCode::BAD_REQUEST;
                 say(
                     response,
@@ -211,11 +215,11 @@ impl Window {
                     "this is no order of an operator of the tree",
                 )
             }
-            Resource::Away => {
+            PageRequest::Away => {
                 let status = StatusCode::SERVICE_UNAVAILABLE;
                 say(response, status, "there is no connection with the console")
             }
-            Resource::Full => {
+            PageRequest::Full => {
                 let status = StatusCode::TOO_MANY_REQUESTS;
                 say(response, status, "too many orders wait")
             }
@@ -241,7 +245,7 @@ impl Service for Window {
         let mark = self.frame.mark.as_slice();
         let what = what_is_asked(&self.hosts, mark, &self.orders, &question);
         self.answer(what, response)?;
-        if what == Resource::Given {
+        if what == PageRequest::Given {
             return self.give(request.body().as_slice());
         }
         Ok(())
