@@ -152,7 +152,7 @@ impl<J: BoardId> Front<J> {
     /// Does what a line asks: it is answered, gives an order, or is skipped.
     ///
     /// Its error is that memory was refused to what the caller is to be told. No order was given then.
-    fn obey(
+    fn do_asked(
         &mut self,
         tree: &Tree,
         now: Option<Instant>,
@@ -223,7 +223,7 @@ impl<J: BoardId> Front<J> {
         ensures err { OnErr result (self.new.office ≡ self.old.office) }
     {
         match self.asked(tree, caller, tag.is_some(), text) {
-            Ok(asked) => self.obey(tree, now, caller, tag, text, asked),
+            Ok(asked) => self.do_asked(tree, now, caller, tag, text, asked),
             Err(fault) => self.refuse(tree, caller, tag, number, text, fault),
         }
     }

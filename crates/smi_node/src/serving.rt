@@ -66,7 +66,7 @@ fn event_of(who: Option<u16>, order: Order) -> Option<Event<'static>>
 }
 
 /// An order is carried as its event, or told that it is not for this station.
-fn obey<S: Stable, L: DatagramLink, J: BoardId, V: Witness, R: Wait>(
+fn serve_order<S: Stable, L: DatagramLink, J: BoardId, V: Witness, R: Wait>(
     rt: &R,
     operators: &[u16],
     seat: usize,
@@ -125,7 +125,7 @@ fn serve_seat<S: Stable, L: DatagramLink, J: BoardId, V: Witness, R: Wait>(
         (fault_in result) }
 {
     match desk.next(seat) {
-        Some(order) => obey(
+        Some(order) => serve_order(
             rt,
             operators,
             seat,

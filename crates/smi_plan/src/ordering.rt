@@ -36,7 +36,7 @@ fn issued(domain: u16, command: Option<Command>, link: &Link) -> Option<Mark>
 }
 
 /// Where the link allows the order, its newest request is sent, and a command is issued.
-fn obey(
+fn order_link(
     out: &mut Out,
     kept: &Kept<'_>,
     operator: u16,
@@ -92,15 +92,15 @@ pub fn order(out: &mut Out, kept: &Kept<'_>, operator: u16, order: &Order) -> Ch
     match order.request() {
         Request::Take(domain) => {
             let taken = begin_take(&kept.link(holder, domain));
-            obey(out, kept, operator, domain, None, taken)
+            order_link(out, kept, operator, domain, None, taken)
         }
         Request::Drop(domain) => {
             let dropped = begin_drop(&kept.link(holder, domain));
-            obey(out, kept, operator, domain, None, dropped)
+            order_link(out, kept, operator, domain, None, dropped)
         }
         Request::Command(domain, command) => {
             let issued = issue(&kept.link(holder, domain), command);
-            obey(out, kept, operator, domain, Some(command), issued)
+            order_link(out, kept, operator, domain, Some(command), issued)
         }
         Request::Ask(_) | Request::Watch(_) | Request::Unwatch(_) | Request::Report(_, _) =>
             Change::Nothing,

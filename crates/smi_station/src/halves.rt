@@ -173,7 +173,7 @@ impl<'a> Core<'a> {
         if self.is_stopped {
             return Err(StepFault::Stopped);
         }
-        let heard = self.take(store, event, out);
+        let heard = self.step_running(store, event, out);
         if is_stopped_by(&heard) {
             self.is_stopped = true;
         }
@@ -181,7 +181,7 @@ impl<'a> Core<'a> {
     }
 
     /// An event comes to a station that runs.
-    fn take<S: Stable>(
+    fn step_running<S: Stable>(
         &mut self,
         store: &mut S,
         event: Event<'_>,
@@ -339,12 +339,12 @@ impl<'a> Core<'a> {
     {
         match reported_in(order) {
             Some(reported) => self.report(out, reported.device, reported.state),
-            None => self.obey(store, out, operator, order),
+            None => self.obey_or_refuse(store, out, operator, order),
         }
     }
 
     /// An operator orders, and does not report.
-    fn obey<S: Stable>(
+    fn obey_or_refuse<S: Stable>(
         &mut self,
         store: &mut S,
         out: &mut Out,

@@ -12,9 +12,9 @@ ghost use Rattle.smi_station.specs.Leaving.{Leaves};
 ghost use Rattle.smi_station.specs.Stirring.{is_watch};
 
 use crate::making::make;
-use crate::noticing::notice;
+use crate::noticing::update_display;
 use crate::planning::plan;
-use crate::stirring::{find, stir};
+use crate::stirring::{look_before, move_and_follow};
 use smi_display::Displayed;
 use smi_grants::Kept;
 use smi_message::Datagram;
@@ -62,11 +62,11 @@ pub(crate) fn hear<S: Stable>(
 {
     let (_tree, _from) = (kept.tree(), datagram.from);
     let change = plan(out, kept, datagram);
-    let found = find(display, kept, datagram);
+    let found = look_before(display, kept, datagram);
     match make(kept, store, out, &change) {
         Ok(heard) => {
-            notice(display, out, datagram);
-            *is_stopped = stir(display, kept, out, &found);
+            update_display(display, out, datagram);
+            *is_stopped = move_and_follow(display, kept, out, &found);
             Ok(heard)
         }
         Err(fault) => Err(fault),

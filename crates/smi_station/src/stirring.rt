@@ -25,7 +25,7 @@ use smi_tree::Tree;
 
 /// What an event finds, before anything has changed, of the domain whose members it may change.
 #[derive(Drop)]
-pub(crate) struct Found {
+pub(crate) struct BeforeStep {
     /// The domain, if there is one.
     pub domain: Option<u16>,
     /// Its members.
@@ -102,7 +102,11 @@ fn members_in(display: &Displayed<'_>, kept: &Kept<'_>, domain: Option<u16>) -> 
 }
 
 /// What a datagram finds.
-pub(crate) fn find(display: &Displayed<'_>, kept: &Kept<'_>, datagram: &Datagram) -> Found
+pub(crate) fn look_before(
+    display: &Displayed<'_>,
+    kept: &Kept<'_>,
+    datagram: &Datagram,
+) -> BeforeStep
     requires tree { kept.now.tree ≡ display.now.tree }
     requires accepted { refusal_of_message kept.now.tree kept.now.number datagram.now ≡ None }
     ensures domain { result.domain ≡ showing.domain_of_body display.now.tree datagram.now.body }
@@ -112,7 +116,7 @@ pub(crate) fn find(display: &Displayed<'_>, kept: &Kept<'_>, datagram: &Datagram
     ensures within { IfSome result.domain (IsBetween 1 (domain_count display.now.tree)) }
 {
     let domain = domain_of(kept.tree(), &datagram.body);
-    Found {
+    BeforeStep {
         domain,
         before: members_in(display, kept, domain),
         action: action_of(kept, &datagram.body),
@@ -120,7 +124,7 @@ pub(crate) fn find(display: &Displayed<'_>, kept: &Kept<'_>, datagram: &Datagram
 }
 
 /// The devices of a domain move, if an action runs there; what they show anew.
-fn act(display: &mut Displayed<'_>, domain: u16, action: Option<u16>) -> Changes
+fn move_devices(display: &mut Displayed<'_>, domain: u16, action: Option<u16>) -> Changes
     requires domain { IsBetween 1 (domain_count display.old.tree) domain }
     requires room { MayChange (display_of display.old) }
     ensures display { display_of display.new ≡ record
@@ -148,11 +152,11 @@ ghost use Rattle.smi_publish.specs.Published.{most_changes};
 
 /// The devices of the domain that was found move, and its unit follows; what they show anew is told to whoever
 /// watches them. Whether one of them has come to the last sequence.
-pub(crate) fn stir(
+pub(crate) fn move_and_follow(
     display: &mut Displayed<'_>,
     kept: &Kept<'_>,
     out: &mut Out,
-    found: &Found,
+    found: &BeforeStep,
 ) -> bool
     requires domain { IfSome found.now.domain (IsBetween 1 (domain_count display.old.tree)) }
     requires room { MayChange (display_of display.old) }
@@ -176,7 +180,7 @@ pub(crate) fn stir(
     ensures rest { KeepsTheRest display.old display.new }
 {
     match found.domain {
-        Some(domain) => stir_domain(display, kept, out, found, domain),
+        Some(domain) => move_and_follow_in(display, kept, out, found, domain),
         None => {
             out.pass(Changes::new());
             false
@@ -185,11 +189,11 @@ pub(crate) fn stir(
 }
 
 /// The same in this domain.
-fn stir_domain(
+fn move_and_follow_in(
     display: &mut Displayed<'_>,
     kept: &Kept<'_>,
     out: &mut Out,
-    found: &Found,
+    found: &BeforeStep,
     domain: u16,
 ) -> bool
     requires domain { IsBetween 1 (domain_count display.old.tree) domain }
@@ -213,7 +217,7 @@ fn stir_domain(
     ensures room { result ≡ false → MayChange (display_of display.new) }
     ensures rest { KeepsTheRest display.old display.new }
 {
-    let mut changes = act(display, domain, found.action);
+    let mut changes = move_devices(display, domain, found.action);
     let is_spent = display.show_anew(out, kept, domain, &found.before, &mut changes);
     out.pass(changes);
     let _tree = display.tree();

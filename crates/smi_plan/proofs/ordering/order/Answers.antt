@@ -9,22 +9,22 @@ use Rattle.smi_protocol.specs.declared.order.Order.{Order}
 use Rattle.smi_plan.proofs.Commanded.{commanded_link, commanded_there, commander_here}
 use Rattle.smi_plan.proofs.ordering.order.Goals as goal
 
-pub obey-requires-in-Command-clause-operator : goal.obey-requires-in-Command-clause-operator
-obey-requires-in-Command-clause-operator c =
+pub order_link-requires-in-Command-clause-operator : goal.order_link-requires-in-Command-clause-operator
+order_link-requires-in-Command-clause-operator c =
     let k = c.args.kept.now in
     commander_here k.tree k.number (grants_of k) c.args.operator c.in-Command.domain c.in-Command.command
     (subst (λ (what : Order). refusal_of k.tree k.number (grants_of k) (Orders c.args.operator what) ≡ None)
     (c.request.ensures ∙ ap order_asking c.in-Command.is) c.requires.accepted)
 
-pub obey-requires-in-Command-clause-domain : goal.obey-requires-in-Command-clause-domain
-obey-requires-in-Command-clause-domain c =
+pub order_link-requires-in-Command-clause-domain : goal.order_link-requires-in-Command-clause-domain
+order_link-requires-in-Command-clause-domain c =
     let k = c.args.kept.now in
     commanded_there k.tree k.number (grants_of k) c.args.operator c.in-Command.domain c.in-Command.command
     (subst (λ (what : Order). refusal_of k.tree k.number (grants_of k) (Orders c.args.operator what) ≡ None)
     (c.request.ensures ∙ ap order_asking c.in-Command.is) c.requires.accepted)
 
-pub obey-requires-in-Command-clause-link : goal.obey-requires-in-Command-clause-link
-obey-requires-in-Command-clause-link c =
+pub order_link-requires-in-Command-clause-link : goal.order_link-requires-in-Command-clause-link
+order_link-requires-in-Command-clause-link c =
     let k = c.args.kept.now in
     commanded_link k.tree k.number (grants_of k) c.args.operator c.in-Command.domain c.in-Command.command
     (subst (λ (what : Order). refusal_of k.tree k.number (grants_of k) (Orders c.args.operator what) ≡ None)

@@ -16,20 +16,21 @@ use Rattle.smi_protocol.specs.declared.event.StepFault.{StepFault}
 use Rattle.smi_station.specs.Making.{row_of}
 use Rattle.smi_station.proofs.hearing.hear.Goals as goal
 
-pub stir-requires-clause-room : goal.stir-requires-clause-room
-stir-requires-clause-room g c = noticed_room c.args.display.now c.notice.new.display c.args.datagram.now
-    c.notice.ensures.display c.requires.room
+pub move_and_follow-requires-clause-room : goal.move_and_follow-requires-clause-room
+move_and_follow-requires-clause-room g c = noticed_room c.args.display.now c.update_display.new.display
+    c.args.datagram.now c.update_display.ensures.display c.requires.room
 
 pub returns-in-Ok-clause-station : goal.returns-in-Ok-clause-station
 returns-in-Ok-clause-station g c =
     let k = c.args.kept.now in
     let m = c.args.datagram.now in
-    heard_station k c.make.new.kept c.args.display.now c.notice.new.display c.stir.new.display m
-    c.find-found.result.domain c.find-found.result.action c.find-found.result.before
+    heard_station k c.make.new.kept c.args.display.now c.update_display.new.display c.move_and_follow.new.display m
+    c.look_before-found.result.domain c.look_before-found.result.action c.look_before-found.result.before
     c.requires.halves (c.in-Ok.ensures.grants (datagram_comes k.tree k.number (grants_of k) m.from m.body)
-    c.plan-change.ensures.plan) c.notice.ensures.display c.notice.ensures.rest
-    c.find-found.ensures.domain c.find-found.ensures.before c.find-found.ensures.action c.stir.ensures.display
-    c.stir.result c.stir.ensures.spent
+    c.plan-change.ensures.plan) c.update_display.ensures.display c.update_display.ensures.rest
+    c.look_before-found.ensures.domain c.look_before-found.ensures.before c.look_before-found.ensures.action
+    c.move_and_follow.ensures.display
+    c.move_and_follow.result c.move_and_follow.ensures.spent
 
 pub returns-in-Ok-clause-heard : goal.returns-in-Ok-clause-heard
 returns-in-Ok-clause-heard g c =
@@ -42,16 +43,17 @@ returns-in-Ok-clause-out g c =
     let k = c.args.kept.now in
     let d = c.args.display.now in
     let m = c.args.datagram.now in
-    heard_out k c.make.new.kept d c.notice.new.display c.stir.new.display m c.find-found.result.domain
-    c.find-found.result.action c.find-found.result.before
+    heard_out k c.make.new.kept d c.update_display.new.display c.move_and_follow.new.display m
+    c.look_before-found.result.domain c.look_before-found.result.action c.look_before-found.result.before
     c.requires.halves (c.in-Ok.ensures.grants (datagram_comes k.tree k.number (grants_of k) m.from m.body)
-    c.plan-change.ensures.plan) c.notice.ensures.display c.notice.ensures.rest
-    c.find-found.ensures.domain c.find-found.ensures.before c.find-found.ensures.action c.stir.ensures.display
-    c.notice.new.out c.stir.new.out
-    (c.notice.ensures.sent
+    c.plan-change.ensures.plan) c.update_display.ensures.display c.update_display.ensures.rest
+    c.look_before-found.ensures.domain c.look_before-found.ensures.before c.look_before-found.ensures.action
+    c.move_and_follow.ensures.display
+    c.update_display.new.out c.move_and_follow.new.out
+    (c.update_display.ensures.sent
     ∙ ap (λ (o : Out). with_notice o (body_noticed d.tree d.number d.published.boot (display_of d) m.from m.body))
     (c.in-Ok.ensures.out ∙ c.plan-change.ensures.sent))
-    c.stir.ensures.sent
+    c.move_and_follow.ensures.sent
 
 pub returns-in-Ok-clause-store : goal.returns-in-Ok-clause-store
 returns-in-Ok-clause-store g c =
@@ -65,9 +67,10 @@ returns-in-Ok-clause-halves g c =
     let k = c.args.kept.now in
     let m = c.args.datagram.now in
     let step = datagram_comes k.tree k.number (grants_of k) m.from m.body in
-    still_halves k c.make.new.kept c.args.display.now c.stir.new.display step.grants c.requires.halves
+    still_halves k c.make.new.kept c.args.display.now c.move_and_follow.new.display step.grants c.requires.halves
     c.in-Ok.ensures.same
-    (rest_twice c.args.display.now c.notice.new.display c.stir.new.display c.notice.ensures.rest c.stir.ensures.rest)
+    (rest_twice c.args.display.now c.update_display.new.display c.move_and_follow.new.display
+    c.update_display.ensures.rest c.move_and_follow.ensures.rest)
     (c.in-Ok.ensures.grants step c.plan-change.ensures.plan)
     (stays_sound k.tree k.number (grants_of k) (Comes m) c.tree-tree.ensures.kept.tree c.requires.halves.sound
     (subst (λ (m : Message). is_body m.body ≡ true) c.datagram.view_is c.datagram.invariant.body) c.requires.accepted)

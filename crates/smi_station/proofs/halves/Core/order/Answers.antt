@@ -16,14 +16,15 @@ returns-in-Some-clause-step g c =
 pub returns-in-None-clause-step : goal.returns-in-None-clause-step
 returns-in-None-clause-step g c =
     let now = c.args.self.now in
-    subst (λ (what : Happening). Steps now c.obey.new.self
-    (after (tree_of now) (number_of now) (station_of now) what) c.obey.new.out c.obey.result)
-    (sym (c.reported_in.ensures.other c.args.operator c.in-None.is)) c.obey.ensures.step
+    subst (λ (what : Happening). Steps now c.obey_or_refuse.new.self
+    (after (tree_of now) (number_of now) (station_of now) what) c.obey_or_refuse.new.out c.obey_or_refuse.result)
+    (sym (c.reported_in.ensures.other c.args.operator c.in-None.is)) c.obey_or_refuse.ensures.step
 
 pub returns-in-None-clause-store : goal.returns-in-None-clause-store
 returns-in-None-clause-store g c =
     let now = c.args.self.now in
     subst (λ (what : Happening). Leaves g.S.Stable.is_honest g.S.Stable.is_open g.S.Stable.rows g.S.Stable.may_find
-    g.S.Stable.saves g.S.Stable.failures g.S.Stable.doubts c.args.store.now c.obey.new.store c.obey.result
+    g.S.Stable.saves g.S.Stable.failures g.S.Stable.doubts c.args.store.now c.obey_or_refuse.new.store
+    c.obey_or_refuse.result
     (after (tree_of now) (number_of now) (station_of now) what).saved)
-    (sym (c.reported_in.ensures.other c.args.operator c.in-None.is)) c.obey.ensures.store
+    (sym (c.reported_in.ensures.other c.args.operator c.in-None.is)) c.obey_or_refuse.ensures.store

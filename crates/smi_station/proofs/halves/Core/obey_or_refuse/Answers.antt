@@ -13,7 +13,7 @@ use Rattle.smi_station.proofs.Steps.{made_core, made_steps, made_tidy, runs_on, 
 use Rattle.smi_station.proofs.Steps.{running, stands, taken_saves, taken_steps}
 use Rattle.smi_grants.specs.Save.{IfMemory}
 use Rattle.std.specs.Prelude.{is_some, true}
-use Rattle.smi_station.proofs.halves.Core.obey.Goals as goal
+use Rattle.smi_station.proofs.halves.Core.obey_or_refuse.Goals as goal
 
 pub invariant_of-self : goal.invariant_of-self
 invariant_of-self g c =

@@ -2,7 +2,7 @@ use Rattle.std.proofs.Common.{sym, ◌∙◌}
 use Rattle.smi_publish.specs.Publishing.{device_objects}
 use Rattle.smi_display.specs.Displayed.{display_of}
 use Rattle.smi_station.proofs.Passing.{unchanged_shown}
-use Rattle.smi_station.proofs.stirring.act.Goals as goal
+use Rattle.smi_station.proofs.stirring.move_devices.Goals as goal
 
 pub returns-in-None-clause-changes : goal.returns-in-None-clause-changes
 returns-in-None-clause-changes c =

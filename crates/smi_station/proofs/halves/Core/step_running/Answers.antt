@@ -6,7 +6,7 @@ use Rattle.smi_tree.specs.Lawful.{IsTree}
 use Rattle.smi_protocol.specs.Tidy.{IsTidy}
 use Rattle.smi_station.specs.Leaving.{Leaves}
 use Rattle.smi_station.proofs.Steps.{steps_may}
-use Rattle.smi_station.proofs.halves.Core.take.Goals as goal
+use Rattle.smi_station.proofs.halves.Core.step_running.Goals as goal
 
 pub returns-in-Datagram-clause-step : goal.returns-in-Datagram-clause-step
 returns-in-Datagram-clause-step g c =

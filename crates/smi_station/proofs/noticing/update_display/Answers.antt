@@ -2,7 +2,7 @@ use Rattle.std.proofs.Common.{◌≡◌, None, sym, subst}
 use Rattle.smi_message.specs.Message.{Message}
 use Rattle.smi_protocol.specs.Refusals.{refusal_of_message}
 use Rattle.smi_station.proofs.Accepted.{state_there}
-use Rattle.smi_station.proofs.noticing.notice.Goals as goal
+use Rattle.smi_station.proofs.noticing.update_display.Goals as goal
 
 pub state_comes-requires-clause-object_most : goal.state_comes-requires-clause-object_most
 state_comes-requires-clause-object_most c =

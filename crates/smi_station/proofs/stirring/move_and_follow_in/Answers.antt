@@ -10,14 +10,14 @@ use Rattle.smi_display.specs.Displayed.{display_of}
 use Rattle.smi_station.specs.Stirring.{acted_by, shown_anew}
 use Rattle.smi_station.proofs.Passing.{acted_first}
 use Rattle.smi_station.proofs.Stirred.{all_shown, shown_sends, stirred_room, unit_room}
-use Rattle.smi_station.proofs.stirring.stir_domain.Goals as goal
+use Rattle.smi_station.proofs.stirring.move_and_follow_in.Goals as goal
 
 pub show_anew-is_spent-requires-clause-room : goal.show_anew-is_spent-requires-clause-room
 show_anew-is_spent-requires-clause-room c =
     let d0 = c.args.display.now in
-    unit_room d0 c.act-changes.new.display (acted_by d0.tree (conditions_of d0.published) c.args.domain
+    unit_room d0 c.move_devices-changes.new.display (acted_by d0.tree (conditions_of d0.published) c.args.domain
     c.args.found.now.action) c.args.domain
-    c.requires.domain.most c.act-changes.ensures.display
+    c.requires.domain.most c.move_devices-changes.ensures.display
     (acted_first d0.tree (conditions_of d0.published) c.args.domain c.args.found.now.action) c.requires.room
 
 pub returns-clause-sent : goal.returns-clause-sent
@@ -31,22 +31,22 @@ returns-clause-sent c =
       datagrams = sent_after c.args.out.now.datagrams xs;
       passed = changes;
     })
-    (shown_sends d0 c.act-changes.new.display c.show_anew-is_spent.new.self (grants_of c.args.kept.now)
-    c.args.found.now.before mid c.args.domain c.act-changes.result c.show_anew-is_spent.new.changes
-    c.requires.domain.most c.act-changes.ensures.rest c.act-changes.ensures.display
+    (shown_sends d0 c.move_devices-changes.new.display c.show_anew-is_spent.new.self (grants_of c.args.kept.now)
+    c.args.found.now.before mid c.args.domain c.move_devices-changes.result c.show_anew-is_spent.new.changes
+    c.requires.domain.most c.move_devices-changes.ensures.rest c.move_devices-changes.ensures.display
     (acted_first d0.tree (conditions_of d0.published) c.args.domain c.args.found.now.action)
-    c.act-changes.ensures.changes c.show_anew-is_spent.ensures.display c.show_anew-is_spent.ensures.changes)
+    c.move_devices-changes.ensures.changes c.show_anew-is_spent.ensures.display c.show_anew-is_spent.ensures.changes)
     ∙ ap (λ (xs : List Shown). record c.args.out.now {
       datagrams = sent_after c.args.out.now.datagrams
           (shown_anew d0.tree d0.number d0.published.boot (display_of d0)
           (conditions_of c.show_anew-is_spent.new.self.published) (Some c.args.domain));
       passed = xs;
     })
-    (all_shown d0 c.act-changes.new.display c.show_anew-is_spent.new.self (grants_of c.args.kept.now)
-    c.args.found.now.before mid c.args.domain c.act-changes.result c.show_anew-is_spent.new.changes
-    c.requires.domain.most c.act-changes.ensures.rest c.act-changes.ensures.display
+    (all_shown d0 c.move_devices-changes.new.display c.show_anew-is_spent.new.self (grants_of c.args.kept.now)
+    c.args.found.now.before mid c.args.domain c.move_devices-changes.result c.show_anew-is_spent.new.changes
+    c.requires.domain.most c.move_devices-changes.ensures.rest c.move_devices-changes.ensures.display
     (acted_first d0.tree (conditions_of d0.published) c.args.domain c.args.found.now.action)
-    c.act-changes.ensures.changes c.show_anew-is_spent.ensures.display c.show_anew-is_spent.ensures.changes)
+    c.move_devices-changes.ensures.changes c.show_anew-is_spent.ensures.display c.show_anew-is_spent.ensures.changes)
 
 pub returns-clause-spent : goal.returns-clause-spent
 returns-clause-spent c =
@@ -54,21 +54,21 @@ returns-clause-spent c =
     let mid = acted_by d0.tree (conditions_of d0.published) c.args.domain c.args.found.now.action in
     c.show_anew-is_spent.ensures.spent
     ∙ ap is_spent
-    (all_shown d0 c.act-changes.new.display c.show_anew-is_spent.new.self (grants_of c.args.kept.now)
-    c.args.found.now.before mid c.args.domain c.act-changes.result c.show_anew-is_spent.new.changes
-    c.requires.domain.most c.act-changes.ensures.rest c.act-changes.ensures.display
+    (all_shown d0 c.move_devices-changes.new.display c.show_anew-is_spent.new.self (grants_of c.args.kept.now)
+    c.args.found.now.before mid c.args.domain c.move_devices-changes.result c.show_anew-is_spent.new.changes
+    c.requires.domain.most c.move_devices-changes.ensures.rest c.move_devices-changes.ensures.display
     (acted_first d0.tree (conditions_of d0.published) c.args.domain c.args.found.now.action)
-    c.act-changes.ensures.changes c.show_anew-is_spent.ensures.display c.show_anew-is_spent.ensures.changes)
+    c.move_devices-changes.ensures.changes c.show_anew-is_spent.ensures.display c.show_anew-is_spent.ensures.changes)
 
 pub returns-clause-room : goal.returns-clause-room
 returns-clause-room c unspent =
     let d0 = c.args.display.now in
     let d2 = c.show_anew-is_spent.new.self in
     let mid = acted_by d0.tree (conditions_of d0.published) c.args.domain c.args.found.now.action in
-    stirred_room d0 c.act-changes.new.display d2 (grants_of c.args.kept.now) c.args.found.now.before mid
-    c.args.domain c.act-changes.result c.show_anew-is_spent.new.changes
-    c.requires.domain.most c.act-changes.ensures.rest c.act-changes.ensures.display
+    stirred_room d0 c.move_devices-changes.new.display d2 (grants_of c.args.kept.now) c.args.found.now.before mid
+    c.args.domain c.move_devices-changes.result c.show_anew-is_spent.new.changes
+    c.requires.domain.most c.move_devices-changes.ensures.rest c.move_devices-changes.ensures.display
     (acted_first d0.tree (conditions_of d0.published) c.args.domain c.args.found.now.action)
-    c.act-changes.ensures.changes c.show_anew-is_spent.ensures.display c.show_anew-is_spent.ensures.changes
+    c.move_devices-changes.ensures.changes c.show_anew-is_spent.ensures.display c.show_anew-is_spent.ensures.changes
     d2.tree d2.number c.requires.room c.tree-tree.ensures.displayed.sound
     (sym c.show_anew-is_spent.ensures.spent ∙ unspent)

@@ -7,7 +7,7 @@ use Rattle.smi_tree.specs.Lookups.{domain_count}
 use Rattle.smi_protocol.specs.Refusals.{refusal_of_message}
 use Rattle.smi_protocol.specs.Showing.{domain_of_body}
 use Rattle.smi_station.proofs.Accepted.{stirs_there}
-use Rattle.smi_station.proofs.stirring.find.Goals as goal
+use Rattle.smi_station.proofs.stirring.look_before.Goals as goal
 
 pub members_in-requires : goal.members_in-requires
 members_in-requires c =
