@@ -37,7 +37,7 @@ fn checked<W: Write, F: Write>(
     ensures line { result ≢ Status.WrongLine }
 {
     match Tree::read(alloc, bytes) {
-        Ok(tree) => told(&tree, writer, faults),
+        Ok(tree) => print_counts(&tree, writer, faults),
         Err(TreeFault::Line(line, fault)) => {
             let _ = writeln!(faults, "tree line {line} fault {fault}");
             Status::Refused
@@ -47,7 +47,7 @@ fn checked<W: Write, F: Write>(
 }
 
 /// Tells what the tree has, and then on `faults` what in it is surely not meant.
-fn told<W: Write, F: Write>(tree: &Tree, writer: &mut W, faults: &mut F) -> Status
+fn print_counts<W: Write, F: Write>(tree: &Tree, writer: &mut W, faults: &mut F) -> Status
     ensures refused { result ≢ Status.Refused }
     ensures line { result ≢ Status.WrongLine }
 {

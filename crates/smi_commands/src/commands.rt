@@ -44,7 +44,7 @@ pub fn program<
     match line_of(alloc, words.texts.as_slice()) {
         CommandLine::Answer => {
             let (mut reader, mut writer) = (reader, writer);
-            told(answer(&mut reader, &mut writer), faults).code()
+            print_answered(answer(&mut reader, &mut writer), faults).code()
         }
         CommandLine::Check(path) => check_file(host, bytes_of(words, path), writer, faults),
         CommandLine::Rows(path) => list_rows(host, bytes_of(words, path), writer, faults).code(),
@@ -63,7 +63,7 @@ pub fn program<
     }
 }
 
-fn told<F: Write>(answered: Answered, faults: &mut F) -> Status {
+fn print_answered<F: Write>(answered: Answered, faults: &mut F) -> Status {
     match answered {
         Answered::Ended => Status::Done,
         Answered::Refused(place, refusal) => {

@@ -4,7 +4,7 @@ use crate::node::{address_in, opened};
 use crate::tree::{read_marked, read_tree};
 use bytes::Bytes;
 use smi_cli::status::{Status, no_memory, read_fault, wrong_line};
-use smi_crew::{addresses, link_fault, opening_fault, stopped, told};
+use smi_crew::{addresses, link_fault, opening_fault, print_fault, stopped};
 use smi_disks::Stores;
 use smi_line::{ScreenLine, Words, bytes_of};
 use smi_origin::TreeMark;
@@ -26,7 +26,7 @@ fn told_end<F: Write>(ended: Ended, faults: &mut F) -> Status {
         Ended::Turns => Status::Done,
         Ended::Stopped => stopped(faults),
         Ended::Link => link_fault(faults),
-        Ended::Gate => told("screen fault", faults),
+        Ended::Gate => print_fault("screen fault", faults),
         Ended::Memory => no_memory(faults),
         Ended::NoOperator => wrong_line(faults),
         Ended::Opening(fault) => opening_fault(fault, faults),

@@ -58,7 +58,7 @@ impl<J: BoardId> Attendant<J> {
         for place in 0..self.front.seat_count() {
             for _ in 0..MOST_GIVEN {
                 match self.front.answer(place) {
-                    Some(answered) => self.hall.tell(&mut self.front, tree, &answered),
+                    Some(answered) => self.hall.tell_answer(&mut self.front, tree, &answered),
                     None => break,
                 }
             }

@@ -139,7 +139,7 @@ impl Hall {
     }
 
     /// An answer is told to its caller, where that has not left.
-    pub(crate) fn tell<J: BoardId>(
+    pub(crate) fn tell_answer<J: BoardId>(
         &mut self,
         front: &mut Front<J>,
         tree: &Tree,

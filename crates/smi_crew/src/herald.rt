@@ -54,7 +54,7 @@ impl<H: Wait + Drop> Herald<H> {
     }
 
     /// A state is told, or owed where there is no room for it, or where others are owed.
-    fn tell(&mut self, shown: Shown) {
+    fn tell_or_owe(&mut self, shown: Shown) {
         if self.owes || !self.dispatch.tell(StationNews::Showed(shown)) {
             self.owe(shown);
         }
@@ -125,10 +125,10 @@ impl<H: Wait + Drop> Witness for Herald<H> {
         self.dispatch.go_on();
         self.tell_owed();
         if let Some(shown) = out.shown() {
-            self.tell(shown);
+            self.tell_or_owe(shown);
         }
         for shown in out.passed().as_slice() {
-            self.tell(*shown);
+            self.tell_or_owe(*shown);
         }
         self.tell_done(station, event, made);
     }

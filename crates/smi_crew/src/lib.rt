@@ -37,7 +37,7 @@ mod service;
 mod starting;
 
 pub use doors::ListenAddress;
-pub use opening::{link_fault, opening_fault, stopped, told};
+pub use opening::{link_fault, opening_fault, print_fault, stopped};
 pub use peers::addresses;
 pub use running::{NodeSetup, run};
 pub use service::Turns;

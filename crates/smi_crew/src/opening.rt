@@ -22,7 +22,7 @@ pub fn opening_fault<F: Write>(fault: OpenFault, faults: &mut F) -> Status
             );
             Status::Refused
         }
-        OpenFault::BootsSpent => told("boots spent", faults),
+        OpenFault::BootsSpent => print_fault("boots spent", faults),
         OpenFault::Store(_) => store_fault(faults),
         OpenFault::Memory => no_memory(faults),
     }
@@ -32,25 +32,25 @@ pub fn opening_fault<F: Write>(fault: OpenFault, faults: &mut F) -> Status
 pub fn link_fault<F: Write>(faults: &mut F) -> Status
     ensures { result ≡ status.Fault }
 {
-    told("link fault", faults)
+    print_fault("link fault", faults)
 }
 
 /// Tells that the node can't listen where it was told to.
 pub(crate) fn console_fault<F: Write>(faults: &mut F) -> Status
     ensures { result ≡ status.Fault }
 {
-    told("console fault", faults)
+    print_fault("console fault", faults)
 }
 
 /// Tells that the station has stopped.
 pub fn stopped<F: Write>(faults: &mut F) -> Status
     ensures { result ≡ status.Fault }
 {
-    told("stopped", faults)
+    print_fault("stopped", faults)
 }
 
 /// Tells a fault in its line.
-pub fn told<F: Write>(what: &str, faults: &mut F) -> Status
+pub fn print_fault<F: Write>(what: &str, faults: &mut F) -> Status
     ensures { result ≡ status.Fault }
 {
     let _ = writeln!(faults, "{what}");

@@ -205,7 +205,7 @@ impl Office {
         }
         let wicket = &mut self.wickets[place];
         let operator = wicket.operator();
-        let (given, told) = wicket.told()?;
+        let (given, told) = wicket.next_answer()?;
         Some(SeatAnswer {
             given,
             operator,

@@ -111,7 +111,7 @@ impl Wicket {
     }
 
     /// The next answer of the seat, with the oldest order that was not answered yet.
-    pub fn told(&mut self) -> Option<(Given, Told)>
+    pub fn next_answer(&mut self) -> Option<(Given, Told)>
         ensures given { IfSome result (λ r. self.old.given ≡ r.0 ∷ self.new.given) }
         ensures told { IfSome result (λ r. told_to self.new.seat ≡ told_to self.old.seat ++ r.1 ∷ []) }
         ensures none { IfNone result (self.new.given ≡ self.old.given) }

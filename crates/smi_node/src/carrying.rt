@@ -82,7 +82,7 @@ fn step<S: Stable>(
 }
 
 /// The code of a step goes to the seat that gave it its event; where it has none, its answers go to their orders.
-fn tell(
+fn answer_orders(
     desk: &mut Desk,
     operators: &[u16],
     seat: Option<usize>,
@@ -117,7 +117,7 @@ fn follow<L: DatagramLink, J: BoardId, R: Wait>(
     mark_newest(desk, seat, out.issued());
     match publish(rt, board, out.shown()) {
         Ok(()) => {
-            tell(desk, operators, seat, code, out.answers());
+            answer_orders(desk, operators, seat, code, out.answers());
             Ok(())
         }
         Err(_) => Err(CarryFault::Memory),

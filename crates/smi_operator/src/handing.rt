@@ -13,7 +13,7 @@ use smi_protocol::Told;
 fn first_told(work: &[WorkSlot]) -> Option<Told>
     ensures { result ≡ first_told work.now }
 {
-    work.first()?.told()
+    work.first()?.told_if_ended()
 }
 
 /// Hands out the answers of the oldest orders, up to one that has not ended.

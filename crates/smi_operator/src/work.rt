@@ -80,7 +80,7 @@ impl WorkSlot {
     }
 
     /// What the operator is told, where the order has ended.
-    pub(crate) fn told(self) -> Option<Told>
+    pub(crate) fn told_if_ended(self) -> Option<Told>
         ensures { result ≡ option_map (told_of self.work.order) self.ending }
     {
         let ending = self.ending?;

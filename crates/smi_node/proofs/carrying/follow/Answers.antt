@@ -19,7 +19,7 @@ returns-in-Ok g c =
       marks = subst (λ (m : Option Mark). MarksNewest c.args.seat m c.args.desk.now c.mark_newest.new.desk)
           c.issued.ensures c.mark_newest.ensures;
       tells = subst (λ (answers : List Answer). Tells c.args.operators.now c.args.seat c.args.code answers
-          c.mark_newest.new.desk c.tell.new.desk) c.answers.ensures c.tell.ensures;
+          c.mark_newest.new.desk c.answer_orders.new.desk) c.answers.ensures c.answer_orders.ensures;
       shown = subst (λ (s : Option Shown). Publishes s c.args.board.now c.publish.new.board) c.shown.ensures
           c.in-Ok.ensures.published;
     }

@@ -18,7 +18,7 @@ returns-in-Some g c =
           c.args.seat e
           (node c.args.station.now (edges (shows c.args.link.now) c.next.new.self c.args.board.now))
           (node c.serve_order.new.station
-            (edges (shows c.serve_order.new.link) c.serve_order.new.desk c.serve_order.new.board))
+          (edges (shows c.serve_order.new.link) c.serve_order.new.desk c.serve_order.new.board))
           (fault_in c.serve_order.result))
           c.event_of.ensures c.serve_order.ensures,
     )
