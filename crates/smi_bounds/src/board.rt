@@ -4,7 +4,7 @@ ghost use Rattle.std.specs.Prelude.{◌≡◌, ◌<◌, ◌^◌};
 
 use crate::layers::OBJECTS;
 use smi_grant::{Shown, Version};
-use smi_view::{Blank, Board, BoardId, Glance, open_board};
+use smi_view::{Board, BoardId, Glance, NewBoard, open_board};
 use std::alloc::Global;
 use std::marker::Brand;
 use std::sync::Wait;
@@ -18,14 +18,14 @@ const SEQUENCES: [u32; 5] = [1, 2, 1_001, 65_536, 4_000_000_000];
 /// Whether every glance reads every row of every object, however many glances there are.
 pub(crate) fn holds<R: Wait>(rt: &R, alloc: Global) -> bool {
     for more in 0..GLANCES {
-        if !over_board::<Brand, R>(rt, alloc, Blank::new(), more + 1) {
+        if !over_board::<Brand, R>(rt, alloc, NewBoard::new(), more + 1) {
             return false;
         }
     }
     true
 }
 
-fn over_board<J: BoardId, R: Wait>(rt: &R, alloc: Global, blank: Blank, count: usize) -> bool
+fn over_board<J: BoardId, R: Wait>(rt: &R, alloc: Global, blank: NewBoard, count: usize) -> bool
     requires id { blank.seen.book ≡ J.book }
     requires some { 0 < count }
     requires few { count < 2 ^ 32 }

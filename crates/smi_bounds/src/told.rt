@@ -4,7 +4,7 @@ ghost use Rattle.std.specs.Prelude.{◌≡◌};
 
 use rtrb::{Consumer, Producer, RingBuffer};
 use smi_grant::{Shown, Version};
-use smi_view::{Blank, Board, BoardId, Glance, News, open_board};
+use smi_view::{Board, BoardId, Glance, NewBoard, News, open_board};
 use std::alloc::Global;
 use std::marker::Brand;
 use std::sync::Wait;
@@ -19,7 +19,7 @@ const MOST_LOOKS: u32 = 100_000_000;
 
 /// Whether all was told, every reading after it was at least as new, and none ever went back.
 pub(crate) fn holds<R: Threads + Wait + Sync>(rt: &R, alloc: Global) -> bool {
-    let found = over_board::<Brand, R>(rt, alloc, Blank::new());
+    let found = over_board::<Brand, R>(rt, alloc, NewBoard::new());
     found
         == Some(Readings {
             told: ROUNDS,
@@ -42,7 +42,7 @@ struct Readings {
 fn over_board<J: BoardId + Send + Sync, R: Threads + Wait + Sync>(
     rt: &R,
     alloc: Global,
-    blank: Blank,
+    blank: NewBoard,
 ) -> Option<Readings>
     requires { blank.seen.book ≡ J.book }
 {

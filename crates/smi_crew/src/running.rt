@@ -16,7 +16,7 @@ use smi_node::ServeFault;
 use smi_rows::Stable;
 use smi_station::{Station, migrate};
 use smi_tree::Tree;
-use smi_view::{Blank, Board, BoardId, Glance, open_board};
+use smi_view::{Board, BoardId, Glance, NewBoard, open_board};
 use std::alloc::Global;
 use std::fs::Files;
 use std::io::{Read, Write};
@@ -82,7 +82,7 @@ fn over_board<
     E: Write + Drop + Send + 'static,
 >(
     rt: &H,
-    blank: Blank,
+    blank: NewBoard,
     plan: &NodeSetup,
     station: &mut Station<'_, S>,
     console: Console<I, O, E>,
@@ -117,7 +117,7 @@ fn opened<
             let mut station = station;
             let crewed = over_board::<Brand, _, _, _, _, _>(
                 rt,
-                Blank::new(),
+                NewBoard::new(),
                 plan,
                 &mut station,
                 console,

@@ -3,7 +3,7 @@
 ghost use Rattle.std.specs.Prelude.{◌≡◌};
 
 use smi_grant::{Shown, Version};
-use smi_view::{Blank, Board, BoardId, Glance, open_board};
+use smi_view::{Board, BoardId, Glance, NewBoard, open_board};
 use std::alloc::{AllocError, Global};
 use std::collections::BTreeMap;
 use std::io;
@@ -30,7 +30,7 @@ pub fn measure<R: Runtime<A = Global> + Wait + Threads + Sync>(
     let start = Instant::now(rt)?;
     let plain_sum = look_up(&map, reads);
     let plain = start.elapsed(rt)?;
-    let (elapsed, sum) = over_board::<Brand, R>(rt, Blank::new(), readers, reads)?;
+    let (elapsed, sum) = over_board::<Brand, R>(rt, NewBoard::new(), readers, reads)?;
     let threads: u32 = if readers == 1 { 1 } else { 3 };
     println!(rt;
         "board: {} threads, {} readings a second; a plain map {} by one thread",
@@ -87,7 +87,7 @@ fn show<J: BoardId, R: Wait>(rt: &R, board: &mut Board<J>) -> Result<(), AllocEr
 
 fn over_board<J: BoardId + Send + Sync, R: Runtime<A = Global> + Wait + Threads + Sync>(
     rt: &R,
-    blank: Blank,
+    blank: NewBoard,
     readers: u32,
     reads: u32,
 ) -> io::Result<(Duration, u64)>

@@ -7,7 +7,7 @@ pub enum Bad {
     #[error("1: not 44 bytes")]
     Length = 1,
     /// They do not begin with `SM`.
-    #[error("2: no datagram of ours")]
+    #[error("2: does not begin with SM")]
     Magic,
     /// The layout is neither 1 nor 2.
     #[error("3: an unknown layout")]

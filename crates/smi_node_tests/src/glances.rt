@@ -3,7 +3,7 @@
 ghost use Rattle.std.specs.Prelude.{◌≡◌};
 
 use smi_grant::{Shown, Version};
-use smi_view::{Blank, Board, BoardId, Glance, News, NoReading, open_board};
+use smi_view::{Board, BoardId, Glance, NewBoard, News, NoReading, open_board};
 use std::alloc::{AllocError, Global};
 use std::marker::Brand;
 use std::sync::Wait;
@@ -58,7 +58,7 @@ fn read<J: BoardId + Send + Sync, R: Threads + Wait + Sync>(
 fn over_board<J: BoardId + Send + Sync, R: Threads + Wait + Sync>(
     rt: &R,
     alloc: Global,
-    blank: Blank,
+    blank: NewBoard,
 ) -> Result<GlanceReading, Fail>
     requires { blank.seen.book ≡ J.book }
 {
@@ -70,7 +70,7 @@ fn over_board<J: BoardId + Send + Sync, R: Threads + Wait + Sync>(
 
 #[test]
 fn what_was_told_is_read_in_a_later_thread(rt: HostRuntime) -> Result<(), Fail> {
-    let reading = over_board::<Brand, _>(&rt, rt.alloc(), Blank::new())?;
+    let reading = over_board::<Brand, _>(&rt, rt.alloc(), NewBoard::new())?;
     assert_eq!(rt; reading, Ok(Some(ROW)));
     Ok(())
 }

@@ -9,7 +9,7 @@ use smi_protocol::Order;
 use smi_rows::MemoryStable;
 use smi_station::Station;
 use smi_tree::Tree;
-use smi_view::{Blank, Board, BoardId, open_board};
+use smi_view::{Board, BoardId, NewBoard, open_board};
 use std::alloc::Global;
 use std::marker::Brand;
 use std::sync::Wait;
@@ -186,7 +186,7 @@ fn over_tree<J: BoardId, R: Wait + Threads + Clock + Sync>(
 fn over_board<J: BoardId, R: Wait + Threads + Clock + Sync>(
     rt: &R,
     alloc: Global,
-    blank: Blank,
+    blank: NewBoard,
     tree: &Tree,
 ) -> Result<bool, Fail>
     requires { blank.seen.book ≡ J.book }
@@ -199,7 +199,7 @@ fn over_board<J: BoardId, R: Wait + Threads + Clock + Sync>(
 
 fn over_all<R: Wait + Threads + Clock + Sync>(rt: &R, alloc: Global) -> Result<bool, Fail> {
     let tree = Tree::read(alloc, TREE)?;
-    over_board::<Brand, R>(rt, alloc, Blank::new(), &tree)
+    over_board::<Brand, R>(rt, alloc, NewBoard::new(), &tree)
 }
 
 #[test]

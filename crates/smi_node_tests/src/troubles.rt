@@ -9,7 +9,7 @@ use smi_protocol::{Order, Told};
 use smi_rows::MemoryStable;
 use smi_station::Station;
 use smi_tree::Tree;
-use smi_view::{Blank, Board, BoardId, open_board};
+use smi_view::{Board, BoardId, NewBoard, open_board};
 use std::alloc::{AllocError, Global};
 use std::marker::Brand;
 use std::sync::Wait;
@@ -181,7 +181,7 @@ fn all_over_tree<J: BoardId, R: Wait>(
 fn over_board<J: BoardId, R: Wait>(
     rt: &R,
     alloc: Global,
-    blank: Blank,
+    blank: NewBoard,
     tree: &Tree,
 ) -> Result<usize, Fail>
     requires { blank.seen.book ≡ J.book }
@@ -194,7 +194,7 @@ fn over_board<J: BoardId, R: Wait>(
 
 fn over_all<R: Wait>(rt: &R, alloc: Global) -> Result<usize, Fail> {
     let tree = Tree::read(alloc, TREE)?;
-    over_board::<Brand, R>(rt, alloc, Blank::new(), &tree)
+    over_board::<Brand, R>(rt, alloc, NewBoard::new(), &tree)
 }
 
 #[test]

@@ -3,7 +3,7 @@
 ghost use Rattle.std.specs.Prelude.{◌≡◌};
 
 use smi_grant::{Shown, Version};
-use smi_view::{Acceptance, Blank, Board, BoardId, Glance, NoReading, View, open_board};
+use smi_view::{Acceptance, Board, BoardId, Glance, NewBoard, NoReading, View, open_board};
 use std::alloc::{AllocError, Global};
 use std::marker::Brand;
 use std::sync::Wait;
@@ -90,7 +90,7 @@ fn shown_and_read<J: BoardId, R: Wait>(
 fn over_board<J: BoardId, R: Wait>(
     rt: &R,
     alloc: Global,
-    blank: Blank,
+    blank: NewBoard,
 ) -> Result<(([Reading; 9], [bool; 6]), Reading), Fail>
     requires { blank.seen.book ≡ J.book }
 {
@@ -107,7 +107,7 @@ fn over_board<J: BoardId, R: Wait>(
 
 #[test]
 fn what_was_put_is_read_once_it_is_published(rt: HostRuntime) -> Result<(), Fail> {
-    let ((found, met), closed) = over_board::<Brand, _>(&rt, rt.alloc(), Blank::new())?;
+    let ((found, met), closed) = over_board::<Brand, _>(&rt, rt.alloc(), NewBoard::new())?;
     // What was told before a publication has less than what is seen after it.
     assert!(rt; met == [true, true, true, true, true, false]);
     let wanted = [

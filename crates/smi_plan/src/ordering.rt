@@ -35,7 +35,7 @@ fn issued(domain: u16, command: Option<Command>, link: &Link) -> Option<Mark>
     }
 }
 
-/// Where the link allows the order, its newest request is sent, and a command is issued.
+/// If the link allows the order, sends its newest request and notes the issued command.
 fn order_link(
     out: &mut Out,
     kept: &Kept<'_>,

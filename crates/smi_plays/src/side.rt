@@ -16,7 +16,7 @@ use std::alloc::Global;
 pub(crate) struct PlayedStation<'a, S: Played + Drop> {
     pub station: Station<'a, S>,
     /// Whether a save that failed by hand has stopped it.
-    is_out: bool,
+    is_down: bool,
 }
 
 /// The code of an order whose row was not saved.
@@ -47,7 +47,7 @@ pub(crate) fn add<'a, S: Played + Drop>(
         Ok(station) => posts
             .push(PlayedStation {
                 station,
-                is_out: false,
+                is_down: false,
             })
             .is_ok(),
         Err(_) => false,
@@ -60,7 +60,7 @@ fn come<S: Played + Drop>(
     event: Event<'_>,
     out: &mut Out,
 ) -> Result<Heard, StepFault> {
-    if post.is_out {
+    if post.is_down {
         out.clear();
         return Err(StepFault::Stopped);
     }
@@ -95,7 +95,7 @@ fn fail_by_hand<S: Played + Drop>(
     out: &mut Out,
 ) -> Result<Heard, StepFault> {
     let would_save = !post.station.is_stopped() && post.station.saves(out, event);
-    if !would_save || post.is_out {
+    if !would_save || post.is_down {
         return come(post, event, out);
     }
     out.clear();
@@ -106,7 +106,7 @@ fn fail_by_hand<S: Played + Drop>(
         let _ = come(post, event, out);
         out.clear();
     }
-    post.is_out = true;
+    post.is_down = true;
     Err(StepFault::Stopped)
 }
 
@@ -143,7 +143,7 @@ pub(crate) fn act<S: Played + Drop>(
         StationTurn::Start => None,
     };
     out.clear();
-    post.is_out = false;
+    post.is_down = false;
     match post.station.restart(alloc) {
         Ok(()) => Made::Started(before),
         Err(_) => Made::Lost,

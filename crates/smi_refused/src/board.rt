@@ -4,24 +4,24 @@ ghost use Rattle.std.specs.Prelude.{◌≡◌};
 
 use crate::outcome::Outcome;
 use smi_grant::{Shown, Version};
-use smi_view::{Blank, Board, BoardId, Glance, open_board};
+use smi_view::{Board, BoardId, Glance, NewBoard, open_board};
 use std::alloc::Global;
 use std::marker::Brand;
 use std::sync::Wait;
 
 /// A board at the second try where the first was refused an allocation.
 pub(crate) fn of<R: Wait>(rt: &R, alloc: Global) -> Outcome {
-    if let Some(outcome) = over_board::<Brand, R>(rt, alloc, Blank::new()) {
+    if let Some(outcome) = over_board::<Brand, R>(rt, alloc, NewBoard::new()) {
         return outcome;
     }
-    match over_board::<Brand, R>(rt, alloc, Blank::new()) {
+    match over_board::<Brand, R>(rt, alloc, NewBoard::new()) {
         Some(outcome) => outcome.and(Outcome::Kept),
         None => Outcome::Changed,
     }
 }
 
 /// What is seen of a board that is opened; none where it was refused an allocation.
-fn over_board<J: BoardId, R: Wait>(rt: &R, alloc: Global, blank: Blank) -> Option<Outcome>
+fn over_board<J: BoardId, R: Wait>(rt: &R, alloc: Global, blank: NewBoard) -> Option<Outcome>
     requires { blank.seen.book ≡ J.book }
 {
     let (mut board, mut glances) = open_board::<J, R>(rt, alloc, blank, 2).ok()?;

@@ -10,7 +10,7 @@ pub enum RowFlaw {
     /// There is no such schema of such rows.
     #[error("2: an unknown schema")]
     Schema,
-    /// No row that is written so has values in their ranges.
+    /// The bytes encode no row whose values are in range.
     #[error("3: a value is out of range")]
     Range,
     /// It names a domain, an operator, a holder, a link, an action or a target that the tree does

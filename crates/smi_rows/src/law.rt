@@ -8,7 +8,7 @@ use crate::saved::SavedRow;
 use crate::stable::{Stable, StoreFault};
 
 /// What a save came to, and all rows after it.
-pub type Aftermath = (Result<(), StoreFault>, Vec<SavedRow>);
+pub type SavedThenLoaded = (Result<(), StoreFault>, Vec<SavedRow>);
 
 /// What was saved is loaded, among the rows that were there before.
 pub fn saved_is_loaded<S: Stable>(
@@ -35,7 +35,7 @@ pub fn loaded_is_as_told<S: Stable>(
     store: &mut S,
     key: Key,
     bytes: &[u8],
-) -> Result<Aftermath, StoreFault>
+) -> Result<SavedThenLoaded, StoreFault>
     ensures loaded { S.is_honest store.new → S.is_open store.old
         → IfOk result (λ r. ListsAfter r.0 (S.rows store.old) (with_row key bytes.now (S.rows store.old)) r.1.items) }
     ensures honest { S.is_honest store.new → S.is_honest store.old }
@@ -55,7 +55,7 @@ pub fn a_failure_leaves_what_was_saved<S: Stable>(
     key: Key,
     bytes: &[u8],
     later: &[u8],
-) -> Result<Aftermath, StoreFault>
+) -> Result<SavedThenLoaded, StoreFault>
     ensures loaded { S.is_honest store.new → IfOk
         result (λ r. ListsAfter r.0 (with_row key bytes.now (S.rows store.old))
         (with_row key later.now (with_row key bytes.now (S.rows store.old))) r.1.items) }

@@ -27,7 +27,7 @@ pub enum StoreFault {
     #[error("the device failed, and the rows are as before")]
     Device,
     /// The device failed, and the row is as before or as saved.
-    #[error("the device failed, and the row may be saved or not")]
+    #[error("the device failed, and it is not known whether the row was saved")]
     Unsure,
 }
 

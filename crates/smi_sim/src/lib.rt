@@ -43,7 +43,7 @@ fn streamed<F: Write>(streamed: Streamed, faults: &mut F) -> u8
 ///
 /// It is 0 where the whole trace is written, and 1 where a line is faulty, which is told on `faults` as
 /// `schedule line L fault C`: then the trace of the lines before it is written. It is 3 where a read or a write failed,
-/// and 4 where memory ran out. (docs/FORMATS.md, "Schedules" and "The text of a trace".)
+/// and 4 where memory ran out. (docs/FORMATS.md, "Schedules" and "Traces".)
 pub fn sim<R: Read, W: Write, F: Write>(
     alloc: Global,
     tree: &Tree,

@@ -107,7 +107,7 @@ ghost use Rattle.smi_protocol.specs.Happening.{Orders};
 ghost use Rattle.smi_protocol.specs.Step.{ordered_or_reported};
 ghost use Rattle.smi_protocol.specs.declared.Order.TheVariants.{Report};
 
-/// A watch saves nothing, and may want memory.
+/// A watch saves nothing, and memory may run out for it.
 fn same_or_memory(done: Result<(), AllocError>) -> Result<Heard, StepFault>
     ensures { result ≡ same_or_memory done }
 {

@@ -1,4 +1,4 @@
-//! A planned step is saved and made, and what was to be handed out for it stays only where it is.
+//! Saves a planned change and makes it; on a failure clears what was to be handed out.
 
 ghost use Rattle.std.specs.Prelude.{◌≡◌, true, is_some, OnOk, OnErr, IfOk};
 ghost use Rattle.smi_grants.specs.Change.{IsChange};

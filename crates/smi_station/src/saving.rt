@@ -104,7 +104,7 @@ impl<'a, S> Station<'a, S> {
     ghost use Rattle.smi_station.specs.Core.{number_of, station_of, tree_of};
 
     /// Whether a step with this event would save a row, were the station to run. Nothing changes but `scratch`, which
-    /// is left with something or other.
+    /// holds nothing meaningful afterwards.
     pub fn saves(&self, scratch: &mut Out, event: Event<'_>) -> bool
         ensures { result
             ≡ is_some (after_event (tree_of self.now.core) (number_of self.now.core) (station_of self.now.core)

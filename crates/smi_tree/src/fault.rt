@@ -24,8 +24,8 @@ pub enum Fault {
     /// A name is not declared above as what the line wants there.
     #[error("5: a name that is not declared above")]
     UnknownName,
-    /// There is no room for one more.
-    #[error("6: no room for one more")]
+    /// With this line there would be more of a kind than may be.
+    #[error("6: a limit is passed")]
     OverLimit,
     /// The first line is no `tree` line, or a later one is.
     #[error("7: the first line, and no other, is a tree line")]
@@ -42,7 +42,7 @@ pub enum Fault {
     /// The file has more than 256 KiB.
     #[error("11: more than 256 KiB")]
     FileTooLong,
-    /// A station, operator, state, action or domain is wanting.
+    /// A station, operator, state, action or domain is missing.
     #[error("12: a station, operator, state, action or domain is missing")]
     Incomplete,
 }

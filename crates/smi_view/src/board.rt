@@ -5,17 +5,17 @@ ghost use Rattle.std.specs.Prelude.{IsTrue, OnErr, OnOk};
 ghost use mathlib.Core.List.{IsPrefix};
 ghost use Rattle.std.specs.Prelude.{MatchResult};
 ghost use Rattle.left_right.specs.Sides.{view};
-ghost use Rattle.smi_view.specs.declared.page.Page.{Page};
+ghost use Rattle.smi_view.specs.declared.page.CopyMeaning.{CopyMeaning};
 ghost use Rattle.smi_view.specs.Entries.{entries_of};
 ghost use Rattle.smi_view.specs.Pages.{name_of, page_of, turned};
 ghost use Rattle.smi_view.specs.Shows.{HasSeenNothing, IsRefused};
 
 use crate::glance::{Glance, News};
 use crate::growth::BoardGrowth;
-use crate::history::{Blank, BoardId, RowCounter, Rows};
+use crate::history::{BoardId, NewBoard, RowCounter, Rows};
 use crate::page::HistoryId;
 use crate::rule::{Finds, OneHistory, TellsHistory};
-use crate::sheet::{MarkedRow, Sheet};
+use crate::sheet::{BoardCopy, MarkedRow};
 use left_right::Absorb;
 use left_right::writer::Writer;
 use smi_grant::Shown;
@@ -24,7 +24,7 @@ use std::collections::VecDeque;
 use std::marker::Model;
 use std::sync::Wait;
 
-pub(crate) type BoardWriter = Writer<Sheet, MarkedRow, Option<HistoryId>, OneHistory>;
+pub(crate) type BoardWriter = Writer<BoardCopy, MarkedRow, Option<HistoryId>, OneHistory>;
 
 /// The end of a board that one thread writes.
 ///
@@ -88,9 +88,9 @@ fn hand_over(
 
 /// Shows readers all that the writer has, or leaves what they see.
 pub(crate) fn publish<R: Wait>(rt: &R, writer: BoardWriter) -> (BoardWriter, Result<(), AllocError>)
-    requires entries { let next : Page = fold turned (page_of writer.desk.shown.value)
+    requires entries { let next : CopyMeaning = fold turned (page_of writer.desk.shown.value)
         (drop writer.behind writer.log.items) in next.entries ≡ entries_of next.rows }
-    requires name { let next : Page = fold turned (page_of writer.desk.shown.value)
+    requires name { let next : CopyMeaning = fold turned (page_of writer.desk.shown.value)
         (drop writer.behind writer.log.items) in next.name ≡ name_of writer.desk.shown.value.mark.seen.book }
     ensures values { MatchResult result.1 (λ _.
         (page_of result.0.desk.shown.value ≡ fold turned (page_of writer.desk.shown.value)
@@ -215,7 +215,7 @@ impl<J: BoardId> Board<J> {
 pub fn open_board<J: BoardId, R: Wait>(
     rt: &R,
     alloc: Global,
-    blank: Blank,
+    blank: NewBoard,
     glances: usize,
 ) -> Result<(Board<J>, Vec<Glance<J>>), AllocError>
     requires id { blank.seen.book ≡ J.book }
@@ -241,7 +241,7 @@ pub fn open_board<J: BoardId, R: Wait>(
 fn open_writer<J: BoardId, R: Wait>(
     rt: &R,
     alloc: Global,
-    blank: Blank,
+    blank: NewBoard,
     glances: usize,
 ) -> Result<Board<J>, AllocError>
     requires id { blank.seen.book ≡ J.book }
@@ -252,8 +252,8 @@ fn open_writer<J: BoardId, R: Wait>(
     ensures refusals { IfOk result (λ board. board.refusals ≡ 0) }
 {
     let (counter, rows) = blank.named::<J>();
-    let first = Sheet::new(alloc, rows.mark());
-    let second = Sheet::new(alloc, rows.mark());
+    let first = BoardCopy::new(alloc, rows.mark());
+    let second = BoardCopy::new(alloc, rows.mark());
     let writer = Writer::new(alloc, first, second, glances)?;
     // Publishing nothing lets the writer know which history it is.
     let (writer, done) = publish(rt, writer);

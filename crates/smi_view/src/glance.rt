@@ -9,14 +9,14 @@ ghost use Rattle.left_right.specs.Sides.{view};
 use crate::history::{BoardId, Rows};
 use crate::page::HistoryId;
 use crate::rule::{Finds, OneHistory};
-use crate::sheet::Sheet;
+use crate::sheet::BoardCopy;
 use core::mem::replace_with;
 use left_right::reader::Reader;
 use smi_grant::Shown;
 use std::marker::Model;
 use thiserror::Error;
 
-pub(crate) type BoardReader = Reader<Sheet, Option<HistoryId>, OneHistory>;
+pub(crate) type BoardReader = Reader<BoardCopy, Option<HistoryId>, OneHistory>;
 
 /// The board gave no reading: it is closed, or its copy could not be held.
 #[derive(Clone, Copy, Debug, PartialEq, Eq, Error)]

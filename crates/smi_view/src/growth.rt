@@ -2,7 +2,7 @@
 
 ghost use Rattle.std.specs.Prelude.{◌≡◌, ◌∷◌, ◌++◌, [], drop, fold, IfOk, OnErr, OnOk, MatchResult, Some};
 ghost use Rattle.left_right.specs.Sides.{view};
-ghost use Rattle.smi_view.specs.declared.page.Page.{Page};
+ghost use Rattle.smi_view.specs.declared.page.CopyMeaning.{CopyMeaning};
 ghost use Rattle.smi_view.specs.Entries.{entries_of};
 ghost use Rattle.smi_view.specs.Pages.{name_of, page_of, turned};
 
@@ -112,9 +112,9 @@ impl BoardGrowth {
         rt: &R,
         writer: &mut BoardWriter,
     ) -> Result<(), AllocError>
-        requires entries { let next : Page = fold turned (page_of writer.old.desk.shown.value)
+        requires entries { let next : CopyMeaning = fold turned (page_of writer.old.desk.shown.value)
             (drop writer.old.behind writer.old.log.items) in next.entries ≡ entries_of next.rows }
-        requires name { let next : Page = fold turned (page_of writer.old.desk.shown.value)
+        requires name { let next : CopyMeaning = fold turned (page_of writer.old.desk.shown.value)
             (drop writer.old.behind writer.old.log.items) in
             next.name ≡ name_of writer.old.desk.shown.value.mark.seen.book }
         ensures page { OnOk result (page_of writer.new.desk.shown.value

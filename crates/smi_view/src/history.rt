@@ -71,18 +71,18 @@ impl BoardId for Brand {
 }
 
 /// The history of a board that has not been opened yet.
-pub struct Blank {
+pub struct NewBoard {
     counter: Word<Shown, u64, Counted>,
     seen: Seen<Shown, u64, Counted>,
     pub ghost empty: { seen.log ≡ [] },
     pub ghost counter_is: { counter ≡ counter_of seen.book },
 }
 
-impl Blank {
+impl NewBoard {
     /// A history with no rows, for one board.
-    pub fn new() -> Blank {
+    pub fn new() -> NewBoard {
         let (seen, mut first, _second) = Seen::open(Start::alone(), 0, 0);
-        Blank {
+        NewBoard {
             counter: Word::tracked(0, &mut first),
             seen,
         }
@@ -92,7 +92,7 @@ impl Blank {
         requires { self.seen.book ≡ J.book }
         ensures { result.1 ≡ [] }
     {
-        let Blank { counter, seen } = self;
+        let NewBoard { counter, seen } = self;
         (
             RowCounter {
                 counter,

@@ -1,6 +1,6 @@
 //! What stations and operators are shown.
 //!
-//! A [`View`] has the last state of each object that was told in an answer to this start of the station.
+//! A [`View`] holds, of each object, the newest state accepted since this station started.
 //! Told states may be late, repeated, or answers to an earlier start: [`View::accept`] takes one exactly
 //! where it answers the station's present boot and is newer than the last one that it took, so that what
 //! is shown never goes back.
@@ -27,5 +27,5 @@ mod view;
 
 pub use board::{Board, open_board};
 pub use glance::{Glance, News, NoReading};
-pub use history::{Blank, BoardId, Rows};
+pub use history::{BoardId, NewBoard, Rows};
 pub use view::{Acceptance, View, is_newer};

@@ -10,7 +10,7 @@ pub struct HistoryId {
 }
 
 /// The map of a copy, the rows that it stands for, and the history that these begin.
-pub struct Page {
+pub struct CopyMeaning {
     pub entries: [(u16, Shown); 0],
     pub rows: [Shown; 0],
     pub name: HistoryId,

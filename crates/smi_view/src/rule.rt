@@ -5,14 +5,14 @@ ghost use Rattle.std.specs.Prelude.{None};
 ghost use Rattle.smi_view.specs.Pages.{Keeps, Finds};
 
 use crate::page::HistoryId;
-use crate::sheet::Sheet;
+use crate::sheet::BoardCopy;
 use atomic_table::{Join, Split};
 use crossbeam_utils::rule::{Outcome, Protocol};
 
 /// The rule that every step on a board keeps.
 pub struct OneHistory;
 
-impl Protocol<Sheet, Option<HistoryId>> for OneHistory {
+impl Protocol<BoardCopy, Option<HistoryId>> for OneHistory {
     ghost holds = { Keeps };
 
     ghost first = { None };
@@ -21,7 +21,7 @@ impl Protocol<Sheet, Option<HistoryId>> for OneHistory {
 /// What a reading and a publication show: which history it is.
 pub struct Finds;
 
-impl Outcome<Sheet, Option<HistoryId>> for Finds {
+impl Outcome<BoardCopy, Option<HistoryId>> for Finds {
     ghost then = { Finds };
 }
 

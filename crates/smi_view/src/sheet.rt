@@ -6,7 +6,7 @@ ghost use Rattle.smi_view.specs.Rows.{last_row};
 ghost use Rattle.smi_view.specs.Pages.{page_of, turned};
 
 use crate::history::HistoryMark;
-use crate::page::Page;
+use crate::page::CopyMeaning;
 use left_right::Absorb;
 use smi_grant::Shown;
 use std::alloc::{AllocError, Global};
@@ -21,18 +21,18 @@ pub struct MarkedRow {
 
 /// The last row of each object, and which rows these are of.
 #[derive(Drop)]
-pub struct Sheet {
+pub struct BoardCopy {
     last: BTreeMap<u16, Shown>,
     pub(crate) mark: HistoryMark,
 }
 
-impl Sheet {
+impl BoardCopy {
     /// A copy with no row of any object.
-    pub(crate) fn new(alloc: Global, mark: HistoryMark) -> Sheet
+    pub(crate) fn new(alloc: Global, mark: HistoryMark) -> BoardCopy
         ensures entries { result.last.entries ≡ [] }
         ensures mark { result.mark ≡ mark }
     {
-        Sheet {
+        BoardCopy {
             last: BTreeMap::new(alloc),
             mark,
         }
@@ -47,15 +47,19 @@ impl Sheet {
     }
 }
 
-impl Absorb<MarkedRow> for Sheet {
-    type State = Page;
+impl Absorb<MarkedRow> for BoardCopy {
+    type State = CopyMeaning;
 
     ghost state = { page_of };
 
     ghost applied = { turned };
 
-    fn absorb_first(&mut self, operation: &MarkedRow, _other: &Sheet) -> Result<(), AllocError> {
-        let Sheet { last, mark } = self;
+    fn absorb_first(
+        &mut self,
+        operation: &MarkedRow,
+        _other: &BoardCopy,
+    ) -> Result<(), AllocError> {
+        let BoardCopy { last, mark } = self;
         let Ok(_) = last.insert(operation.row.object, operation.row) else {
             return Err(AllocError);
         };

@@ -42,8 +42,8 @@ pub or_true : (a b : Bool) → b ≡ true → true ≡ (a || b)
 or_true true b e = refl
 or_true false b e = sym e
 
-pub runs_there : (p : Post) → (p.station.core.is_stopped || p.is_out) ≡ false → p.station.core.is_stopped ≡ false
-runs_there p is = left_false p.station.core.is_stopped p.is_out is
+pub runs_there : (p : Post) → (p.station.core.is_stopped || p.is_down) ≡ false → p.station.core.is_stopped ≡ false
+runs_there p is = left_false p.station.core.is_stopped p.is_down is
 
 abbrev station : Grants → Display → Bool → Station
 station g d b = record { grants = g; display = d; is_stopped = b }
@@ -53,12 +53,12 @@ one_station g k d e a b i j l = ap (λ x. station x d a) i ∙ ap (λ x. station
 
 module _ (h : Hierarchy) (number : ℕ) (s : Station) (p : Post) (is : IsPost h number p s) where
   -- a station that runs is what is defined, whole
-  running_is : (p.station.core.is_stopped || p.is_out) ≡ false → station_of p.station.core ≡ s
+  running_is : (p.station.core.is_stopped || p.is_down) ≡ false → station_of p.station.core ≡ s
   running_is runs = one_station _ s.grants _ s.display p.station.core.is_stopped s.is_stopped is.grants
       (is.display (is.stopped ∙ runs)) (runs_there p runs ∙ sym (is.stopped ∙ runs))
 
   -- its step is the defined one
-  pub same_step : (what : Happening) → (p.station.core.is_stopped || p.is_out) ≡ false
+  pub same_step : (what : Happening) → (p.station.core.is_stopped || p.is_down) ≡ false
       → after (tree_of p.station.core) (number_of p.station.core) (station_of p.station.core) what
       ≡ after h number s what
   same_step what runs = ap (λ (x : Hierarchy). after x (number_of p.station.core) (station_of p.station.core) what)
@@ -74,7 +74,7 @@ module _ (h : Hierarchy) (number : ℕ) (s : Station) (p : Post) (is : IsPost h 
   }
 
   -- one that has stopped makes no step
-  pub stopped_makes : (l : Left) (what : Happening) → (p.station.core.is_stopped || p.is_out) ≡ true
+  pub stopped_makes : (l : Left) (what : Happening) → (p.station.core.is_stopped || p.is_down) ≡ true
       → Makes h number p l (idle s) → Makes h number p l (step_act h number what s)
   stopped_makes l what stopped makes = subst
       (λ b. Makes h number p l (if b then idle s else step_of (after h number s what)))
@@ -82,7 +82,7 @@ module _ (h : Hierarchy) (number : ℕ) (s : Station) (p : Post) (is : IsPost h 
 
   -- it starts again
   pub stopped_restarts : {X Y : Type 0} (r : Result X Y) (next : Post) (l : Left) (what : Happening)
-      → (p.station.core.is_stopped || p.is_out) ≡ true → OnOk r (Makes h number next l (restart_act h number [] s))
+      → (p.station.core.is_stopped || p.is_down) ≡ true → OnOk r (Makes h number next l (restart_act h number [] s))
       → OnOk r (Makes h number next l (stop_act h number what s))
   stopped_restarts r next l what stopped makes =
       subst (λ b. OnOk
@@ -92,7 +92,7 @@ module _ (h : Hierarchy) (number : ℕ) (s : Station) (p : Post) (is : IsPost h 
 
   -- one that runs has kept what its save has left, and starts again
   pub saved_restarts : {X Y : Type 0} (r : Result X Y) (next : Post) (l : Left) (kept : List Entry)
-      (what : Happening) → (p.station.core.is_stopped || p.is_out) ≡ false → kept ≡ (after h number s what).kept
+      (what : Happening) → (p.station.core.is_stopped || p.is_down) ≡ false → kept ≡ (after h number s what).kept
       → OnOk r (Makes h number next l (restart_act h number kept (saved_only h number s what)))
       → OnOk r (Makes h number next l (stop_act h number what s))
   saved_restarts r next l kept what runs same makes =
@@ -102,8 +102,8 @@ module _ (h : Hierarchy) (number : ℕ) (s : Station) (p : Post) (is : IsPost h 
       (subst (λ k. OnOk r (Makes h number next l (restart_act h number k (saved_only h number s what)))) same makes)
 
   -- one that runs makes its step
-  pub step_makes : (next : Post) (l : Left) (what : Happening) → (p.station.core.is_stopped || p.is_out) ≡ false
-      → next.is_out ≡ p.is_out
+  pub step_makes : (next : Post) (l : Left) (what : Happening) → (p.station.core.is_stopped || p.is_down) ≡ false
+      → next.is_down ≡ p.is_down
       → station_of next.station.core
       ≡ (after (tree_of p.station.core) (number_of p.station.core) (station_of p.station.core) what).station
       → IsOf (tree_of p.station.core) (number_of p.station.core) next.station.core
@@ -135,8 +135,8 @@ module _ (h : Hierarchy) (number : ℕ) (s : Station) (p : Post) (is : IsPost h 
           of_tree = record { tree = of.tree ∙ is.of_tree.tree; number = of.number ∙ is.of_tree.number };
           grants = ap (λ (z : Station). z.grants) is_now;
           stopped = sym (ap (λ (z : Station). z.is_stopped) is_now)
-              ∙ or_false next.station.core.is_stopped next.is_out
-              (out ∙ right_false p.station.core.is_stopped p.is_out runs);
+              ∙ or_false next.station.core.is_stopped next.is_down
+              (out ∙ right_false p.station.core.is_stopped p.is_down runs);
           display = λ running. ap (λ (z : Station). z.display) is_now;
           stored = stored;
         };
@@ -145,8 +145,8 @@ module _ (h : Hierarchy) (number : ℕ) (s : Station) (p : Post) (is : IsPost h 
       }
 
   -- one that stops after its save keeps what it has saved
-  pub saved_halts : (next : Post) (what : Happening) → (p.station.core.is_stopped || p.is_out) ≡ false
-      → next.is_out ≡ true
+  pub saved_halts : (next : Post) (what : Happening) → (p.station.core.is_stopped || p.is_down) ≡ false
+      → next.is_down ≡ true
       → station_of next.station.core
       ≡ (after (tree_of p.station.core) (number_of p.station.core) (station_of p.station.core) what).station
       → IsOf (tree_of p.station.core) (number_of p.station.core) next.station.core
@@ -155,19 +155,19 @@ module _ (h : Hierarchy) (number : ℕ) (s : Station) (p : Post) (is : IsPost h 
   saved_halts next what runs out made of stored = record {
     of_tree = record { tree = of.tree ∙ is.of_tree.tree; number = of.number ∙ is.of_tree.number };
     grants = ap (λ (z : Station). z.grants) (made ∙ ap (λ (o : Outcome). o.station) (same_step what runs));
-    stopped = or_true next.station.core.is_stopped next.is_out out;
+    stopped = or_true next.station.core.is_stopped next.is_down out;
     display = λ running. absurd cc;
     stored = stored;
   }
 
   -- and what the save has left is what is defined
-  pub saved_kept : (l : Left) (what : Happening) → (p.station.core.is_stopped || p.is_out) ≡ false
+  pub saved_kept : (l : Left) (what : Happening) → (p.station.core.is_stopped || p.is_down) ≡ false
       → Leaves (tree_of p.station.core) l (after (tree_of p.station.core) (number_of p.station.core)
       (station_of p.station.core) what) → l.out.kept ≡ (after h number s what).kept
   saved_kept l what runs leaves = leaves.kept ∙ ap (λ (o : Outcome). o.kept) (same_step what runs)
 
   -- one whose step was not made stays
-  pub stays : (next : Post) → next.is_out ≡ p.is_out → next.station.core ≡ p.station.core
+  pub stays : (next : Post) → next.is_down ≡ p.is_down → next.station.core ≡ p.station.core
       → IsStoredIn (found_in next.station.store.list) next.station.core → IsPost h number next s
   stays next out same stored = record {
     of_tree = record {
@@ -175,7 +175,7 @@ module _ (h : Hierarchy) (number : ℕ) (s : Station) (p : Post) (is : IsPost h 
       number = ap (λ (c : Core). number_of c) same ∙ is.of_tree.number;
     };
     grants = ap (λ (c : Core). (station_of c).grants) same ∙ is.grants;
-    stopped = is.stopped ∙ ap (λ (c : Core). c.is_stopped || p.is_out) (sym same)
+    stopped = is.stopped ∙ ap (λ (c : Core). c.is_stopped || p.is_down) (sym same)
         ∙ ap (λ b. next.station.core.is_stopped || b) (sym out);
     display = λ running. ap (λ (c : Core). (station_of c).display) same ∙ is.display running;
     stored = stored;
@@ -204,7 +204,7 @@ module _ (h : Hierarchy) (number : ℕ) (s : Station) (p : Post) (is : IsPost h 
     nothing_sent = ap (λ (z : Out). z.datagrams) out
 
     -- the station has started
-    pub starts_makes : next.is_out ≡ false → Restarts (tree_of p.station.core) (number_of p.station.core)
+    pub starts_makes : next.is_down ≡ false → Restarts (tree_of p.station.core) (number_of p.station.core)
         (station_of p.station.core).grants (Ok (station_of next.station.core))
         → IsOf (tree_of p.station.core) (number_of p.station.core) next.station.core
         → IsStoredIn (found_in next.station.store.list) next.station.core
@@ -219,7 +219,7 @@ module _ (h : Hierarchy) (number : ℕ) (s : Station) (p : Post) (is : IsPost h 
             of_tree = record { tree = of.tree ∙ is.of_tree.tree; number = of.number ∙ is.of_tree.number };
             grants = ap (λ (z : Station). z.grants) now;
             stopped = sym (ap (λ (z : Station). z.is_stopped) now)
-                ∙ or_false next.station.core.is_stopped next.is_out in_;
+                ∙ or_false next.station.core.is_stopped next.is_down in_;
             display = λ running. ap (λ (z : Station). z.display) now;
             stored = stored;
           };
@@ -239,7 +239,7 @@ module _ (h : Hierarchy) (number : ℕ) (s : Station) (p : Post) (is : IsPost h 
         left_boots false e = e
 
     -- its boots are spent
-    pub spent_makes : next.is_out ≡ true → Restarts (tree_of p.station.core) (number_of p.station.core)
+    pub spent_makes : next.is_down ≡ true → Restarts (tree_of p.station.core) (number_of p.station.core)
         (station_of p.station.core).grants (Err open_fault.BootsSpent)
         → next.station.core ≡ p.station.core → IsStoredIn (found_in next.station.store.list) next.station.core
         → l.started ≡ None → Makes h number next l (restart_act h number kept s)
@@ -254,7 +254,7 @@ module _ (h : Hierarchy) (number : ℕ) (s : Station) (p : Post) (is : IsPost h 
               number = ap (λ (c : Core). number_of c) same ∙ is.of_tree.number;
             };
             grants = ap (λ (c : Core). (station_of c).grants) same ∙ is.grants;
-            stopped = or_true next.station.core.is_stopped next.is_out out_;
+            stopped = or_true next.station.core.is_stopped next.is_down out_;
             display = λ running. absurd cc;
             stored = stored;
           };

@@ -26,7 +26,7 @@ module _ (h : Hierarchy) (number : ℕ) (s : Station) (p : Post) (is : IsPost h 
       record { post = is; entries = rw (kept, started, passed, shown) told; sends = sends }
 
   -- it stops
-  pub before_makes : (next : Post) (l : Left) (what : Happening) → next.station ≡ p.station → next.is_out ≡ true
+  pub before_makes : (next : Post) (l : Left) (what : Happening) → next.station ≡ p.station → next.is_down ≡ true
       → l.started ≡ None → l.out ≡ nothing_out
       → Makes h number next l (failed_act h number plan.Before what s)
   before_makes next l what same out started handed = record {
@@ -36,7 +36,7 @@ module _ (h : Hierarchy) (number : ℕ) (s : Station) (p : Post) (is : IsPost h 
         number = ap (λ x. number_of x.core) same ∙ is.of_tree.number;
       };
       grants = ap (λ x. (station_of x.core).grants) same ∙ is.grants;
-      stopped = or_true next.station.core.is_stopped next.is_out out;
+      stopped = or_true next.station.core.is_stopped next.is_down out;
       display = λ running. absurd cc;
       stored = subst (λ x. IsStoredIn (found_in x.store.list) x.core) (sym same) is.stored;
     };
@@ -46,7 +46,7 @@ module _ (h : Hierarchy) (number : ℕ) (s : Station) (p : Post) (is : IsPost h 
 
   -- it stops, and what it has saved is left
   pub after_makes : (next : Post) (made l : Left) (what : Happening)
-      → (p.station.core.is_stopped || p.is_out) ≡ false → next.is_out ≡ true
+      → (p.station.core.is_stopped || p.is_down) ≡ false → next.is_down ≡ true
       → station_of next.station.core
       ≡ (after (tree_of p.station.core) (number_of p.station.core) (station_of p.station.core) what).station
       → IsOf (tree_of p.station.core) (number_of p.station.core) next.station.core
@@ -64,7 +64,7 @@ module _ (h : Hierarchy) (number : ℕ) (s : Station) (p : Post) (is : IsPost h 
   }
 
   -- What comes to one that has stopped is not made.
-  pub stopped_fails : (how : Plan) (l : Left) (what : Happening) → (p.station.core.is_stopped || p.is_out) ≡ true
+  pub stopped_fails : (how : Plan) (l : Left) (what : Happening) → (p.station.core.is_stopped || p.is_down) ≡ true
       → Makes h number p l (idle s) → Makes h number p l (fail_act h number how what s)
   stopped_fails how l what stopped makes =
       subst (λ b. Makes h number p l (if b then idle s
@@ -73,7 +73,7 @@ module _ (h : Hierarchy) (number : ℕ) (s : Station) (p : Post) (is : IsPost h 
 
   -- One that runs and would save a row fails to.
   pub saving_fails : {X Y : Type 0} (r : Result X Y) (how : Plan) (next : Post) (l : Left) (what : Happening)
-      → (p.station.core.is_stopped || p.is_out) ≡ false
+      → (p.station.core.is_stopped || p.is_down) ≡ false
       → is_some (after (tree_of p.station.core) (number_of p.station.core) (station_of p.station.core) what).saved
       ≡ true
       → OnOk r (Makes h number next l (failed_act h number how what s))
@@ -89,7 +89,7 @@ module _ (h : Hierarchy) (number : ℕ) (s : Station) (p : Post) (is : IsPost h 
 
   -- One that saves nothing makes its step.
   pub nothing_fails : {X Y : Type 0} (r : Result X Y) (how : Plan) (next : Post) (l : Left) (what : Happening)
-      → (p.station.core.is_stopped || p.is_out) ≡ false
+      → (p.station.core.is_stopped || p.is_down) ≡ false
       → is_some (after (tree_of p.station.core) (number_of p.station.core) (station_of p.station.core) what).saved
       ≡ false
       → OnOk r (Makes h number next l (step_act h number what s))

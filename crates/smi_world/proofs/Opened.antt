@@ -61,13 +61,13 @@ posts_more h n posts new p grown count are is =
     by (x ∷ xs) = let e = by xs in omega (arith, e)
 
 -- a station that opens without rows starts for the first time
-pub first_is : (h : Hierarchy) (number : ℕ) (p : Post) → p.is_out ≡ false
+pub first_is : (h : Hierarchy) (number : ℕ) (p : Post) → p.is_down ≡ false
     → Opens h number (found_in []) (Ok (station_of p.station.core)) → IsOf h number p.station.core
     → IsStoredIn (found_in p.station.store.list) p.station.core → IsPost h number p (first_opened h number)
 first_is h number p in_ opens of stored = record {
   of_tree = of;
   grants = ap (λ (s : Station). s.grants) now;
-  stopped = by p.is_out in_;
+  stopped = by p.is_down in_;
   display = λ running. ap (λ (s : Station). s.display) now;
   stored = stored;
 }

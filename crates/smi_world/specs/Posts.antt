@@ -17,7 +17,7 @@ use Rattle.smi_world.specs.Turning.{Act}
 pub record IsPost (h : Hierarchy) (number : ℕ) (p : Post) (s : Station) : Type 0 where
   pub of_tree : IsOf h number p.station.core
   pub grants : (station_of p.station.core).grants ≡ s.grants
-  pub stopped : s.is_stopped ≡ (p.station.core.is_stopped || p.is_out)
+  pub stopped : s.is_stopped ≡ (p.station.core.is_stopped || p.is_down)
   pub display : s.is_stopped ≡ false → (station_of p.station.core).display ≡ s.display
   pub stored : IsStoredIn (found_in p.station.store.list) p.station.core
 

@@ -17,9 +17,9 @@ use std::alloc::{AllocError, Global};
 
 /// Whether the station makes no step.
 pub(crate) fn is_stopped(post: &Post<'_>) -> bool
-    ensures { result ≡ (post.now.station.core.is_stopped || post.now.is_out) }
+    ensures { result ≡ (post.now.station.core.is_stopped || post.now.is_down) }
 {
-    post.station.is_stopped() || post.is_out
+    post.station.is_stopped() || post.is_down
 }
 
 /// Something comes to the station.
@@ -49,12 +49,12 @@ fn start_again(alloc: Global, post: &mut Post<'_>, left: &mut Left) -> Result<()
     left.out.clear_but_kept();
     match post.station.restart(alloc) {
         Ok(()) => {
-            post.is_out = false;
+            post.is_down = false;
             left.started = Some(post.station.boot());
             Ok(())
         }
         Err(OpenFault::BootsSpent) => {
-            post.is_out = true;
+            post.is_down = true;
             left.started = None;
             Ok(())
         }
@@ -76,7 +76,8 @@ pub(crate) fn restart(alloc: Global, post: &mut Post<'_>, left: &mut Left) -> Re
 
 ghost use Rattle.std.specs.Prelude.{[]};
 
-/// The station stops after its save, and starts again. Where memory is wanting for the start, it stays stopped.
+/// The station stops after its save, and starts again. Where memory runs out for the start, it stays
+/// stopped.
 pub(crate) fn stop_after(
     alloc: Global,
     post: &mut Post<'_>,
@@ -94,6 +95,6 @@ pub(crate) fn stop_after(
         return restart(alloc, post, left);
     }
     make(&mut post.station, what, left)?;
-    post.is_out = true;
+    post.is_down = true;
     start_again(alloc, post, left)
 }

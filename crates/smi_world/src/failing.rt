@@ -70,12 +70,12 @@ fn fail_before(post: &mut Post<'_>, what: &Coming, left: &mut Left)
     ensures before { left.new.before ≡ left.old.before }
 {
     left.clear();
-    post.is_out = true;
+    post.is_down = true;
 }
 
 /// Nobody knows whether the row was saved, and it was: the station stops, and what the save leaves is left.
 fn fail_after(post: &mut Post<'_>, what: &Coming, left: &mut Left) -> Result<(), AllocError>
-    requires runs { (post.old.station.core.is_stopped || post.old.is_out) ≡ false }
+    requires runs { (post.old.station.core.is_stopped || post.old.is_down) ≡ false }
     ensures makes { (h : Hierarchy) (number : ℕ) (s : Defined) → IsPost h number post.old s
         → OnOk result (Makes h number post.new left.new (failed_act h number After (happening what.now) s)) }
     ensures same { (h : Hierarchy) (number : ℕ) (s : Defined) → IsPost h number post.old s
@@ -85,7 +85,7 @@ fn fail_after(post: &mut Post<'_>, what: &Coming, left: &mut Left) -> Result<(),
     make(&mut post.station, what, left)?;
     left.started = None;
     left.out.clear_but_kept();
-    post.is_out = true;
+    post.is_down = true;
     Ok(())
 }
 
@@ -98,7 +98,7 @@ fn fail_save(
     what: &Coming,
     left: &mut Left,
 ) -> Result<(), AllocError>
-    requires runs { (post.old.station.core.is_stopped || post.old.is_out) ≡ false }
+    requires runs { (post.old.station.core.is_stopped || post.old.is_down) ≡ false }
     ensures makes { (h : Hierarchy) (number : ℕ) (s : Defined) → IsPost h number post.old s
         → OnOk result (Makes h number post.new left.new (failed_act h number how (happening what.now) s)) }
     ensures same { (h : Hierarchy) (number : ℕ) (s : Defined) → IsPost h number post.old s

@@ -23,7 +23,7 @@ fn first_post<'a>(alloc: Global, tree: &'a Tree, number: u16) -> Result<Post<'a>
     match Station::open(alloc, tree, number, MemoryStable::new(alloc)) {
         Ok(station) => Ok(Post {
             station,
-            is_out: false,
+            is_down: false,
         }),
         Err(_) => Err(AllocError),
     }

@@ -6,12 +6,12 @@ use smi_station::Station;
 pub(crate) struct Post<'a> {
     pub station: Station<'a, MemoryStable>,
     /// Whether a save that failed has stopped it.
-    pub is_out: bool,
+    pub is_down: bool,
 }
 
 impl Post<'_> {
     /// Whether the station makes no step until it starts again.
     pub(crate) fn is_stopped(&self) -> bool {
-        self.is_out || self.station.is_stopped()
+        self.is_down || self.station.is_stopped()
     }
 }

@@ -16,7 +16,7 @@ use smi_rows::MemoryStable;
 use smi_station::Station;
 use std::alloc::AllocError;
 
-/// An event comes to a station that runs. A store in memory never fails, so that only memory may be wanting.
+/// An event comes to a station that runs. A store in memory never fails, so that only memory may run out.
 fn step(
     station: &mut Station<'_, MemoryStable>,
     event: Event<'_>,

@@ -20,7 +20,7 @@ use smi_protocol::Item;
 use smi_tree::Tree;
 use std::alloc::{AllocError, Global};
 
-/// A station makes its part. Where memory is wanting to start it after a stop, it stays stopped.
+/// A station makes its part. Where memory runs out for its start after a stop, it stays stopped.
 fn make_part(
     alloc: Global,
     post: &mut Post<'_>,

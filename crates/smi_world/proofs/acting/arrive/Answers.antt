@@ -17,7 +17,7 @@ pub returns-clause-makes : goal.returns-clause-makes
 returns-clause-makes c = λ h number s is.
     all_ok c.make.result c.make.ensures.station c.make.ensures.of c.make.ensures.leaves
     (λ made of leaves. step_makes h number s c.args.post.now is
-    (record { station = c.make.new.station; is_out = c.args.post.now.is_out }) c.make.new.left
+    (record { station = c.make.new.station; is_down = c.args.post.now.is_down }) c.make.new.left
     (happening c.args.what.now) (sym c.is_stopped.ensures ∙ c.if-is_stopped.false) refl made of leaves
     (c.make.ensures.stored is.stored))
 
@@ -25,5 +25,5 @@ pub returns-clause-same : goal.returns-clause-same
 returns-clause-same c = λ h number s is.
     on_err c.make.result c.make.ensures.same
     (λ same. stays h number s c.args.post.now is
-    (record { station = c.make.new.station; is_out = c.args.post.now.is_out }) refl same
+    (record { station = c.make.new.station; is_down = c.args.post.now.is_down }) refl same
     (c.make.ensures.stored is.stored))

@@ -11,7 +11,7 @@ use Rattle.smi_world.proofs.acting.start_again.Goals as goal
 
 pub returns-in-Ok-clause-makes : goal.returns-in-Ok-clause-makes
 returns-in-Ok-clause-makes c = λ h number s is.
-    starts_makes h number s c.args.post.now is (record { station = c.restart.new.self; is_out = false }) _
+    starts_makes h number s c.args.post.now is (record { station = c.restart.new.self; is_down = false }) _
     c.args.left.now.out.kept
     (c.number-left-inside.ensures.value ∙ ap (λ (k : Kept). k.number) c.grants.ensures ∙ is.of_tree.number)
     (c.clear_but_kept.ensures ∙ ap (λ (l : Left). record nothing_out { kept = l.out.kept }) c.left.view_is)
@@ -20,7 +20,7 @@ returns-in-Ok-clause-makes c = λ h number s is.
 pub returns-in-Err-BootsSpent-clause-makes : goal.returns-in-Err-BootsSpent-clause-makes
 returns-in-Err-BootsSpent-clause-makes c = λ h number s is.
     let same = c.in-Err-BootsSpent.ensures.unchanged in
-    spent_makes h number s c.args.post.now is (record { station = c.restart.new.self; is_out = true }) _
+    spent_makes h number s c.args.post.now is (record { station = c.restart.new.self; is_down = true }) _
     c.args.left.now.out.kept
     (c.number-left-inside.ensures.value ∙ ap (λ (k : Kept). k.number) c.grants.ensures ∙ is.of_tree.number)
     (c.clear_but_kept.ensures ∙ ap (λ (l : Left). record nothing_out { kept = l.out.kept }) c.left.view_is)
@@ -38,7 +38,7 @@ returns-in-Err c = record {
   makes = λ h number s is. tt;
   same = λ h number s is.
       let same = c.in-Err.ensures.unchanged in
-      stays h number s c.args.post.now is (record { station = c.restart.new.self; is_out = c.args.post.now.is_out })
+      stays h number s c.args.post.now is (record { station = c.restart.new.self; is_down = c.args.post.now.is_down })
       refl same
       (subst (IsStoredIn (found_in c.restart.new.self.store.list)) (sym same)
       (rows_stay (found_in c.args.post.now.station.store.list) (found_in c.restart.new.self.store.list)

@@ -16,7 +16,7 @@ returns-clause-makes c = λ h number s is.
     c.make.new.left.out.kept what runs (saved_kept h number s c.args.post.now is c.make.new.left what runs
     c.in_ok-make.ensures.leaves)
     (c.start_again.ensures.makes h number (saved_only h number s what)
-    (saved_halts h number s c.args.post.now is (record { station = c.make.new.station; is_out = true }) what runs
+    (saved_halts h number s c.args.post.now is (record { station = c.make.new.station; is_down = true }) what runs
     refl c.in_ok-make.ensures.station c.in_ok-make.ensures.of (c.make.ensures.stored is.stored)))
 
 pub returns-clause-halts : goal.returns-clause-halts
@@ -25,7 +25,7 @@ returns-clause-halts c = λ h number s is.
     let runs = sym c.is_stopped.ensures ∙ c.if-is_stopped.false in
     on_err c.start_again.result
     (c.start_again.ensures.same h number (saved_only h number s what)
-    (saved_halts h number s c.args.post.now is (record { station = c.make.new.station; is_out = true }) what runs
+    (saved_halts h number s c.args.post.now is (record { station = c.make.new.station; is_down = true }) what runs
     refl c.in_ok-make.ensures.station c.in_ok-make.ensures.of (c.make.ensures.stored is.stored)))
     (λ x. inr (is.stopped ∙ runs, x))
 
@@ -33,5 +33,5 @@ pub returns-in_err-make-clause-halts : goal.returns-in_err-make-clause-halts
 returns-in_err-make-clause-halts c = λ h number s is.
     held_err c.from_residual.result
     (inl (stays h number s c.args.post.now is
-    (record { station = c.make.new.station; is_out = c.args.post.now.is_out }) refl c.in_err-make.ensures.same
+    (record { station = c.make.new.station; is_down = c.args.post.now.is_down }) refl c.in_err-make.ensures.same
     (c.make.ensures.stored is.stored)))

@@ -7,7 +7,7 @@ use Rattle.smi_world.proofs.opening.first_post.Goals as goal
 
 pub returns-in-Ok : goal.returns-in-Ok
 returns-in-Ok c =
-    first_is c.args.tree.now c.args.number (record { station = c.in-Ok.station; is_out = _ }) refl
+    first_is c.args.tree.now c.args.number (record { station = c.in-Ok.station; is_down = _ }) refl
     (subst (λ (list : List Saved). Opens c.args.tree.now c.args.number (found_in list)
     (Ok (station_of c.in-Ok.station.core))) c.new.ensures.list (c.in-Ok.ensures.opens tt)) c.in-Ok.ensures.of
     (c.in-Ok.ensures.stored tt)

@@ -6,13 +6,15 @@ use Rattle.smi_front.proofs.office.Office.answer.Goals as goal
 pub invariant_of-self : goal.invariant_of-self
 invariant_of-self c =
     stay c.self.inside.operators.items c.self.inside.wickets.items c.args.place c.next_answer.new.self
-    c.index_mut-wicket.result.now (c.next_answer.ensures.operator ∙ ap (λ w. w.operator) c.index_mut-wicket.ensures.value)
+    c.index_mut-wicket.result.now
+    (c.next_answer.ensures.operator ∙ ap (λ w. w.operator) c.index_mut-wicket.ensures.value)
     c.self.invariant
 
 pub invariant_of-self-2 : goal.invariant_of-self-2
 invariant_of-self-2 c =
     stay c.self.inside.operators.items c.self.inside.wickets.items c.args.place c.next_answer.new.self
-    c.index_mut-wicket.result.now (c.next_answer.ensures.operator ∙ ap (λ w. w.operator) c.index_mut-wicket.ensures.value)
+    c.index_mut-wicket.result.now
+    (c.next_answer.ensures.operator ∙ ap (λ w. w.operator) c.index_mut-wicket.ensures.value)
     c.self.invariant
 
 pub returns-clause-some : goal.returns-clause-some

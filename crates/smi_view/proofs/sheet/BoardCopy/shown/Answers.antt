@@ -3,7 +3,7 @@ use Rattle.std.specs.Map.{lookup}
 use Rattle.std.specs.BTreeMap.{is_at}
 use Rattle.std.specs.Ordering.{nat_cmp}
 use Rattle.smi_view.proofs.LastRows.{entry_is}
-use Rattle.smi_view.proofs.sheet.Sheet.shown.Goals as goal
+use Rattle.smi_view.proofs.sheet.BoardCopy.shown.Goals as goal
 
 pub returns : goal.returns
 returns c =
