@@ -45,7 +45,7 @@ pub(crate) fn address_in(word: &str) -> Option<SocketAddr> {
 }
 
 /// Where a console is listened for.
-fn place_of(alloc: Global, word: &str) -> Result<ListenAddress, AllocError> {
+fn listen_address_of(alloc: Global, word: &str) -> Result<ListenAddress, AllocError> {
     match address_in(word) {
         Some(address) => Ok(ListenAddress::Address(address)),
         None => Ok(ListenAddress::Path(String::from_str(alloc, word)?)),
@@ -53,13 +53,16 @@ fn place_of(alloc: Global, word: &str) -> Result<ListenAddress, AllocError> {
 }
 
 /// Where consoles are listened for.
-fn places_of(alloc: Global, line: &NodeLine<'_>) -> Result<Vec<ListenAddress>, AllocError> {
+fn listen_addresses_of(
+    alloc: Global,
+    line: &NodeLine<'_>,
+) -> Result<Vec<ListenAddress>, AllocError> {
     let mut places = Vec::new(alloc);
     if let Some(word) = line.console {
-        places.push(place_of(alloc, word)?)?;
+        places.push(listen_address_of(alloc, word)?)?;
     }
     if let Some(word) = line.second_console {
-        places.push(place_of(alloc, word)?)?;
+        places.push(listen_address_of(alloc, word)?)?;
     }
     Ok(places)
 }
@@ -76,7 +79,7 @@ fn plan_of<H: Files + AllocGlobal, F: Write>(
     let Some(station) = tree.station_named(line.station.as_bytes()) else {
         return Err(wrong_line(faults));
     };
-    match places_of(host.alloc(), &line) {
+    match listen_addresses_of(host.alloc(), &line) {
         Ok(consoles) => {
             let plan = NodeSetup {
                 tree,

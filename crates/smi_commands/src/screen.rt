@@ -54,7 +54,7 @@ fn kept(text: Vec<u8>) -> Result<Bytes, AllocError> {
 }
 
 /// Where a console is.
-fn place_of(alloc: Global, word: &str) -> Result<ConsoleAddress, AllocError> {
+fn console_address_of(alloc: Global, word: &str) -> Result<ConsoleAddress, AllocError> {
     match address_in(word) {
         Some(address) => Ok(ConsoleAddress::Address(address)),
         None => Ok(ConsoleAddress::Path(String::from_str(alloc, word)?)),
@@ -76,7 +76,7 @@ fn page_with_key(alloc: Global, bytes: [u8; KEY], word: &str) -> Result<Keyed, A
     Ok(Keyed {
         page: kept(page)?,
         key: kept(key)?,
-        console: place_of(alloc, word)?,
+        console: console_address_of(alloc, word)?,
     })
 }
 

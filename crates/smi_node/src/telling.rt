@@ -28,7 +28,7 @@ fn newest(desk: &Desk, seat: usize) -> Option<usize>
 }
 
 /// Where the order in work of a seat stands that an answer is of.
-fn place_of(desk: &Desk, seat: usize, answer: &Answer) -> Option<usize>
+fn place_answered(desk: &Desk, seat: usize, answer: &Answer) -> Option<usize>
     ensures { IsPlaceOf answer.now.told.order answer.now.mark (work_at desk.now seat) result }
 {
     if seat < desk.seat_count() {
@@ -74,7 +74,7 @@ fn tell_one(desk: &mut Desk, operators: &[u16], answer: &Answer)
     ensures { TellsOne operators.now answer.now desk.old desk.new }
 {
     if let Some(seat) = seat_of(operators, answer.operator) {
-        let place = place_of(desk, seat, answer);
+        let place = place_answered(desk, seat, answer);
         end_at(desk, seat, place, answer.told.code, answer.told.asked);
     }
 }

@@ -41,7 +41,7 @@ impl Desk {
         requires work { IfSome (post_at self.old seat) (λ p. place < length (work_of p)) }
         ensures { Steps self.old self.new seat (Answers place code asked) }
     {
-        self.posts[seat].answer(place, code, asked);
+        self.posts[seat].answer_at(place, code, asked);
     }
 
     /// Notes which command the newest order in work of a seat became.

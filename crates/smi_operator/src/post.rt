@@ -9,7 +9,7 @@ ghost use Rattle.smi_operator.specs.Sides.{given, answered, left, room, SamePost
 
 use crate::ends::SeatEnd;
 use crate::handing::hand_out;
-use crate::work::{Ending, Work, WorkSlot, end_at, mark_newest, may_join, place_of};
+use crate::work::{Ending, Work, WorkSlot, end_at, mark_newest, may_join, place_in_work};
 use smi_grant::Record;
 use smi_protocol::{Mark, Order};
 
@@ -42,7 +42,7 @@ impl SeatEnd {
     }
 
     /// The order at this place ends, unless it had. What can be handed out, is.
-    pub(crate) fn answer(&mut self, place: usize, code: u16, asked: Option<Record>)
+    pub(crate) fn answer_at(&mut self, place: usize, code: u16, asked: Option<Record>)
         requires { place < length self.old.work.items }
         ensures ring { SamePost self.old self.new }
         ensures work { self.new.work.items ≡ still_in_work (ended_at self.old.work.items place (ending code asked)) }
@@ -89,6 +89,6 @@ impl SeatEnd {
     pub(crate) fn place_of(&self, order: Order, mark: Option<Mark>) -> Option<usize>
         ensures { IsPlaceOf order mark self.now.work.items result }
     {
-        place_of(self.work.as_slice(), order, mark)
+        place_in_work(self.work.as_slice(), order, mark)
     }
 }

@@ -138,7 +138,7 @@ fn is_answered_by(entry: &WorkSlot, order: Order, mark: Option<Mark>) -> bool
 ghost use Rattle.std.specs.Bool.{Decides};
 
 /// Where the oldest order in work stands that an answer is of.
-pub(crate) fn place_of(work: &[WorkSlot], order: Order, mark: Option<Mark>) -> Option<usize>
+pub(crate) fn place_in_work(work: &[WorkSlot], order: Order, mark: Option<Mark>) -> Option<usize>
     ensures { spec.IsPlaceOf order mark work.now result }
 {
     for (place, entry) in work.iter().enumerate() {

@@ -1,5 +1,5 @@
 use Rattle.smi_operator.proofs.Places.{not_here, place_found}
-use Rattle.smi_operator.proofs.work.place_of.Goals as goal
+use Rattle.smi_operator.proofs.work.place_in_work.Goals as goal
 
 pub returns-then-is_answered_by : goal.returns-then-is_answered_by
 returns-then-is_answered_by c =

@@ -1,6 +1,6 @@
 use Rattle.std.proofs.Common.{◌≡◌}
 use Rattle.smi_operator.specs.Working.{IsOfNone}
-use Rattle.smi_operator.proofs.work.place_of.Given as goal
+use Rattle.smi_operator.proofs.work.place_in_work.Given as goal
 
 -- none so far is what the answer is of
 abbrev pub invariant-loop-place : goal.invariant-loop-place

@@ -2,7 +2,7 @@ use Rattle.std.proofs.Common.{refl, ap, ◌∙◌}
 use Rattle.rtrb.specs.Ring.{sent, received}
 use Rattle.smi_operator.specs.Working.{most_work, ended_at, ended_by, ending}
 use Rattle.smi_operator.proofs.Changing.{written_orders, written_length, answered_in_order, answered_few}
-use Rattle.smi_operator.proofs.ends.SeatEnd.answer.Goals as goal
+use Rattle.smi_operator.proofs.ends.SeatEnd.answer_at.Goals as goal
 
 pub invariant_of-self : goal.invariant_of-self
 invariant_of-self c =
