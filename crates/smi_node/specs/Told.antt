@@ -5,14 +5,14 @@ use Rattle.std.specs.Option.{option_map_or}
 use Rattle.smi_grant.specs.Record.{Standing}
 use Rattle.smi_protocol.specs.declared.order.Answer.{Answer}
 use Rattle.smi_protocol.specs.declared.order.Mark.{Mark}
-use Rattle.smi_operator.specs.Sides.{Answers, Marks, Steps, post_at, work_of}
+use Rattle.smi_operator.specs.Sides.{Answers, Marks, Steps, seat_end, work_of}
 use Rattle.smi_operator.specs.Working.{IsPlaceOf, newest_of}
 use Rattle.smi_operator.specs.declared.ends.Desk.{Desk}
 use Rattle.smi_operator.specs.declared.work.WorkSlot.{WorkSlot}
 
 -- the orders in work of a seat, the oldest first; a seat that the desk does not have has none
 abbrev pub work_at : Desk → ℕ → List WorkSlot
-work_at desk seat = option_map_or work_of (post_at desk seat) []
+work_at desk seat = option_map_or work_of (seat_end desk seat) []
 
 -- the order of a seat at this place ends, if there is a place
 abbrev pub EndsAt : ℕ → Option ℕ → ℕ → Option Standing → Desk → Desk → Type 0

@@ -48,22 +48,22 @@ left p = known_items p.orders
 abbrev pub room : SeatEnd → ℕ
 room p = known_free p.answers
 
-abbrev pub SamePost : SeatEnd → SeatEnd → Type 0
-SamePost a b = SameConsumer a.orders b.orders × SameProducer a.answers b.answers
+abbrev pub SameEnd : SeatEnd → SeatEnd → Type 0
+SameEnd a b = SameConsumer a.orders b.orders × SameProducer a.answers b.answers
 
 -- The desk.
 
 -- the desk's end of the seat with this number, from 0
-abbrev pub post_at : Desk → ℕ → Option SeatEnd
-post_at d seat = slice_get d.posts.items seat
+abbrev pub seat_end : Desk → ℕ → Option SeatEnd
+seat_end d seat = slice_get d.seat_ends.items seat
 
 abbrev pub seat_count : Desk → ℕ
-seat_count d = length d.posts.items
+seat_count d = length d.seat_ends.items
 
 -- one seat changes so, and the others not at all
 pub record Steps (old new : Desk) (seat : ℕ) (R : SeatEnd → SeatEnd → Type 0) : Type 0 where
-  pub this : IfSome (post_at old seat) (λ a. IfSome (post_at new seat) (λ b. SamePost a b × R a b))
-  pub others : (i : ℕ) → i ≢ seat → post_at new i ≡ post_at old i
+  pub this : IfSome (seat_end old seat) (λ a. IfSome (seat_end new seat) (λ b. SameEnd a b × R a b))
+  pub others : (i : ℕ) → i ≢ seat → seat_end new i ≡ seat_end old i
   pub count : seat_count new ≡ seat_count old
 
 -- an order is given that may join those in work, or none; what else was seen is left, and no place is lost
@@ -92,30 +92,30 @@ Marks m a b =
 
 -- A seat that has ended.
 
--- the seat and the post are the two ends of the same rings
+-- the seat and its end at the station are the two ends of the same rings
 abbrev pub IsSeatOf : Seat → SeatEnd → Type 0
 IsSeatOf s p = IsPair s.orders p.orders × IsPair p.answers s.answers
 
--- the ended seat is that of this post
+-- the ended seat is that of this end
 abbrev pub IsFinishedAt : Finished → SeatEnd → Type 0
 IsFinishedAt f p = IsPair f.orders p.orders × IsPair p.answers f.answers
 
 -- the same at the desk: the seat, and the ended seat, is that with this number
 abbrev pub IsSeatAt : Seat → Desk → ℕ → Type 0
-IsSeatAt s d i = IfSome (post_at d i) (IsSeatOf s)
+IsSeatAt s d i = IfSome (seat_end d i) (IsSeatOf s)
 
 abbrev pub IsEndedAt : Finished → Desk → ℕ → Type 0
-IsEndedAt f d i = IfSome (post_at d i) (IsFinishedAt f)
+IsEndedAt f d i = IfSome (seat_end d i) (IsFinishedAt f)
 
 -- it is the same desk, whatever it gave and answered since
-abbrev pub SamePosts : Option SeatEnd → Option SeatEnd → Type 0
-SamePosts (Some a) (Some b) = SamePost a b
-SamePosts None None = Unit {0}
-SamePosts _ _ = ⊥
+abbrev pub SameEnds : Option SeatEnd → Option SeatEnd → Type 0
+SameEnds (Some a) (Some b) = SameEnd a b
+SameEnds None None = Unit {0}
+SameEnds _ _ = ⊥
 
 pub record SameDesk (old new : Desk) : Type 0 where
   pub count : seat_count new ≡ seat_count old
-  pub posts : (i : ℕ) → SamePosts (post_at old i) (post_at new i)
+  pub seat_ends : (i : ℕ) → SameEnds (seat_end old i) (seat_end new i)
 
 -- an ended seat keeps both lists
 abbrev pub Keeps : Seat → Finished → Type 0
@@ -145,7 +145,7 @@ abbrev pub IsFresh : Seat → SeatEnd → Type 0
 IsFresh s p = IsSeatOf s p × (submitted s ≡ []) × (told_to s ≡ []) × (given p ≡ []) × (answered p ≡ [])
     × (work_of p ≡ [])
 
--- each seat is that of the post with its number
+-- each seat is that of the end with its number
 abbrev pub AreSeats : List Seat → List SeatEnd → Type 0
 AreSeats [] [] = Unit {0}
 AreSeats [] (p ∷ ps) = ⊥
@@ -154,4 +154,4 @@ AreSeats (s ∷ ss) (p ∷ ps) = IsFresh s p × AreSeats ss ps
 
 -- the desk of these seats
 abbrev pub IsDeskOf : Desk → List Seat → Type 0
-IsDeskOf d seats = AreSeats seats d.posts.items
+IsDeskOf d seats = AreSeats seats d.seat_ends.items

@@ -2,7 +2,7 @@
 
 ghost use Rattle.std.specs.Prelude.{◌≡◌, ◌<◌, length, IsTrue, IfSome, Some, slice_get, option_map, true};
 ghost use Rattle.smi_operator.specs.Working.{IsPlaceOf, may_join, newest_of};
-ghost use Rattle.smi_operator.specs.Sides.{Steps, Gives, Answers, Marks, post_at, seat_count, work_of, left, room};
+ghost use Rattle.smi_operator.specs.Sides.{Steps, Gives, Answers, Marks, seat_end, seat_count, work_of, left, room};
 ghost use Rattle.smi_operator.specs.Sides.{IsEndedAt, Met, Stays};
 
 use crate::ends::{Desk, Finished};
@@ -15,7 +15,7 @@ impl Desk {
     pub fn seat_count(&self) -> usize
         ensures { result ≡ seat_count self.now }
     {
-        self.posts.len()
+        self.seat_ends.len()
     }
 
     /// The next order of a seat, which is then in work.
@@ -25,11 +25,11 @@ impl Desk {
     pub fn next(&mut self, seat: usize) -> Option<Order>
         requires { seat < seat_count self.old }
         ensures step { Steps self.old self.new seat (Gives result) }
-        ensures succeeds { IfSome (post_at self.old seat)
+        ensures succeeds { IfSome (seat_end self.old seat)
             (λ p. IfSome (slice_get (left p) 0) (λ o. may_join (work_of p) o ≡ true → length (work_of p) < room p
             → result ≡ Some o)) }
     {
-        self.posts[seat].next()
+        self.seat_ends[seat].next()
     }
 
     /// Ends the order of a seat that is in work at this place, the oldest at 0, with a code, and a record where
@@ -38,19 +38,19 @@ impl Desk {
     /// The seat is told once all its older orders have ended too; until then the order stays in work.
     pub fn answer(&mut self, seat: usize, place: usize, code: u16, asked: Option<Record>)
         requires seat { seat < seat_count self.old }
-        requires work { IfSome (post_at self.old seat) (λ p. place < length (work_of p)) }
+        requires work { IfSome (seat_end self.old seat) (λ p. place < length (work_of p)) }
         ensures { Steps self.old self.new seat (Answers place code asked) }
     {
-        self.posts[seat].answer_at(place, code, asked);
+        self.seat_ends[seat].answer_at(place, code, asked);
     }
 
     /// Notes which command the newest order in work of a seat became.
     pub fn mark(&mut self, seat: usize, domain: u16, epoch: u64, number: u32)
         requires seat { seat < seat_count self.old }
-        requires work { IfSome (post_at self.old seat) (λ p. 0 < length (work_of p)) }
+        requires work { IfSome (seat_end self.old seat) (λ p. 0 < length (work_of p)) }
         ensures { Steps self.old self.new seat (Marks (record { domain = domain; epoch = epoch; number = number })) }
     {
-        self.posts[seat].mark(Mark {
+        self.seat_ends[seat].mark(Mark {
             domain,
             epoch,
             number,
@@ -60,27 +60,27 @@ impl Desk {
     /// The order of a seat that is in work at this place, the oldest at 0, and the command that it became.
     pub fn in_work(&self, seat: usize, place: usize) -> Option<Work>
         requires { seat < seat_count self.now }
-        ensures { IfSome (post_at self.now seat) (λ p. result
+        ensures { IfSome (seat_end self.now seat) (λ p. result
             ≡ option_map (λ e. e.work) (slice_get (work_of p) place)) }
     {
-        self.posts[seat].in_work(place)
+        self.seat_ends[seat].in_work(place)
     }
 
     /// Where the newest order in work of a seat stands, the oldest at 0; none where none is in work.
     pub fn newest(&self, seat: usize) -> Option<usize>
         requires { seat < seat_count self.now }
-        ensures { IfSome (post_at self.now seat) (λ p. result ≡ newest_of (work_of p)) }
+        ensures { IfSome (seat_end self.now seat) (λ p. result ≡ newest_of (work_of p)) }
     {
-        self.posts[seat].newest()
+        self.seat_ends[seat].newest()
     }
 
     /// Where the order in work of a seat stands that an answer is of, the oldest such order: of an issued command the
     /// order that became this command, of any other answer an order that is the same.
     pub fn place_of(&self, seat: usize, order: Order, mark: Option<Mark>) -> Option<usize>
         requires { seat < seat_count self.now }
-        ensures { IfSome (post_at self.now seat) (λ p. IsPlaceOf order mark (work_of p) result) }
+        ensures { IfSome (seat_end self.now seat) (λ p. IsPlaceOf order mark (work_of p) result) }
     {
-        self.posts[seat].place_of(order, mark)
+        self.seat_ends[seat].place_of(order, mark)
     }
 
     /// Compares the lists of a seat that has ended with those of the desk: the orders given begin those submitted,
@@ -91,11 +91,11 @@ impl Desk {
     pub fn meet(&mut self, seat: usize, finished: &mut Finished) -> bool
         requires seat { seat < seat_count self.old }
         requires ended { IsEndedAt finished.old self.old seat }
-        ensures met { IfSome (post_at self.new seat) (Met finished.new) }
+        ensures met { IfSome (seat_end self.new seat) (Met finished.new) }
         ensures is_met { IsTrue result }
         ensures step { Steps self.old self.new seat (Stays finished.old finished.new) }
         ensures ended { IsEndedAt finished.new self.new seat }
     {
-        self.posts[seat].meet(finished)
+        self.seat_ends[seat].meet(finished)
     }
 }

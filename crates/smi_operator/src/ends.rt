@@ -35,7 +35,7 @@ pub struct SeatEnd {
 /// The desk of a station's seats, which have numbers from 0. Its calls take no memory and never wait.
 #[derive(Drop)]
 pub struct Desk {
-    pub(crate) posts: Vec<SeatEnd>,
+    pub(crate) seat_ends: Vec<SeatEnd>,
 }
 
 /// A seat that has ended: it takes no more orders, and keeps both ends until it meets the desk.

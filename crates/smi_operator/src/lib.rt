@@ -12,8 +12,8 @@ mod desk;
 mod ends;
 mod handing;
 mod meeting;
-mod post;
 mod seat;
+mod seat_end;
 mod work;
 
 pub use ends::{Desk, Finished, Seat};

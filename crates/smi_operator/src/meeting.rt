@@ -1,7 +1,7 @@
 //! Seats are opened, and meet the desk again when they have ended.
 
 ghost use Rattle.std.specs.Prelude.{◌≡◌, ◌≤◌, IsTrue, IfOk, [], length};
-ghost use Rattle.smi_operator.specs.Sides.{IsFinishedAt, Met, Stays, SamePost, IsFresh, IsDeskOf, seat_count};
+ghost use Rattle.smi_operator.specs.Sides.{IsFinishedAt, Met, Stays, SameEnd, IsFresh, IsDeskOf, seat_count};
 
 use crate::ends::{Desk, Finished, Seat, SeatEnd};
 use arrayvec::ArrayVec;
@@ -12,13 +12,13 @@ use std::alloc::{AllocError, Global};
 const RING: usize = 16;
 
 impl SeatEnd {
-    /// Compares the lists of a seat that has ended with those of its post.
+    /// Compares the lists of a seat that has ended with those of its end.
     pub(crate) fn meet(&mut self, finished: &mut Finished) -> bool
         requires { IsFinishedAt finished.old self.old }
         ensures met { Met finished.new self.new }
         ensures is_met { IsTrue result }
         ensures stays { Stays finished.old finished.new self.old self.new }
-        ensures ring { SamePost self.old self.new }
+        ensures ring { SameEnd self.old self.new }
         ensures ended { IsFinishedAt finished.new self.new }
     {
         self.orders.slots_beside(&mut finished.orders);
@@ -37,12 +37,12 @@ fn open_seat(alloc: Global) -> Result<(Seat, SeatEnd), AllocError>
         orders: asking,
         answers,
     };
-    let post = SeatEnd {
+    let end = SeatEnd {
         orders,
         answers: telling,
         work: ArrayVec::new(),
     };
-    Ok((seat, post))
+    Ok((seat, end))
 }
 
 /// Opens so many seats, 1 to 9, and their desk. Nothing was submitted, given, answered or told yet.
@@ -57,11 +57,11 @@ pub fn open_seats(alloc: Global, count: usize) -> Result<(Vec<Seat>, Desk), Allo
     ensures desk { IfOk result (λ opened. seat_count opened.1 ≡ count) }
 {
     let mut seats = Vec::with_capacity(alloc, count)?;
-    let mut posts = Vec::with_capacity(alloc, count)?;
+    let mut seat_ends = Vec::with_capacity(alloc, count)?;
     for _ in 0..count {
-        let (seat, post) = open_seat(alloc)?;
+        let (seat, end) = open_seat(alloc)?;
         seats.push(seat)?;
-        posts.push(post)?;
+        seat_ends.push(end)?;
     }
-    Ok((seats, Desk { posts }))
+    Ok((seats, Desk { seat_ends }))
 }

@@ -1,7 +1,7 @@
 //! One seat at its desk, by what the operator and the station see.
 
 ghost use Rattle.std.specs.Prelude.{◌≡◌, ◌<◌, IfOk, IfSome};
-ghost use Rattle.smi_operator.specs.Sides.{post_at, seat_count};
+ghost use Rattle.smi_operator.specs.Sides.{seat_end, seat_count};
 
 use crate::{Desk, Seat, Work, open_seats};
 use smi_grant::Record;

@@ -3,5 +3,5 @@ use Rattle.smi_operator.specs.Sides.{AreSeats}
 use Rattle.smi_operator.proofs.meeting.open_seats.Given as goal
 
 abbrev pub invariant-loop : goal.invariant-loop
-invariant-loop l = AreSeats l.seats.items l.posts.items × (length l.seats.items ≡ l.counter)
-    × (length l.posts.items ≡ l.counter)
+invariant-loop l = AreSeats l.seats.items l.seat_ends.items × (length l.seats.items ≡ l.counter)
+    × (length l.seat_ends.items ≡ l.counter)

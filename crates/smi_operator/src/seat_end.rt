@@ -5,7 +5,7 @@ ghost use Rattle.std.specs.Prelude.{option_map};
 ghost use mathlib.Core.List.{IsPrefix};
 ghost use Rattle.smi_operator.specs.Working.{IsPlaceOf, begun, ending, may_join, ended_at, newest_marked, newest_of};
 ghost use Rattle.smi_operator.specs.Working.{handed_out, still_in_work};
-ghost use Rattle.smi_operator.specs.Sides.{given, answered, left, room, SamePost};
+ghost use Rattle.smi_operator.specs.Sides.{given, answered, left, room, SameEnd};
 
 use crate::ends::SeatEnd;
 use crate::handing::hand_out;
@@ -16,7 +16,7 @@ use smi_protocol::{Mark, Order};
 impl SeatEnd {
     /// Takes the next order into work, where it may join those that are and a place for its answer is free.
     pub(crate) fn next(&mut self) -> Option<Order>
-        ensures ring { SamePost self.old self.new }
+        ensures ring { SameEnd self.old self.new }
         ensures may { IfSome result (λ o. may_join self.old.work.items o ≡ true) }
         ensures work { IfSome result (λ o. self.new.work.items ≡ self.old.work.items ++ begun o ∷ []) }
         ensures given { IfSome result (λ o. given self.new ≡ given self.old ++ o ∷ []) }
@@ -44,7 +44,7 @@ impl SeatEnd {
     /// The order at this place ends, unless it had. What can be handed out, is.
     pub(crate) fn answer_at(&mut self, place: usize, code: u16, asked: Option<Record>)
         requires { place < length self.old.work.items }
-        ensures ring { SamePost self.old self.new }
+        ensures ring { SameEnd self.old self.new }
         ensures work { self.new.work.items ≡ still_in_work (ended_at self.old.work.items place (ending code asked)) }
         ensures answered { answered self.new ≡ answered self.old
             ++ handed_out (ended_at self.old.work.items place (ending code asked)) }
@@ -60,7 +60,7 @@ impl SeatEnd {
     /// The newest order in work became this command.
     pub(crate) fn mark(&mut self, mark: Mark)
         requires { 0 < length self.old.work.items }
-        ensures ring { SamePost self.old self.new }
+        ensures ring { SameEnd self.old self.new }
         ensures work { self.new.work.items ≡ newest_marked self.old.work.items mark }
         ensures answered { answered self.new ≡ answered self.old }
         ensures given { given self.new ≡ given self.old }
