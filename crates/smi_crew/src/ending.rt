@@ -3,7 +3,7 @@
 ghost use Rattle.std.specs.Prelude.{◌≡◌};
 ghost use Rattle.smi_crew.specs.Faults.{status_at, status_by, status_in};
 
-use crate::opening::{console_fault, link_fault, stopped};
+use crate::faults::{console_fault, link_fault, stopped};
 use smi_cli::status::{Status, no_memory};
 use smi_node::ServeFault;
 use std::alloc::AllocError;

@@ -2,7 +2,7 @@
 //!
 //! [`run`] begins it. It brings the store's rows into their newest schema, opens the station, makes a seat for each
 //! of its operators and one for reports, a board with one glance, and its socket, in this order (`fitting`), so that
-//! the first fault is told (`opening`, `ending`). Its link reaches the stations at their addresses (`peers`). Then it
+//! the first fault is told (`faults`, `ending`). Its link reaches the stations at their addresses (`peers`). Then it
 //! serves the station in its own thread (`service`), with `serve_before` of `smi_node`, which is told each step that
 //! it makes, and counts (`smi_counts`). What that does to the store is the contract of [`run`].
 //!
@@ -24,11 +24,11 @@ mod chime;
 mod dispatch;
 mod doors;
 mod ending;
+mod faults;
 mod fitting;
 mod guest;
 mod hall;
 mod herald;
-mod opening;
 mod outlet;
 mod peers;
 mod reading;
@@ -37,7 +37,7 @@ mod service;
 mod starting;
 
 pub use doors::ListenAddress;
-pub use opening::{link_fault, opening_fault, print_fault, stopped};
+pub use faults::{link_fault, opening_fault, print_fault, stopped};
 pub use peers::addresses;
 pub use running::{NodeSetup, run};
 pub use service::Turns;

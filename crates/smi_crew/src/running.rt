@@ -7,8 +7,8 @@ ghost use Rattle.smi_crew.specs.Serving.{IsCrewed, serving};
 
 use crate::doors::ListenAddress;
 use crate::ending::{Halt, told_end};
+use crate::faults::opening_fault;
 use crate::fitting::fitted;
-use crate::opening::opening_fault;
 use crate::service::Turns;
 use crate::starting::Console;
 use smi_cli::status::Status;
