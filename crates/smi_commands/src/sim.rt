@@ -3,7 +3,7 @@
 use crate::tree::read_tree;
 use smi_cli::status::{no_memory, read_fault};
 use smi_disks::open;
-use smi_line::{Schedule, SimLine, Words, bytes_behind, bytes_of};
+use smi_line::{Schedule, SimLine, Words, bytes_after, bytes_of};
 use smi_sim::{sim, sim_drawn, sim_drawn_settled, sim_settled};
 use smi_tree::Tree;
 use std::alloc::Global;
@@ -38,7 +38,7 @@ fn simulate_on<H: Files + AllocGlobal, W: Write + Drop, F: Write>(
     };
     match line.schedule {
         Schedule::File(path) => {
-            let path = bytes_behind(words, line.tree, path);
+            let path = bytes_after(words, line.tree, path);
             simulate_file(host, tree, path, line.settles, &mut writer, faults)
         }
         Schedule::Drawn { seed, steps } => {

@@ -8,4 +8,4 @@ mod line;
 mod words;
 
 pub use line::{CommandLine, NodeLine, Schedule, ScreenLine, SimLine, line_of};
-pub use words::{Words, bytes_behind, bytes_of, words_of};
+pub use words::{Words, bytes_after, bytes_of, words_of};

@@ -57,13 +57,13 @@ pub fn bytes_of<'a>(words: &'a Words, text: &'a str) -> &'a [u8] {
 }
 
 /// The bytes of the first word that reads so after the first that reads as the text before it.
-pub fn bytes_behind<'a>(words: &'a Words, before: &str, text: &'a str) -> &'a [u8] {
-    let mut is_behind = false;
+pub fn bytes_after<'a>(words: &'a Words, before: &str, text: &'a str) -> &'a [u8] {
+    let mut is_after = false;
     for (word, bytes) in words.texts.iter().zip(words.bytes.iter()).skip(2) {
-        if is_behind && word.as_str() == text {
+        if is_after && word.as_str() == text {
             return bytes.as_slice();
         }
-        is_behind = is_behind || word.as_str() == before;
+        is_after = is_after || word.as_str() == before;
     }
     text.as_bytes()
 }

@@ -49,20 +49,20 @@ are_cut s zero b = length b == 0
 are_cut s (suc n) b = nat_le (size_at s b) (length b) && are_cut s n (drop (size_at s b) b)
 
 -- the bytes of a domain's or an operator's row before its links
-abbrev pub domain_front : ℕ
-domain_front = 24
+abbrev pub domain_fixed : ℕ
+domain_fixed = 24
 
-abbrev pub operator_front : ℕ
-operator_front = 4
+abbrev pub operator_fixed : ℕ
+operator_fixed = 4
 
 -- after the beginning, which ends with their number, there are so many links and nothing else
-abbrev pub has_links_behind : Schema → ℕ → List ℕ → Bool
-has_links_behind s front b = nat_le front (length b) && are_cut s (u16_at b (front - 2)) (drop front b)
+abbrev pub has_links_after : Schema → ℕ → List ℕ → Bool
+has_links_after s fixed b = nat_le fixed (length b) && are_cut s (u16_at b (fixed - 2)) (drop fixed b)
 
 abbrev pub has_length_of : RowKind → Schema → List ℕ → Bool
 has_length_of kind.Boot s b = length b == 8
-has_length_of kind.Domain s b = has_links_behind s domain_front b
-has_length_of kind.Operator s b = has_links_behind s operator_front b
+has_length_of kind.Domain s b = has_links_after s domain_fixed b
+has_length_of kind.Operator s b = has_links_after s operator_fixed b
 
 -- ---- what stands at each place
 
@@ -119,14 +119,14 @@ kept_domain r gathered links = record { standing = r; gathered = gathered; links
 
 abbrev pub domain_at : Schema → List ℕ → Option KeptDomain
 domain_at s b =
-    option_and_then (λ r. option_map (kept_domain r (u16_at b 20)) (links_at s (u16_at b 22) (drop domain_front b)))
+    option_and_then (λ r. option_map (kept_domain r (u16_at b 20)) (links_at s (u16_at b 22) (drop domain_fixed b)))
     (standing_at b)
 
 -- what a row seems to say, from the numbers that stand at its places
 abbrev pub row_at : RowKind → Schema → List ℕ → Option Row
 row_at kind.Boot s b = Some (row.Boot (u32_at b 4))
 row_at kind.Domain s b = option_map (λ d. row.Domain d) (domain_at s b)
-row_at kind.Operator s b = option_map (λ links. row.Operator links) (links_at s (u16_at b 2) (drop operator_front b))
+row_at kind.Operator s b = option_map (λ links. row.Operator links) (links_at s (u16_at b 2) (drop operator_fixed b))
 
 -- ---- the tests, in their order
 

@@ -218,7 +218,7 @@ fn put_idle(
     ensures { OnOk result (row.new.items ≡ row.old.items
         ++ (spec.front_bytes domain form mode epoch number ++ spec.no_command)) }
 {
-    put_front(row, domain, form, mode, epoch, number)?;
+    put_fixed(row, domain, form, mode, epoch, number)?;
     row.extend_from_slice(&[0, 0, 0, 0])
 }
 
@@ -237,11 +237,11 @@ fn put_held(
     match commands {
         [] => put_idle(row, domain, 2, mode, epoch, number),
         [only] => {
-            put_front(row, domain, 3, mode, epoch, number)?;
+            put_fixed(row, domain, 3, mode, epoch, number)?;
             put_command(row, *only)
         }
         [oldest, _, ..] => {
-            put_front(row, domain, 5, mode, epoch, number)?;
+            put_fixed(row, domain, 5, mode, epoch, number)?;
             put_command(row, *oldest)?;
             let count = pending.len() as u16 - 1;
             row.extend_from_slice(&count.to_be_bytes())?;
@@ -250,7 +250,7 @@ fn put_held(
     }
 }
 
-fn put_front(
+fn put_fixed(
     row: &mut Vec<u8>,
     domain: u16,
     form: u8,

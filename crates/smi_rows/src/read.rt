@@ -17,10 +17,10 @@ use smi_tree::Tree;
 use std::alloc::Global;
 
 /// How many bytes of a domain's row stand before its links.
-const DOMAIN_FRONT: usize = 24;
+const DOMAIN_FIXED: usize = 24;
 
 /// How many bytes of an operator's row stand before its links.
-const OPERATOR_FRONT: usize = 4;
+const OPERATOR_FIXED: usize = 4;
 
 impl Row {
     ghost use Rattle.std.specs.Prelude.{◌≡◌, IfOk, Ok, Err, false};
@@ -75,20 +75,20 @@ fn has_length(schema: Schema, bytes: &[u8]) -> bool
 {
     match schema.kind {
         RowKind::Boot => bytes.len() == 8,
-        RowKind::Domain => has_links_behind(schema, DOMAIN_FRONT, bytes),
-        RowKind::Operator => has_links_behind(schema, OPERATOR_FRONT, bytes),
+        RowKind::Domain => has_links_after(schema, DOMAIN_FIXED, bytes),
+        RowKind::Operator => has_links_after(schema, OPERATOR_FIXED, bytes),
     }
 }
 
 /// Whether after the beginning, which ends with their number, there are so many links and nothing else.
-fn has_links_behind(schema: Schema, front: usize, bytes: &[u8]) -> bool
-    requires { 2 ≤ front }
-    ensures { result ≡ spec.has_links_behind schema front bytes.now }
+fn has_links_after(schema: Schema, fixed: usize, bytes: &[u8]) -> bool
+    requires { 2 ≤ fixed }
+    ensures { result ≡ spec.has_links_after schema fixed bytes.now }
 {
-    if bytes.len() < front {
+    if bytes.len() < fixed {
         return false;
     }
-    are_cut(schema, u16_at(bytes, front - 2), &bytes[front..])
+    are_cut(schema, u16_at(bytes, fixed - 2), &bytes[fixed..])
 }
 
 /// What the row says: what it seems to say, where that is in range and is written so.
@@ -121,7 +121,7 @@ fn row_at(alloc: Global, schema: Schema, bytes: &[u8]) -> Result<Row, RowFault>
         }
         RowKind::Operator => {
             let count = u16_at(bytes, 2);
-            let links = links_at(alloc, schema, count, &bytes[OPERATOR_FRONT..])?;
+            let links = links_at(alloc, schema, count, &bytes[OPERATOR_FIXED..])?;
             Ok(Row::Operator(OperatorRow { links }))
         }
     }
@@ -134,7 +134,7 @@ fn domain_at(alloc: Global, schema: Schema, bytes: &[u8]) -> Result<DomainRow, R
 {
     let standing = standing_at(bytes).ok_or(RowFlaw::Range)?;
     let count = u16_at(bytes, 22);
-    let links = links_at(alloc, schema, count, &bytes[DOMAIN_FRONT..])?;
+    let links = links_at(alloc, schema, count, &bytes[DOMAIN_FIXED..])?;
     Ok(DomainRow {
         standing,
         gathered: u16_at(bytes, 20),

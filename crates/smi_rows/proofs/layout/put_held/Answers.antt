@@ -12,6 +12,6 @@ returns-in_ok-extend_from_slice-in-len2-up c =
     on_ok c.put_commands.result c.put_commands.ensures
     (several-bytes c.args.row.now.items _ oldest _ _ c.args.domain c.args.mode c.args.epoch c.args.number pending
     c.as_slice-commands.result.now
-    c.as_slice-commands.ensures c.in-len2-up.len_at_least c.in_ok-put_front-in-len2-up.ensures
+    c.as_slice-commands.ensures c.in-len2-up.len_at_least c.in_ok-put_fixed-in-len2-up.ensures
     c.in_ok-put_command-in-len2-up.ensures (c.in_ok-extend_from_slice-in-len2-up.ensures.items
     ∙ ap (λ b. oldest ++ b) number))
