@@ -68,7 +68,7 @@ fn listen_addresses_of(
 }
 
 /// What a node of this line is run with, as far as its words say it, and the mark of its tree.
-fn plan_of<H: Files + AllocGlobal, F: Write>(
+fn setup_of<H: Files + AllocGlobal, F: Write>(
     host: &H,
     words: &Words,
     line: NodeLine<'_>,
@@ -81,13 +81,13 @@ fn plan_of<H: Files + AllocGlobal, F: Write>(
     };
     match listen_addresses_of(host.alloc(), &line) {
         Ok(consoles) => {
-            let plan = NodeSetup {
+            let setup = NodeSetup {
                 tree,
                 station,
                 turns: turns_of(line.turns),
                 consoles,
             };
-            Ok((plan, mark))
+            Ok((setup, mark))
         }
         Err(_) => Err(no_memory(faults)),
     }
@@ -153,13 +153,13 @@ pub fn run_node<
     console: Console<I, O, E>,
     faults: &mut F,
 ) -> Status {
-    let (plan, mark) = match plan_of(host, words, line, faults) {
+    let (setup, mark) = match setup_of(host, words, line, faults) {
         Ok(found) => found,
         Err(status) => return status,
     };
     match opened(host, bytes_of(words, line.store), &mark, faults) {
         Ok(stable) => {
-            let (status, stable) = run(host, &plan, stable, console, faults);
+            let (status, stable) = run(host, &setup, stable, console, faults);
             host.close(stable);
             status
         }

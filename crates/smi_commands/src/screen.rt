@@ -80,11 +80,11 @@ fn page_with_key(alloc: Global, bytes: [u8; KEY], word: &str) -> Result<Keyed, A
     })
 }
 
-/// The page of a plan may give orders from now on, of operators of this tree.
-fn give(plan: &mut ScreenSetup, keyed: Keyed, tree: Tree) {
+/// The page of a screen may give orders from now on, of operators of this tree.
+fn give(setup: &mut ScreenSetup, keyed: Keyed, tree: Tree) {
     let Keyed { page, key, console } = keyed;
-    plan.page = page;
-    plan.giving = Some(Giving { console, key, tree });
+    setup.page = page;
+    setup.giving = Some(Giving { console, key, tree });
 }
 
 /// Random bytes, which nobody can guess.
@@ -96,20 +96,20 @@ fn random<H: RandomSource, F: Write>(host: &H, faults: &mut F) -> Result<[u8; KE
     }
 }
 
-/// The page of a plan may give orders from now on, to the console of this word.
+/// The page of a screen may give orders from now on, to the console of this word.
 fn with_orders<H: Files + RandomSource + AllocGlobal, F: Write>(
     host: &H,
     words: &Words,
     line: ScreenLine<'_>,
     word: &str,
-    plan: &mut ScreenSetup,
+    setup: &mut ScreenSetup,
     faults: &mut F,
 ) -> Result<(), Status> {
     let bytes = random(host, faults)?;
     let tree = read_tree(host, bytes_of(words, line.tree), faults)?;
     match page_with_key(host.alloc(), bytes, word) {
         Ok(keyed) => {
-            give(plan, keyed, tree);
+            give(setup, keyed, tree);
             Ok(())
         }
         Err(_) => Err(no_memory(faults)),
@@ -117,7 +117,7 @@ fn with_orders<H: Files + RandomSource + AllocGlobal, F: Write>(
 }
 
 /// What the screen of a station is run with, whose page gives no orders.
-fn plan_of(
+fn setup_of(
     alloc: Global,
     tree: &Tree,
     station: u16,
@@ -135,7 +135,7 @@ fn plan_of(
     })
 }
 
-/// The screen of a station looks, with what is planned.
+/// The screen of a station looks, with what was set up.
 fn looked<
     H: Files
         + Stores
@@ -151,18 +151,18 @@ fn looked<
     tree: &Tree,
     mark: &TreeMark,
     keys: RandomState,
-    plan: &mut ScreenSetup,
+    setup: &mut ScreenSetup,
     line: ScreenLine<'_>,
     faults: &mut F,
 ) -> Status {
     if let Some(word) = line.orders {
-        if let Err(status) = with_orders(host, words, line, word, plan, faults) {
+        if let Err(status) = with_orders(host, words, line, word, setup, faults) {
             return status;
         }
     }
     match opened(host, bytes_of(words, line.store), mark, faults) {
         Ok(stable) => {
-            let (how, stable) = run(host, tree, keys, plan, stable);
+            let (how, stable) = run(host, tree, keys, setup, stable);
             host.close(stable);
             told_end(how, faults)
         }
@@ -170,8 +170,8 @@ fn looked<
     }
 }
 
-/// What the screen of a station is run with is planned, and then it looks.
-fn planned<
+/// What the screen of a station is run with is set up, and then it looks.
+fn set_up<
     H: Files
         + Stores
         + Net<Listener = TcpListener, Stream = TcpStream>
@@ -192,10 +192,10 @@ fn planned<
     let Ok(keys) = RandomState::new(host) else {
         return read_fault(faults);
     };
-    match plan_of(host.alloc(), tree, station, line) {
-        Ok(plan) => {
-            let mut plan = plan;
-            looked(host, words, tree, mark, keys, &mut plan, line, faults)
+    match setup_of(host.alloc(), tree, station, line) {
+        Ok(setup) => {
+            let mut setup = setup;
+            looked(host, words, tree, mark, keys, &mut setup, line, faults)
         }
         Err(_) => no_memory(faults),
     }
@@ -217,7 +217,7 @@ pub fn run_screen<
         Err(status) => return status,
     };
     match tree.station_named(line.station.as_bytes()) {
-        Some(station) => planned(host, words, &tree, &mark, station, line, faults),
+        Some(station) => set_up(host, words, &tree, &mark, station, line, faults),
         None => wrong_line(faults),
     }
 }

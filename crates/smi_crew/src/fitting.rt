@@ -62,14 +62,14 @@ fn seated(alloc: Global, operators: &[u16]) -> Result<Seats, AllocError>
 /// The front desk of a node, over the seats of its operators and behind them nobody's.
 fn front_of<J: BoardId>(
     alloc: Global,
-    plan: &NodeSetup,
+    setup: &NodeSetup,
     operators: &[u16],
     own: Vec<Seat>,
     reports: Seat,
     glance: Glance<J>,
     counts: Arc<Counts, Global>,
 ) -> Result<Box<Front<J>>, AllocError> {
-    let picture = Picture::new(alloc, plan.tree.object_count(), 0)?;
+    let picture = Picture::new(alloc, setup.tree.object_count(), 0)?;
     let office = Office::open(alloc, operators, own, reports)?;
     Front::open(alloc, office, glance, counts, picture)
 }
@@ -87,7 +87,7 @@ struct Ends<L: Drop, J: BoardId> {
 /// The seats of a station's operators and one for reports, at the front, their desk, and last the station's link.
 fn posted<'a, J: BoardId, H: Net + Clock + AllocGlobal>(
     rt: &'a H,
-    plan: &NodeSetup,
+    setup: &NodeSetup,
     operators: &[u16],
     glance: Glance<J>,
     counts: &Arc<Counts, Global>,
@@ -95,8 +95,8 @@ fn posted<'a, J: BoardId, H: Net + Clock + AllocGlobal>(
     let alloc = rt.alloc();
     let counts = Arc::try_clone(counts)?;
     let Seats { own, reports, desk } = seated(alloc, operators)?;
-    let front = front_of(alloc, plan, operators, own, reports, glance, counts)?;
-    let (link, bell) = linked(rt, &plan.tree, plan.station)?;
+    let front = front_of(alloc, setup, operators, own, reports, glance, counts)?;
+    let (link, bell) = linked(rt, &setup.tree, setup.station)?;
     Ok(Ends {
         link,
         desk,
@@ -108,9 +108,9 @@ fn posted<'a, J: BoardId, H: Net + Clock + AllocGlobal>(
 /// The hall of a node, with its doors, and a chime to it.
 fn hall_of<H: Files + Net + AllocGlobal>(
     rt: &H,
-    plan: &NodeSetup,
+    setup: &NodeSetup,
 ) -> Result<(Box<Hall>, Arc<Chime, Global>), Halt> {
-    match Hall::open(rt, rt.alloc(), plan.consoles.as_slice()) {
+    match Hall::open(rt, rt.alloc(), setup.consoles.as_slice()) {
         Ok((hall, waker)) => match Arc::new(rt.alloc(), Chime::new(waker)) {
             Ok(chime) => Ok((hall, chime)),
             Err(_) => Err(Halt::Memory),
@@ -123,11 +123,11 @@ fn hall_of<H: Files + Net + AllocGlobal>(
 /// All that stands at the front of a node, with its doors, and a chime to it.
 fn lobby_of<J: BoardId, H: Files + Net + AllocGlobal>(
     rt: &H,
-    plan: &NodeSetup,
+    setup: &NodeSetup,
     front: Box<Front<J>>,
     bell: Bell,
 ) -> Result<(Lobby<J>, Arc<Chime, Global>), Halt> {
-    let (hall, chime) = hall_of(rt, plan)?;
+    let (hall, chime) = hall_of(rt, setup)?;
     let own = Arc::try_clone(&chime)?;
     let lobby = Lobby {
         front,
@@ -160,7 +160,7 @@ fn link_with<L: DatagramLink + Drop>(
 /// Who tells the thread at the front of what a station does, by this way, and counts.
 fn herald_of<S: Stable, H: Wait + AllocGlobal + Clone + Drop>(
     rt: &H,
-    plan: &NodeSetup,
+    setup: &NodeSetup,
     station: &Station<'_, S>,
     counts: &Arc<Counts, Global>,
     chime: &Arc<Chime, Global>,
@@ -168,7 +168,7 @@ fn herald_of<S: Stable, H: Wait + AllocGlobal + Clone + Drop>(
 ) -> Result<Herald<H>, AllocError> {
     let counts = Arc::try_clone(counts)?;
     let chime = Arc::try_clone(chime)?;
-    let tree = Arc::try_clone(&plan.tree)?;
+    let tree = Arc::try_clone(&setup.tree)?;
     let there = rt.clone()?;
     let dispatch = Dispatch::new(rt.alloc(), there, chime, news);
     Herald::new(rt.alloc(), tree, station, Counter::new(counts), dispatch)
@@ -185,7 +185,7 @@ fn manned<
     E: Write + Drop + Send + 'static,
 >(
     rt: &H,
-    plan: &NodeSetup,
+    setup: &NodeSetup,
     station: &Station<'_, S>,
     counts: &Arc<Counts, Global>,
     ends: Ends<L, J>,
@@ -197,10 +197,10 @@ fn manned<
         front,
         bell,
     } = ends;
-    let (lobby, chime) = lobby_of(rt, plan, front, bell)?;
+    let (lobby, chime) = lobby_of(rt, setup, front, bell)?;
     let link = link_with(link, counts, &chime)?;
-    let news = begin_console(rt, plan, lobby, console)?;
-    let herald = herald_of(rt, plan, station, counts, &chime, news)?;
+    let news = begin_console(rt, setup, lobby, console)?;
+    let herald = herald_of(rt, setup, station, counts, &chime, news)?;
     Ok(Service::new(rt.alloc(), link, desk, herald)?)
 }
 
@@ -218,12 +218,12 @@ pub(crate) fn fitted<
     E: Write + Drop + Send + 'static,
 >(
     rt: &'a H,
-    plan: &NodeSetup,
+    setup: &NodeSetup,
     station: &Station<'_, S>,
     glance: Glance<J>,
     console: Console<I, O, E>,
 ) -> Result<Fitted<'a, H>, Halt> {
     let counts = counted(rt.alloc())?;
-    let ends = posted(rt, plan, station.operators(), glance, &counts)?;
-    manned(rt, plan, station, &counts, ends, console)
+    let ends = posted(rt, setup, station.operators(), glance, &counts)?;
+    manned(rt, setup, station, &counts, ends, console)
 }

@@ -48,19 +48,19 @@ fn crewed<
     E: Write + Drop + Send + 'static,
 >(
     rt: &H,
-    plan: &NodeSetup,
+    setup: &NodeSetup,
     station: &mut Station<'_, S>,
     board: &mut Board<J>,
     glance: Glance<J>,
     console: Console<I, O, E>,
 ) -> Result<Result<(), ServeFault>, Halt>
-    ensures { IsCrewed (serving S.is_honest S.is_open S.rows S.may_find S.saves S.failures S.doubts) plan.now.turns
+    ensures { IsCrewed (serving S.is_honest S.is_open S.rows S.may_find S.saves S.failures S.doubts) setup.now.turns
         station.old station.new result }
 {
-    match fitted(rt, plan, station, glance, console) {
+    match fitted(rt, setup, station, glance, console) {
         Ok(service) => {
             let mut service = service;
-            Ok(service.serve(rt, plan.turns, station, board))
+            Ok(service.serve(rt, setup.turns, station, board))
         }
         Err(halt) => Err(halt),
     }
@@ -83,17 +83,17 @@ fn over_board<
 >(
     rt: &H,
     blank: NewBoard,
-    plan: &NodeSetup,
+    setup: &NodeSetup,
     station: &mut Station<'_, S>,
     console: Console<I, O, E>,
 ) -> Result<Result<(), ServeFault>, Halt>
     requires { blank.seen.book ≡ J.book }
-    ensures { IsCrewed (serving S.is_honest S.is_open S.rows S.may_find S.saves S.failures S.doubts) plan.now.turns
+    ensures { IsCrewed (serving S.is_honest S.is_open S.rows S.may_find S.saves S.failures S.doubts) setup.now.turns
         station.old station.new result }
 {
     let (mut board, glances) = open_board::<J, H>(rt, rt.alloc(), blank, 1)?;
     let served = match only(glances) {
-        Ok(glance) => crewed(rt, plan, station, &mut board, glance, console),
+        Ok(glance) => crewed(rt, setup, station, &mut board, glance, console),
         Err(halt) => Err(halt),
     };
     let _ = board.close(rt);
@@ -108,17 +108,17 @@ fn opened<
     O: Write + Drop + Send + 'static,
     E: Write + Drop + Send + 'static,
     F: Write,
->(rt: &H, plan: &NodeSetup, store: S, console: Console<I, O, E>, faults: &mut F) -> (Status, S)
-    ensures { Begins S.is_honest S.is_open S.rows S.may_find S.saves S.failures S.doubts (arc_value plan.now.tree)
-        plan.now.station plan.now.turns store result }
+>(rt: &H, setup: &NodeSetup, store: S, console: Console<I, O, E>, faults: &mut F) -> (Status, S)
+    ensures { Begins S.is_honest S.is_open S.rows S.may_find S.saves S.failures S.doubts (arc_value setup.now.tree)
+        setup.now.station setup.now.turns store result }
 {
-    match Station::open(rt.alloc(), &plan.tree, plan.station, store) {
+    match Station::open(rt.alloc(), &setup.tree, setup.station, store) {
         Ok(station) => {
             let mut station = station;
             let crewed = over_board::<Brand, _, _, _, _, _>(
                 rt,
                 NewBoard::new(),
-                plan,
+                setup,
                 &mut station,
                 console,
             );
@@ -146,13 +146,13 @@ pub fn run<
     O: Write + Drop + Send + 'static,
     E: Write + Drop + Send + 'static,
     F: Write,
->(rt: &H, plan: &NodeSetup, store: S, console: Console<I, O, E>, faults: &mut F) -> (Status, S)
-    ensures { Runs S.is_honest S.is_open S.rows S.may_find S.saves S.failures S.doubts (arc_value plan.now.tree)
-        plan.now.station plan.now.turns store result }
+>(rt: &H, setup: &NodeSetup, store: S, console: Console<I, O, E>, faults: &mut F) -> (Status, S)
+    ensures { Runs S.is_honest S.is_open S.rows S.may_find S.saves S.failures S.doubts (arc_value setup.now.tree)
+        setup.now.station setup.now.turns store result }
 {
     let mut store = store;
-    match migrate(rt.alloc(), &plan.tree, plan.station, &mut store) {
-        Ok(_) => opened(rt, plan, store, console, faults),
+    match migrate(rt.alloc(), &setup.tree, setup.station, &mut store) {
+        Ok(_) => opened(rt, setup, store, console, faults),
         Err(fault) => (opening_fault(fault, faults), store),
     }
 }

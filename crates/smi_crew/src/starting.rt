@@ -152,11 +152,11 @@ pub(crate) fn begin_console<
     E: Write + Drop + Send + 'static,
 >(
     rt: &H,
-    plan: &NodeSetup,
+    setup: &NodeSetup,
     lobby: Lobby<J>,
     console: Console<I, O, E>,
 ) -> Result<Sender<StationNews>, AllocError> {
-    let tree = Arc::try_clone(&plan.tree)?;
+    let tree = Arc::try_clone(&setup.tree)?;
     let Console {
         input,
         output,

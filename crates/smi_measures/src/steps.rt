@@ -60,21 +60,21 @@ struct StepBuffers {
 /// A step, which is counted; what the station sends itself waits.
 fn step<S: Stable>(
     station: &mut Station<'_, S>,
-    desk: &mut StepBuffers,
+    buffers: &mut StepBuffers,
     event: Event<'_>,
 ) -> io::Result<()> {
-    let heard = station.step(event, &mut desk.out);
-    let sent = desk.out.datagrams();
-    desk.counted.steps = desk.counted.steps.wrapping_add(1);
-    desk.counted.sent = desk.counted.sent.wrapping_add(sent.len() as u64);
+    let heard = station.step(event, &mut buffers.out);
+    let sent = buffers.out.datagrams();
+    buffers.counted.steps = buffers.counted.steps.wrapping_add(1);
+    buffers.counted.sent = buffers.counted.sent.wrapping_add(sent.len() as u64);
     match heard {
         Ok(Heard::Refused(_)) | Err(_) => {}
-        Ok(_) => desk.counted.made = desk.counted.made.wrapping_add(1),
+        Ok(_) => buffers.counted.made = buffers.counted.made.wrapping_add(1),
     }
     let own = station.grants().number();
     for datagram in sent {
         if datagram.to == own {
-            desk.waiting.push(encode(datagram))?;
+            buffers.waiting.push(encode(datagram))?;
         }
     }
     Ok(())
@@ -84,10 +84,10 @@ fn step<S: Stable>(
 const MOST_WAITING: u32 = 4096;
 
 /// The station reads all that it has sent itself.
-fn settle(station: &mut MeasuredStation<'_>, desk: &mut StepBuffers) -> io::Result<()> {
+fn settle(station: &mut MeasuredStation<'_>, buffers: &mut StepBuffers) -> io::Result<()> {
     for _ in 0..MOST_WAITING {
-        match desk.waiting.pop() {
-            Some(bytes) => step(station, desk, Event::Datagram(&bytes))?,
+        match buffers.waiting.pop() {
+            Some(bytes) => step(station, buffers, Event::Datagram(&bytes))?,
             None => return Ok(()),
         }
     }
@@ -96,25 +96,25 @@ fn settle(station: &mut MeasuredStation<'_>, desk: &mut StepBuffers) -> io::Resu
 
 fn order(
     station: &mut MeasuredStation<'_>,
-    desk: &mut StepBuffers,
+    buffers: &mut StepBuffers,
     order: Order,
 ) -> io::Result<()> {
-    step(station, desk, Event::Order(1, order))?;
-    settle(station, desk)
+    step(station, buffers, Event::Order(1, order))?;
+    settle(station, buffers)
 }
 
 /// The first operator takes the first domain and all below it that the station keeps.
 fn take_all(
     tree: &Tree,
     station: &mut MeasuredStation<'_>,
-    desk: &mut StepBuffers,
+    buffers: &mut StepBuffers,
 ) -> io::Result<()> {
-    order(station, desk, Order::Take(1))?;
+    order(station, buffers, Order::Take(1))?;
     for number in 1..tree.domain_count() {
         let target = number.wrapping_add(1);
         let above = tree.parent(target).and_then(|above| station.record(above));
         if above.is_some() && station.record(target).is_some() {
-            order(station, desk, Order::Include(1, target))?;
+            order(station, buffers, Order::Include(1, target))?;
         }
     }
     Ok(())
@@ -152,15 +152,15 @@ fn asking(tree: &Tree, own: u16, kind: u8, epoch: u32) -> [u8; 44] {
 fn take_and_drop<S: Stable>(
     tree: &Tree,
     station: &mut Station<'_, S>,
-    desk: &mut StepBuffers,
+    buffers: &mut StepBuffers,
     count: u32,
 ) -> io::Result<()> {
     let own = station.grants().number();
     for epoch in 0..count {
         let kind = if epoch % 2 == 0 { TAKE } else { DROP };
         let bytes = asking(tree, own, kind, epoch);
-        step(station, desk, Event::Datagram(&bytes))?;
-        desk.waiting.clear();
+        step(station, buffers, Event::Datagram(&bytes))?;
+        buffers.waiting.clear();
     }
     Ok(())
 }
@@ -186,24 +186,24 @@ fn child_of(tree: &Tree, own: u16) -> Option<(u16, u16)> {
 fn take_in(
     tree: &Tree,
     station: &mut MeasuredStation<'_>,
-    desk: &mut StepBuffers,
+    buffers: &mut StepBuffers,
 ) -> io::Result<()> {
     let own = station.grants().number();
-    order(station, desk, Order::Take(1))?;
+    order(station, buffers, Order::Take(1))?;
     if let Some((child, keeper)) = child_of(tree, own) {
-        order(station, desk, Order::Include(1, child))?;
+        order(station, buffers, Order::Include(1, child))?;
         let mut bytes = said(tree, TELL, keeper, own, child);
         bytes[10] = 2;
         bytes[13] = 1;
         bytes[23] = 1;
-        step(station, desk, Event::Datagram(&bytes))?;
-        settle(station, desk)?;
+        step(station, buffers, Event::Datagram(&bytes))?;
+        settle(station, buffers)?;
     }
     if tree.domain_count() < 1 {
         return Ok(());
     }
     for device in tree.devices(1) {
-        step(station, desk, Event::Report(*device, tree.state_count()))?;
+        step(station, buffers, Event::Report(*device, tree.state_count()))?;
     }
     Ok(())
 }
@@ -222,7 +222,7 @@ fn showing(tree: &Tree, own: u16, child: u16, keeper: u16, sequence: u32) -> [u8
 fn show(
     tree: &Tree,
     station: &mut MeasuredStation<'_>,
-    desk: &mut StepBuffers,
+    buffers: &mut StepBuffers,
     count: u32,
 ) -> io::Result<()> {
     let own = station.grants().number();
@@ -231,7 +231,7 @@ fn show(
     };
     for sequence in 1..count.saturating_add(1) {
         let bytes = showing(tree, own, child, keeper, sequence);
-        step(station, desk, Event::Datagram(&bytes))?;
+        step(station, buffers, Event::Datagram(&bytes))?;
     }
     Ok(())
 }
@@ -244,20 +244,20 @@ const MOST_WATCHED: u16 = 48;
 fn ask_for_all(
     tree: &Tree,
     station: &mut MeasuredStation<'_>,
-    desk: &mut StepBuffers,
+    buffers: &mut StepBuffers,
 ) -> io::Result<()> {
     for operator in station.operators() {
         for number in 0..tree.domain_count() {
             let take = Order::Take(number.wrapping_add(1));
-            step(station, desk, Event::Order(*operator, take))?;
+            step(station, buffers, Event::Order(*operator, take))?;
         }
     }
     let last = tree.object_count();
     for number in last.saturating_sub(MOST_WATCHED)..last {
         let watch = Order::Watch(number.wrapping_add(1));
-        step(station, desk, Event::Order(1, watch))?;
+        step(station, buffers, Event::Order(1, watch))?;
     }
-    desk.waiting.clear();
+    buffers.waiting.clear();
     Ok(())
 }
 
@@ -265,14 +265,14 @@ fn ask_for_all(
 fn prepare(
     tree: &Tree,
     station: &mut MeasuredStation<'_>,
-    desk: &mut StepBuffers,
+    buffers: &mut StepBuffers,
     kind: StepKind,
 ) -> io::Result<()> {
     match kind {
         StepKind::Take | StepKind::Tick => Ok(()),
-        StepKind::Do => take_all(tree, station, desk),
-        StepKind::State => take_in(tree, station, desk),
-        StepKind::Due => ask_for_all(tree, station, desk),
+        StepKind::Do => take_all(tree, station, buffers),
+        StepKind::State => take_in(tree, station, buffers),
+        StepKind::Due => ask_for_all(tree, station, buffers),
     }
 }
 
@@ -280,23 +280,23 @@ fn prepare(
 fn run(
     tree: &Tree,
     station: &mut MeasuredStation<'_>,
-    desk: &mut StepBuffers,
+    buffers: &mut StepBuffers,
     kind: StepKind,
     count: u32,
 ) -> io::Result<()> {
     match kind {
-        StepKind::Take => take_and_drop(tree, station, desk, count),
-        StepKind::State => show(tree, station, desk, count),
+        StepKind::Take => take_and_drop(tree, station, buffers, count),
+        StepKind::State => show(tree, station, buffers, count),
         StepKind::Do => {
             for _ in 0..count {
-                order(station, desk, Order::Do(1, 1))?;
+                order(station, buffers, Order::Do(1, 1))?;
             }
             Ok(())
         }
         StepKind::Tick | StepKind::Due => {
             for _ in 0..count {
-                step(station, desk, Event::Tick)?;
-                desk.waiting.clear();
+                step(station, buffers, Event::Tick)?;
+                buffers.waiting.clear();
             }
             Ok(())
         }
@@ -319,18 +319,18 @@ fn timed(
     rt: &HostRuntime,
     tree: &Tree,
     station: &mut MeasuredStation<'_>,
-    desk: &mut StepBuffers,
+    buffers: &mut StepBuffers,
     kind: StepKind,
     count: u32,
 ) -> io::Result<(Duration, StepCounts, u32)> {
-    prepare(tree, station, desk, kind)?;
-    desk.counted = NOTHING;
+    prepare(tree, station, buffers, kind)?;
+    buffers.counted = NOTHING;
     let before = changes_of(station);
     let start = Instant::now(rt)?;
-    run(tree, station, desk, kind, count)?;
+    run(tree, station, buffers, kind, count)?;
     let time = start.elapsed(rt)?;
     let changes = changes_of(station).wrapping_sub(before);
-    Ok((time, desk.counted, changes))
+    Ok((time, buffers.counted, changes))
 }
 
 // One function owns what is used anew for each step: whatever owns it is dear to prove.
@@ -341,12 +341,12 @@ fn at_desk(
     kind: StepKind,
     count: u32,
 ) -> io::Result<(Duration, StepCounts, u32)> {
-    let mut desk = StepBuffers {
+    let mut buffers = StepBuffers {
         out: Out::new(),
         waiting: Vec::new(rt.alloc()),
         counted: NOTHING,
     };
-    timed(rt, tree, station, &mut desk, kind, count)
+    timed(rt, tree, station, &mut buffers, kind, count)
 }
 
 /// The same of the first station, or of the last where nothing is to be due.
@@ -468,22 +468,22 @@ fn stored_at_desk<S: Stable>(
     station: &mut Station<'_, S>,
     count: u32,
 ) -> io::Result<(Duration, StepCounts)> {
-    let mut desk = StepBuffers {
+    let mut buffers = StepBuffers {
         out: Out::new(),
         waiting: Vec::new(rt.alloc()),
         counted: NOTHING,
     };
-    stored(rt, tree, station, &mut desk, count)
+    stored(rt, tree, station, &mut buffers, count)
 }
 
 fn stored<S: Stable>(
     rt: &HostRuntime,
     tree: &Tree,
     station: &mut Station<'_, S>,
-    desk: &mut StepBuffers,
+    buffers: &mut StepBuffers,
     count: u32,
 ) -> io::Result<(Duration, StepCounts)> {
     let start = Instant::now(rt)?;
-    take_and_drop(tree, station, desk, count)?;
-    Ok((start.elapsed(rt)?, desk.counted))
+    take_and_drop(tree, station, buffers, count)?;
+    Ok((start.elapsed(rt)?, buffers.counted))
 }

@@ -102,11 +102,11 @@ fn housed<R: Net<Listener = TcpListener, Stream = TcpStream> + AllocGlobal>(
     rt: &R,
     tree: &Tree,
     keys: RandomState,
-    plan: &mut ScreenSetup,
+    setup: &mut ScreenSetup,
 ) -> Result<(Picture, Box<House>), Ended> {
     let alloc = rt.alloc();
-    let stage = staged(alloc, tree, plan)?;
-    let gate = gate_at(rt, alloc, keys, plan.http)?;
+    let stage = staged(alloc, tree, setup)?;
+    let gate = gate_at(rt, alloc, keys, setup.http)?;
     let Stage {
         picture,
         window,
@@ -124,12 +124,12 @@ fn server_of<R: Net<Listener = TcpListener, Stream = TcpStream> + Wait + Clock +
     tree: &Tree,
     operator: u16,
     keys: RandomState,
-    plan: &mut ScreenSetup,
+    setup: &mut ScreenSetup,
 ) -> Result<Box<ScreenServer>, Ended> {
     let Ok(start) = Instant::now(rt) else {
         return Err(Ended::Gate);
     };
-    let (picture, house) = housed(rt, tree, keys, plan)?;
+    let (picture, house) = housed(rt, tree, keys, setup)?;
     let pace = Pace::new(tree.object_count(), tree.domain_count());
     let server = ScreenServer::new(operator, start, pace, picture, house);
     match Box::new(rt.alloc(), server) {
@@ -138,13 +138,13 @@ fn server_of<R: Net<Listener = TcpListener, Stream = TcpStream> + Wait + Clock +
     }
 }
 
-/// The link of a station, which takes its peers out of the plan.
+/// The link of a station, which takes its peers out of the setup.
 fn linked<'a, R: Net + Clock + AllocGlobal>(
     rt: &'a R,
-    plan: &mut ScreenSetup,
+    setup: &mut ScreenSetup,
 ) -> Result<UdpLink<&'a R>, Ended> {
-    let peers = replace(&mut plan.peers, Vec::new(rt.alloc()));
-    match UdpLink::open(rt, rt, plan.station, peers) {
+    let peers = replace(&mut setup.peers, Vec::new(rt.alloc()));
+    match UdpLink::open(rt, rt, setup.station, peers) {
         Ok(link) => Ok(link),
         Err(error) => Err(refused(error, Ended::Link)),
     }
@@ -158,15 +158,15 @@ fn looked<
     rt: &R,
     tree: &Tree,
     keys: RandomState,
-    plan: &mut ScreenSetup,
+    setup: &mut ScreenSetup,
     station: &mut Station<'_, S>,
 ) -> Result<(), Ended> {
     let Some(operator) = station.operators().first().copied() else {
         return Err(Ended::NoOperator);
     };
-    let mut link = linked(rt, plan)?;
-    let mut server = server_of(rt, tree, operator, keys, plan)?;
-    server.serve(rt, tree, station, &mut link, plan.turns)
+    let mut link = linked(rt, setup)?;
+    let mut server = server_of(rt, tree, operator, keys, setup)?;
+    server.serve(rt, tree, station, &mut link, setup.turns)
 }
 
 fn how_it_ended(looked: Result<(), Ended>) -> Ended {
@@ -180,11 +180,11 @@ fn how_it_ended(looked: Result<(), Ended>) -> Ended {
 fn opened<
     S: Stable,
     R: Net<Listener = TcpListener, Stream = TcpStream> + Wait + Clock + AllocGlobal,
->(rt: &R, tree: &Tree, keys: RandomState, plan: &mut ScreenSetup, store: S) -> (Ended, S) {
-    match Station::open(rt.alloc(), tree, plan.station, store) {
+>(rt: &R, tree: &Tree, keys: RandomState, setup: &mut ScreenSetup, store: S) -> (Ended, S) {
+    match Station::open(rt.alloc(), tree, setup.station, store) {
         Ok(station) => {
             let mut station = station;
-            let how = how_it_ended(looked(rt, tree, keys, plan, &mut station));
+            let how = how_it_ended(looked(rt, tree, keys, setup, &mut station));
             (how, station.into_stable())
         }
         Err((fault, store)) => (Ended::Opening(fault), store),
@@ -195,14 +195,14 @@ fn opened<
 ///
 /// The rows of its station are brought into their newest schema, the station is opened, its own socket is, and last
 /// that for its guests; then it looks, for so many turns or until a fault. The keys are those of its guests' headers.
-/// What the plan has is taken out of it as it is needed.
+/// What the setup has is taken out of it as it is needed.
 pub fn run<
     S: Stable,
     R: Net<Listener = TcpListener, Stream = TcpStream> + Wait + Clock + AllocGlobal,
->(rt: &R, tree: &Tree, keys: RandomState, plan: &mut ScreenSetup, store: S) -> (Ended, S) {
+>(rt: &R, tree: &Tree, keys: RandomState, setup: &mut ScreenSetup, store: S) -> (Ended, S) {
     let mut store = store;
-    match migrate(rt.alloc(), tree, plan.station, &mut store) {
-        Ok(_) => opened(rt, tree, keys, plan, store),
+    match migrate(rt.alloc(), tree, setup.station, &mut store) {
+        Ok(_) => opened(rt, tree, keys, setup, store),
         Err(fault) => (Ended::Opening(fault), store),
     }
 }

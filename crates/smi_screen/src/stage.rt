@@ -29,10 +29,10 @@ fn ordering(alloc: Global, giving: Giving) -> (Orders, NodeConsole) {
     (orders, NodeConsole::new(alloc, console))
 }
 
-/// A stage on which nothing was seen, with what the plan has for it.
-fn stage_with(alloc: Global, plan: &mut ScreenSetup, picture: Picture, frame: Frame) -> Stage {
-    let hosts = replace(&mut plan.hosts, Vec::new(alloc));
-    let (orders, console) = match replace(&mut plan.giving, None) {
+/// A stage on which nothing was seen, with what the setup has for it.
+fn stage_with(alloc: Global, setup: &mut ScreenSetup, picture: Picture, frame: Frame) -> Stage {
+    let hosts = replace(&mut setup.hosts, Vec::new(alloc));
+    let (orders, console) = match replace(&mut setup.giving, None) {
         Some(giving) => {
             let (orders, console) = ordering(alloc, giving);
             (Some(orders), Some(console))
@@ -50,18 +50,18 @@ fn stage_with(alloc: Global, plan: &mut ScreenSetup, picture: Picture, frame: Fr
     }
 }
 
-/// A stage on which nothing was seen, with what the plan has for it, which is taken out of it.
+/// A stage on which nothing was seen, with what the setup has for it, which is taken out of it.
 ///
 /// It is handed out in a box, since whoever drops one is dear to prove.
 pub(crate) fn staged(
     alloc: Global,
     tree: &Tree,
-    plan: &mut ScreenSetup,
+    setup: &mut ScreenSetup,
 ) -> Result<Box<Stage>, AllocError> {
     let picture = Picture::new(alloc, tree.object_count(), tree.domain_count())?;
-    let page = replace(&mut plan.page, Bytes::from_static(b""));
+    let page = replace(&mut setup.page, Bytes::from_static(b""));
     let frame = Frame::first(alloc, page, tree, &picture)?;
-    let mut stage = Box::new(alloc, stage_with(alloc, plan, picture, frame))?;
+    let mut stage = Box::new(alloc, stage_with(alloc, setup, picture, frame))?;
     stage.window.tell_orders(alloc)?;
     Ok(stage)
 }

@@ -7,7 +7,7 @@ ghost use Rattle.smi_schedule.specs.Drawn.{items_drawn, schedule_drawn};
 ghost use Rattle.smi_trace.specs.Text.{trace_text};
 ghost use Rattle.smi_world.specs.Posts.{IsAt};
 
-use crate::streaming::{Buffers, new_desk, write_item, write_opening};
+use crate::streaming::{Buffers, new_buffers, write_item, write_opening};
 use crate::world::World;
 use smi_schedule::Drawer;
 use smi_trace::Unwritten;
@@ -21,7 +21,7 @@ pub(crate) fn stream_items<W: Write>(
     world: &mut World<'_>,
     drawer: &mut Drawer,
     steps: u64,
-    desk: &mut Buffers,
+    buffers: &mut Buffers,
     writer: &mut W,
 ) -> Result<(), Unwritten>
     ensures all { (w : Defined) → IsAt world.old w → OnOk result
@@ -36,7 +36,7 @@ pub(crate) fn stream_items<W: Write>(
     let _stations = tree.station_count();
     for _ in 0..steps {
         let item = drawer.draw(tree);
-        match write_item(alloc, world, &item, desk, writer) {
+        match write_item(alloc, world, &item, buffers, writer) {
             Ok(()) => {}
             Err(fault) => return Err(fault),
         }
@@ -57,15 +57,15 @@ fn stream_seed<W: Write>(
     ensures prefix { (n : ℕ) × Appends (W.contents writer.old) (W.contents writer.new)
         (take n (trace_text tree.now (trace_of tree.now (schedule_drawn tree.now seed steps)))) }
 {
-    let mut desk = new_desk(alloc);
-    match write_opening(tree, &mut desk, writer) {
+    let mut buffers = new_buffers(alloc);
+    match write_opening(tree, &mut buffers, writer) {
         Ok(()) => match World::new(alloc, tree) {
             Ok(mut world) => stream_items(
                 alloc,
                 &mut world,
                 &mut Drawer::new(seed),
                 steps,
-                &mut desk,
+                &mut buffers,
                 writer,
             ),
             Err(_) => Err(Unwritten::Memory),

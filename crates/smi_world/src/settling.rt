@@ -4,7 +4,7 @@ use crate::drawn::stream_items;
 use crate::naming::has_item;
 use crate::post::Post;
 use crate::streaming::{
-    Buffers, Streamed, new_desk, stream_on, unwritten, write_item, write_opening,
+    Buffers, Streamed, new_buffers, stream_on, unwritten, write_item, write_opening,
 };
 use crate::world::World;
 use smi_grant::{Holder, Phase};
@@ -87,12 +87,12 @@ fn write_counted<W: Write>(
     alloc: Global,
     world: &mut World<'_>,
     item: Item,
-    desk: &mut Buffers,
+    buffers: &mut Buffers,
     writer: &mut W,
     count: &mut u64,
 ) -> Result<(), Unwritten> {
     if has_item(world.tree(), &item) {
-        write_item(alloc, world, &item, desk, writer)?;
+        write_item(alloc, world, &item, buffers, writer)?;
         *count = count.saturating_add(1);
     }
     Ok(())
@@ -102,16 +102,16 @@ fn write_counted<W: Write>(
 fn pass_time<W: Write>(
     alloc: Global,
     world: &mut World<'_>,
-    desk: &mut Buffers,
+    buffers: &mut Buffers,
     writer: &mut W,
     count: &mut u64,
 ) -> Result<(), Unwritten> {
     for station in 1..=world.tree().station_count() {
         if world.has_stopped(station) {
-            write_counted(alloc, world, Item::Restart(station), desk, writer, count)?;
+            write_counted(alloc, world, Item::Restart(station), buffers, writer, count)?;
         }
         let tick = Item::Do(Deed::Tick(station));
-        write_counted(alloc, world, tick, desk, writer, count)?;
+        write_counted(alloc, world, tick, buffers, writer, count)?;
     }
     Ok(())
 }
@@ -121,14 +121,14 @@ fn deliver_behind<W: Write>(
     alloc: Global,
     world: &mut World<'_>,
     sent: u64,
-    desk: &mut Buffers,
+    buffers: &mut Buffers,
     writer: &mut W,
     count: &mut u64,
 ) -> Result<u64, Unwritten> {
     let all = world.sent_count();
     for number in sent..all {
         let delivery = Item::Do(Deed::Deliver(number.saturating_add(1)));
-        write_counted(alloc, world, delivery, desk, writer, count)?;
+        write_counted(alloc, world, delivery, buffers, writer, count)?;
     }
     Ok(all)
 }
@@ -139,7 +139,7 @@ fn deliver_behind<W: Write>(
 fn settle<W: Write>(
     alloc: Global,
     world: &mut World<'_>,
-    desk: &mut Buffers,
+    buffers: &mut Buffers,
     writer: &mut W,
 ) -> Result<Option<u64>, Unwritten> {
     let mut count: u64 = 0;
@@ -148,8 +148,8 @@ fn settle<W: Write>(
         if world.is_at_rest() {
             return Ok(Some(count));
         }
-        pass_time(alloc, world, desk, writer, &mut count)?;
-        sent = deliver_behind(alloc, world, sent, desk, writer, &mut count)?;
+        pass_time(alloc, world, buffers, writer, &mut count)?;
+        sent = deliver_behind(alloc, world, sent, buffers, writer, &mut count)?;
     }
     Ok(None)
 }
@@ -167,8 +167,12 @@ pub enum Settled {
 }
 
 /// Writes the line that says after how many items the world was at rest.
-fn write_count<W: Write>(desk: &mut Buffers, count: u64, writer: &mut W) -> Result<(), Unwritten> {
-    let text = desk.text();
+fn write_count<W: Write>(
+    buffers: &mut Buffers,
+    count: u64,
+    writer: &mut W,
+) -> Result<(), Unwritten> {
+    let text = buffers.text();
     text.clear();
     match writeln!(text, "settled after {count} items") {
         Ok(()) => Ok(write_whole(writer, text.as_slice())?),
@@ -180,11 +184,11 @@ fn write_count<W: Write>(desk: &mut Buffers, count: u64, writer: &mut W) -> Resu
 fn settle_whole<W: Write>(
     alloc: Global,
     world: &mut World<'_>,
-    desk: &mut Buffers,
+    buffers: &mut Buffers,
     writer: &mut W,
 ) -> Settled {
-    match settle(alloc, world, desk, writer) {
-        Ok(Some(count)) => match write_count(desk, count, writer) {
+    match settle(alloc, world, buffers, writer) {
+        Ok(Some(count)) => match write_count(buffers, count, writer) {
             Ok(()) => Settled::Rests(count),
             Err(fault) => Settled::Unsettled(unwritten(fault)),
         },
@@ -200,7 +204,7 @@ trait Source {
         &mut self,
         alloc: Global,
         world: &mut World<'_>,
-        desk: &mut Buffers,
+        buffers: &mut Buffers,
         writer: &mut W,
     ) -> Streamed;
 }
@@ -216,10 +220,10 @@ impl<R: Read> Source for Lined<'_, R> {
         &mut self,
         alloc: Global,
         world: &mut World<'_>,
-        desk: &mut Buffers,
+        buffers: &mut Buffers,
         writer: &mut W,
     ) -> Streamed {
-        stream_on(alloc, world, self.reader, desk, writer)
+        stream_on(alloc, world, self.reader, buffers, writer)
     }
 }
 
@@ -235,10 +239,10 @@ impl Source for Draws {
         &mut self,
         alloc: Global,
         world: &mut World<'_>,
-        desk: &mut Buffers,
+        buffers: &mut Buffers,
         writer: &mut W,
     ) -> Streamed {
-        match stream_items(alloc, world, &mut self.drawer, self.steps, desk, writer) {
+        match stream_items(alloc, world, &mut self.drawer, self.steps, buffers, writer) {
             Ok(()) => Streamed::Ended,
             Err(fault) => unwritten(fault),
         }
@@ -250,11 +254,11 @@ fn make_and_settle<S: Source, W: Write>(
     alloc: Global,
     world: &mut World<'_>,
     source: &mut S,
-    desk: &mut Buffers,
+    buffers: &mut Buffers,
     writer: &mut W,
 ) -> Settled {
-    match source.make(alloc, world, desk, writer) {
-        Streamed::Ended => settle_whole(alloc, world, desk, writer),
+    match source.make(alloc, world, buffers, writer) {
+        Streamed::Ended => settle_whole(alloc, world, buffers, writer),
         streamed => Settled::Unsettled(streamed),
     }
 }
@@ -266,10 +270,10 @@ fn settle_from_opening<S: Source, W: Write>(
     source: &mut S,
     writer: &mut W,
 ) -> Settled {
-    let mut desk = new_desk(alloc);
-    match write_opening(tree, &mut desk, writer) {
+    let mut buffers = new_buffers(alloc);
+    match write_opening(tree, &mut buffers, writer) {
         Ok(()) => match World::new(alloc, tree) {
-            Ok(mut world) => make_and_settle(alloc, &mut world, source, &mut desk, writer),
+            Ok(mut world) => make_and_settle(alloc, &mut world, source, &mut buffers, writer),
             Err(_) => Settled::Unsettled(Streamed::Memory),
         },
         Err(fault) => Settled::Unsettled(unwritten(fault)),

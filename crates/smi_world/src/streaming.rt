@@ -54,7 +54,7 @@ pub(crate) fn write_item<W: Write>(
     alloc: Global,
     world: &mut World<'_>,
     item: &Item,
-    desk: &mut Buffers,
+    buffers: &mut Buffers,
     writer: &mut W,
 ) -> Result<(), Unwritten>
     requires { has_item world.old.tree item.now ≡ true }
@@ -68,9 +68,14 @@ pub(crate) fn write_item<W: Write>(
         (take n (trace_text world.old.tree (lines_of w (turn world.old.tree w item.now)))) }
     ensures tree { world.new.tree ≡ world.old.tree }
 {
-    desk.lines.clear();
-    match act_into(alloc, world, item, &mut desk.left, &mut desk.lines) {
-        Ok(()) => write_lines(writer, &mut desk.text, world.tree(), desk.lines.as_slice()),
+    buffers.lines.clear();
+    match act_into(alloc, world, item, &mut buffers.left, &mut buffers.lines) {
+        Ok(()) => write_lines(
+            writer,
+            &mut buffers.text,
+            world.tree(),
+            buffers.lines.as_slice(),
+        ),
         Err(_) => Err(Unwritten::Memory),
     }
 }
@@ -78,7 +83,7 @@ pub(crate) fn write_item<W: Write>(
 /// Writes the lines of the opening.
 pub(crate) fn write_opening<W: Write>(
     tree: &Tree,
-    desk: &mut Buffers,
+    buffers: &mut Buffers,
     writer: &mut W,
 ) -> Result<(), Unwritten>
     ensures all { OnOk result (Appends (W.contents writer.old) (W.contents writer.new)
@@ -86,9 +91,9 @@ pub(crate) fn write_opening<W: Write>(
     ensures prefix { (n : ℕ) × Appends (W.contents writer.old) (W.contents writer.new)
         (take n (trace_text tree.now (opening_lines tree.now))) }
 {
-    desk.lines.clear();
-    match push_opening(&mut desk.lines, tree) {
-        Ok(()) => write_lines(writer, &mut desk.text, tree, desk.lines.as_slice()),
+    buffers.lines.clear();
+    match push_opening(&mut buffers.lines, tree) {
+        Ok(()) => write_lines(writer, &mut buffers.text, tree, buffers.lines.as_slice()),
         Err(_) => Err(Unwritten::Memory),
     }
 }
@@ -112,7 +117,7 @@ fn stream_line<W: Write>(
     world: &mut World<'_>,
     number: u64,
     line: &[u8],
-    desk: &mut Buffers,
+    buffers: &mut Buffers,
     writer: &mut W,
 ) -> Option<Streamed>
     ensures next { (w : Defined) → IsAt world.old w → result ≡ None
@@ -130,7 +135,7 @@ fn stream_line<W: Write>(
     ensures tree { world.new.tree ≡ world.old.tree }
 {
     match read_item(world.tree(), line) {
-        Ok(Some(item)) => match write_item(alloc, world, &item, desk, writer) {
+        Ok(Some(item)) => match write_item(alloc, world, &item, buffers, writer) {
             Ok(()) => None,
             Err(fault) => Some(unwritten(fault)),
         },
@@ -148,7 +153,7 @@ pub(crate) fn stream_on<R: Read, W: Write>(
     alloc: Global,
     world: &mut World<'_>,
     reader: &mut R,
-    desk: &mut Buffers,
+    buffers: &mut Buffers,
     writer: &mut W,
 ) -> Streamed
     ensures done { (w : Defined) → IsAt world.old w → IfSome (R.remaining reader.old) (λ input. IsDone result →
@@ -179,7 +184,7 @@ pub(crate) fn stream_on<R: Read, W: Write>(
             Cut::ReadFault => return Streamed::ReadFault,
             Cut::Memory => return Streamed::Memory,
         }
-        match stream_line(alloc, world, number, cutter.line(), desk, writer) {
+        match stream_line(alloc, world, number, cutter.line(), buffers, writer) {
             Some(how) => return how,
             None => {}
         }
@@ -192,7 +197,7 @@ ghost use Rattle.smi_protocol.specs.Schedule.{trace_from};
 ghost use Rattle.smi_schedule.specs.Schedule.{items_before_fault};
 
 /// What is used anew for each item, empty.
-pub(crate) fn new_desk(alloc: Global) -> Buffers {
+pub(crate) fn new_buffers(alloc: Global) -> Buffers {
     Buffers {
         left: Left::new(),
         lines: Vec::new(alloc),
@@ -217,10 +222,10 @@ fn stream_all<R: Read, W: Write>(
     ensures prefix { IfSome (R.remaining reader.old) (λ input. (n : ℕ) ×
         Appends (W.contents writer.old) (W.contents writer.new) (take n (text_of tree.now (lines input)))) }
 {
-    let mut desk = new_desk(alloc);
-    match write_opening(tree, &mut desk, writer) {
+    let mut buffers = new_buffers(alloc);
+    match write_opening(tree, &mut buffers, writer) {
         Ok(()) => match World::new(alloc, tree) {
-            Ok(mut world) => stream_on(alloc, &mut world, reader, &mut desk, writer),
+            Ok(mut world) => stream_on(alloc, &mut world, reader, &mut buffers, writer),
             Err(_) => Streamed::Memory,
         },
         Err(fault) => unwritten(fault),

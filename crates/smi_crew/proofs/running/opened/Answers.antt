@@ -8,7 +8,7 @@ returns-in-Ok g c =
     let s = g.S.Stable in
     let o = c.open.ensures in
     let opens : OpensOn {S = g.row.S.Denot} s.is_honest s.is_open s.rows s.may_find s.saves s.failures s.doubts
-    (arc_value c.args.plan.now.tree) c.args.plan.now.station c.args.store c.open.result
+    (arc_value c.args.setup.now.tree) c.args.setup.now.station c.args.store c.open.result
     = rw (← c.deref.ensures) (record {
       opens = o.opens;
       of = o.of;
@@ -43,7 +43,7 @@ returns-in-Err g c =
     let s = g.S.Stable in
     let o = c.open.ensures in
     let opens : OpensOn {S = g.row.S.Denot} s.is_honest s.is_open s.rows s.may_find s.saves s.failures s.doubts
-    (arc_value c.args.plan.now.tree) c.args.plan.now.station c.args.store c.open.result
+    (arc_value c.args.setup.now.tree) c.args.setup.now.station c.args.store c.open.result
     = rw (← c.deref.ensures) (record {
       opens = o.opens;
       of = o.of;
