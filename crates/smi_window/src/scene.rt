@@ -141,12 +141,12 @@ fn sight_of_device(tree: &Tree, picture: &Picture, device: u16) -> Option<Sight>
 
 /// The devices of a picture.
 #[derive(Clone, Copy)]
-struct DeviceTexts<'a> {
+struct SeenDevices<'a> {
     tree: &'a Tree,
     picture: &'a Picture,
 }
 
-impl<'a> Listing for DeviceTexts<'a> {
+impl<'a> Listing for SeenDevices<'a> {
     ghost use Rattle.smi_window.specs.Scene.{device_text};
 
     ghost text = { λ s d. device_text s.tree.now s.picture.now d };
@@ -178,7 +178,7 @@ pub fn spell_picture(
     put_number(&mut text, b",\"now\":", now)?;
     let domains = Domains { tree, picture };
     put_list(&mut text, b",\"domains\":[", &domains, tree.domain_count())?;
-    let devices = DeviceTexts { tree, picture };
+    let devices = SeenDevices { tree, picture };
     put_list(&mut text, b"],\"devices\":[", &devices, tree.device_count())?;
     put(&mut text, b"]}\n")?;
     Ok(text)
