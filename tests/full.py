@@ -95,7 +95,7 @@ class Detector:
         self.program, self.folder = program, folder
         ports = {station: free_port(station) for station in range(1, STATIONS + 1)}
         self.tree = nodes.write_tree(folder, None, tree_lines(ports))
-        self.nodes = {}
+        self.nodes, self.mute = {}, set()
 
     def store(self, station):
         return os.path.join(self.folder, "S%d.store" % station)
@@ -103,9 +103,17 @@ class Detector:
     def start(self, station):
         words = [self.tree, "S%d" % station, self.store(station), "--endless"]
         self.nodes[station] = nodes.Node(self.program, words)
+        self.mute.discard(station)
 
     def ask(self, station, line):
-        return self.nodes[station].ask(line, SOON)
+        """What a node answers: nothing where it does not in time, nor after that, for lines wait for those before."""
+        try:
+            answer = None if station in self.mute else self.nodes[station].ask(line, SOON)
+        except BrokenPipeError:
+            answer = None
+        if answer is None:
+            self.mute.add(station)
+        return answer
 
     def end(self):
         for node in self.nodes.values():
@@ -120,6 +128,12 @@ def waits_for(node, line, wanted):
             return True
         time.sleep(0.05)
     return False
+
+
+def begun_case(detector):
+    """Each node that was started listens at its own address."""
+    came = {station: detector.ask(station, "show " + root(1)) for station in detector.nodes}
+    yield verdict.case("stations at addresses of their own begin", came, dict.fromkeys(came, "board R1 none"))
 
 
 def crew_cases(detector):
@@ -234,8 +248,12 @@ def cases(program, folder):
     try:
         for station in (1, CREW, KEEPER, LAST):
             detector.start(station)
+        yield from begun_case(detector)
         yield from crew_cases(detector)
         yield from far_cases(detector)
+        # (where one answers no more, what is behind would say the same of it, and take long)
+        if detector.mute:
+            return
         yield from shown_cases(detector, 1, "READY", 1)
         ended = [station for station, node in detector.nodes.items() if node.child.poll() is not None]
         yield "no node ended by itself", not ended

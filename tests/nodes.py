@@ -730,10 +730,12 @@ def cases(program, folder, only=""):
     def run(place, make):
         room = os.path.join(folder, "nodes%d" % place)
         os.mkdir(room)
+        done = []
         try:
-            done = list(make(program, room))
+            for case in make(program, room):
+                done.append(case)
         except (OSError, subprocess.SubprocessError, sqlite3.Error, KeyError, AssertionError) as error:
-            done = [("%s: %r" % (make.__name__, error), False)]
+            done.append(("%s: %r" % (make.__name__, error), False))
         with locks:
             found[place] = done
 

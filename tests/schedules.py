@@ -130,9 +130,13 @@ def words_cases(program, folder):
                                    check=False)
     cases.append(verdict.case("options before the tree", (options_first.stdout, options_first.returncode),
                               (OPENING, 0)))
-    with open("/dev/full", "wb") as full:
-        done = subprocess.run([program, "sim", TREE, schedule], stdout=full, stderr=subprocess.PIPE, check=False)
-    cases.append(verdict.case("sim on a device that is full", (done.stderr, done.returncode), (b"write fault\n", 3)))
+    # What is printed fits a buffer, so that no write before the flush at the end can fail.
+    for name, words in [("a schedule", [schedule]), ("a drawn one", right[0]), ("one that is settled", settling[0]),
+                        ("a drawn one that is settled", settling[1])]:
+        with open("/dev/full", "wb") as full:
+            done = subprocess.run([program, "sim", TREE] + words, stdout=full, stderr=subprocess.PIPE, check=False)
+        cases.append(verdict.case("sim on a device that is full: %s" % name,
+                                  (done.stderr, done.returncode), (b"write fault\n", 3)))
     return cases
 
 

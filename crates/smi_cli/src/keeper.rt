@@ -5,7 +5,7 @@ ghost use Rattle.smi_limits.specs.declared.trees.TheConstants.{MOST_STATIONS};
 ghost use Rattle.smi_message.specs.Message.{is_body, tell};
 ghost use Rattle.smi_cli.specs.Keeper as spec;
 
-use smi_grant::{Command, Holder, LAST_NUMBER, Record, Verdict};
+use smi_grant::{Command, Holder, LAST_NUMBER, Outcome, Record, Verdict};
 use smi_message::{Body, Datagram, DatagramRefusal, decode, encode};
 use std::marker::Model;
 
@@ -140,7 +140,7 @@ fn outcome_of(command: Command) -> u16
     ensures { result ≡ spec.outcome_of command }
 {
     match command {
-        Command::Do(_) => 0,
-        _ => 2,
+        Command::Do(_) => Outcome::Done.code(),
+        _ => Outcome::NotBelow.code(),
     }
 }

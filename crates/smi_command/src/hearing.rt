@@ -2,8 +2,8 @@ ghost use Rattle.std.specs.Prelude.{◌≡◌, false};
 ghost use Rattle.smi_grant.specs.Holder.{is_free};
 ghost use Rattle.smi_command.specs.Hearing.{told_of, told_taking, told_held, newest_settled, code_in, change_settled};
 
-use crate::{Link, Pending, Settlements, UNSEEN};
-use smi_grant::{Holder, LAST_EPOCH, Phase, Record};
+use crate::{Link, Pending, Settlements};
+use smi_grant::{Holder, LAST_EPOCH, Outcome, Phase, Record};
 
 /// What a link has learned from a record.
 #[derive(Clone, Copy, Debug, PartialEq, Eq)]
@@ -15,13 +15,6 @@ pub enum LinkHeard {
     /// The take, the drop or some commands have settled, each with its code.
     Settled(Settlements),
 }
-
-// A take has settled: the holder has the domain, is too late, or there are no epochs left.
-const DONE: u16 = 0;
-
-const HELD_BY_ANOTHER: u16 = 5;
-
-const EPOCHS_SPENT: u16 = 9;
 
 /// What a told record makes of a link, and what the holder learns by it.
 ///
@@ -38,16 +31,21 @@ pub fn told(link: &Link, me: Holder, heard: &Record) -> (Link, LinkHeard)
             number,
             pending,
         } if heard.epoch == epoch => held_told(epoch, number, &pending, heard),
-        Link::Dropping(epoch) if heard.epoch > epoch => (Link::Out(heard.epoch), settled(DONE)),
+        Link::Dropping(epoch) if heard.epoch > epoch => {
+            (Link::Out(heard.epoch), settled(Outcome::Done))
+        }
         unchanged => (unchanged, LinkHeard::Unchanged),
     }
 }
 
-fn settled(code: u16) -> LinkHeard
-    ensures { result ≡ change_settled code }
+// A take or a drop has settled.
+fn settled(outcome: Outcome) -> LinkHeard
+    ensures { result ≡ change_settled (outcome_code outcome) }
 {
-    LinkHeard::Settled(Settlements::change(code))
+    LinkHeard::Settled(Settlements::change(outcome.code()))
 }
+
+ghost use Rattle.smi_grant.specs.Outcome.{outcome_code};
 
 fn taking_told(seen: u64, me: Holder, heard: &Record) -> (Link, LinkHeard)
     requires { is_free me ≡ false }
@@ -60,17 +58,17 @@ fn taking_told(seen: u64, me: Holder, heard: &Record) -> (Link, LinkHeard)
                 number: 0,
                 pending: Pending::new(),
             };
-            return (held, settled(DONE));
+            return (held, settled(Outcome::Done));
         }
     } else if heard.holder == Holder::Free {
         if heard.epoch == LAST_EPOCH {
-            return (Link::Out(LAST_EPOCH), settled(EPOCHS_SPENT));
+            return (Link::Out(LAST_EPOCH), settled(Outcome::EpochsUsed));
         }
         if heard.epoch > seen {
             return (Link::Taking(heard.epoch), LinkHeard::Renewed);
         }
     } else if heard.epoch >= seen {
-        return (Link::Out(heard.epoch), settled(HELD_BY_ANOTHER));
+        return (Link::Out(heard.epoch), settled(Outcome::HeldByAnother));
     }
     (Link::Taking(seen), LinkHeard::Unchanged)
 }
@@ -92,7 +90,7 @@ fn code_in(heard: &Record, number: u32) -> u16
     if number == heard.last {
         heard.outcome
     } else {
-        UNSEEN
+        Outcome::Unseen.code()
     }
 }
 

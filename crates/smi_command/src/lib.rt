@@ -24,4 +24,4 @@ pub use link::{Due, Link};
 pub use order::{Refusal, begin_drop, begin_take, issue};
 pub use pending::{MOST_PENDING, Pending};
 pub use sending::due;
-pub use settlements::{Settlement, Settlements, UNSEEN};
+pub use settlements::{Settlement, Settlements};

@@ -1,10 +1,7 @@
 ghost use Rattle.std.specs.Prelude.{◌≡◌};
 
+use smi_grant::Outcome;
 use std::marker::Model;
-
-/// The code of a command that has settled while its outcome was not seen. It is told to operators
-/// alone, and stands in no record.
-pub const UNSEEN: u16 = 8;
 
 /// The command of this number has settled with this code; a take or a drop has number 0.
 #[derive(Clone, Copy, Debug, PartialEq, Eq)]
@@ -15,7 +12,7 @@ pub struct Settlement {
 
 /// What settles at once: one to eight commands of consecutive numbers, or a take or a drop.
 ///
-/// Only the newest one's outcome can have been seen, so the others have the code [`UNSEEN`].
+/// Only the newest one's outcome can have been seen, so the others have the code of [`Outcome::Unseen`].
 /// Contracts see the list of settlements, by rising number.
 #[derive(Clone, Copy, Debug, PartialEq, Eq)]
 pub struct Settlements {
@@ -93,7 +90,7 @@ impl Settlements {
             code: if i + 1 == self.count {
                 self.code
             } else {
-                UNSEEN
+                Outcome::Unseen.code()
             },
         })
     }

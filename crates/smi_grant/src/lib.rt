@@ -14,11 +14,13 @@ mod command;
 mod holder;
 mod keeper;
 pub mod law;
+mod outcome;
 mod record;
 mod state;
 
 pub use command::{Command, LAST_NUMBER};
 pub use holder::Holder;
 pub use keeper::{Verdict, admit, drop_grant, settle, start, take};
+pub use outcome::Outcome;
 pub use record::{LAST_EPOCH, Phase, Record, is_outcome};
 pub use state::{Shown, Version};

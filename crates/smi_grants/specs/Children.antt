@@ -4,6 +4,7 @@ use Rattle.std.specs.List.{list_any}
 use Rattle.smi_grant.specs.declared.Command.{Command}
 use Rattle.smi_grant.specs.declared.Holder.TheVariants.{Domain}
 use Rattle.smi_grant.specs.Holder.{same_holder}
+use Rattle.smi_grant.specs.Outcome.{outcome_code}
 use Rattle.smi_command.specs.declared.Link.{Link}
 use Rattle.smi_tree.specs.Hierarchy.{Hierarchy}
 use Rattle.smi_rows.specs.declared.Mode.{Mode}
@@ -14,7 +15,7 @@ use Rattle.smi_grants.specs.declared.children.ChildChange.TheVariants as change
 
 -- the same in the words of the definitions
 abbrev pub meant : ChildChange → children.ChildChange
-meant (change.Stays code) = children.Stays code
+meant (change.Stays why) = children.Stays (outcome_code why)
 meant (change.Relinked l) = children.Relinked l
 meant (change.ComesInto m) = children.ComesInto m
 

@@ -7,43 +7,45 @@ ghost use Rattle.smi_grants.specs.Children.{meant};
 
 use crate::kept::Kept;
 use smi_command::{Link, begin_drop, begin_take, issue};
-use smi_grant::{Command, Holder};
+use smi_grant::{Command, Holder, Outcome};
 use smi_rows::Mode;
 use smi_tree::Tree;
 
 /// What happens to a child.
 #[derive(Clone, Copy, Debug)]
 pub enum ChildChange {
-    /// Nothing, and a code says why if it is not 0.
-    Stays(u16),
+    /// Nothing, and the outcome says why, if it is not `Done`.
+    Stays(Outcome),
     Relinked(Link),
     ComesInto(Mode),
 }
 
-fn relinked_or(code: u16, link: Result<Link, u16>) -> ChildChange
-    ensures { meant result ≡ spec.relinked_or code link }
+fn relinked_or(otherwise: Outcome, link: Result<Link, u16>) -> ChildChange
+    ensures { meant result ≡ spec.relinked_or (outcome_code otherwise) link }
 {
     match link {
         Ok(link) => ChildChange::Relinked(link),
-        Err(_) => ChildChange::Stays(code),
+        Err(_) => ChildChange::Stays(otherwise),
     }
 }
 
-fn handed_on(code: u16, command: Command, link: &Link, mode: Mode) -> ChildChange
-    ensures { meant result ≡ spec.handed_on code command link.now mode }
+fn handed_on(otherwise: Outcome, command: Command, link: &Link, mode: Mode) -> ChildChange
+    ensures { meant result ≡ spec.handed_on (outcome_code otherwise) command link.now mode }
 {
     if link.is_held() && mode != Mode::Manual {
-        relinked_or(7, issue(link, command))
+        relinked_or(Outcome::ChildNumbersUsed, issue(link, command))
     } else {
-        ChildChange::Stays(code)
+        ChildChange::Stays(otherwise)
     }
 }
+
+ghost use Rattle.smi_grant.specs.Outcome.{outcome_code};
 
 fn comes_into(new: Mode, old: Mode) -> ChildChange
     ensures { meant result ≡ spec.comes_into new old }
 {
     if new == old {
-        ChildChange::Stays(3)
+        ChildChange::Stays(Outcome::InThatMode)
     } else {
         ChildChange::ComesInto(new)
     }
@@ -53,15 +55,15 @@ fn aimed_at(command: Command, link: &Link, mode: Mode) -> ChildChange
     ensures { meant result ≡ spec.aimed_at command link.now mode }
 {
     match command {
-        Command::Do(_) => ChildChange::Stays(0),
+        Command::Do(_) => ChildChange::Stays(Outcome::Done),
         Command::Include(_) => {
             if link.is_held() {
                 comes_into(Mode::Included, mode)
             } else {
-                relinked_or(0, begin_take(link))
+                relinked_or(Outcome::Done, begin_take(link))
             }
         }
-        Command::Exclude(_) => relinked_or(4, begin_drop(link)),
+        Command::Exclude(_) => relinked_or(Outcome::ChildNotHeld, begin_drop(link)),
         Command::Manual(_) => comes_into_held(Mode::Manual, link, mode),
         Command::Ignore(_) => comes_into_held(Mode::Ignored, link, mode),
     }
@@ -73,7 +75,7 @@ fn comes_into_held(new: Mode, link: &Link, mode: Mode) -> ChildChange
     if link.is_held() {
         comes_into(new, mode)
     } else {
-        ChildChange::Stays(4)
+        ChildChange::Stays(Outcome::ChildNotHeld)
     }
 }
 
@@ -92,9 +94,9 @@ fn targeted(
     if target == child {
         aimed_at(command, link, mode)
     } else if tree.is_below(target, child) {
-        handed_on(6, command, link, mode)
+        handed_on(Outcome::NotHandedOn, command, link, mode)
     } else {
-        ChildChange::Stays(0)
+        ChildChange::Stays(Outcome::Done)
     }
 }
 
@@ -112,9 +114,9 @@ pub(crate) fn child_change(
     match command {
         Command::Do(action) => {
             if tree.accepts(domain, action) {
-                handed_on(0, command, link, mode)
+                handed_on(Outcome::Done, command, link, mode)
             } else {
-                ChildChange::Stays(0)
+                ChildChange::Stays(Outcome::Done)
             }
         }
         Command::Include(target)
@@ -143,13 +145,13 @@ fn mode_after(change: &ChildChange, mode: Mode) -> Mode
     }
 }
 
-/// The code that comes of one child.
+/// The code of the outcome that comes of one child.
 pub(crate) fn code_of(change: &ChildChange) -> u16
     ensures { result ≡ spec.code_of (meant change.now) }
 {
     match change {
-        ChildChange::Stays(code) => *code,
-        ChildChange::Relinked(_) | ChildChange::ComesInto(_) => 0,
+        ChildChange::Stays(outcome) => outcome.code(),
+        ChildChange::Relinked(_) | ChildChange::ComesInto(_) => Outcome::Done.code(),
     }
 }
 

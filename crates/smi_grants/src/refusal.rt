@@ -7,8 +7,8 @@ use crate::kept::Kept;
 use smi_command::{Link, begin_drop, begin_take, issue};
 use smi_grant::{Command, Holder};
 use smi_limits::MOST_LINKS;
-use smi_message::{Body, Datagram};
-use smi_protocol::{Order, Request};
+use smi_message::{Body, Datagram, DatagramRefusal};
+use smi_protocol::{Order, OrderCode, Request};
 use smi_roles::{
     has_domain, has_object, is_at, is_command_of, is_holder_of, is_keeper, is_kept_by,
 };
@@ -20,15 +20,19 @@ pub fn refusal_of_message(tree: &Tree, number: u16, datagram: &Datagram) -> Opti
     ensures { result ≡ spec.refusal_of_message tree.now number datagram.now }
 {
     if datagram.tree != tree.number() {
-        return Some(7);
+        return Some(DatagramRefusal::OtherTree.code());
     }
     if datagram.to != number {
-        return Some(8);
+        return Some(DatagramRefusal::OtherStation.code());
     }
     let is_there = 1 <= datagram.from
         && datagram.from <= tree.station_count()
         && is_body_of(tree, datagram.from, datagram.to, &datagram.body);
-    if is_there { None } else { Some(9) }
+    if is_there {
+        None
+    } else {
+        Some(DatagramRefusal::Unknown.code())
+    }
 }
 
 /// Whether what a datagram names is there, and is kept by the station that its kind requires.
@@ -135,7 +139,7 @@ impl<'a> Kept<'a> {
         if is_order_here(self.tree(), self.number, operator, order) {
             self.refusal_by_link(operator, order)
         } else {
-            Some(26)
+            Some(OrderCode::NotHere.code())
         }
     }
 
@@ -163,7 +167,7 @@ impl<'a> Kept<'a> {
         match why_not(begin_take(&self.link(Holder::Operator(operator), domain))) {
             Some(code) => Some(code),
             None => if self.links_in_use(operator) >= MOST_LINKS {
-                Some(25)
+                Some(OrderCode::LinksInUse.code())
             } else {
                 None
             },

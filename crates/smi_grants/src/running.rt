@@ -9,19 +9,24 @@ ghost use Rattle.smi_protocol.specs.Children.{code_at_domain};
 use crate::change::Change;
 use crate::children::code_of;
 use crate::kept::Kept;
-use smi_grant::{Command, Holder, Record, Verdict, admit, start};
+use smi_grant::{Command, Holder, Outcome, Record, Verdict, admit, start};
 use smi_tree::Tree;
 
 /// The code of a command at its domain, whatever becomes of it at the children.
 fn code_at_domain(tree: &Tree, domain: u16, command: Command) -> u16
     ensures { result ≡ code_at_domain tree.now domain command }
 {
-    match command {
-        Command::Do(action) => if tree.accepts(domain, action) { 0 } else { 1 },
+    let (holds, otherwise) = match command {
+        Command::Do(action) => (tree.accepts(domain, action), Outcome::NotAccepted),
         Command::Include(target)
         | Command::Exclude(target)
         | Command::Manual(target)
-        | Command::Ignore(target) => if tree.is_below(target, domain) { 0 } else { 2 },
+        | Command::Ignore(target) => (tree.is_below(target, domain), Outcome::NotBelow),
+    };
+    if holds {
+        Outcome::Done.code()
+    } else {
+        otherwise.code()
     }
 }
 

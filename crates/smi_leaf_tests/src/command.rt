@@ -3,10 +3,10 @@ use smi_command::law::{
     taking_ends_by_hearing,
 };
 use smi_command::{
-    Due, Link, LinkHeard, MOST_PENDING, Pending, Refusal, Settlement, UNSEEN, begin_drop,
-    begin_take, due, issue, told,
+    Due, Link, LinkHeard, MOST_PENDING, Pending, Refusal, Settlement, begin_drop, begin_take, due,
+    issue, told,
 };
-use smi_grant::{Command, Holder, LAST_EPOCH, LAST_NUMBER, Phase, Record};
+use smi_grant::{Command, Holder, LAST_EPOCH, LAST_NUMBER, Outcome, Phase, Record};
 
 const BOB: Holder = Holder::Operator(2);
 
@@ -153,7 +153,7 @@ fn records_heard(rt: HostRuntime) {
     let renewed = told(&Link::Taking(0), BOB, &Record { epoch: 2, ..free });
     assert_eq!(rt; renewed.1, LinkHeard::Renewed);
     assert_eq!(rt; told(&Link::Taking(0), BOB, &free).1, LinkHeard::Unchanged);
-    assert_eq!(rt; UNSEEN, 8);
+    assert_eq!(rt; Outcome::Unseen.code(), 8);
 }
 
 #[test]

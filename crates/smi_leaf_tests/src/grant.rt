@@ -1,7 +1,7 @@
 use smi_grant::law::ranks_rise;
 use smi_grant::{
-    Command, Holder, LAST_EPOCH, LAST_NUMBER, Phase, Record, Shown, Verdict, Version, admit,
-    drop_grant, is_outcome, settle, start, take,
+    Command, Holder, LAST_EPOCH, LAST_NUMBER, Outcome, Phase, Record, Shown, Verdict, Version,
+    admit, drop_grant, is_outcome, settle, start, take,
 };
 
 const BOB: Holder = Holder::Operator(2);
@@ -180,4 +180,25 @@ fn boot_comes_before_sequence(rt: HostRuntime) {
     for (older, newer) in [(at(1, 9), shown.version), (at(1, 9), at(1, 10))] {
         assert!(rt; older < newer && !(newer < older), "{older:?} {newer:?}");
     }
+}
+
+#[test]
+fn outcomes_have_their_numbers(rt: HostRuntime) {
+    let outcomes = [
+        Outcome::Done,
+        Outcome::NotAccepted,
+        Outcome::NotBelow,
+        Outcome::InThatMode,
+        Outcome::ChildNotHeld,
+        Outcome::HeldByAnother,
+        Outcome::NotHandedOn,
+        Outcome::ChildNumbersUsed,
+        Outcome::Unseen,
+        Outcome::EpochsUsed,
+    ];
+    let mut all = true;
+    for number in 0..10 {
+        all = all && usize::from(outcomes[number].code()) == number;
+    }
+    assert!(rt; all);
 }

@@ -13,7 +13,7 @@ use crate::witness::{Nobody, Witness};
 use smi_link::DatagramLink;
 use smi_operator::Desk;
 use smi_out::Out;
-use smi_protocol::{Answer, Event, Heard, Order, StepFault};
+use smi_protocol::{Answer, Event, Heard, Order, OrderCode, StepFault};
 use smi_rows::Stable;
 use smi_station::Station;
 use smi_view::{Board, BoardId};
@@ -30,11 +30,6 @@ pub enum CarryFault {
     #[error("out of memory")]
     Memory,
 }
-
-/// The codes of steps that were not made.
-const NOT_STORED: u16 = 31;
-
-const NO_MEMORY: u16 = 33;
 
 /// Whether an event is a report, which is told its code by its step alone.
 fn is_report(event: &Event<'_>) -> bool
@@ -54,9 +49,9 @@ fn code_of(is_report: bool, made: &Result<Heard, StepFault>) -> Option<u16>
     match made {
         Ok(Heard::Refused(code)) => Some(*code),
         Ok(Heard::Same | Heard::Done) => { if is_report { Some(0) } else { None } }
-        Err(StepFault::NotStored) => Some(NOT_STORED),
+        Err(StepFault::NotStored) => Some(OrderCode::NotStored.code()),
         Err(StepFault::Stopped) => None,
-        Err(StepFault::Memory) => Some(NO_MEMORY),
+        Err(StepFault::Memory) => Some(OrderCode::NoMemory.code()),
     }
 }
 

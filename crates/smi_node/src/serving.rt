@@ -15,7 +15,7 @@ use crate::witness::{Nobody, Witness};
 use smi_link::{DatagramLink, Reception};
 use smi_operator::Desk;
 use smi_out::Out;
-use smi_protocol::{Event, Order};
+use smi_protocol::{Event, Order, OrderCode};
 use smi_rows::Stable;
 use smi_station::Station;
 use smi_view::{Board, BoardId};
@@ -38,9 +38,6 @@ pub enum ServeFault {
 
 /// So many faults in a row end the service.
 const MOST_FAULTS: u32 = 100;
-
-/// The code of an order that is not for this station.
-const NOT_HERE: u16 = 26;
 
 /// The operator of a seat: the last seat is nobody's.
 fn speaker(operators: &[u16], seats: usize, seat: usize) -> Option<u16>
@@ -98,7 +95,7 @@ fn serve_order<S: Stable, L: DatagramLink, J: BoardId, V: Witness, R: Wait>(
             witness,
         ),
         None => {
-            tell_newest(desk, Some(seat), NOT_HERE);
+            tell_newest(desk, Some(seat), OrderCode::NotHere.code());
             Ok(())
         }
     }

@@ -5,7 +5,7 @@ ghost use Rattle.std.specs.Prelude.{◌≡◌};
 use crate::store::Played;
 use crate::turn::{StationTurn, Turn};
 use smi_out::Out;
-use smi_protocol::{Answer, Event, Heard, StepFault, Told};
+use smi_protocol::{Answer, Event, Heard, OrderCode, StepFault, Told};
 use smi_rows::{Plan, SavedRow};
 use smi_station::Station;
 use smi_tree::Tree;
@@ -18,9 +18,6 @@ pub(crate) struct PlayedStation<'a, S: Played + Drop> {
     /// Whether a save that failed by hand has stopped it.
     is_down: bool,
 }
-
-/// The code of an order whose row was not saved.
-const NOT_STORED: u16 = 31;
 
 /// What was made of a station.
 #[derive(Clone, Copy, PartialEq, Eq)]
@@ -78,7 +75,7 @@ fn tell_not_stored(event: Event<'_>, out: &mut Out) {
             operator,
             told: Told {
                 order,
-                code: NOT_STORED,
+                code: OrderCode::NotStored.code(),
                 asked: None,
             },
             mark: None,

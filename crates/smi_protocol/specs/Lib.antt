@@ -9,6 +9,7 @@ pub mod Keeping
 pub mod Loading
 pub mod Messages
 pub mod Opening
+pub mod OrderCode
 pub mod Ordering
 pub mod Played
 pub mod Refusals

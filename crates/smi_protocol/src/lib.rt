@@ -23,5 +23,5 @@ pub use entry::Entry;
 pub use event::{Event, Heard, StepFault};
 pub use fault::OpenFault;
 pub use item::{Deed, Item, Line, Moment};
-pub use order::{Answer, Mark, Order, Request, Told};
+pub use order::{Answer, Mark, Order, OrderCode, Request, Told};
 pub use place::Place;

@@ -1,4 +1,5 @@
 use smi_grant::{Command, Record};
+use thiserror::Error;
 
 /// What an operator may order, or a device report. Domains, objects, devices, actions and states
 /// have their numbers of the tree.
@@ -67,6 +68,36 @@ impl Order {
             Order::Watch(object) => Request::Watch(object),
             Order::Unwatch(object) => Request::Unwatch(object),
             Order::Report(device, state) => Request::Report(device, state),
+        }
+    }
+}
+
+/// Why an order or a report was not taken, where its link has nothing against it (docs/NUMBERS.md, "How an order ends").
+#[derive(Clone, Copy, Debug, PartialEq, Eq, Error)]
+pub enum OrderCode {
+    #[error("25: sixteen domains are held or waited for")]
+    LinksInUse,
+    #[error("26: nothing of that name is here")]
+    NotHere,
+    #[error("31: the store did not save it")]
+    NotStored,
+    #[error("33: out of memory")]
+    NoMemory,
+}
+
+impl OrderCode {
+    ghost use Rattle.std.specs.Prelude.{◌≡◌};
+    ghost use Rattle.smi_protocol.specs.OrderCode.{order_code};
+
+    /// The code's number.
+    pub const fn code(self) -> u16
+        ensures { result ≡ order_code self }
+    {
+        match self {
+            OrderCode::LinksInUse => 25,
+            OrderCode::NotHere => 26,
+            OrderCode::NotStored => 31,
+            OrderCode::NoMemory => 33,
         }
     }
 }

@@ -2,7 +2,7 @@
 
 ghost use Rattle.std.specs.Prelude.{◌≡◌};
 
-use crate::outcome::Outcome;
+use crate::outcome::TrialOutcome;
 use smi_grant::{Shown, Version};
 use smi_view::{Board, BoardId, Glance, NewBoard, open_board};
 use std::alloc::Global;
@@ -10,24 +10,24 @@ use std::marker::Brand;
 use std::sync::Wait;
 
 /// A board at the second try where the first was refused an allocation.
-pub(crate) fn of<R: Wait>(rt: &R, alloc: Global) -> Outcome {
+pub(crate) fn of<R: Wait>(rt: &R, alloc: Global) -> TrialOutcome {
     if let Some(outcome) = over_board::<Brand, R>(rt, alloc, NewBoard::new()) {
         return outcome;
     }
     match over_board::<Brand, R>(rt, alloc, NewBoard::new()) {
-        Some(outcome) => outcome.and(Outcome::Kept),
-        None => Outcome::Changed,
+        Some(outcome) => outcome.and(TrialOutcome::Kept),
+        None => TrialOutcome::Changed,
     }
 }
 
 /// What is seen of a board that is opened; none where it was refused an allocation.
-fn over_board<J: BoardId, R: Wait>(rt: &R, alloc: Global, blank: NewBoard) -> Option<Outcome>
+fn over_board<J: BoardId, R: Wait>(rt: &R, alloc: Global, blank: NewBoard) -> Option<TrialOutcome>
     requires { blank.seen.book ≡ J.book }
 {
     let (mut board, mut glances) = open_board::<J, R>(rt, alloc, blank, 2).ok()?;
     let outcome = match glances.pop() {
         Some(mut glance) => publications(rt, &mut board, &mut glance),
-        None => Outcome::Changed,
+        None => TrialOutcome::Changed,
     };
     let _ = board.close(rt);
     Some(outcome)
@@ -37,8 +37,8 @@ fn publications<J: BoardId, R: Wait>(
     rt: &R,
     board: &mut Board<J>,
     glance: &mut Glance<J>,
-) -> Outcome {
-    let mut outcome = Outcome::Whole;
+) -> TrialOutcome {
+    let mut outcome = TrialOutcome::Whole;
     for sequence in 1..19 {
         outcome = outcome.and(shows(rt, board, glance, sequence));
     }
@@ -51,7 +51,7 @@ fn shows<J: BoardId, R: Wait>(
     board: &mut Board<J>,
     glance: &mut Glance<J>,
     sequence: u32,
-) -> Outcome {
+) -> TrialOutcome {
     let row = Shown {
         object: (sequence % 5) as u16,
         version: Version { boot: 1, sequence },
@@ -59,19 +59,19 @@ fn shows<J: BoardId, R: Wait>(
     };
     let before = glance.read(row.object);
     let put = match board.put(row) {
-        Ok(()) => Outcome::Whole,
+        Ok(()) => TrialOutcome::Whole,
         Err(_) => {
             let is_as_before = glance.read(row.object) == before;
-            Outcome::again(is_as_before, board.put(row).is_ok())
+            TrialOutcome::again(is_as_before, board.put(row).is_ok())
         }
     };
     let published = match board.publish(rt) {
-        Ok(()) => Outcome::Whole,
+        Ok(()) => TrialOutcome::Whole,
         Err(_) => {
             let is_as_before = glance.read(row.object) == before;
-            Outcome::again(is_as_before, board.publish(rt).is_ok())
+            TrialOutcome::again(is_as_before, board.publish(rt).is_ok())
         }
     };
     put.and(published)
-        .and(Outcome::of(glance.read(row.object) == Ok(Some(row))))
+        .and(TrialOutcome::of(glance.read(row.object) == Ok(Some(row))))
 }

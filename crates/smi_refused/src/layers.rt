@@ -1,6 +1,6 @@
 //! The trial of each layer, by its name.
 
-use crate::outcome::Outcome;
+use crate::outcome::TrialOutcome;
 use crate::{board, link, rows, stations, stores, watchers, worlds};
 use smi_operator::open_seats;
 use smi_publish::Publisher;
@@ -11,7 +11,7 @@ use std::sync::Wait;
 
 /// What the trial of a layer saw: of `watchers`, `link`, `view`, `publish`, `board`, `seats`, `rows`, `memory`, `sql`,
 /// `station` or `world`. `Changed` for any other word.
-pub fn outcome_of<R: Wait>(rt: &R, alloc: Global, layer: &str) -> Outcome {
+pub fn outcome_of<R: Wait>(rt: &R, alloc: Global, layer: &str) -> TrialOutcome {
     match layer {
         "watchers" => watchers::of(alloc),
         "link" => link::of(alloc),
@@ -21,16 +21,16 @@ pub fn outcome_of<R: Wait>(rt: &R, alloc: Global, layer: &str) -> Outcome {
         "seats" => seats(alloc),
         "memory" => stores::memory(alloc),
         "sql" => stores::sql(alloc),
-        _ => Outcome::Changed,
+        _ => TrialOutcome::Changed,
     }
 }
 
-fn view(alloc: Global) -> Outcome {
+fn view(alloc: Global) -> TrialOutcome {
     match View::new(alloc, 640, 1) {
-        Ok(view) => Outcome::of(view.last(640).is_none()),
+        Ok(view) => TrialOutcome::of(view.last(640).is_none()),
         Err(_) => match View::new(alloc, 640, 1) {
-            Ok(view) => Outcome::again(view.last(640).is_none(), true),
-            Err(_) => Outcome::Changed,
+            Ok(view) => TrialOutcome::again(view.last(640).is_none(), true),
+            Err(_) => TrialOutcome::Changed,
         },
     }
 }
@@ -41,14 +41,14 @@ const TREE: &[u8] =
     b"tree 17\nstate OFF\naction CONFIGURE\naction START\nstation A 127.0.0.1:9001\nstation B 127.0.0.1:9002\noperator ANN A\noperator BOB B\ndevclass DEV OFF\nunitclass UNIT OFF\ndomain DCS A UNIT -\ndomain TPC B UNIT DCS\ndevice HV DCS DEV\n";
 
 // Each place that drops a tree is dear to prove, so there is one.
-fn over_tree(alloc: Global, layer: &str) -> Outcome {
+fn over_tree(alloc: Global, layer: &str) -> TrialOutcome {
     match read_tree(alloc) {
         Some((tree, read)) => read.and(of_tree(alloc, &tree, layer)),
-        None => Outcome::Changed,
+        None => TrialOutcome::Changed,
     }
 }
 
-fn of_tree(alloc: Global, tree: &Tree, layer: &str) -> Outcome {
+fn of_tree(alloc: Global, tree: &Tree, layer: &str) -> TrialOutcome {
     match layer {
         "rows" => rows::of(alloc, tree),
         "station" => stations::of(alloc, tree),
@@ -57,32 +57,32 @@ fn of_tree(alloc: Global, tree: &Tree, layer: &str) -> Outcome {
     }
 }
 
-fn read_tree(alloc: Global) -> Option<(Tree, Outcome)> {
+fn read_tree(alloc: Global) -> Option<(Tree, TrialOutcome)> {
     if let Ok(tree) = Tree::read(alloc, TREE) {
-        return Some((tree, Outcome::Whole));
+        return Some((tree, TrialOutcome::Whole));
     }
     match Tree::read(alloc, TREE) {
-        Ok(tree) => Some((tree, Outcome::Kept)),
+        Ok(tree) => Some((tree, TrialOutcome::Kept)),
         Err(_) => None,
     }
 }
 
-fn publisher(alloc: Global, tree: &Tree) -> Outcome {
+fn publisher(alloc: Global, tree: &Tree) -> TrialOutcome {
     match Publisher::new(alloc, tree, 1, 1) {
-        Ok(publisher) => Outcome::of(publisher.current(3).is_some()),
+        Ok(publisher) => TrialOutcome::of(publisher.current(3).is_some()),
         Err(_) => match Publisher::new(alloc, tree, 1, 1) {
-            Ok(publisher) => Outcome::again(publisher.current(3).is_some(), true),
-            Err(_) => Outcome::Changed,
+            Ok(publisher) => TrialOutcome::again(publisher.current(3).is_some(), true),
+            Err(_) => TrialOutcome::Changed,
         },
     }
 }
 
-fn seats(alloc: Global) -> Outcome {
+fn seats(alloc: Global) -> TrialOutcome {
     match open_seats(alloc, 9) {
-        Ok((seats, _)) => Outcome::of(seats.len() == 9),
+        Ok((seats, _)) => TrialOutcome::of(seats.len() == 9),
         Err(_) => match open_seats(alloc, 9) {
-            Ok((seats, _)) => Outcome::again(true, seats.len() == 9),
-            Err(_) => Outcome::Changed,
+            Ok((seats, _)) => TrialOutcome::again(true, seats.len() == 9),
+            Err(_) => TrialOutcome::Changed,
         },
     }
 }

@@ -4,7 +4,7 @@
 //! unchanged, and that the same call, which is made again, then does what it does otherwise. Allocations are refused
 //! from outside, each in turn (tests/refuse.c), so that at most one is in a run.
 //!
-//! [`outcome_of`] is the trial of a layer, and an [`Outcome`] what it saw.
+//! [`outcome_of`] is the trial of a layer, and an [`TrialOutcome`] what it saw.
 #![tactic(auto)]
 
 mod board;
@@ -18,4 +18,4 @@ mod watchers;
 mod worlds;
 
 pub use layers::outcome_of;
-pub use outcome::Outcome;
+pub use outcome::TrialOutcome;

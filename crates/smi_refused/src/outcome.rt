@@ -2,7 +2,7 @@
 
 /// What a run saw of refused allocations.
 #[derive(Clone, Copy, Debug, PartialEq, Eq)]
-pub enum Outcome {
+pub enum TrialOutcome {
     /// No allocation was refused.
     Whole,
     /// One was, and all was as it should be.
@@ -11,49 +11,49 @@ pub enum Outcome {
     Changed,
 }
 
-impl Outcome {
+impl TrialOutcome {
     ghost use Rattle.std.specs.Prelude.{◌≡◌, true, false, codes};
 
     /// What two parts of a run saw together.
-    pub(crate) fn and(self, other: Outcome) -> Outcome {
+    pub(crate) fn and(self, other: TrialOutcome) -> TrialOutcome {
         match (self, other) {
-            (Outcome::Changed, _) | (_, Outcome::Changed) => Outcome::Changed,
-            (Outcome::Whole, Outcome::Whole) => Outcome::Whole,
-            _ => Outcome::Kept,
+            (TrialOutcome::Changed, _) | (_, TrialOutcome::Changed) => TrialOutcome::Changed,
+            (TrialOutcome::Whole, TrialOutcome::Whole) => TrialOutcome::Whole,
+            _ => TrialOutcome::Kept,
         }
     }
 
     /// What a call saw that was made again after a refusal.
-    pub(crate) fn again(is_as_before: bool, is_done: bool) -> Outcome {
+    pub(crate) fn again(is_as_before: bool, is_done: bool) -> TrialOutcome {
         if is_as_before && is_done {
-            Outcome::Kept
+            TrialOutcome::Kept
         } else {
-            Outcome::Changed
+            TrialOutcome::Changed
         }
     }
 
     /// What a reading shows that has to be so, with no allocation refused.
-    pub fn of(is_so: bool) -> Outcome
-        ensures so { is_so ≡ true → result ≡ Outcome.Whole }
-        ensures other { is_so ≡ false → result ≡ Outcome.Changed }
+    pub fn of(is_so: bool) -> TrialOutcome
+        ensures so { is_so ≡ true → result ≡ TrialOutcome.Whole }
+        ensures other { is_so ≡ false → result ≡ TrialOutcome.Changed }
     {
         if is_so {
-            Outcome::Whole
+            TrialOutcome::Whole
         } else {
-            Outcome::Changed
+            TrialOutcome::Changed
         }
     }
 
     /// The word for it: `whole`, `kept` or `changed`.
     pub fn word(self) -> &'static str
-        ensures whole { self ≡ Outcome.Whole → result.now ≡ codes "whole" }
-        ensures kept { self ≡ Outcome.Kept → result.now ≡ codes "kept" }
-        ensures changed { self ≡ Outcome.Changed → result.now ≡ codes "changed" }
+        ensures whole { self ≡ TrialOutcome.Whole → result.now ≡ codes "whole" }
+        ensures kept { self ≡ TrialOutcome.Kept → result.now ≡ codes "kept" }
+        ensures changed { self ≡ TrialOutcome.Changed → result.now ≡ codes "changed" }
     {
         match self {
-            Outcome::Whole => "whole",
-            Outcome::Kept => "kept",
-            Outcome::Changed => "changed",
+            TrialOutcome::Whole => "whole",
+            TrialOutcome::Kept => "kept",
+            TrialOutcome::Changed => "changed",
         }
     }
 }

@@ -3,7 +3,7 @@
 //! Two stations go through the same, of which one at most is refused an allocation. What was refused has changed
 //! nothing, and the same call then does what it does at the other station.
 
-use crate::outcome::Outcome;
+use crate::outcome::TrialOutcome;
 use crate::stores::rows_of;
 use smi_command::Link;
 use smi_grant::{Holder, Record, Shown};
@@ -89,18 +89,23 @@ fn is_as_before(station: &mut TriedStation<'_>, before: StationAccount, rows: &[
 }
 
 /// A step, and the same again where it was refused an allocation.
-fn step(station: &mut TriedStation<'_>, event: Event<'_>, heard: Heard, out: &mut Out) -> Outcome {
+fn step(
+    station: &mut TriedStation<'_>,
+    event: Event<'_>,
+    heard: Heard,
+    out: &mut Out,
+) -> TrialOutcome {
     let before = told(station);
     let Ok((rows, listed)) = rows_of(station.stable_mut()) else {
-        return Outcome::Changed;
+        return TrialOutcome::Changed;
     };
     match station.step(event, out) {
-        Ok(found) => listed.and(Outcome::of(found == heard)),
+        Ok(found) => listed.and(TrialOutcome::of(found == heard)),
         Err(StepFault::Memory) => {
             let is_kept = has_nothing(out) && is_as_before(station, before, &rows);
-            Outcome::again(is_kept, station.step(event, out) == Ok(heard))
+            TrialOutcome::again(is_kept, station.step(event, out) == Ok(heard))
         }
-        Err(_) => Outcome::Changed,
+        Err(_) => TrialOutcome::Changed,
     }
 }
 
@@ -110,7 +115,7 @@ fn come(
     heard: Heard,
     last: &[u8; 44],
     out: &mut Out,
-) -> Outcome {
+) -> TrialOutcome {
     match input {
         StationInput::Watch(object, boot) => {
             let mut bytes = WATCH;
@@ -136,18 +141,18 @@ fn come(
 }
 
 /// Whether two stations tell the same of themselves, and have the same rows.
-fn are_alike(one: &mut TriedStation<'_>, other: &mut TriedStation<'_>) -> Outcome {
+fn are_alike(one: &mut TriedStation<'_>, other: &mut TriedStation<'_>) -> TrialOutcome {
     match (rows_of(one.stable_mut()), rows_of(other.stable_mut())) {
         (Ok((a, first)), Ok((b, second))) => {
             let is_so = are_same(&a, &b) && told(one) == told(other);
-            first.and(second).and(Outcome::of(is_so))
+            first.and(second).and(TrialOutcome::of(is_so))
         }
-        _ => Outcome::Changed,
+        _ => TrialOutcome::Changed,
     }
 }
 
 /// Both stations go through all inputs.
-fn go_through(one: &mut TriedStation<'_>, other: &mut TriedStation<'_>) -> Outcome {
+fn go_through(one: &mut TriedStation<'_>, other: &mut TriedStation<'_>) -> TrialOutcome {
     let (mut first, mut second) = (Out::new(), Out::new());
     let mut last = WATCH;
     let mut outcome = are_alike(one, other);
@@ -155,7 +160,7 @@ fn go_through(one: &mut TriedStation<'_>, other: &mut TriedStation<'_>) -> Outco
         outcome = outcome
             .and(come(one, input, heard, &last, &mut first))
             .and(come(other, input, heard, &last, &mut second))
-            .and(Outcome::of(are_handed_out(&first, &second)))
+            .and(TrialOutcome::of(are_handed_out(&first, &second)))
             .and(are_alike(one, other));
         if let Some(datagram) = first.datagrams().last() {
             last = encode(datagram);
@@ -165,11 +170,14 @@ fn go_through(one: &mut TriedStation<'_>, other: &mut TriedStation<'_>) -> Outco
 }
 
 /// A save, at the second try where the first was refused its allocation.
-fn save(store: &mut MemoryStable) -> Outcome {
+fn save(store: &mut MemoryStable) -> TrialOutcome {
     match store.save(key(1, 0, 0), BOOT) {
-        Ok(()) => Outcome::Whole,
-        Err(StoreFault::Memory) => Outcome::again(true, store.save(key(1, 0, 0), BOOT).is_ok()),
-        Err(_) => Outcome::Changed,
+        Ok(()) => TrialOutcome::Whole,
+        Err(StoreFault::Memory) => TrialOutcome::again(
+            true,
+            store.save(key(1, 0, 0), BOOT).is_ok(),
+        ),
+        Err(_) => TrialOutcome::Changed,
     }
 }
 
@@ -178,9 +186,9 @@ fn opened<'a>(
     alloc: Global,
     tree: &'a Tree,
     store: MemoryStable,
-) -> Result<(TriedStation<'a>, Outcome), MemoryStable> {
+) -> Result<(TriedStation<'a>, TrialOutcome), MemoryStable> {
     match Station::open(alloc, tree, 1, store) {
-        Ok(station) => Ok((station, Outcome::Whole)),
+        Ok(station) => Ok((station, TrialOutcome::Whole)),
         Err((OpenFault::Memory, store)) => again(alloc, tree, store),
         Err((_, store)) => Err(store),
     }
@@ -196,34 +204,34 @@ fn again<'a>(
     alloc: Global,
     tree: &'a Tree,
     store: MemoryStable,
-) -> Result<(TriedStation<'a>, Outcome), MemoryStable> {
+) -> Result<(TriedStation<'a>, TrialOutcome), MemoryStable> {
     let mut store = store;
     let is_kept = rows_of(&mut store).is_ok_and(|rows| has_boot(&rows.0));
     match Station::open(alloc, tree, 1, store) {
-        Ok(station) => Ok((station, Outcome::again(is_kept, true))),
+        Ok(station) => Ok((station, TrialOutcome::again(is_kept, true))),
         Err((_, store)) => Err(store),
     }
 }
 
 /// What is seen of the second station, which is to open, beside the first.
-fn with_second(alloc: Global, tree: &Tree, one: &mut TriedStation<'_>) -> Outcome {
+fn with_second(alloc: Global, tree: &Tree, one: &mut TriedStation<'_>) -> TrialOutcome {
     let mut store = MemoryStable::new(alloc);
     let saved = save(&mut store);
     match opened(alloc, tree, store) {
         Ok((mut other, outcome)) => saved.and(outcome).and(go_through(one, &mut other)),
-        Err(_) => Outcome::Changed,
+        Err(_) => TrialOutcome::Changed,
     }
 }
 
 /// What is seen of two stations over a tree.
-pub(crate) fn of(alloc: Global, tree: &Tree) -> Outcome {
+pub(crate) fn of(alloc: Global, tree: &Tree) -> TrialOutcome {
     let mut store = MemoryStable::new(alloc);
     let saved = save(&mut store);
     match opened(alloc, tree, store) {
         Ok((mut one, outcome)) => saved
             .and(outcome)
-            .and(Outcome::of(one.boot() == 3))
+            .and(TrialOutcome::of(one.boot() == 3))
             .and(with_second(alloc, tree, &mut one)),
-        Err(_) => Outcome::Changed,
+        Err(_) => TrialOutcome::Changed,
     }
 }

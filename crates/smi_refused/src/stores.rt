@@ -3,7 +3,7 @@
 //! A save that was refused its allocation leaves all rows unchanged, and the same save then succeeds. One
 //! over SQL may be unsure, but only where its disk failed: an open then finds the row as before or as saved.
 
-use crate::outcome::Outcome;
+use crate::outcome::TrialOutcome;
 use smi_rig::{OnDisks, OverSql, are_same, back};
 use smi_rows::{Key, MemoryStable, PlannedStable, SavedRow, Stable, StoreFault};
 use smi_samples::{BOOT, TAKEN, key};
@@ -35,27 +35,27 @@ struct Unsure {
     saved: KeyedRow,
 }
 
-pub(crate) fn memory(alloc: Global) -> Outcome {
+pub(crate) fn memory(alloc: Global) -> TrialOutcome {
     let mut store = PlannedStable::new(MemoryStable::new(alloc));
     // A store in memory is never unsure.
-    saved_all(&mut store).unwrap_or(Outcome::Changed)
+    saved_all(&mut store).unwrap_or(TrialOutcome::Changed)
 }
 
-pub(crate) fn sql(alloc: Global) -> Outcome {
+pub(crate) fn sql(alloc: Global) -> TrialOutcome {
     over_sql::<OverSql<Memory>>(alloc)
 }
 
 type MemoryFiles = Files<Memory>;
 
 // Over any store, as all below, since each function that names the store of SQLite is dear to prove.
-fn over_sql<S: OnDisks<Disks = MemoryFiles>>(alloc: Global) -> Outcome {
+fn over_sql<S: OnDisks<Disks = MemoryFiles>>(alloc: Global) -> TrialOutcome {
     match opened::<S>(alloc) {
         Some((store, opened)) => opened.and(saves_over(alloc, store)),
-        None => Outcome::Changed,
+        None => TrialOutcome::Changed,
     }
 }
 
-fn saves_over<S: OnDisks<Disks = MemoryFiles>>(alloc: Global, store: S) -> Outcome {
+fn saves_over<S: OnDisks<Disks = MemoryFiles>>(alloc: Global, store: S) -> TrialOutcome {
     let mut store = store;
     let seen = saved_all(&mut store);
     let disks = store.close();
@@ -66,8 +66,8 @@ fn saves_over<S: OnDisks<Disks = MemoryFiles>>(alloc: Global, store: S) -> Outco
 }
 
 /// The saves, up to one that is unsure.
-fn saved_all<S: Stable>(store: &mut S) -> Result<Outcome, Unsure> {
-    let mut outcome = Outcome::Whole;
+fn saved_all<S: Stable>(store: &mut S) -> Result<TrialOutcome, Unsure> {
+    let mut outcome = TrialOutcome::Whole;
     for saved in saves() {
         outcome = outcome.and(save(store, saved)?);
     }
@@ -75,27 +75,29 @@ fn saved_all<S: Stable>(store: &mut S) -> Result<Outcome, Unsure> {
 }
 
 /// A save, and the same again where it was refused its allocation.
-fn save<S: Stable>(store: &mut S, saved: KeyedRow) -> Result<Outcome, Unsure> {
+fn save<S: Stable>(store: &mut S, saved: KeyedRow) -> Result<TrialOutcome, Unsure> {
     let Ok((before, listed)) = rows_of(store) else {
-        return Ok(Outcome::Changed);
+        return Ok(TrialOutcome::Changed);
     };
     match store.save(saved.0, saved.1) {
-        Ok(()) => Ok(listed.and(Outcome::of(is_saved(store, &before, saved)))),
+        Ok(()) => Ok(listed.and(TrialOutcome::of(is_saved(store, &before, saved)))),
         Err(StoreFault::Memory) => {
             let is_as_before = rows_of(store).is_ok_and(|rows| are_same(&before, &rows.0));
             let is_done = store.save(saved.0, saved.1).is_ok() && is_saved(store, &before, saved);
-            Ok(Outcome::again(is_as_before, is_done))
+            Ok(TrialOutcome::again(is_as_before, is_done))
         }
         Err(StoreFault::Unsure) => Err(Unsure { before, saved }),
-        Err(StoreFault::Device) => Ok(Outcome::Changed),
+        Err(StoreFault::Device) => Ok(TrialOutcome::Changed),
     }
 }
 
 /// All rows, at the second try where the first was refused its allocation.
-pub(crate) fn rows_of<S: Stable>(store: &mut S) -> Result<(Vec<SavedRow>, Outcome), StoreFault> {
+pub(crate) fn rows_of<S: Stable>(
+    store: &mut S,
+) -> Result<(Vec<SavedRow>, TrialOutcome), StoreFault> {
     match store.load() {
-        Ok(rows) => Ok((rows, Outcome::Whole)),
-        Err(StoreFault::Memory) => Ok((store.load()?, Outcome::Kept)),
+        Ok(rows) => Ok((rows, TrialOutcome::Whole)),
+        Err(StoreFault::Memory) => Ok((store.load()?, TrialOutcome::Kept)),
         Err(other) => Err(other),
     }
 }
@@ -118,29 +120,29 @@ fn are_as_saved(before: &[SavedRow], after: &[SavedRow], saved: KeyedRow) -> boo
 }
 
 /// A store over empty disks, at the second try where the first was refused an allocation.
-fn opened<S: OnDisks<Disks = MemoryFiles>>(alloc: Global) -> Option<(S, Outcome)> {
+fn opened<S: OnDisks<Disks = MemoryFiles>>(alloc: Global) -> Option<(S, TrialOutcome)> {
     let (disks, made) = blank(alloc)?;
     match S::open(alloc, disks) {
         Ok(store) => Some((store, made)),
         Err(disks) => match S::open(alloc, back(disks)) {
-            Ok(store) => Some((store, Outcome::Kept)),
+            Ok(store) => Some((store, TrialOutcome::Kept)),
             Err(_) => None,
         },
     }
 }
 
-fn blank(alloc: Global) -> Option<(MemoryFiles, Outcome)> {
+fn blank(alloc: Global) -> Option<(MemoryFiles, TrialOutcome)> {
     let (log, first) = disk_at_last(alloc)?;
     let (db, second) = disk_at_last(alloc)?;
     Some((Files { log, db }, first.and(second)))
 }
 
-fn disk_at_last(alloc: Global) -> Option<(Memory, Outcome)> {
+fn disk_at_last(alloc: Global) -> Option<(Memory, TrialOutcome)> {
     if let Ok(disk) = disk(alloc) {
-        return Some((disk, Outcome::Whole));
+        return Some((disk, TrialOutcome::Whole));
     }
     match disk(alloc) {
-        Ok(disk) => Some((disk, Outcome::Kept)),
+        Ok(disk) => Some((disk, TrialOutcome::Kept)),
         Err(_) => None,
     }
 }
@@ -168,16 +170,16 @@ fn found_again<S: OnDisks<Disks = MemoryFiles>>(
     alloc: Global,
     unsure: Unsure,
     disks: MemoryFiles,
-) -> Outcome {
+) -> TrialOutcome {
     let has_failed = !disks.may_be_used();
     match S::open(alloc, back(disks)) {
         Ok(store) => {
             let mut store = store;
             let kept = is_kept(&mut store, &unsure);
             drop(store.close());
-            Outcome::again(has_failed, kept)
+            TrialOutcome::again(has_failed, kept)
         }
-        Err(_) => Outcome::Changed,
+        Err(_) => TrialOutcome::Changed,
     }
 }
 

@@ -2,7 +2,7 @@
 
 ghost use Rattle.std.specs.Prelude.{◌≡◌, ◌≤◌, length, IfSome};
 
-use crate::outcome::Outcome;
+use crate::outcome::TrialOutcome;
 use smi_watchers::{WatchAnswer, WatchFault, Watcher, Watchers};
 use std::alloc::Global;
 
@@ -10,19 +10,19 @@ use std::alloc::Global;
 const STATIONS: [u16; 8] = [1, 2, 3, 4, 5, 6, 7, 8];
 
 /// Two lists, the first of which grows several times, and a renewal.
-pub(crate) fn of(alloc: Global) -> Outcome {
+pub(crate) fn of(alloc: Global) -> TrialOutcome {
     let Some((mut watchers, mut outcome)) = opened_lists(alloc) else {
-        return Outcome::Changed;
+        return TrialOutcome::Changed;
     };
-    outcome = outcome.and(Outcome::of(entries(&watchers) == listed(&[], None)));
+    outcome = outcome.and(TrialOutcome::of(entries(&watchers) == listed(&[], None)));
     for station in 1..9 {
         outcome = outcome.and(watch(&mut watchers, station));
         let first = STATIONS.get(..usize::from(station)).unwrap_or(&[]);
-        outcome = outcome.and(Outcome::of(entries(&watchers) == listed(first, None)));
+        outcome = outcome.and(TrialOutcome::of(entries(&watchers) == listed(first, None)));
     }
     outcome = outcome.and(renew(&mut watchers, 3));
     let renewed = listed(&[1, 2, 4, 5, 6, 7, 8], Some(3));
-    outcome.and(Outcome::of(entries(&watchers) == renewed))
+    outcome.and(TrialOutcome::of(entries(&watchers) == renewed))
 }
 
 /// The entries of both lists where these stations watch object 1 with echo 1, in this order, and one
@@ -39,14 +39,14 @@ fn listed(first: &[u16], second: Option<u16>) -> [Option<Watcher>; 12] {
     entries
 }
 
-fn opened_lists(alloc: Global) -> Option<(Watchers, Outcome)>
+fn opened_lists(alloc: Global) -> Option<(Watchers, TrialOutcome)>
     ensures { IfSome result (λ opened. length opened.0.lists ≡ 2) }
 {
     if let Ok(watchers) = Watchers::new(alloc, 2) {
-        return Some((watchers, Outcome::Whole));
+        return Some((watchers, TrialOutcome::Whole));
     }
     match Watchers::new(alloc, 2) {
-        Ok(watchers) => Some((watchers, Outcome::Kept)),
+        Ok(watchers) => Some((watchers, TrialOutcome::Kept)),
         Err(_) => None,
     }
 }
@@ -71,7 +71,7 @@ fn entries(watchers: &Watchers) -> [Option<Watcher>; 12]
     ]
 }
 
-fn watch(watchers: &mut Watchers, station: u16) -> Outcome
+fn watch(watchers: &mut Watchers, station: u16) -> TrialOutcome
     requires lists { length watchers.old.lists ≡ 2 }
     requires least { 1 ≤ station }
     requires most { station ≤ 128 }
@@ -79,17 +79,17 @@ fn watch(watchers: &mut Watchers, station: u16) -> Outcome
 {
     let before = entries(watchers);
     match watchers.watch(1, station, 1) {
-        Ok(answer) => Outcome::of(answer == WatchAnswer::Added),
-        Err(WatchFault::Full) => Outcome::Changed,
+        Ok(answer) => TrialOutcome::of(answer == WatchAnswer::Added),
+        Err(WatchFault::Full) => TrialOutcome::Changed,
         Err(WatchFault::Memory) => {
             let is_as_before = entries(watchers) == before;
             let again = watchers.watch(1, station, 1);
-            Outcome::again(is_as_before, again == Ok(WatchAnswer::Added))
+            TrialOutcome::again(is_as_before, again == Ok(WatchAnswer::Added))
         }
     }
 }
 
-fn renew(watchers: &mut Watchers, station: u16) -> Outcome
+fn renew(watchers: &mut Watchers, station: u16) -> TrialOutcome
     requires lists { length watchers.old.lists ≡ 2 }
     requires least { 1 ≤ station }
     requires most { station ≤ 128 }
@@ -97,12 +97,12 @@ fn renew(watchers: &mut Watchers, station: u16) -> Outcome
 {
     let before = entries(watchers);
     match watchers.renew(2, station, 2) {
-        Ok(answer) => Outcome::of(answer == WatchAnswer::Added),
-        Err(WatchFault::Full) => Outcome::Changed,
+        Ok(answer) => TrialOutcome::of(answer == WatchAnswer::Added),
+        Err(WatchFault::Full) => TrialOutcome::Changed,
         Err(WatchFault::Memory) => {
             let is_as_before = entries(watchers) == before;
             let again = watchers.renew(2, station, 2);
-            Outcome::again(is_as_before, again == Ok(WatchAnswer::Added))
+            TrialOutcome::again(is_as_before, again == Ok(WatchAnswer::Added))
         }
     }
 }

@@ -4,7 +4,7 @@
 //! and the same item then leaves what it leaves in the other world; but that a station which had stopped after its save
 //! stays stopped, so that its item then leaves only the start.
 
-use crate::outcome::Outcome;
+use crate::outcome::TrialOutcome;
 use smi_protocol::{Entry, Item, Line, Moment};
 use smi_schedule::{ScheduleFault, read_schedule};
 use smi_tree::Tree;
@@ -23,26 +23,26 @@ fn act(
     item: &Item,
     left: &mut Left,
     lines: &mut Vec<Line>,
-) -> (Outcome, bool) {
+) -> (TrialOutcome, bool) {
     let (made, is_again) = match world.act(alloc, item, left) {
-        Ok(()) => (Outcome::Whole, false),
-        Err(ActFault::NoSuch) => (Outcome::Changed, false),
+        Ok(()) => (TrialOutcome::Whole, false),
+        Err(ActFault::NoSuch) => (TrialOutcome::Changed, false),
         Err(ActFault::Memory) => {
             let again = world.act(alloc, item, left);
-            (Outcome::again(true, again == Ok(())), true)
+            (TrialOutcome::again(true, again == Ok(())), true)
         }
     };
     (made.and(push(world.tree(), left, lines)), is_again)
 }
 
 /// The lines of what is left, at the second try where the first was refused an allocation.
-fn push(tree: &Tree, left: &Left, lines: &mut Vec<Line>) -> Outcome {
+fn push(tree: &Tree, left: &Left, lines: &mut Vec<Line>) -> TrialOutcome {
     lines.clear();
     match left.push_lines(tree, lines) {
-        Ok(()) => Outcome::Whole,
+        Ok(()) => TrialOutcome::Whole,
         Err(AllocError) => {
             lines.clear();
-            Outcome::again(true, left.push_lines(tree, lines).is_ok())
+            TrialOutcome::again(true, left.push_lines(tree, lines).is_ok())
         }
     }
 }
@@ -76,10 +76,10 @@ struct WorldLines {
 }
 
 /// More lines, at the second try where the first was refused an allocation.
-fn add_all(whole: &mut Vec<Line>, lines: &[Line]) -> Outcome {
+fn add_all(whole: &mut Vec<Line>, lines: &[Line]) -> TrialOutcome {
     match whole.extend_from_slice(lines) {
-        Ok(()) => Outcome::Whole,
-        Err(_) => Outcome::again(true, whole.extend_from_slice(lines).is_ok()),
+        Ok(()) => TrialOutcome::Whole,
+        Err(_) => TrialOutcome::again(true, whole.extend_from_slice(lines).is_ok()),
     }
 }
 
@@ -90,7 +90,7 @@ fn both(
     other: &mut World<'_>,
     item: &Item,
     sheets: &mut WorldLines,
-) -> Outcome {
+) -> TrialOutcome {
     let (first, is_again) = act(alloc, one, item, &mut sheets.left, &mut sheets.one);
     let (second, is_again_there) = act(alloc, other, item, &mut sheets.left, &mut sheets.other);
     let is_so = are_left(item, &sheets.one, &sheets.other, is_again || is_again_there);
@@ -99,7 +99,7 @@ fn both(
     } else {
         add_all(&mut sheets.whole, &sheets.one)
     };
-    first.and(second).and(added).and(Outcome::of(is_so))
+    first.and(second).and(added).and(TrialOutcome::of(is_so))
 }
 
 fn go_through(
@@ -108,8 +108,8 @@ fn go_through(
     other: &mut World<'_>,
     items: &[Item],
     sheets: &mut WorldLines,
-) -> Outcome {
-    let mut outcome = Outcome::Whole;
+) -> TrialOutcome {
+    let mut outcome = TrialOutcome::Whole;
     for item in items {
         outcome = outcome.and(both(alloc, one, other, item, sheets));
     }
@@ -117,29 +117,34 @@ fn go_through(
 }
 
 /// The lines of the opening, at the second try where the first was refused an allocation.
-fn opening(tree: &Tree, lines: &mut Vec<Line>) -> Outcome {
+fn opening(tree: &Tree, lines: &mut Vec<Line>) -> TrialOutcome {
     match push_opening(lines, tree) {
-        Ok(()) => Outcome::Whole,
+        Ok(()) => TrialOutcome::Whole,
         Err(AllocError) => {
             lines.clear();
-            Outcome::again(true, push_opening(lines, tree).is_ok())
+            TrialOutcome::again(true, push_opening(lines, tree).is_ok())
         }
     }
 }
 
 /// The whole schedule in one call, at the second try where the first was refused an allocation: it leaves the same.
-fn runs(alloc: Global, tree: &Tree, items: &[Item], whole: &[Line]) -> Outcome {
+fn runs(alloc: Global, tree: &Tree, items: &[Item], whole: &[Line]) -> TrialOutcome {
     match run(alloc, tree, items) {
-        Ok(lines) => Outcome::of(lines.as_slice() == whole),
-        Err(WorldFault::NoSuch(_)) => Outcome::Changed,
+        Ok(lines) => TrialOutcome::of(lines.as_slice() == whole),
+        Err(WorldFault::NoSuch(_)) => TrialOutcome::Changed,
         Err(WorldFault::Memory) => {
             let again = run(alloc, tree, items);
-            Outcome::again(true, again.is_ok_and(|lines| lines.as_slice() == whole))
+            TrialOutcome::again(true, again.is_ok_and(|lines| lines.as_slice() == whole))
         }
     }
 }
 
-fn in_both(alloc: Global, one: &mut World<'_>, other: &mut World<'_>, items: &[Item]) -> Outcome {
+fn in_both(
+    alloc: Global,
+    one: &mut World<'_>,
+    other: &mut World<'_>,
+    items: &[Item],
+) -> TrialOutcome {
     let mut sheets = WorldLines {
         left: Left::new(),
         one: Vec::new(alloc),
@@ -149,44 +154,44 @@ fn in_both(alloc: Global, one: &mut World<'_>, other: &mut World<'_>, items: &[I
     let tree = one.tree();
     opening(tree, &mut sheets.whole)
         .and(go_through(alloc, one, other, items, &mut sheets))
-        .and(Outcome::of(sheets.whole.len() > 50))
+        .and(TrialOutcome::of(sheets.whole.len() > 50))
         .and(runs(alloc, tree, items, sheets.whole.as_slice()))
 }
 
 /// A world, at the second try where the first was refused an allocation.
-fn world<'a>(alloc: Global, tree: &'a Tree) -> Option<(World<'a>, Outcome)> {
+fn world<'a>(alloc: Global, tree: &'a Tree) -> Option<(World<'a>, TrialOutcome)> {
     match World::new(alloc, tree) {
-        Ok(world) => Some((world, Outcome::Whole)),
+        Ok(world) => Some((world, TrialOutcome::Whole)),
         Err(AllocError) => match World::new(alloc, tree) {
-            Ok(world) => Some((world, Outcome::Kept)),
+            Ok(world) => Some((world, TrialOutcome::Kept)),
             Err(_) => None,
         },
     }
 }
 
 // One function owns a world: whatever owns one is dear to prove.
-fn with_second(alloc: Global, tree: &Tree, one: &mut World<'_>, items: &[Item]) -> Outcome {
+fn with_second(alloc: Global, tree: &Tree, one: &mut World<'_>, items: &[Item]) -> TrialOutcome {
     match world(alloc, tree) {
         Some((mut other, made)) => made.and(in_both(alloc, one, &mut other, items)),
-        None => Outcome::Changed,
+        None => TrialOutcome::Changed,
     }
 }
 
-fn with_items(alloc: Global, tree: &Tree, items: &[Item]) -> Outcome {
+fn with_items(alloc: Global, tree: &Tree, items: &[Item]) -> TrialOutcome {
     match world(alloc, tree) {
         Some((mut one, made)) => made.and(with_second(alloc, tree, &mut one, items)),
-        None => Outcome::Changed,
+        None => TrialOutcome::Changed,
     }
 }
 
 /// What is seen of two worlds over a tree.
-pub(crate) fn of(alloc: Global, tree: &Tree) -> Outcome {
+pub(crate) fn of(alloc: Global, tree: &Tree) -> TrialOutcome {
     match read_schedule(alloc, tree, SCHEDULE) {
         Ok(items) => with_items(alloc, tree, items.as_slice()),
-        Err(ScheduleFault::Line(_, _)) => Outcome::Changed,
+        Err(ScheduleFault::Line(_, _)) => TrialOutcome::Changed,
         Err(ScheduleFault::Memory) => match read_schedule(alloc, tree, SCHEDULE) {
-            Ok(items) => with_items(alloc, tree, items.as_slice()).and(Outcome::Kept),
-            Err(_) => Outcome::Changed,
+            Ok(items) => with_items(alloc, tree, items.as_slice()).and(TrialOutcome::Kept),
+            Err(_) => TrialOutcome::Changed,
         },
     }
 }

@@ -10,7 +10,7 @@ use smi_display::Displayed;
 use smi_grants::{Kept, is_report_here, refusal_of_message};
 use smi_message::{Body, Datagram, decode};
 use smi_out::Out;
-use smi_protocol::{Answer, Event, Heard, Order, Request, StepFault, Told};
+use smi_protocol::{Answer, Event, Heard, Order, OrderCode, Request, StepFault, Told};
 use smi_rows::Stable;
 use std::alloc::AllocError;
 use std::marker::Model;
@@ -118,9 +118,6 @@ fn same_or_memory(done: Result<(), AllocError>) -> Result<Heard, StepFault>
 }
 
 ghost use Rattle.smi_station.specs.Core.{same_or_memory};
-
-/// The code of an order or a report that is not for this station.
-const NOT_HERE: u16 = 26;
 
 /// Whether a step has stopped its station.
 fn is_stopped_by(heard: &Result<Heard, StepFault>) -> bool
@@ -388,7 +385,7 @@ impl<'a> Core<'a> {
         ensures made { IsOk result }
     {
         if !is_report_here(self.kept.tree(), self.kept.number(), device, state) {
-            return Ok(Heard::Refused(NOT_HERE));
+            return Ok(Heard::Refused(OrderCode::NotHere.code()));
         }
         self.is_stopped = report(&self.kept, &mut self.display, out, device, state);
         Ok(Heard::Same)

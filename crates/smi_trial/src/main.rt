@@ -41,7 +41,7 @@ use smi_lists::{random, watching};
 use smi_measures::acts::Choice;
 use smi_measures::{acts, board, links, saves, steps, trees};
 use smi_plays::{play_drawn, play_file};
-use smi_refused::{Outcome, outcome_of};
+use smi_refused::{TrialOutcome, outcome_of};
 use smi_rig::save_rows;
 use std::{env, io};
 
@@ -56,7 +56,7 @@ fn main(rt: HostRuntime) -> io::Result<()> {
             tell(&rt, outcome_of(&rt, rt.alloc(), layer.as_str()))
         }
         [_, what, layer] if what.as_str() == "limits" && layer.as_str() != "udp" => {
-            tell(&rt, Outcome::of(holds(&rt, layer.as_str())))
+            tell(&rt, TrialOutcome::of(holds(&rt, layer.as_str())))
         }
         [_, what, readers, reads] if what.as_str() == "board" => {
             board::measure(&rt, number(readers.as_str()), number(reads.as_str()))
@@ -69,19 +69,22 @@ fn main(rt: HostRuntime) -> io::Result<()> {
 /// The other trials.
 fn trial(rt: &HostRuntime, words: &[String]) -> io::Result<()> {
     match words {
-        [what, _] if what.as_str() == "limits" => tell(rt, Outcome::of(links::are_passed(rt)?)),
+        [what, _] if what.as_str() == "limits" => tell(
+            rt,
+            TrialOutcome::of(links::are_passed(rt)?),
+        ),
         [what, layer, path] if what.as_str() == "limits" => {
             let is_so = holds_over_tree(rt, layer.as_str(), path.as_str())?;
-            tell(rt, Outcome::of(is_so))
+            tell(rt, TrialOutcome::of(is_so))
         }
         [what, tree, schedule] if what.as_str() == "plays" => {
             let is_so = play_file(rt, tree.as_str(), schedule.as_str())?;
-            tell(rt, Outcome::of(is_so))
+            tell(rt, TrialOutcome::of(is_so))
         }
         [what, tree, seed, items] if what.as_str() == "plays" => {
             let seed = u64::from(number(seed.as_str()));
             let is_so = play_drawn(rt, tree.as_str(), seed, number(items.as_str()))?;
-            tell(rt, Outcome::of(is_so))
+            tell(rt, TrialOutcome::of(is_so))
         }
         [what, path] if what.as_str() == "store" => save_rows(rt, path.as_str()),
         [what, calls] if what.as_str() == "random" => random::call(rt, number(calls.as_str())),
@@ -128,7 +131,7 @@ fn bench(rt: &HostRuntime, words: &[String]) -> io::Result<()> {
 }
 
 /// Prints what a trial saw, in a word.
-fn tell(rt: &HostRuntime, outcome: Outcome) -> io::Result<()> {
+fn tell(rt: &HostRuntime, outcome: TrialOutcome) -> io::Result<()> {
     println!(rt; "{}", outcome.word())
 }
 

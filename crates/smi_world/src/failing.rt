@@ -16,9 +16,6 @@ use smi_out::Out;
 use smi_rows::Plan;
 use std::alloc::AllocError;
 
-/// The code of an order whose row was not saved.
-const NOT_STORED: u16 = 31;
-
 /// An order whose row was not saved is answered.
 fn tell_not_stored(what: &Coming, out: &mut Out)
     requires { out.old ≡ nothing_out }
@@ -36,7 +33,7 @@ fn tell_not_stored(what: &Coming, out: &mut Out)
             operator: *operator,
             told: Told {
                 order: *order,
-                code: NOT_STORED,
+                code: OrderCode::NotStored.code(),
                 asked: None,
             },
             mark: None,
@@ -49,7 +46,7 @@ ghost use Rattle.smi_protocol.specs.Schedule.{not_stored};
 ghost use Rattle.smi_protocol.specs.Happening.{told_entries};
 ghost use Rattle.smi_protocol.specs.Step.{nothing_out};
 
-use smi_protocol::{Answer, Order, Request, Told};
+use smi_protocol::{Answer, OrderCode, Request, Told};
 
 /// The row is as before: the order is answered so.
 fn fail_at_device(post: &Post<'_>, what: &Coming, left: &mut Left)

@@ -23,5 +23,5 @@ returns-else-i-self-2 c =
     let run = c.self.inside in
     let older : unseen ≡ (if c.args.i + 1 == run.count then run.code else unseen) = grind
     (arith, nat_tests, c.if-i-self-2.false) in
-    ap (λ x. Some (settlement (run.first + c.args.i) x)) older
+    ap (λ x. Some (settlement (run.first + c.args.i) x)) (c.code.ensures ∙ older)
     ∙ one_within run.first run.count run.code c.args.self.now c.self.view_is c.args.i c.if-i-self.false
