@@ -270,12 +270,12 @@ def planted_cases():
     orders = r"Order\w*::Include"
     whole = places.having("sources", orders)
     for name, files, is_right in [("whole", whole, True), ("one left out", whole[1:], False),
-                                  ("one more", whole + ["crates/smi_bytes/src/lib.rt"], False),
-                                  ("one that is not there", whole + ["crates/smi_bytes/src/none.rt"], False)]:
+                                  ("one more", whole + ["crates/smi_base/src/lib.rt"], False),
+                                  ("one that is not there", whole + ["crates/smi_base/src/none.rt"], False)]:
         yield verdict.case("a list of files: " + name, not places.faults_of("sources", orders, files), is_right)
     for path, is_right in [
-            ("crates/smi_grants/proofs/kept/Kept/put_child/Answers.antt", True),
-            ("crates/smi_grants/proofs/commit/Kept/put_child/Answers.antt", False),
+            ("crates/smi_holdings/proofs/kept/Kept/put_child/Answers.antt", True),
+            ("crates/smi_holdings/proofs/commit/Kept/put_child/Answers.antt", False),
             ("crates/smi_plan/proofs/running/run/Answers.antt", True),
             ("crates/smi_plan/proofs/asking/run/Answers.antt", False),
             ("crates/smi_plan/proofs/running/run/Lemmas.antt", False)]:

@@ -2,7 +2,7 @@
 
 The program says so and ends with status 4, and a store that it lists is left as it was; or it does without that growth
 and does all that it does otherwise. A layer's object is after each as it was before, and the same call then does what
-it does otherwise (crates/smi_refused).
+it does otherwise (crates/smi_memory).
 """
 
 import os

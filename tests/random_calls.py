@@ -1,4 +1,4 @@
-"""Random calls of watcher lists, each answered as plain lists do (crates/smi_lists): with valgrind, where it is there,
+"""Random calls of watcher lists, each answered as plain lists do (crates/smi_measures): with valgrind, where it is there,
 no memory is used wrongly, and all of it is given back."""
 
 import re

@@ -100,7 +100,7 @@ def answer_cases(program, folder):
     try:
         yield "answers: it is up", screen.is_up()
         own, local = screen.host, "localhost:%d" % screen.port
-        with open(os.path.join(os.path.dirname(nodes.__file__), "..", "crates", "smi_page", "page.html"), "rb") as file:
+        with open(os.path.join(os.path.dirname(nodes.__file__), "..", "crates", "smi_program", "page.html"), "rb") as file:
             page = file.read()
         yield verdict.case("answers: the page", screen.get("/"), (200, page))
         yield verdict.case("answers: by the name of this machine", screen.get("/", host=local), (200, page))

@@ -34,8 +34,8 @@ HEADS = ("# How that was measured, by the letters of docs/GATE.md: proof, tests,
 # A line of `make smi` about a library that is proved.
 PROVED = re.compile(r"(?m)^(smi\w*): proved, (\d+) seconds")
 # The crates and the numbers of processors of which the documents tell.
-LANDINGS = ("", "smi_limits", "smi_grant", "smi_tree", "smi_rows", "smi_protocol", "smi_grants", "smi_station",
-            "smi_node", "smi_world", "smi_cli", "smi_crew", "smi_window", "smi")
+LANDINGS = ("", "smi_base", "smi_grant", "smi_tree", "smi_rows", "smi_protocol", "smi_holdings", "smi_station",
+            "smi_node", "smi_world", "smi_commands", "smi_console", "smi_window", "smi")
 LANES = (2, 4)
 DOCUMENTS = ("README.md", "docs/GATE.md")
 # What stands in them between two marks.

@@ -2,9 +2,9 @@
 
 usage: page.py [--write]
 
-crates/smi_page/page.html is the page as it is written, and orders.html what follows it where orders may be given;
-crates/smi_page/src/page.rt and orders.rt have each as one constant. With --write the constants are made anew, and else
-they are compared. The last line is 'N passed, M failed'.
+crates/smi_program/page.html is the page as it is written, and orders.html what follows it where orders may be given;
+crates/smi_program/src/page.rt and orders.rt have each as one constant. With --write the constants are made anew, and
+else they are compared. The last line is 'N passed, M failed'.
 """
 
 import os
@@ -12,7 +12,7 @@ import sys
 
 import kit
 
-FOLDER = os.path.join(kit.ROOT, "crates", "smi_page")
+FOLDER = os.path.join(kit.ROOT, "crates", "smi_program")
 HEAD = """//! %s It is made of %s.html by tools/page.py.
 
 /// %s
@@ -41,7 +41,7 @@ def is_as_written(name, is_to_be_made):
             file.write(made)
     same = made == read(path)
     if not same:
-        print("crates/smi_page/src/%s.rt is not %s.html: python3 tools/page.py --write makes it so" % (name, name))
+        print("crates/smi_program/src/%s.rt is not %s.html: python3 tools/page.py --write makes it so" % (name, name))
     return same
 
 

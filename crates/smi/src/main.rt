@@ -1,11 +1,10 @@
 //! `smi`: the program of the control hierarchy.
 //!
-//! `main` has the runtime. What the words of its command line ask for is said by `smi_line` and done by `smi_commands`.
+//! `main` has the runtime. What the words of its command line ask for is said and done by `smi_program`.
 #![tactic(auto)]
 
-use smi_cli::status::no_memory;
-use smi_commands::{program, tell_help};
-use smi_line::words_of;
+use smi_commands::status::no_memory;
+use smi_program::{program, tell_help, words_of};
 use std::io::IsTerminal;
 use std::process::ExitCode;
 

@@ -2,7 +2,7 @@
 //! nothing, and stands in nobody's way: a station may run on the store, and any number of listings beside it.
 
 use crate::file::{beside, bytes_of, resolved};
-use smi_cli::rows::{Listed, rows};
+use smi_commands::rows::{Listed, rows};
 use smi_stable::{SqliteStable, StoreFault};
 use sqlite::{Alter, Connection, Error, ErrorCode, FileStore, Files, Options};
 use sqlite_disk::{Disk, Memory};

@@ -1,57 +1,70 @@
-//! The mark of the tree that a store was made for, in a file beside it.
+//! The mark of a tree, as it stands beside a store.
 
-use crate::file::{beside, bytes_of};
-use smi_origin::{Kinship, TreeMark, compare};
-use std::fs::{self, OpenFile};
-use std::io::{self, ErrorKind, Write};
-use std::rt::Files;
+ghost use Rattle.std.specs.Prelude.{◌≡◌};
+ghost use Rattle.smi_disks.specs.Mark.{kin};
 
-/// What stands after the path of a store in that of its mark.
-const MARK: &[u8] = b"-tree";
+/// How many bytes a mark has.
+pub const MARK_BYTES: usize = 34;
 
-/// A mark is written by this name, and gets its own once it is whole.
-const UNFINISHED: &[u8] = b"-tree-new";
-
-/// The bytes of the mark beside a store; none where there is none.
-fn mark_beside<H: Files + AllocGlobal>(host: &H, path: &[u8]) -> io::Result<Option<Vec<u8>>> {
-    bytes_of(host, beside(host.alloc(), path, MARK)?.as_slice())
+/// The number of a tree, and the digest of what its file says.
+#[derive(Clone, Copy, Debug, PartialEq, Eq)]
+pub struct TreeMark {
+    pub number: u16,
+    pub digest: [u8; 32],
 }
 
-fn text(path: &[u8]) -> io::Result<&str> {
-    match str::from_utf8(path) {
-        Ok(text) => Ok(text),
-        Err(_) => Err(io::Error::from(ErrorKind::InvalidInput)),
+/// How a tree compares with the one that a store was made for.
+#[derive(Clone, Copy, Debug, PartialEq, Eq)]
+pub enum Kinship {
+    /// It is the same, word for word.
+    Same,
+    /// It has the same number, and its file says something else.
+    Changed,
+    /// It has another number.
+    Other,
+}
+
+impl TreeMark {
+    ghost use Rattle.std.specs.Prelude.{◌≡◌, ◌≢◌, length, IfSome, None};
+    ghost use Rattle.smi_disks.specs.Mark.{mark_bytes};
+
+    /// The bytes of the mark (docs/FORMATS.md, "The mark of a store").
+    pub fn bytes(&self) -> [u8; MARK_BYTES]
+        ensures { result ≡ mark_bytes self.now }
+    {
+        let mut bytes = [0; MARK_BYTES];
+        bytes[..2].copy_from_slice(&self.number.to_be_bytes());
+        bytes[2..].copy_from_slice(&self.digest);
+        bytes
+    }
+
+    /// The mark of these bytes; none where they are not as many as a mark has.
+    pub fn of(bytes: &[u8]) -> Option<TreeMark>
+        ensures found { IfSome result (λ mark. bytes.now ≡ mark_bytes mark) }
+        ensures none { result ≡ None → length bytes.now ≢ MARK_BYTES }
+    {
+        if bytes.len() != MARK_BYTES {
+            return None;
+        }
+        let (number, rest) = bytes.split_at(2);
+        let mut digest = [0; 32];
+        digest.copy_from_slice(rest);
+        Some(TreeMark {
+            number: u16::from_be_bytes([number[0], number[1]]),
+            digest,
+        })
     }
 }
 
-/// Puts a mark beside a store: whole, or not at all.
-fn put_mark<H: Files + AllocGlobal>(host: &H, path: &[u8], mark: &TreeMark) -> io::Result<()> {
-    let unfinished = beside(host.alloc(), path, UNFINISHED)?;
-    let finished = beside(host.alloc(), path, MARK)?;
-    let (unfinished, finished) = (text(unfinished.as_slice())?, text(finished.as_slice())?);
-    let mut file = fs::create(host, unfinished)?;
-    file.write_all(&mark.bytes())?;
-    file.sync_all()?;
-    fs::rename(host, unfinished, finished)
-}
-
-/// How a tree compares with the one that the store of a path was made for. A store that has no mark gets that of this
-/// tree. What stands there and is no mark is that of another tree.
-///
-/// Its error is that the mark could not be read, or not be written.
-pub fn kinship<H: Files + AllocGlobal>(
-    host: &H,
-    path: &[u8],
-    own: &TreeMark,
-) -> io::Result<Kinship> {
-    match mark_beside(host, path)? {
-        Some(bytes) => match TreeMark::of(bytes.as_slice()) {
-            Some(mark) => Ok(compare(own, &mark)),
-            None => Ok(Kinship::Other),
-        },
-        None => {
-            put_mark(host, path, own)?;
-            Ok(Kinship::Same)
-        }
+/// How the tree of one mark compares with that of another.
+pub fn compare(own: &TreeMark, other: &TreeMark) -> Kinship
+    ensures { result ≡ kin own.now other.now }
+{
+    if own.number != other.number {
+        Kinship::Other
+    } else if own.digest != other.digest {
+        Kinship::Changed
+    } else {
+        Kinship::Same
     }
 }

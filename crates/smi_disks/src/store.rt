@@ -1,10 +1,10 @@
 //! Stores by their paths.
 
 use crate::listing::list;
-use crate::mark::kinship;
+use crate::mark::{Kinship, TreeMark};
+use crate::marking::kinship;
 use crate::watched::{StoreFile, Watched};
-use smi_cli::rows::Listed;
-use smi_origin::{Kinship, TreeMark};
+use smi_commands::rows::Listed;
 use smi_stable::{SqliteStable, Stable, StoreFault};
 use sqlite::{Alter, Connection, Error, ErrorCode, File, FileStore};
 use std::io::{self, ErrorKind, Write};
@@ -41,7 +41,7 @@ impl Stores for HostRuntime {
         path: &[u8],
     ) -> Result<Watched<SqliteStable<FileStore<File>>, StoreFile<HostRuntime>>, StoreFault> {
         match str::from_utf8(path) {
-            Ok(path) => watched(smi_file::open(self, path), self, path),
+            Ok(path) => watched(smi_stable::open(self, path), self, path),
             Err(_) => Err(StoreFault::Device),
         }
     }

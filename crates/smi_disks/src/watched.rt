@@ -2,8 +2,8 @@
 
 ghost use Rattle.std.specs.Prelude.{◌+◌};
 
+use smi_base::Tally;
 use smi_rows::{Key, SavedRow, Stable, StoreFault};
-use smi_tally::Tally;
 use std::os::unix::fs::MetadataExt;
 use std::rt::Files;
 use std::{fs, io};

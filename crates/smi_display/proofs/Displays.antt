@@ -11,7 +11,7 @@ use Rattle.smi_tree.specs.Lookups.{domain_count, state_count, station_count, ope
 use Rattle.smi_publish.specs.declared.condition.Condition.{Condition}
 use Rattle.std.specs.Prelude.{IfSome}
 use Rattle.std.specs.List.{AllByRecursion}
-use Rattle.smi_command.proofs.Heard.{choose}
+use Rattle.smi_grant.proofs.Heard.{choose}
 use Rattle.smi_message.specs.Message.{is_boot}
 use Rattle.smi_publish.specs.Published.{HasRoom, Published, change_at, changes_at, conditions_of, differs, shown_at}
 use Rattle.smi_publish.specs.Publishing.{acted, evaluated, first_condition, reported}
@@ -34,8 +34,8 @@ use Rattle.smi_protocol.specs.declared.Place.{Place}
 use Rattle.smi_protocol.proofs.SoundDisplay.{Conditions, display_shown, passed_all, acted_sound, answered_sound}
 use Rattle.smi_protocol.proofs.SoundDisplay.{asked_sound, conditions_sound, evaluated_sound, named_sound}
 use Rattle.smi_protocol.proofs.SoundDisplay.{reported_sound, unwatch_sound, watch_sound}
-use Rattle.smi_tables.specs.Entries.{entry_or}
-use Rattle.smi_tables.proofs.Writes.{table_set}
+use Rattle.smi_holdings.specs.Entries.{entry_or}
+use Rattle.smi_holdings.proofs.Writes.{table_set}
 use Rattle.smi_display.specs.Displayed.{Displayed, IsDisplayed, display_of}
 use Rattle.smi_display.specs.Listening.{forgotten}
 

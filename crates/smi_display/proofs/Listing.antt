@@ -8,7 +8,7 @@ use Rattle.std.proofs.Math.ListN.{set}
 use Rattle.std.proofs.lemmas.List.Recursion.{is_count_by}
 use Rattle.std.proofs.lemmas.List.{take_all}
 use Rattle.std.proofs.lemmas.Option.{slice_get_within}
-use Rattle.smi_limits.specs.declared.trees.TheConstants.{MOST_CHILDREN, MOST_DEVICES_OF_A_DOMAIN}
+use Rattle.smi_base.specs.declared.trees.TheConstants.{MOST_CHILDREN, MOST_DEVICES_OF_A_DOMAIN}
 use Rattle.smi_tree.specs.Hierarchy.{Hierarchy, is_child_of, is_device_of}
 use Rattle.smi_tree.specs.Lawful.{IsTree}
 use Rattle.smi_tree.specs.Lookups.{children_of, device_count, devices_of, numbers_from, operators_of}

@@ -4,7 +4,7 @@ use Rattle.std.proofs.Common.{take, get_or, map, Option, Some, None, refl, sym, 
 use Rattle.std.specs.Prelude.{◌==◌, ◌&&◌, filter, if◌then◌else◌, not}
 use Rattle.std.proofs.lemmas.Bool.Decides.{nat_tests}
 use Rattle.std.specs.List.{cons_option, filter_map, flat_map, range_with_len}
-use Rattle.smi_command.specs.declared.Due.{Due}
+use Rattle.smi_grant.specs.declared.Due.{Due}
 use Rattle.smi_tree.specs.Hierarchy.{Hierarchy}
 use Rattle.smi_tree.specs.Lawful.{IsBetween, IsTree}
 use Rattle.smi_tree.specs.Lookups.{domain_count, operator_count, operators_of}

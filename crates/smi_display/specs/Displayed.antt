@@ -11,7 +11,7 @@ use Rattle.smi_protocol.specs.Display.{Display}
 use Rattle.smi_protocol.specs.Opening.{object_count}
 use Rattle.smi_protocol.specs.SoundDisplay.{IsDisplay}
 use Rattle.smi_protocol.specs.declared.Place.{Place}
-use Rattle.smi_tables.specs.Entries.{entry_or}
+use Rattle.smi_holdings.specs.Entries.{entry_or}
 
 -- The states of its own objects and of others, which objects its operators name, the greatest echo of each
 -- station, the watchers of each object, where the next tick begins, and what each operator has asked about.

@@ -1,10 +1,10 @@
 -- A sweep over what is due, one datagram after the other.
 use Rattle.std.specs.Prelude.{ℕ, ◌≤◌, ◌-◌, ◌==◌, ◌&&◌, not, if◌then◌else◌, Bool, List, [], ◌∷◌, map}
-use Rattle.smi_limits.specs.declared.trees.TheConstants.{MOST_DOMAINS, MOST_OBJECTS, MOST_OPERATORS}
+use Rattle.smi_base.specs.declared.trees.TheConstants.{MOST_DOMAINS, MOST_OBJECTS, MOST_OPERATORS}
 use Rattle.smi_grant.specs.declared.Holder.TheVariants.{Operator, Domain}
 use Rattle.smi_grant.specs.Record.{last_number}
 use Rattle.smi_tree.specs.Hierarchy.{Hierarchy}
-use Rattle.smi_command.specs.declared.Link.{Link}
+use Rattle.smi_grant.specs.declared.Link.{Link}
 use Rattle.smi_out.specs.Handed.{sent_after}
 use Rattle.smi_protocol.specs.Messages.{all_due, requests}
 use Rattle.smi_protocol.specs.Step.{Out}

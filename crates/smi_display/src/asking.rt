@@ -4,9 +4,9 @@ ghost use Rattle.std.specs.Prelude.{◌≡◌};
 
 use crate::displayed::Displayed;
 use smi_grant::Record;
+use smi_holdings::entry_of;
 use smi_out::{Out, ask, object_home, unwatch, watch};
 use smi_protocol::{Answer, Order, Request, Told};
-use smi_tables::entry_of;
 
 /// An operator is told the code of an order.
 fn answered(operator: u16, order: Order, code: u16) -> Answer

@@ -5,9 +5,9 @@ ghost use Rattle.smi_protocol.specs.Showing.{is_spent};
 
 use crate::displayed::Displayed;
 use crate::members::Members;
+use smi_base::LAST_SEQUENCE;
 use smi_grant::Shown;
-use smi_grants::Kept;
-use smi_limits::LAST_SEQUENCE;
+use smi_holdings::Kept;
 use smi_out::Out;
 use smi_publish::Changes;
 
@@ -23,7 +23,7 @@ fn is_spent(changes: &[Shown]) -> bool
 impl<'a> Displayed<'a> {
     ghost use Rattle.std.specs.Prelude.{◌≡◌, ◌≤◌, ◌<◌, ◌++◌, length};
     ghost use Rattle.std.specs.List.{AllByRecursion, flat_map};
-    ghost use Rattle.smi_grants.specs.Kept.{grants_of};
+    ghost use Rattle.smi_holdings.specs.Kept.{grants_of};
     ghost use Rattle.smi_out.specs.Handed.{sent_after};
     ghost use Rattle.smi_protocol.specs.Messages.{if_any};
     ghost use Rattle.smi_protocol.specs.Showing.{is_spent, members_of, shown_to_all};

@@ -1,4 +1,4 @@
-use smi_limits::{MOST_CHILDREN, MOST_DEVICES_OF_A_DOMAIN};
+use smi_base::{MOST_CHILDREN, MOST_DEVICES_OF_A_DOMAIN};
 use std::marker::Model;
 
 /// So many members a domain may have: its devices and its children.

@@ -6,7 +6,7 @@ ghost use Rattle.smi_protocol.specs.Children as children;
 use crate::displayed::Displayed;
 use crate::members::Members;
 use smi_grant::{Holder, Shown};
-use smi_grants::Kept;
+use smi_holdings::Kept;
 use smi_out::{Out, show};
 use smi_publish::Changes;
 use smi_rows::Mode;
@@ -24,8 +24,8 @@ fn is_counted(mode: Mode) -> bool
 impl<'a> Displayed<'a> {
     ghost use Rattle.std.specs.Prelude.{◌≡◌, ◌≤◌, ◌+◌, ◌<◌, ◌++◌, ◌∷◌, [], length, IfSome};
     ghost use Rattle.std.specs.List.{AllByRecursion, flat_map};
-    ghost use Rattle.smi_grants.specs.Kept.{grants_of};
-    ghost use Rattle.smi_limits.specs.declared.trees.TheConstants.{MOST_DEVICES_OF_A_DOMAIN};
+    ghost use Rattle.smi_holdings.specs.Kept.{grants_of};
+    ghost use Rattle.smi_base.specs.declared.trees.TheConstants.{MOST_DEVICES_OF_A_DOMAIN};
     ghost use Rattle.smi_out.specs.Handed.{sent_after};
     ghost use Rattle.smi_protocol.specs.Showing.{child_members, device_members, is_member, members_of, shown_to_all};
     ghost use Rattle.smi_protocol.specs.SoundDisplay.{IsShown, MayChange};

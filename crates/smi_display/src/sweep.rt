@@ -3,7 +3,7 @@
 ghost use Rattle.std.specs.Prelude.{◌≡◌};
 ghost use Rattle.smi_protocol.specs.Ticking as ticking;
 
-use smi_limits::MOST_SENT;
+use smi_base::MOST_SENT;
 use smi_message::Datagram;
 use smi_out::Out;
 use smi_protocol::Place;

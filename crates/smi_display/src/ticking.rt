@@ -5,13 +5,11 @@ ghost use Rattle.smi_protocol.specs.Ticking as ticking;
 
 use crate::displayed::Displayed;
 use crate::sweep::Sweep;
-use smi_command::{Due, Link, MOST_PENDING, due};
-use smi_grant::Holder;
-use smi_grants::Kept;
+use smi_grant::{Due, Holder, Link, MOST_PENDING, due};
+use smi_holdings::{Kept, entry_of};
 use smi_out::{Out, ask, request, watch};
 use smi_protocol::Place;
 use smi_roles::is_keeper;
-use smi_tables::entry_of;
 
 /// A take and a drop have number 0, a command its own.
 fn number_of(due: Due) -> u32
@@ -26,9 +24,9 @@ fn number_of(due: Due) -> u32
 impl<'a> Displayed<'a> {
     ghost use Rattle.std.specs.Prelude.{◌≡◌, ◌+◌, true, map, IfSome};
     ghost use Rattle.std.specs.List.{flat_map, range_with_len};
-    ghost use Rattle.smi_command.specs.Pending.{most_pending};
+    ghost use Rattle.smi_grant.specs.Pending.{most_pending};
     ghost use Rattle.smi_grant.specs.declared.Holder.TheVariants.{Operator, Domain};
-    ghost use Rattle.smi_grants.specs.Kept.{grants_of};
+    ghost use Rattle.smi_holdings.specs.Kept.{grants_of};
     ghost use Rattle.smi_out.specs.Handed.{is_due};
     ghost use Rattle.smi_protocol.specs.Messages.{if_any, requests};
     ghost use Rattle.smi_protocol.specs.Opening.{object_count};
@@ -253,7 +251,7 @@ impl<'a> Displayed<'a> {
 
 impl<'a> Displayed<'a> {
     ghost use Rattle.std.specs.Prelude.{◌≡◌};
-    ghost use Rattle.smi_grants.specs.Kept.{grants_of};
+    ghost use Rattle.smi_holdings.specs.Kept.{grants_of};
     ghost use Rattle.smi_out.specs.Handed.{with_notice};
     ghost use Rattle.smi_protocol.specs.Sound.{IsSound};
     ghost use Rattle.smi_protocol.specs.Ticking.{all_owed, tick_noticed};

@@ -1,7 +1,7 @@
 //! Who watches what: watches and unwatches that come, and states that are told.
 
 ghost use Rattle.std.specs.Prelude.{◌≡◌, ◌≤◌, length, not, IfOk, OnOk, OnErr};
-ghost use Rattle.smi_limits.specs.declared.trees.TheConstants.{MOST_STATIONS};
+ghost use Rattle.smi_base.specs.declared.trees.TheConstants.{MOST_STATIONS};
 ghost use Rattle.smi_protocol.specs.Watching as watching;
 ghost use Rattle.smi_watchers.specs.Watching.{answer_in, listed};
 ghost use Rattle.smi_watchers.specs.declared.answer.WatchAnswer.TheVariants.{Added};
@@ -9,9 +9,9 @@ ghost use Rattle.smi_display.specs.Listening.{before_by};
 
 use crate::displayed::Displayed;
 use smi_grant::Shown;
+use smi_holdings::entry_of;
 use smi_out::{Out, show, unwatch};
 use smi_roles::is_child_unit;
-use smi_tables::entry_of;
 use smi_view::Acceptance;
 use smi_watchers::{WatchFault, Watchers};
 use std::alloc::AllocError;

@@ -2,7 +2,7 @@
 use Rattle.std.specs.Prelude.{ℕ, ◌&&◌, nat_le, Bool, true, false, List, [], ◌∷◌, length, Option, Some, None, is_some}
 use Rattle.std.specs.Prelude.{Result, Ok, Err, if◌then◌else◌, filter_map}
 use Rattle.std.specs.List.{list_all}
-use Rattle.smi_limits.specs.declared.trees.TheConstants.{MOST_BYTES_OF_A_LINE}
+use Rattle.smi_base.specs.declared.trees.TheConstants.{MOST_BYTES_OF_A_LINE}
 use Rattle.smi_tree.specs.Fault.{◌>>=◌}
 use Rattle.smi_tree.specs.Text.{words}
 use Rattle.smi_tree.specs.Hierarchy.{Hierarchy}

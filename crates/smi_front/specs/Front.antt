@@ -3,12 +3,12 @@ use Rattle.std.specs.Prelude.{ℕ, Bool, true, List, [], ◌∷◌, ◌++◌, Op
 use Rattle.smi_grant.specs.declared.state.Shown.{Shown}
 use Rattle.smi_protocol.specs.declared.order.Told.{Told}
 use Rattle.smi_tree.specs.Hierarchy.{Hierarchy}
-use Rattle.smi_trace.specs.Node.{report_text}
-use Rattle.smi_trace.specs.Text as trace
+use Rattle.smi_schedule.specs.Node.{report_text}
+use Rattle.smi_schedule.specs.Text as trace
 use Rattle.smi_view.specs.Accepting.{is_newer}
 use Rattle.smi_view.specs.Shows.{GlanceShows}
-use Rattle.smi_picture.specs.Pictured.{Pictured, object_of}
-use Rattle.smi_picture.specs.declared.sight.Sight.{Sight}
+use Rattle.smi_view.specs.Pictured.{Pictured, object_of}
+use Rattle.smi_view.specs.declared.sight.Sight.{Sight}
 use Rattle.smi_front.specs.Office.{Staffed}
 use Rattle.smi_front.specs.declared.news.StationNews.{StationNews}
 use Rattle.smi_front.specs.declared.news.StationNews.TheVariants.{Showed, Acted, Missed}

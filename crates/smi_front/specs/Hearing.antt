@@ -3,11 +3,11 @@ use Rattle.std.specs.Prelude.{ℕ, zero, suc, ◌≡◌, ◌⊎◌, nat_lt, true
 use Rattle.std.specs.Prelude.{None, is_some, Result, Ok, Err, if◌then◌else◌}
 use Rattle.std.specs.declared.time.Instant.{Instant}
 use Rattle.smi_grant.specs.declared.state.Shown.{Shown}
-use Rattle.smi_limits.specs.declared.trees.TheConstants.{MOST_BYTES_OF_A_LINE}
+use Rattle.smi_base.specs.declared.trees.TheConstants.{MOST_BYTES_OF_A_LINE}
 use Rattle.smi_tree.specs.Text.{words}
 use Rattle.smi_tree.specs.Hierarchy.{Hierarchy}
 use Rattle.smi_tree.specs.declared.fault.Fault.{Fault}
-use Rattle.smi_trace.specs.Node.{board_text}
+use Rattle.smi_schedule.specs.Node.{board_text}
 use Rattle.smi_view.specs.Rows.{last_row}
 use Rattle.smi_front.specs.Asked.{asked_in, behind_first, objects_in}
 use Rattle.smi_front.specs.Caller.{Called, LineAt, OnlySays, Wished, beginning, counted, may_go_on, next_line, saying}

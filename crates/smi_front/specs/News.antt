@@ -2,9 +2,9 @@
 use Rattle.std.specs.Prelude.{ℕ, List, [], ◌∷◌, codes, Option, Some, None, option_map}
 use Rattle.std.specs.Fmt.{decimal}
 use Rattle.smi_tree.specs.Hierarchy.{Hierarchy}
-use Rattle.smi_trace.specs.Node.{board_text}
-use Rattle.smi_trace.specs.Text.{line_of}
-use Rattle.smi_trace.specs.Words.{action_word, object_word, state_word, version_word}
+use Rattle.smi_schedule.specs.Node.{board_text}
+use Rattle.smi_schedule.specs.Text.{line_of}
+use Rattle.smi_schedule.specs.TraceWords.{action_word, object_word, state_word, version_word}
 use Rattle.smi_front.specs.Caller.{Called, saying, wished}
 use Rattle.smi_front.specs.declared.news.Act.{Act}
 use Rattle.smi_front.specs.declared.news.StationNews.{StationNews}

@@ -3,7 +3,7 @@ use Rattle.std.specs.Prelude.{ℕ, nat_lt, ◌==◌, ok_or, List, [], ◌∷◌,
 use Rattle.std.specs.Prelude.{None, Result, Ok, Err, if◌then◌else◌}
 use Rattle.std.specs.List.{list_any}
 use Rattle.std.specs.Str.{bytes_eq}
-use Rattle.smi_limits.specs.declared.trees.TheConstants.{MOST_BYTES_OF_A_LINE}
+use Rattle.smi_base.specs.declared.trees.TheConstants.{MOST_BYTES_OF_A_LINE}
 use Rattle.smi_tree.specs.Fault.{◌>>=◌}
 use Rattle.smi_tree.specs.Text.{words}
 use Rattle.smi_tree.specs.File.{is_comment}

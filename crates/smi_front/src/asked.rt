@@ -7,7 +7,7 @@ ghost use Rattle.smi_front.specs.Asked as spec;
 use crate::caller::Manners;
 use crate::said::{LineRequest, request_in};
 use crate::whole::{Whole, whole_in};
-use smi_limits::MOST_BYTES_OF_A_LINE;
+use smi_base::MOST_BYTES_OF_A_LINE;
 use smi_protocol::Order;
 use smi_tree::{Fault, Tree, first_word};
 

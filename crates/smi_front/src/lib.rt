@@ -10,7 +10,7 @@
 //! Neither waits for another caller, but where the seat of their operator has no room.
 //!
 //! What a line may ask, and what is said, stands in docs/FORMATS.md, "A node's lines". Sockets, threads and clocks
-//! are the caller's own: see `smi_crew`.
+//! are the caller's own: see `smi_console`.
 #![tactic(auto)]
 
 mod asked;

@@ -4,11 +4,11 @@ ghost use Rattle.std.specs.Prelude.{◌≡◌, ◌++◌, ◌∷◌, [], OnOk, op
 ghost use Rattle.std.specs.Fmt.{decimal};
 ghost use Rattle.smi_tree.specs.Hierarchy.{entry};
 ghost use Rattle.smi_tree.specs.Lookups.{object_name};
-ghost use Rattle.smi_trace.specs.Words.{called, version_word};
+ghost use Rattle.smi_schedule.specs.TraceWords.{called, version_word};
 ghost use Rattle.smi_front.specs.News.{acted_text, missed_text, news_text};
 
 use smi_grant::{Shown, Version};
-use smi_trace::spell_board;
+use smi_schedule::spell_board;
 use smi_tree::Tree;
 use std::alloc::AllocError;
 use std::io::Write;

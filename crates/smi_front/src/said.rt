@@ -5,7 +5,7 @@ ghost use Rattle.smi_tree.specs.Lookups.{operators_of, station_count};
 ghost use Rattle.smi_tree.specs.Text.{words};
 ghost use Rattle.smi_front.specs.Said as spec;
 
-use smi_limits::MOST_BYTES_OF_A_LINE;
+use smi_base::MOST_BYTES_OF_A_LINE;
 use smi_protocol::{Deed, Item, Order};
 use smi_schedule::read_item;
 use smi_tree::{Fault, Tree, first_word, is_comment, one_name};

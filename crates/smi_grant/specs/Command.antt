@@ -1,6 +1,6 @@
 -- Commands, and the numbers that stand for them.
 use Rattle.std.specs.Prelude.{ℕ, ◌&&◌, ◌==◌, nat_le, Bool, if◌then◌else◌, Option, Some, None}
-use Rattle.smi_limits.specs.declared.trees.TheConstants.{MOST_ACTIONS, MOST_DOMAINS}
+use Rattle.smi_base.specs.declared.trees.TheConstants.{MOST_ACTIONS, MOST_DOMAINS}
 use Rattle.smi_grant.specs.declared.command.Command.{Command}
 use Rattle.smi_grant.specs.declared.command.Command.TheVariants.{Do, Include, Exclude, Manual, Ignore}
 

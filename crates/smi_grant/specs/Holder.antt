@@ -1,6 +1,6 @@
 -- Who may hold a domain, and the numbers that stand for it.
 use Rattle.std.specs.Prelude.{ℕ, ◌&&◌, ◌==◌, nat_le, Bool, true, false, if◌then◌else◌, Option, Some, None}
-use Rattle.smi_limits.specs.declared.trees.TheConstants.{MOST_DOMAINS, MOST_OPERATORS}
+use Rattle.smi_base.specs.declared.trees.TheConstants.{MOST_DOMAINS, MOST_OPERATORS}
 use Rattle.smi_grant.specs.declared.holder.Holder.{Holder}
 use Rattle.smi_grant.specs.declared.holder.Holder.TheVariants.{Free, Operator, Domain}
 

@@ -1,4 +1,4 @@
-use smi_limits::{MOST_ACTIONS, MOST_DOMAINS};
+use smi_base::{MOST_ACTIONS, MOST_DOMAINS};
 
 /// The greatest number of a command under one grant.
 pub const LAST_NUMBER: u32 = 1_000_000;

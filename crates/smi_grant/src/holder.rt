@@ -1,4 +1,4 @@
-use smi_limits::{MOST_DOMAINS, MOST_OPERATORS};
+use smi_base::{MOST_DOMAINS, MOST_OPERATORS};
 
 /// Who holds a domain: nobody, an operator, or the domain above it, each by its number.
 #[derive(Clone, Copy, Debug, PartialEq, Eq)]

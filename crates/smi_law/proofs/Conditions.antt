@@ -20,7 +20,7 @@ use Rattle.smi_publish.specs.declared.condition.Condition.{Condition}
 use Rattle.smi_publish.specs.Published.{condition}
 use Rattle.smi_roles.specs.Roles.{domain_of, is_kept_by, is_number, is_keeper}
 use Rattle.smi_publish.specs.Publishing.{come_to, reported, device_objects, is_among, acted}
-use Rattle.smi_command.proofs.Holders.{either}
+use Rattle.smi_grant.proofs.Holders.{either}
 use Rattle.smi_protocol.specs.Display.{Display, Station}
 use Rattle.smi_protocol.specs.Grants.{Grants}
 use Rattle.smi_protocol.specs.Happening.{Happening, Comes, Orders, Reports, Ticks}

@@ -16,7 +16,7 @@ use Rattle.smi_tree.specs.Lookups.{station_of}
 use Rattle.smi_publish.specs.declared.condition.Condition.{Condition}
 use Rattle.smi_publish.specs.Published.{shown, shown_at, change_at, differs}
 use Rattle.smi_roles.specs.Roles.{is_kept_by, is_keeper, is_child_unit}
-use Rattle.smi_command.proofs.Holders.{either}
+use Rattle.smi_grant.proofs.Holders.{either}
 use Rattle.smi_view.specs.declared.Acceptance.{Acceptance}
 use Rattle.smi_view.specs.declared.Acceptance.TheVariants.{Accepted, OtherBoot, NotNewer}
 use Rattle.smi_view.specs.Accepting.{acceptance}

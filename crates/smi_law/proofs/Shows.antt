@@ -12,7 +12,7 @@ use Rattle.smi_tree.specs.Hierarchy.{Hierarchy}
 use Rattle.smi_publish.specs.declared.condition.Condition.{Condition}
 use Rattle.smi_publish.specs.Published.{shown}
 use Rattle.smi_roles.specs.Roles.{is_kept_by}
-use Rattle.smi_command.proofs.Holders.{either}
+use Rattle.smi_grant.proofs.Holders.{either}
 use Rattle.smi_view.specs.Accepting.{is_newer_than_last}
 use Rattle.smi_watchers.specs.Watching.{watcher, listed}
 use Rattle.smi_protocol.specs.declared.Entry.{Entry}

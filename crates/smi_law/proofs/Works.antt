@@ -8,7 +8,7 @@ use Rattle.smi_grant.specs.declared.Command.{Command}
 use Rattle.smi_grant.specs.declared.Command.TheVariants.{Do}
 use Rattle.smi_tree.specs.Hierarchy.{Hierarchy}
 use Rattle.smi_tree.specs.Lookups.{station_count}
-use Rattle.smi_command.proofs.Holders.{either}
+use Rattle.smi_grant.proofs.Holders.{either}
 use Rattle.smi_protocol.specs.Display.{Station}
 use Rattle.smi_protocol.specs.Happening.{Happening}
 use Rattle.smi_protocol.specs.Messages.{home}

@@ -1,5 +1,11 @@
+pub mod Answered
+pub mod Bound
+pub mod Example
 pub mod Known
 pub mod NotSafe
+pub mod Rest
 pub mod Safe
 pub mod Trace
+pub mod UnderWay
+pub mod Waiting
 pub mod World

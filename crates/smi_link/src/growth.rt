@@ -1,6 +1,6 @@
 //! Lists that grow, and how often they could not.
 
-use smi_tally::Tally;
+use smi_base::Tally;
 use std::alloc::AllocError;
 use std::marker::Model;
 
@@ -12,7 +12,7 @@ pub(crate) struct Growth {
 }
 
 impl Model for Growth {
-    ghost use Rattle.smi_tally.specs.Count.{Count};
+    ghost use Rattle.smi_base.specs.Count.{Count};
 
     ghost Value = { Count };
 

@@ -1,7 +1,7 @@
 use crate::frame::{ReceivedBytes, Sent, ToReceive};
 use crate::growth::Growth;
 use crate::link::{DatagramLink, LinkFault, Reception};
-use smi_tally::Tally;
+use smi_base::Tally;
 use std::alloc::{AllocError, Global};
 use std::marker::Model;
 

@@ -1,6 +1,6 @@
 use crate::link::{DatagramLink, LinkFault, Reception};
 use crate::patience::{MOST_PATIENCE, Patience};
-use smi_tally::Tally;
+use smi_base::Tally;
 use std::io;
 use std::io::ErrorKind;
 use std::marker::Model;

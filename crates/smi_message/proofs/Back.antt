@@ -16,7 +16,7 @@ use Rattle.smi_grant.specs.Record.{Standing, standing, phase_number, phase_of, i
 use Rattle.smi_message.specs.declared.fields.Fields.{Fields}
 use Rattle.smi_message.specs.declared.datagram.Body.{Body}
 use Rattle.smi_message.specs.declared.datagram.Body.TheVariants as body
-use Rattle.smi_limits.specs.Between.{is_between}
+use Rattle.smi_base.specs.Between.{is_between}
 use Rattle.smi_message.specs.Spelling.{is_kind}
 use Rattle.smi_message.specs.Kinds.{fields_of, body_at, holder_at, command_in, command_at, told_at, take_at, drop_at}
 use Rattle.smi_message.specs.Kinds.{run_at, tell_at, state_at, layout_of, is_zero_unless, uses_grant, is_grant_zero}

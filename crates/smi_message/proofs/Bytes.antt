@@ -9,7 +9,7 @@ use Rattle.std.proofs.lemmas.Nat.{be_bytes_2, be_bytes_4, be_bytes_8, from_be_by
 use Rattle.std.proofs.lemmas.Nat.{from_be_bytes-to_be_bytes_4, from_be_bytes-to_be_bytes_8}
 use Rattle.smi_message.specs.declared.fields.Fields.{Fields}
 use Rattle.smi_message.specs.Layout.{bytes_of, fields_at}
-use Rattle.smi_bytes.specs.Bytes.{u16_at, u32_at, u64_at}
+use Rattle.smi_base.specs.Bytes.{u16_at, u32_at, u64_at}
 
 abbrev pub IsBytes : List ℕ → Type 0
 IsBytes b = (i : ℕ) → get_or b i 0 < 256

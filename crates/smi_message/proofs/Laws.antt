@@ -8,7 +8,7 @@ use Rattle.smi_message.specs.declared.bad.Bad.TheVariants as bad
 use Rattle.smi_message.specs.declared.datagram.Body.{Body}
 use Rattle.smi_message.specs.declared.fields.Fields.{Fields}
 use Rattle.smi_message.specs.Message.{Message, is_message, is_addressed, is_body}
-use Rattle.smi_limits.specs.Between.{is_between}
+use Rattle.smi_base.specs.Between.{is_between}
 use Rattle.smi_message.specs.Layout.{bytes_of, fields_at}
 use Rattle.smi_message.specs.Kinds.{fields_of, body_at, is_rest_zero}
 use Rattle.smi_message.specs.Spelling.{spelling, message_of, message_where, message_at, is_kind, reading}

@@ -13,7 +13,7 @@ use Rattle.smi_message.specs.declared.fields.Fields.{Fields}
 use Rattle.smi_message.specs.declared.datagram.Body.{Body}
 use Rattle.smi_message.specs.declared.datagram.Body.TheVariants as body
 use Rattle.smi_message.specs.Message.{Message}
-use Rattle.smi_limits.specs.Between.{is_between}
+use Rattle.smi_base.specs.Between.{is_between}
 
 -- ---- the fields of what is said
 

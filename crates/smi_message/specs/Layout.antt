@@ -1,7 +1,7 @@
 -- Where each number of a datagram stands in its 44 bytes.
 use Rattle.std.specs.Prelude.{ℕ, List, [], ◌∷◌, ◌++◌, slice_index}
 use Rattle.std.specs.Int.{w16, w32, w64, to_be_bytes}
-use Rattle.smi_bytes.specs.Bytes.{u16_at, u32_at, u64_at}
+use Rattle.smi_base.specs.Bytes.{u16_at, u32_at, u64_at}
 use Rattle.smi_message.specs.declared.fields.Fields.{Fields}
 
 -- the bytes, in the order of their places: `S`, `M`, and then the fields

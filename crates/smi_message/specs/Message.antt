@@ -1,8 +1,8 @@
 -- What a datagram says, and the ranges of its values.
 use Rattle.std.specs.Prelude.{ℕ, ◌≡◌, ◌≤◌, ◌%◌, ◌&&◌, ◌==◌, nat_le, Bool, true, false}
-use Rattle.smi_limits.specs.Between.{is_between}
-use Rattle.smi_limits.specs.declared.trees.TheConstants.{MOST_DOMAINS, MOST_OBJECTS, MOST_STATES, MOST_STATIONS}
-use Rattle.smi_limits.specs.declared.numbers.TheConstants.{LAST_BOOT, LAST_SEQUENCE}
+use Rattle.smi_base.specs.Between.{is_between}
+use Rattle.smi_base.specs.declared.trees.TheConstants.{MOST_DOMAINS, MOST_OBJECTS, MOST_STATES, MOST_STATIONS}
+use Rattle.smi_base.specs.declared.numbers.TheConstants.{LAST_BOOT, LAST_SEQUENCE}
 use Rattle.smi_grant.specs.declared.Holder.{Holder}
 use Rattle.smi_grant.specs.declared.Version.{Version}
 use Rattle.smi_grant.specs.Holder as holder

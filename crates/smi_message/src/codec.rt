@@ -7,7 +7,7 @@ ghost use Rattle.smi_message.specs.Spelling.{spelling, reading, message_at, mess
 use crate::kinds::{drop_at, fields_of, is_body, is_rest_zero, run_at, state_at, take_at, tell_at};
 use crate::layout::{Spelled, write_fields};
 use crate::{Bad, Body, Datagram};
-use smi_limits::MOST_STATIONS;
+use smi_base::MOST_STATIONS;
 
 /// The one spelling of a datagram.
 pub fn encode(datagram: &Datagram) -> [u8; 44]

@@ -49,7 +49,7 @@ impl Model for Datagram {
 
 impl Datagram {
     ghost use Rattle.std.specs.Prelude.{◌≡◌, ◌≤◌, true};
-    ghost use Rattle.smi_limits.specs.declared.trees.TheConstants.{MOST_DOMAINS, MOST_STATIONS};
+    ghost use Rattle.smi_base.specs.declared.trees.TheConstants.{MOST_DOMAINS, MOST_STATIONS};
     ghost use Rattle.smi_grant.specs.Holder.{is_in_range};
     ghost use Rattle.smi_grant.specs.Record.{is_outcome};
     ghost use Rattle.smi_message.specs.Message.{tell};

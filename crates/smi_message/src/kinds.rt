@@ -1,15 +1,15 @@
 //! What the fields of each kind of datagram say.
 
 ghost use Rattle.std.specs.Prelude.{◌≡◌, Some};
-ghost use Rattle.smi_limits.specs.Between.{is_between};
+ghost use Rattle.smi_base.specs.Between.{is_between};
 ghost use Rattle.smi_message.specs.Kinds as spec;
 ghost use Rattle.smi_message.specs.Message as message;
 
 use crate::Body;
 use crate::fields::Fields;
 use crate::layout::Spelled;
+use smi_base::{LAST_BOOT, LAST_SEQUENCE, MOST_DOMAINS, MOST_OBJECTS, MOST_STATES};
 use smi_grant::{Command, Holder, LAST_EPOCH, LAST_NUMBER, Phase, Record, Version, is_outcome};
-use smi_limits::{LAST_BOOT, LAST_SEQUENCE, MOST_DOMAINS, MOST_OBJECTS, MOST_STATES};
 
 // ---- the fields of what is said
 

@@ -5,7 +5,7 @@ ghost use Rattle.smi_message.specs.Layout.{bytes_of};
 
 use crate::fields::Fields;
 use byteorder::{BigEndian, ByteOrder};
-use smi_bytes::{u16_at, u32_at, u64_at};
+use smi_base::{u16_at, u32_at, u64_at};
 use std::marker::Model;
 
 /// The bytes of a datagram with these fields.

@@ -1,7 +1,7 @@
 -- What one event leaves of a node: of its station, its link, its desk and its board.
 use Rattle.std.specs.Prelude.{ℕ, ◌≡◌, Bool, true, false, List, Option, Some, None, Result, Ok, Err, OnOk}
 use Rattle.smi_rows.specs.Store.{Rows}
-use Rattle.smi_grants.specs.Save.{IfKept, IfMemory, IfStopped}
+use Rattle.smi_holdings.specs.Save.{IfKept, IfMemory, IfStopped}
 use Rattle.smi_protocol.specs.Step.{Out, Outcome, after_event, nothing_out}
 use Rattle.smi_protocol.specs.declared.event.Event.{Event}
 use Rattle.smi_protocol.specs.declared.event.Event.TheVariants as event

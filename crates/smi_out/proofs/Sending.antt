@@ -5,11 +5,11 @@ use Rattle.std.specs.Prelude.{nat_lt, if◌then◌else◌}
 use Rattle.std.proofs.lemmas.List.{take_all, take-append-le}
 use Rattle.std.proofs.lemmas.Bool.Decides.{nat_tests}
 use Rattle.smi_grant.specs.declared.Holder.{Holder}
-use Rattle.smi_command.specs.declared.Due.{Due}
-use Rattle.smi_command.specs.declared.Due.TheVariants.{Take, Drop, Run}
+use Rattle.smi_grant.specs.declared.Due.{Due}
+use Rattle.smi_grant.specs.declared.Due.TheVariants.{Take, Drop, Run}
 use Rattle.smi_protocol.specs.Messages.{request}
 use Rattle.smi_message.specs.Message.{Message, is_domain, is_party, is_body}
-use Rattle.smi_limits.specs.Between.{is_between}
+use Rattle.smi_base.specs.Between.{is_between}
 use Rattle.smi_protocol.specs.Ticking.{most_sent}
 use Rattle.smi_out.specs.Handed.{sent_after, sent_one, is_due}
 

@@ -5,10 +5,10 @@ use Rattle.smi_out.specs.declared.entries.TheConstants.{MOST_ENTRIES}
 use Rattle.smi_out.specs.declared.handed.TheConstants.{MOST_ANSWERS}
 use Rattle.smi_grant.specs.Command as command
 use Rattle.smi_grant.specs.Record.{last_epoch, last_number}
-use Rattle.smi_command.specs.declared.Due.{Due}
-use Rattle.smi_command.specs.declared.Due.TheVariants.{Take, Drop, Run}
+use Rattle.smi_grant.specs.declared.Due.{Due}
+use Rattle.smi_grant.specs.declared.Due.TheVariants.{Take, Drop, Run}
 use Rattle.smi_message.specs.Message.{Message, is_grant_epoch}
-use Rattle.smi_limits.specs.Between.{is_between}
+use Rattle.smi_base.specs.Between.{is_between}
 use Rattle.smi_protocol.specs.Step.{Out}
 use Rattle.smi_protocol.specs.Ticking.{most_sent}
 use Rattle.smi_protocol.specs.Watching.{Notice}

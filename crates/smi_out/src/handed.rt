@@ -1,6 +1,6 @@
 use crate::entries::Entries;
+use smi_base::MOST_SENT;
 use smi_grant::Shown;
-use smi_limits::MOST_SENT;
 use smi_message::{Body, Datagram};
 use smi_protocol::{Answer, Mark, Order, Told};
 use smi_publish::Changes;

@@ -8,8 +8,7 @@ ghost use Rattle.smi_tree.specs.Lookups.{station_count, domain_count, device_cou
 ghost use Rattle.smi_protocol.specs.Messages as messages;
 ghost use Rattle.smi_out.specs.Handed.{is_due};
 
-use smi_command::Due;
-use smi_grant::{Holder, Record, Shown};
+use smi_grant::{Due, Holder, Record, Shown};
 use smi_message::{Body, Datagram};
 use smi_tree::Tree;
 

@@ -3,9 +3,9 @@ use Rattle.std.proofs.Common.{ℕ, zero, suc, ◌≡◌, ◌≤◌, ◌<◌, ◌
 use Rattle.std.proofs.Common.{Some, None, refl, ap, ◌∙◌, arith}
 use Rattle.std.specs.Prelude.{option_and_then, slice_get}
 use Rattle.std.specs.List.{cons_option}
-use Rattle.smi_command.specs.declared.Link.{Link}
-use Rattle.smi_command.specs.declared.Link.TheVariants.{Out, Taking, Held, Dropping}
-use Rattle.smi_command.specs.declared.Settlement.{Settlement}
+use Rattle.smi_grant.specs.declared.Link.{Link}
+use Rattle.smi_grant.specs.declared.Link.TheVariants.{Out, Taking, Held, Dropping}
+use Rattle.smi_grant.specs.declared.Settlement.{Settlement}
 use Rattle.smi_grant.specs.declared.Command.{Command}
 use Rattle.smi_out.specs.Handed.{answered_after}
 use Rattle.smi_protocol.specs.Hearing.{answers_of, commands_answered}

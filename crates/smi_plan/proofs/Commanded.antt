@@ -8,9 +8,9 @@ use Rattle.smi_tree.specs.Hierarchy.{Hierarchy}
 use Rattle.smi_tree.specs.Lawful.{IsBetween, IsTree}
 use Rattle.smi_tree.specs.Lookups.{domain_count, operator_station_of}
 use Rattle.smi_roles.specs.Roles.{has_domain, is_number}
-use Rattle.smi_command.specs.declared.Link.{Link}
-use Rattle.smi_command.specs.Order.{command_issued}
-use Rattle.smi_command.specs.Pending.{most_pending}
+use Rattle.smi_grant.specs.declared.Link.{Link}
+use Rattle.smi_grant.specs.Order.{command_issued}
+use Rattle.smi_grant.specs.Pending.{most_pending}
 use Rattle.smi_protocol.specs.Grants.{Grants}
 use Rattle.smi_protocol.specs.Happening.{Orders, order_of}
 use Rattle.smi_protocol.specs.Refusals.{is_order_here, refusal_by_link, refusal_of}

@@ -7,9 +7,9 @@ use Rattle.smi_grant.specs.Holder.{is_free}
 use Rattle.smi_grant.specs.Record.{Standing, is_outcome, is_record, is_settled}
 use Rattle.smi_grant.proofs.Records.{is_record-facts}
 use Rattle.smi_message.specs.Message.{Message}
-use Rattle.smi_command.specs.declared.Link.{Link}
-use Rattle.smi_command.specs.Hearing.{told_heard, told_link}
-use Rattle.smi_command.proofs.Heard.{not_true}
+use Rattle.smi_grant.specs.declared.Link.{Link}
+use Rattle.smi_grant.specs.Hearing.{told_heard, told_link}
+use Rattle.smi_grant.proofs.Heard.{not_true}
 use Rattle.smi_roles.specs.Roles.{is_parent, holder_station}
 use Rattle.smi_tree.specs.Hierarchy.{Hierarchy}
 use Rattle.smi_tree.specs.Lawful.{IsBetween, IsTree}

@@ -12,9 +12,9 @@ use Rattle.smi_grant.specs.Record.{Standing, is_settled}
 use Rattle.smi_message.specs.Message.{Message}
 use Rattle.smi_tree.specs.Hierarchy.{Hierarchy}
 use Rattle.smi_rows.specs.Ranges.{is_standing}
-use Rattle.smi_grants.specs.Change.{changed}
-use Rattle.smi_grants.specs.Plans.{Plans}
-use Rattle.smi_grants.specs.declared.Change.{Change}
+use Rattle.smi_holdings.specs.Change.{changed}
+use Rattle.smi_holdings.specs.Plans.{Plans}
+use Rattle.smi_holdings.specs.declared.Change.{Change}
 use Rattle.smi_out.specs.Handed.{kept_after, sent_after}
 use Rattle.smi_protocol.specs.declared.Entry.{Entry}
 use Rattle.smi_protocol.specs.Children.{own_code}

@@ -7,13 +7,13 @@ use Rattle.smi_grant.specs.declared.Holder.{Holder}
 use Rattle.smi_grant.specs.declared.Holder.TheVariants.{Domain}
 use Rattle.smi_grant.specs.Keeper.{admits, started}
 use Rattle.smi_grant.specs.Record.{Standing, is_settled}
-use Rattle.smi_command.proofs.Heard.{not_true}
-use Rattle.smi_command.specs.declared.Link.{Link}
-use Rattle.smi_command.specs.Hearing.{told_link}
+use Rattle.smi_grant.proofs.Heard.{not_true}
+use Rattle.smi_grant.specs.declared.Link.{Link}
+use Rattle.smi_grant.specs.Hearing.{told_link}
 use Rattle.smi_tree.specs.Hierarchy.{Hierarchy}
-use Rattle.smi_grants.specs.Change.{changed}
-use Rattle.smi_grants.specs.Plans.{Plans}
-use Rattle.smi_grants.specs.declared.change.Change.{Change}
+use Rattle.smi_holdings.specs.Change.{changed}
+use Rattle.smi_holdings.specs.Plans.{Plans}
+use Rattle.smi_holdings.specs.declared.change.Change.{Change}
 use Rattle.smi_protocol.specs.Children.{own_code}
 use Rattle.smi_protocol.specs.declared.entry.Entry.{Entry}
 use Rattle.smi_protocol.specs.declared.entry.Entry.TheVariants as entry

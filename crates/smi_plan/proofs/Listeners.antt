@@ -9,7 +9,7 @@ use Rattle.smi_roles.specs.Roles.{is_number, is_parent, is_keeper}
 use Rattle.smi_tree.specs.Hierarchy.{Hierarchy}
 use Rattle.smi_tree.specs.Lawful.{IsBetween, IsTree}
 use Rattle.smi_tree.specs.Lookups.{domain_count, operators_of, parent_of}
-use Rattle.smi_grants.specs.Plans.{MayOrder}
+use Rattle.smi_holdings.specs.Plans.{MayOrder}
 use Rattle.smi_protocol.specs.Grants.{Grants}
 use Rattle.smi_protocol.specs.Hearing.{hears, listener, listeners, parent_here}
 use Rattle.smi_protocol.proofs.Lists.{In, in_both, from_mapped}

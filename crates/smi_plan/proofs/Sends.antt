@@ -3,10 +3,10 @@ use Rattle.std.proofs.Common.{ℕ, zero, suc, inl, inr, ◌≡◌, ◌<◌, ◌+
 use Rattle.std.proofs.Common.{drop-cons, get_or, map, Option, Some, None, refl, sym, ap, ◌∙◌, subst, arith}
 use Rattle.std.specs.Prelude.{IfSome}
 use Rattle.std.specs.List.{cons_option, filter_map, flat_map, range_with_len}
-use Rattle.smi_command.specs.declared.Due.{Due}
-use Rattle.smi_command.specs.declared.Due.TheVariants.{Take, Drop, Run}
-use Rattle.smi_command.specs.declared.Link.{Link}
-use Rattle.smi_command.specs.Link.{due_of}
+use Rattle.smi_grant.specs.declared.Due.{Due}
+use Rattle.smi_grant.specs.declared.Due.TheVariants.{Take, Drop, Run}
+use Rattle.smi_grant.specs.declared.Link.{Link}
+use Rattle.smi_grant.specs.Link.{due_of}
 use Rattle.smi_grant.specs.declared.Command.{Command}
 use Rattle.smi_grant.specs.declared.Holder.TheVariants.{Domain}
 use Rattle.smi_grant.specs.Record.{is_settled}

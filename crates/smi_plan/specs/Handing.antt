@@ -6,9 +6,9 @@ use Rattle.smi_message.specs.Message.{Message}
 use Rattle.smi_tree.specs.Hierarchy.{Hierarchy}
 use Rattle.smi_protocol.specs.GrantStep.{GrantStep}
 use Rattle.smi_protocol.specs.Messages.{tells_holder}
-use Rattle.smi_command.specs.declared.Link.{Link}
-use Rattle.smi_command.specs.declared.Link.TheVariants.{Out, Taking, Held, Dropping}
-use Rattle.smi_command.specs.declared.Settlement.{Settlement}
+use Rattle.smi_grant.specs.declared.Link.{Link}
+use Rattle.smi_grant.specs.declared.Link.TheVariants.{Out, Taking, Held, Dropping}
+use Rattle.smi_grant.specs.declared.Settlement.{Settlement}
 use Rattle.smi_protocol.specs.Happening.{answer, answer_command}
 use Rattle.smi_protocol.specs.Step as step
 use Rattle.smi_protocol.specs.declared.Answer.{Answer}

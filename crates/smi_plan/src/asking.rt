@@ -2,8 +2,8 @@
 
 ghost use Rattle.std.specs.Prelude.{◌≡◌, false, ℕ};
 ghost use Rattle.smi_grant.specs.Holder.{is_free};
-ghost use Rattle.smi_grants.specs.Kept.{grants_of};
-ghost use Rattle.smi_grants.specs.Plans.{Plans};
+ghost use Rattle.smi_holdings.specs.Kept.{grants_of};
+ghost use Rattle.smi_holdings.specs.Plans.{Plans};
 ghost use Rattle.smi_out.specs.Handed.{sent_after};
 ghost use Rattle.smi_protocol.specs.Keeping as keeping;
 ghost use Rattle.smi_protocol.specs.Messages.{tells};
@@ -15,7 +15,7 @@ ghost use Rattle.smi_plan.specs.Handing.{with_step};
 
 use crate::leaving::{freed, granted};
 use smi_grant::{Holder, Record};
-use smi_grants::{After, Change, Kept};
+use smi_holdings::{After, Change, Kept};
 use smi_out::{Out, tell};
 
 /// A station is told how a domain stands.
@@ -34,7 +34,7 @@ pub(crate) fn send_record(out: &mut Out, kept: &Kept<'_>, to: u16, domain: u16, 
 }
 
 ghost use Rattle.std.specs.Prelude.{true, ◌∷◌, []};
-ghost use Rattle.smi_grants.specs.Change.{changed};
+ghost use Rattle.smi_holdings.specs.Change.{changed};
 
 /// The record of a domain after a change that is still to come.
 pub(crate) fn record_after(kept: &Kept<'_>, change: &Change, domain: u16) -> Record

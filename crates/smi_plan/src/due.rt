@@ -1,15 +1,14 @@
 //! What a link is due, sent.
 
 ghost use Rattle.std.specs.Prelude.{◌≡◌, ℕ, true, map, IfSome};
-ghost use Rattle.smi_command.specs.Link.{due_of};
+ghost use Rattle.smi_grant.specs.Link.{due_of};
 ghost use Rattle.smi_message.specs.Message.{is_party};
 ghost use Rattle.smi_out.specs.Handed.{is_due, sent_after};
 ghost use Rattle.smi_protocol.specs.Messages as messages;
 ghost use Rattle.smi_tree.specs.Lawful.{IsBetween};
 ghost use Rattle.smi_tree.specs.Lookups.{domain_count, station_count};
 
-use smi_command::{Due, Link, MOST_PENDING, due};
-use smi_grant::Holder;
+use smi_grant::{Due, Holder, Link, MOST_PENDING, due};
 use smi_out::{Out, request};
 use smi_tree::Tree;
 

@@ -2,12 +2,11 @@
 
 ghost use Rattle.std.specs.Prelude.{◌≡◌, false, ℕ};
 ghost use Rattle.smi_grant.specs.Holder.{is_free};
-ghost use Rattle.smi_grants.specs.Kept.{grants_of};
+ghost use Rattle.smi_holdings.specs.Kept.{grants_of};
 ghost use Rattle.smi_protocol.specs.Keeping as keeping;
 
-use smi_command::Link;
-use smi_grant::{Command, Holder, Phase, Record, Verdict};
-use smi_grants::{ChildChange, Kept};
+use smi_grant::{Command, Holder, Link, Phase, Record, Verdict};
+use smi_holdings::{ChildChange, Kept};
 use smi_out::Entries;
 use smi_protocol::Entry;
 
@@ -95,7 +94,7 @@ fn child_changed(domain: u16, child: u16, change: &ChildChange) -> Option<Entry>
 }
 
 ghost use Rattle.std.specs.Prelude.{◌++◌};
-ghost use Rattle.smi_grants.specs.Children.{meant};
+ghost use Rattle.smi_holdings.specs.Children.{meant};
 
 /// What becomes of a command's target, where it is a child of the domain.
 fn at_target(kept: &Kept<'_>, domain: u16, command: Command, target: u16) -> Option<Entry>

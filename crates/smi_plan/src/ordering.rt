@@ -1,13 +1,13 @@
 //! What an operator's order asks of a domain.
 
 ghost use Rattle.std.specs.Prelude.{◌≡◌, true};
-ghost use Rattle.smi_grants.specs.Kept.{grants_of};
-ghost use Rattle.smi_grants.specs.Plans.{Plans};
+ghost use Rattle.smi_holdings.specs.Kept.{grants_of};
+ghost use Rattle.smi_holdings.specs.Plans.{Plans};
 ghost use Rattle.smi_protocol.specs.Happening.{Orders};
 ghost use Rattle.smi_protocol.specs.Ordering as ordering;
 ghost use Rattle.smi_protocol.specs.Refusals.{is_order_here, refusal_of};
 ghost use Rattle.smi_protocol.specs.Sound.{IsLink, IsSound};
-ghost use Rattle.smi_command.specs.Pending.{most_pending};
+ghost use Rattle.smi_grant.specs.Pending.{most_pending};
 ghost use Rattle.smi_tree.specs.Lawful.{IsBetween};
 ghost use Rattle.smi_tree.specs.Lookups.{domain_count, operator_station_of};
 ghost use Rattle.smi_roles.specs.Roles.{is_number};
@@ -15,9 +15,8 @@ ghost use Rattle.smi_plan.specs.Handing.{with_step};
 
 use crate::due::send_newest;
 use crate::leaving::ordered;
-use smi_command::{Link, begin_drop, begin_take, issue};
-use smi_grant::{Command, Holder};
-use smi_grants::{Change, Kept};
+use smi_grant::{Command, Holder, Link, begin_drop, begin_take, issue};
+use smi_holdings::{Change, Kept};
 use smi_out::{Entries, Out};
 use smi_protocol::{Mark, Order, Request};
 

@@ -4,8 +4,8 @@ ghost use Rattle.std.specs.Prelude.{◌≡◌, ◌≤◌, false, true};
 ghost use Rattle.smi_grant.specs.Command as command_spec;
 ghost use Rattle.smi_grant.specs.Holder.{is_free};
 ghost use Rattle.smi_grant.specs.Record.{is_settled, last_number};
-ghost use Rattle.smi_grants.specs.Kept.{grants_of};
-ghost use Rattle.smi_grants.specs.Plans.{Plans};
+ghost use Rattle.smi_holdings.specs.Kept.{grants_of};
+ghost use Rattle.smi_holdings.specs.Plans.{Plans};
 ghost use Rattle.smi_out.specs.Handed.{sent_after};
 ghost use Rattle.smi_protocol.specs.Children.{change_of};
 ghost use Rattle.smi_protocol.specs.Keeping as keeping;
@@ -19,7 +19,7 @@ use crate::asking::{record_after, send_record};
 use crate::due::send_due;
 use crate::leaving::ran;
 use smi_grant::{Command, Holder, admit};
-use smi_grants::{Change, ChildChange, Kept};
+use smi_holdings::{Change, ChildChange, Kept};
 use smi_out::Out;
 
 /// What a child's link is due, where a command has changed it.

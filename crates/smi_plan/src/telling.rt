@@ -1,7 +1,7 @@
 //! What a told record asks of a station's links, and whom it answers.
 
 ghost use Rattle.std.specs.Prelude.{◌≡◌, ◌≤◌, true, map};
-ghost use Rattle.smi_grants.specs.Kept.{grants_of};
+ghost use Rattle.smi_holdings.specs.Kept.{grants_of};
 ghost use Rattle.smi_out.specs.Handed.{answered_after};
 ghost use Rattle.smi_protocol.specs.Happening.{answer, answer_command};
 ghost use Rattle.smi_protocol.specs.Hearing as hearing;
@@ -10,9 +10,8 @@ ghost use Rattle.smi_plan.specs.Handing.{with_step};
 use crate::asking::{record_after, send_record};
 use crate::due::send_due;
 use crate::leaving::{is_settled, learned, rested};
-use smi_command::{Link, LinkHeard, Settlement, Settlements, told};
-use smi_grant::{Command, Holder, Record};
-use smi_grants::{Change, Kept};
+use smi_grant::{Command, Holder, Link, LinkHeard, Record, Settlement, Settlements, told};
+use smi_holdings::{Change, Kept};
 use smi_out::{Entries, Out};
 use smi_protocol::{Answer, Mark, Order, Told};
 use smi_roles::holder_station;
@@ -195,7 +194,7 @@ fn tell_operator(
 }
 
 ghost use Rattle.smi_grant.specs.Record.{is_record};
-ghost use Rattle.smi_grants.specs.Plans.{MayOrder, Plans};
+ghost use Rattle.smi_holdings.specs.Plans.{MayOrder, Plans};
 ghost use Rattle.smi_protocol.specs.Sound.{IsSound};
 ghost use Rattle.std.specs.Prelude.{unwrap_or};
 ghost use Rattle.smi_grant.specs.Record as record_spec;

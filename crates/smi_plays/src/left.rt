@@ -2,8 +2,7 @@
 
 ghost use Rattle.std.specs.Prelude.{◌≡◌};
 
-use smi_command::Link;
-use smi_grant::{Holder, Phase, Record};
+use smi_grant::{Holder, Link, Phase, Record};
 use smi_message::encode;
 use smi_out::Out;
 use smi_protocol::{Entry, Line};

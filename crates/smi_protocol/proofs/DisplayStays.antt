@@ -24,8 +24,8 @@ use Rattle.smi_publish.specs.Publishing as publishing
 use Rattle.smi_view.specs.declared.Acceptance.{Acceptance}
 use Rattle.smi_view.specs.declared.Acceptance.TheVariants.{Accepted, OtherBoot, NotNewer}
 use Rattle.smi_view.specs.Accepting.{acceptance, last_after}
-use Rattle.smi_command.proofs.Heard.{choose}
-use Rattle.smi_command.proofs.Holders.{either}
+use Rattle.smi_grant.proofs.Heard.{choose}
+use Rattle.smi_grant.proofs.Holders.{either}
 use Rattle.smi_protocol.specs.Display.{Display, Station}
 use Rattle.smi_protocol.specs.Grants.{Grants, put}
 use Rattle.smi_protocol.specs.GrantsOf.{grant_step}

@@ -5,7 +5,7 @@ use Rattle.std.specs.Prelude.{◌==◌, ◌||◌, ◌++◌, Option, Some, None, 
 use Rattle.std.specs.List.{cons_option, list_any, filter_map, flat_map, range_with_len}
 use Rattle.std.proofs.lemmas.Bool.{eqb-true}
 use Rattle.smi_tree.specs.Lookups.{numbers_from}
-use Rattle.smi_command.proofs.Holders.{either}
+use Rattle.smi_grant.proofs.Holders.{either}
 pub use Rattle.smi_protocol.specs.Sound.{In}
 
 pub in_first : {X : Type 0} (y : X) (xs ys : List X) → In y xs → In y (xs ++ ys)

@@ -5,7 +5,7 @@ use Rattle.std.specs.Prelude.{◌==◌, nat_le, slice_get, unwrap_or, option_and
 use Rattle.std.specs.List.{AllByRecursion}
 use Rattle.std.proofs.lemmas.Bool.{and_from, and_parts, eqb-true, eq-eqb, leb-true}
 use Rattle.std.proofs.lemmas.Bool.Decides.{nat_tests}
-use Rattle.smi_limits.specs.declared.trees.TheConstants.{MOST_DOMAINS, MOST_OPERATORS, MOST_STATIONS}
+use Rattle.smi_base.specs.declared.trees.TheConstants.{MOST_DOMAINS, MOST_OPERATORS, MOST_STATIONS}
 use Rattle.smi_grant.specs.declared.Command.{Command}
 use Rattle.smi_grant.specs.declared.Holder.{Holder}
 use Rattle.smi_grant.specs.declared.Holder.TheVariants.{Free, Operator, Domain}
@@ -14,18 +14,18 @@ use Rattle.smi_grant.specs.Holder.{is_free}
 use Rattle.smi_grant.specs.Record.{Standing, last_epoch, last_number}
 use Rattle.smi_message.specs.declared.Body.{Body}
 use Rattle.smi_message.specs.declared.Body.TheVariants as body
-use Rattle.smi_limits.specs.Between.{is_between}
+use Rattle.smi_base.specs.Between.{is_between}
 use Rattle.smi_message.specs.Message.{is_body, is_domain, is_grant_epoch, is_message, is_party}
 use Rattle.smi_tree.specs.declared.row.Domain.{Domain as DomainRow}
 use Rattle.smi_tree.specs.Hierarchy.{Hierarchy, entry}
 use Rattle.smi_tree.specs.Lawful.{IsBetween, IsTree}
 use Rattle.smi_tree.specs.Lookups.{domain_count, operator_count, operator_station_of, parent_of, station_count}
-use Rattle.smi_command.specs.declared.Due.{Due}
-use Rattle.smi_command.specs.declared.Due.TheVariants.{Take, Drop, Run}
-use Rattle.smi_command.specs.declared.Link.{Link}
-use Rattle.smi_command.specs.declared.Link.TheVariants.{Out, Taking, Held, Dropping}
-use Rattle.smi_command.specs.Link.{due_of}
-use Rattle.smi_command.specs.Pending.{base_of}
+use Rattle.smi_grant.specs.declared.Due.{Due}
+use Rattle.smi_grant.specs.declared.Due.TheVariants.{Take, Drop, Run}
+use Rattle.smi_grant.specs.declared.Link.{Link}
+use Rattle.smi_grant.specs.declared.Link.TheVariants.{Out, Taking, Held, Dropping}
+use Rattle.smi_grant.specs.Link.{due_of}
+use Rattle.smi_grant.specs.Pending.{base_of}
 use Rattle.smi_roles.specs.Roles.{is_holder_of, is_number, is_parent, holder_station, is_keeper}
 use Rattle.smi_rows.specs.Ranges.{is_standing}
 use Rattle.smi_protocol.specs.Messages.{home, request, requests, says, tells}

@@ -6,7 +6,7 @@ use Rattle.std.specs.Prelude.{IfSome, if◌then◌else◌}
 use Rattle.std.specs.List.{AllByRecursion, flat_map, range_with_len}
 use Rattle.std.proofs.lemmas.Bool.{and_from, and_parts, leb-true}
 use Rattle.std.proofs.lemmas.Bool.Decides.{nat_tests}
-use Rattle.smi_limits.specs.declared.trees.TheConstants.{MOST_OBJECTS, MOST_STATES}
+use Rattle.smi_base.specs.declared.trees.TheConstants.{MOST_OBJECTS, MOST_STATES}
 use Rattle.smi_grant.specs.declared.Holder.{Holder}
 use Rattle.smi_grant.specs.declared.Holder.TheVariants.{Operator, Domain}
 use Rattle.smi_grant.specs.declared.Shown.{Shown}
@@ -18,11 +18,11 @@ use Rattle.smi_tree.specs.Hierarchy.{Hierarchy, entry}
 use Rattle.smi_tree.specs.Lawful.{IsBetween, IsTree}
 use Rattle.smi_tree.specs.Lookups.{domain_count, device_count, operators_of, operator_station_of, parent_of}
 use Rattle.smi_tree.specs.Lookups.{station_count, station_of}
-use Rattle.smi_command.specs.declared.Due.{Due}
-use Rattle.smi_command.specs.declared.Link.{Link}
-use Rattle.smi_command.specs.Link.{due_of}
-use Rattle.smi_command.specs.Pending.{most_pending}
-use Rattle.smi_command.proofs.Heard.{choose}
+use Rattle.smi_grant.specs.declared.Due.{Due}
+use Rattle.smi_grant.specs.declared.Link.{Link}
+use Rattle.smi_grant.specs.Link.{due_of}
+use Rattle.smi_grant.specs.Pending.{most_pending}
+use Rattle.smi_grant.proofs.Heard.{choose}
 use Rattle.smi_publish.specs.declared.condition.Condition.{Condition}
 use Rattle.smi_publish.specs.Published.{shown_at}
 use Rattle.smi_publish.specs.Publishing.{device_objects}

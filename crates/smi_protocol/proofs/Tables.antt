@@ -8,8 +8,8 @@ use Rattle.std.proofs.lemmas.Bool.{and_parts, eqb-true}
 use Rattle.std.proofs.lemmas.Bool.Decides.{nat_tests}
 use Rattle.smi_grant.specs.declared.Holder.{Holder}
 use Rattle.smi_grant.specs.Holder.{same_holder}
-use Rattle.smi_command.specs.declared.Link.{Link}
-use Rattle.smi_command.proofs.Holders.{either, same_is, same_self}
+use Rattle.smi_grant.specs.declared.Link.{Link}
+use Rattle.smi_grant.proofs.Holders.{either, same_is, same_self}
 use Rattle.smi_tree.specs.declared.row.Domain.{Domain as DomainRow}
 use Rattle.smi_tree.specs.Hierarchy.{Hierarchy, entry, is_child_of}
 use Rattle.smi_tree.specs.Lookups.{children_of, operators_of, operator_station_of, parent_of}

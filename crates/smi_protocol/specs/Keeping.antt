@@ -11,7 +11,7 @@ use Rattle.smi_grant.specs.Keeper.{take_after, drop_after, admits, started}
 use Rattle.smi_message.specs.Message.{Message}
 use Rattle.smi_tree.specs.Hierarchy.{Hierarchy}
 use Rattle.smi_tree.specs.Lookups.{children_of}
-use Rattle.smi_command.specs.declared.Link.TheVariants.{Dropping}
+use Rattle.smi_grant.specs.declared.Link.TheVariants.{Dropping}
 use Rattle.smi_roles.specs.Roles.{is_parent}
 use Rattle.smi_protocol.specs.Grants.{Grants, put, with_record}
 use Rattle.smi_protocol.specs.Messages.{tells, requests_due}

@@ -4,9 +4,9 @@ use Rattle.std.specs.Prelude.{option_and_then, unwrap_or, Result, Ok, Err, if◌
 use Rattle.smi_grant.specs.declared.Holder.{Holder}
 use Rattle.smi_grant.specs.declared.Holder.TheVariants.{Free, Operator, Domain}
 use Rattle.smi_grant.specs.Record.{fresh}
-use Rattle.smi_command.specs.declared.Link.{Link}
-use Rattle.smi_command.specs.declared.Link.TheVariants.{Out}
-use Rattle.smi_limits.specs.Between.{is_between}
+use Rattle.smi_grant.specs.declared.Link.{Link}
+use Rattle.smi_grant.specs.declared.Link.TheVariants.{Out}
+use Rattle.smi_base.specs.Between.{is_between}
 use Rattle.smi_message.specs.Message.{last_boot}
 use Rattle.smi_tree.specs.Hierarchy.{Hierarchy}
 use Rattle.smi_tree.specs.Lookups.{domain_count, operator_station_of, parent_of, station_count}

@@ -3,22 +3,22 @@ use Rattle.std.specs.Prelude.{ℕ, ◌+◌, ◌==◌, ◌&&◌, nat_le, not, Boo
 use Rattle.std.specs.Prelude.{Ok, Err, count_by}
 use Rattle.std.specs.Option.{option_or}
 use Rattle.std.specs.List.{range_with_len}
-use Rattle.smi_limits.specs.declared.numbers.TheConstants.{MOST_LINKS}
+use Rattle.smi_base.specs.declared.numbers.TheConstants.{MOST_LINKS}
 use Rattle.smi_grant.specs.declared.Command.{Command}
 use Rattle.smi_grant.specs.declared.Holder.{Holder}
 use Rattle.smi_grant.specs.declared.Holder.TheVariants.{Operator}
 use Rattle.smi_message.specs.declared.Body.{Body}
 use Rattle.smi_message.specs.declared.Body.TheVariants as body
 use Rattle.smi_message.specs.Message.{Message}
-use Rattle.smi_limits.specs.Between.{is_between}
+use Rattle.smi_base.specs.Between.{is_between}
 use Rattle.smi_tree.specs.Hierarchy.{Hierarchy}
 use Rattle.smi_tree.specs.Lookups.{station_count, state_count, action_count, domain_count}
 use Rattle.smi_tree.specs.Lookups.{operator_station_of}
 use Rattle.smi_roles.specs.Roles.{has_domain, has_object, holder_station, is_command_of, is_holder_of, is_keeper}
 use Rattle.smi_roles.specs.Roles.{is_kept_by, is_number}
-use Rattle.smi_command.specs.declared.Link.{Link}
-use Rattle.smi_command.specs.Order.{take_begun, drop_begun, command_issued}
-use Rattle.smi_command.specs.Link.{is_out}
+use Rattle.smi_grant.specs.declared.Link.{Link}
+use Rattle.smi_grant.specs.Order.{take_begun, drop_begun, command_issued}
+use Rattle.smi_grant.specs.Link.{is_out}
 use Rattle.smi_protocol.specs.Grants.{Grants}
 use Rattle.smi_protocol.specs.Happening.{Happening, Comes, Orders, Reports, Ticks}
 use Rattle.smi_protocol.specs.declared.order.Order.{Order}

@@ -3,7 +3,7 @@ use Rattle.std.specs.Prelude.{ℕ, ◌+◌, ◌-◌, ◌==◌, ◌&&◌, not, Bo
 use Rattle.std.specs.Prelude.{length, map, slice_get, Option, Some, None, option_map, is_some}
 use Rattle.std.specs.List.{flat_map, range_with_len}
 use Rattle.smi_message.specs.Message.{Message, last_boot}
-use Rattle.smi_limits.specs.Between.{is_between}
+use Rattle.smi_base.specs.Between.{is_between}
 use Rattle.smi_tree.specs.Hierarchy.{Hierarchy}
 use Rattle.smi_tree.specs.Lookups.{station_count, domain_count, operator_station_of}
 use Rattle.smi_roles.specs.Roles.{keeper_of}

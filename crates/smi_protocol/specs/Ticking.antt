@@ -2,13 +2,13 @@
 use Rattle.std.specs.Prelude.{ℕ, ◌+◌, ◌-◌, ◌==◌, ◌&&◌, ◌||◌, nat_lt, nat_le, not, Bool, false, if◌then◌else◌, List}
 use Rattle.std.specs.Prelude.{[], ◌∷◌, ◌++◌, map, filter, take, Option, Some, None}
 use Rattle.std.specs.List.{flat_map, range_with_len}
-use Rattle.smi_limits.specs.declared.numbers.TheConstants.{MOST_SENT}
+use Rattle.smi_base.specs.declared.numbers.TheConstants.{MOST_SENT}
 use Rattle.smi_grant.specs.declared.Holder.TheVariants.{Operator, Domain}
 use Rattle.smi_message.specs.Message.{Message}
 use Rattle.smi_tree.specs.Hierarchy.{Hierarchy}
 use Rattle.smi_tree.specs.Lookups.{domain_count, device_count, operators_of, parent_of}
-use Rattle.smi_command.specs.declared.Due.{Due}
-use Rattle.smi_command.specs.declared.Due.TheVariants.{Take, Drop, Run}
+use Rattle.smi_grant.specs.declared.Due.{Due}
+use Rattle.smi_grant.specs.declared.Due.TheVariants.{Take, Drop, Run}
 use Rattle.smi_protocol.specs.Grants.{Grants}
 use Rattle.smi_protocol.specs.Display.{Display}
 use Rattle.smi_protocol.specs.Messages.{all_due, requests, asks_about, watches}

@@ -2,7 +2,7 @@
 use Rattle.std.specs.Prelude.{ℕ, ◌≡◌, ◌<◌, ◌≤◌, ◌==◌, not, if◌then◌else◌, Bool, false, List, length, Option, Some}
 use Rattle.std.specs.Prelude.{None, option_and_then, option_map, IfSome}
 use Rattle.std.specs.List.{filter_map}
-use Rattle.smi_limits.specs.declared.numbers.TheConstants.{LAST_SEQUENCE}
+use Rattle.smi_base.specs.declared.numbers.TheConstants.{LAST_SEQUENCE}
 use Rattle.smi_grant.specs.declared.state.Shown.{Shown}
 use Rattle.smi_tree.specs.Hierarchy.{entry}
 use Rattle.smi_publish.specs.declared.changes.TheConstants.{MOST_CHANGES}

@@ -1,5 +1,5 @@
+use smi_base::MOST_DEVICES_OF_A_DOMAIN;
 use smi_grant::{Shown, Version};
-use smi_limits::MOST_DEVICES_OF_A_DOMAIN;
 use std::marker::Model;
 
 /// How many objects may change in one step: the devices of a domain and its unit.

@@ -1,8 +1,8 @@
 use crate::changes::Changes;
 use crate::condition::{Condition, condition_in};
 use crate::opening::first_condition;
+use smi_base::LAST_SEQUENCE;
 use smi_grant::Shown;
-use smi_limits::LAST_SEQUENCE;
 use smi_tree::Tree;
 use std::alloc::{AllocError, Global};
 use std::marker::Model;

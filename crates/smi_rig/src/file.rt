@@ -40,7 +40,7 @@ pub trait ToFile: Sized {
 
 impl ToFile for Connection<FileStore<File>> {
     fn connect(rt: &HostRuntime, path: &str) -> Result<Connection<FileStore<File>>, Error> {
-        smi_file::open(rt, path)
+        smi_stable::open(rt, path)
     }
 
     fn connect_plainly(rt: &HostRuntime, path: &str) -> Result<Connection<FileStore<File>>, Error> {

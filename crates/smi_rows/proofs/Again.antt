@@ -7,21 +7,21 @@ use Rattle.std.proofs.lemmas.Bool.{and_parts, and_from, leb-true, le-leb, lt-ltb
 use Rattle.std.proofs.lemmas.Bool.Decides.{nat_tests}
 use Rattle.std.proofs.lemmas.Nat.{from_be_bytes-to_be_bytes_2, from_be_bytes-to_be_bytes_4}
 use Rattle.std.proofs.lemmas.Nat.{from_be_bytes-to_be_bytes_8}
-use Rattle.smi_limits.specs.declared.trees.TheConstants.{MOST_DOMAINS}
+use Rattle.smi_base.specs.declared.trees.TheConstants.{MOST_DOMAINS}
 use Rattle.smi_grant.specs.declared.Command.{Command}
 use Rattle.smi_grant.specs.declared.Command.TheVariants.{Do, Include, Exclude, Manual, Ignore}
 use Rattle.smi_grant.specs.Command as command
 use Rattle.smi_grant.specs.Command.{verb_of, argument_of, command_of}
 use Rattle.smi_grant.specs.Record.{last_epoch, last_number}
-use Rattle.smi_command.specs.declared.Link.{Link}
-use Rattle.smi_command.specs.declared.Link.TheVariants.{Out, Taking, Held, Dropping}
+use Rattle.smi_grant.specs.declared.Link.{Link}
+use Rattle.smi_grant.specs.declared.Link.TheVariants.{Out, Taking, Held, Dropping}
 use Rattle.smi_rows.specs.declared.mode.Mode.{Mode}
 use Rattle.smi_rows.specs.declared.mode.Mode.TheVariants as mode
 use Rattle.smi_rows.specs.declared.row.StoredLink.{StoredLink}
 use Rattle.smi_rows.specs.declared.schema.Schema.{Schema}
 use Rattle.smi_rows.specs.Layout.{command_bytes, commands_bytes, front_bytes, no_command, link_bytes, links_bytes}
-use Rattle.smi_bytes.specs.Bytes.{u16_at, u32_at}
-use Rattle.smi_limits.specs.Between.{is_between}
+use Rattle.smi_base.specs.Bytes.{u16_at, u32_at}
+use Rattle.smi_base.specs.Between.{is_between}
 use Rattle.smi_rows.specs.Ranges.{is_grant_epoch, is_command_in, each_command_in, is_grant_in, is_link_in}
 use Rattle.smi_rows.specs.Ranges.{each_link_in, rises_above}
 use Rattle.smi_rows.specs.Reading.{has_lists, size_at, are_cut, command_at, commands_at, only_at, others_at}

@@ -9,7 +9,7 @@ use Rattle.smi_rows.specs.declared.schema.Schema.{Schema}
 use Rattle.smi_grant.specs.declared.Command.{Command}
 use Rattle.smi_rows.specs.Reading.{size_at, are_cut, command_at, commands_at, others_at, only_at, several_at, link_at}
 use Rattle.smi_rows.specs.Reading.{links_at, standing_at, kept_domain, domain_at}
-use Rattle.smi_bytes.specs.Bytes.{u16_at}
+use Rattle.smi_base.specs.Bytes.{u16_at}
 use Rattle.smi_grant.specs.Record.{Standing}
 
 -- the rest of a list, as a range gives it

@@ -9,7 +9,7 @@ use Rattle.std.proofs.lemmas.Bool.Decides.{nat_tests}
 use Rattle.std.proofs.lemmas.Nat.{from_be_bytes-to_be_bytes_2, from_be_bytes-to_be_bytes_4}
 use Rattle.std.proofs.lemmas.Nat.{from_be_bytes-to_be_bytes_8}
 use Rattle.std.proofs.lemmas.Slice.Eq.{bytes_eq-Decides}
-use Rattle.smi_limits.specs.declared.numbers.TheConstants.{LAST_BOOT}
+use Rattle.smi_base.specs.declared.numbers.TheConstants.{LAST_BOOT}
 use Rattle.smi_grant.specs.declared.Holder.{Holder}
 use Rattle.smi_grant.specs.declared.Holder.TheVariants.{Free, Operator, Domain}
 use Rattle.smi_grant.specs.declared.Phase.{Phase}
@@ -32,7 +32,7 @@ use Rattle.smi_rows.specs.declared.schema.Schema.{Schema}
 use Rattle.smi_rows.specs.Key.{kind_of}
 use Rattle.smi_rows.specs.Known.{is_known}
 use Rattle.smi_rows.specs.Layout.{holder_bytes, work_bytes, domain_bytes, operator_bytes, links_bytes, row_bytes}
-use Rattle.smi_bytes.specs.Bytes.{u16_at, u32_at, u64_at}
+use Rattle.smi_base.specs.Bytes.{u16_at, u32_at, u64_at}
 use Rattle.smi_rows.specs.Ranges.{is_boot, is_standing, is_work_in, is_domain_in, is_operator_in, are_links_in}
 use Rattle.smi_rows.specs.Ranges.{each_link_in, rises_above, is_row_in, is_row_of}
 use Rattle.smi_rows.specs.Reading.{are_cut, has_length_of, standing_at, kept_domain, domain_at, links_at, row_at}

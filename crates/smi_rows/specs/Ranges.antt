@@ -2,18 +2,18 @@
 use Rattle.std.specs.Prelude.{ℕ, ◌%◌, ◌&&◌, ◌==◌, nat_le, nat_lt, not, Bool, true, false, if◌then◌else◌, List, []}
 use Rattle.std.specs.Prelude.{◌∷◌, length, count_by}
 use Rattle.std.specs.List.{list_all, list_any}
-use Rattle.smi_limits.specs.Between.{is_between}
-use Rattle.smi_limits.specs.declared.trees.TheConstants.{MOST_DOMAINS}
-use Rattle.smi_limits.specs.declared.numbers.TheConstants.{LAST_BOOT, MOST_LINKS}
+use Rattle.smi_base.specs.Between.{is_between}
+use Rattle.smi_base.specs.declared.trees.TheConstants.{MOST_DOMAINS}
+use Rattle.smi_base.specs.declared.numbers.TheConstants.{LAST_BOOT, MOST_LINKS}
 use Rattle.smi_grant.specs.declared.Command.{Command}
 use Rattle.smi_grant.specs.Command.{is_in_range, verb_of}
 use Rattle.smi_grant.specs.Holder as holder
 use Rattle.smi_grant.specs.declared.Phase.{Phase}
 use Rattle.smi_grant.specs.declared.Phase.TheVariants.{Settled, Busy}
 use Rattle.smi_grant.specs.Record.{Standing, is_record, is_outcome, last_epoch, last_number}
-use Rattle.smi_command.specs.Link.{is_held, is_out, is_unsettled}
-use Rattle.smi_command.specs.declared.Link.{Link}
-use Rattle.smi_command.specs.declared.Link.TheVariants.{Out, Taking, Held, Dropping}
+use Rattle.smi_grant.specs.Link.{is_held, is_out, is_unsettled}
+use Rattle.smi_grant.specs.declared.Link.{Link}
+use Rattle.smi_grant.specs.declared.Link.TheVariants.{Out, Taking, Held, Dropping}
 use Rattle.smi_rows.specs.declared.key.RowKind.TheVariants as kind
 use Rattle.smi_rows.specs.declared.key.RowKind.{RowKind}
 use Rattle.smi_rows.specs.declared.mode.Mode.{Mode}

@@ -7,8 +7,8 @@ use Rattle.smi_grant.specs.declared.Command.{Command}
 use Rattle.smi_grant.specs.Command.{command_of}
 use Rattle.smi_grant.specs.Holder.{holder_of}
 use Rattle.smi_grant.specs.Record.{Standing, standing, phase_of, checked}
-use Rattle.smi_command.specs.declared.Link.{Link}
-use Rattle.smi_command.specs.declared.Link.TheVariants.{Out, Taking, Held, Dropping}
+use Rattle.smi_grant.specs.declared.Link.{Link}
+use Rattle.smi_grant.specs.declared.Link.TheVariants.{Out, Taking, Held, Dropping}
 use Rattle.smi_tree.specs.Hierarchy.{Hierarchy}
 use Rattle.smi_rows.specs.declared.key.Key.{Key}
 use Rattle.smi_rows.specs.declared.key.RowKind.{RowKind}
@@ -25,7 +25,7 @@ use Rattle.smi_rows.specs.Fault.{fault_code}
 use Rattle.smi_rows.specs.Key.{kind_of}
 use Rattle.smi_rows.specs.Known.{is_known}
 use Rattle.smi_rows.specs.Layout.{row_bytes}
-use Rattle.smi_bytes.specs.Bytes.{u16_at, u32_at, u64_at}
+use Rattle.smi_base.specs.Bytes.{u16_at, u32_at, u64_at}
 use Rattle.smi_rows.specs.Ranges.{is_row_in}
 use Rattle.smi_rows.specs.Schema.{schema_of, most_pending_in}
 use Rattle.smi_rows.specs.Stored.{KeptDomain, mode_of, stored}

@@ -5,8 +5,7 @@ ghost use Rattle.smi_rows.specs.Known as spec;
 
 use crate::key::Key;
 use crate::row::{Row, StoredLink};
-use smi_command::Link;
-use smi_grant::Holder;
+use smi_grant::{Holder, Link};
 use smi_roles::{is_at, is_command_of, is_holder_of, is_keeper, is_parent};
 use smi_tree::Tree;
 

@@ -35,5 +35,5 @@ pub use planned::{Plan, Planned, PlannedStable};
 pub use row::{DomainRow, OperatorRow, Row, StoredLink};
 pub use saved::{SavedRow, is_rising};
 pub use schema::Schema;
-pub use smi_tally::Tally;
+pub use smi_base::Tally;
 pub use stable::{Stable, StoreFault};

@@ -8,7 +8,7 @@ ghost use Rattle.smi_rows.specs.Listed as listed;
 use crate::key::Key;
 use crate::saved::{SavedRow, is_before};
 use crate::stable::{Stable, StoreFault};
-use smi_tally::Tally;
+use smi_base::Tally;
 use std::alloc::{AllocError, Global};
 use std::marker::Model;
 

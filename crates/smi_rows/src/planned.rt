@@ -8,7 +8,7 @@ ghost use Rattle.smi_rows.specs.Planned.{due_of, left_of};
 use crate::key::Key;
 use crate::saved::SavedRow;
 use crate::stable::{Stable, StoreFault};
-use smi_tally::Tally;
+use smi_base::Tally;
 
 /// How a save fails.
 #[derive(Clone, Copy, Debug, PartialEq, Eq)]

@@ -12,7 +12,7 @@ use crate::places::{are_cut, link_at, size_at, standing_at};
 use crate::ranges::is_row_in;
 use crate::row::{DomainRow, OperatorRow, Row, StoredLink};
 use crate::schema::Schema;
-use smi_bytes::{u16_at, u32_at};
+use smi_base::{u16_at, u32_at};
 use smi_tree::Tree;
 use std::alloc::Global;
 

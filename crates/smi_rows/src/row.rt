@@ -1,6 +1,5 @@
 use crate::mode::Mode;
-use smi_command::Link;
-use smi_grant::Record;
+use smi_grant::{Link, Record};
 use std::marker::Model;
 
 /// A holder's link to a domain, as it is stored. A domain that has no stored link is out, and

@@ -2,3 +2,4 @@ mod Cuts
 mod Draws
 mod LineByLine
 pub mod NamedItems
+pub mod Prefixes

@@ -1,8 +1,11 @@
-pub mod Words
-pub mod Said
+pub mod Drawn
 pub mod Known
 pub mod Line
 pub mod Lines
-pub mod Schedule
-pub mod Drawn
 pub mod Naming
+pub mod Node
+pub mod Said
+pub mod Schedule
+pub mod Text
+pub mod TraceWords
+pub mod Words

@@ -1,7 +1,7 @@
 -- What a line of a schedule lets happen.
 use Rattle.std.specs.Prelude.{ℕ, nat_lt, ok_or, List, [], ◌∷◌, length, Option, Some, None, Result, Ok, Err}
 use Rattle.std.specs.Prelude.{if◌then◌else◌}
-use Rattle.smi_limits.specs.declared.trees.TheConstants.{MOST_BYTES_OF_A_LINE}
+use Rattle.smi_base.specs.declared.trees.TheConstants.{MOST_BYTES_OF_A_LINE}
 use Rattle.smi_tree.specs.Fault.{◌>>=◌}
 use Rattle.smi_tree.specs.Text.{words}
 use Rattle.smi_tree.specs.File.{is_comment}

@@ -4,7 +4,7 @@ use Rattle.std.specs.Str.Lines.{lines}
 use Rattle.std.specs.List.{position_or_len}
 use Rattle.smi_tree.specs.Text.{is_line_feed}
 use Rattle.std.specs.Io.KnownBytes.{prepend_known}
-use Rattle.smi_limits.specs.declared.trees.TheConstants.{MOST_BYTES_OF_A_LINE}
+use Rattle.smi_base.specs.declared.trees.TheConstants.{MOST_BYTES_OF_A_LINE}
 use Rattle.smi_schedule.specs.declared.lines.Cut.{Cut}
 use Rattle.smi_schedule.specs.declared.lines.Cut.TheVariants as cut
 

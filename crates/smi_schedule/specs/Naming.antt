@@ -1,6 +1,6 @@
 -- Which items name stations, operators and devices that the tree has.
 use Rattle.std.specs.Prelude.{ℕ, ◌&&◌, Bool, true}
-use Rattle.smi_limits.specs.Between.{is_between}
+use Rattle.smi_base.specs.Between.{is_between}
 use Rattle.smi_tree.specs.Hierarchy.{Hierarchy}
 use Rattle.smi_tree.specs.Lookups.{device_count, operator_count, station_count}
 use Rattle.smi_protocol.specs.declared.order.Order.{Order}

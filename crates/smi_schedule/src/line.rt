@@ -6,7 +6,7 @@ ghost use Rattle.smi_schedule.specs.Line.{item_in};
 use crate::known::known;
 use crate::said::said_of;
 use crate::words::LineWord;
-use smi_limits::MOST_BYTES_OF_A_LINE;
+use smi_base::MOST_BYTES_OF_A_LINE;
 use smi_protocol::Item;
 use smi_tree::{Fault, Tree, first_word, is_comment};
 

@@ -2,7 +2,7 @@
 
 ghost use Rattle.std.specs.Prelude.{◌≡◌, MatchResult, OnOk};
 
-use smi_limits::MOST_BYTES_OF_A_LINE;
+use smi_base::MOST_BYTES_OF_A_LINE;
 use smi_tree::{length_of_line, without_return};
 use std::alloc::{AllocError, Global};
 use std::io::{ErrorKind, Read};

@@ -6,7 +6,7 @@ ghost use Rattle.smi_schedule.specs.Line.{item_in};
 ghost use Rattle.smi_schedule.specs.Schedule.{Reads, ReadsLine, items_of, schedule_of};
 
 use crate::line::read_item;
-use smi_limits::MOST_BYTES_OF_A_FILE;
+use smi_base::MOST_BYTES_OF_A_FILE;
 use smi_protocol::Item;
 use smi_tree::{Fault, Tree, first_line};
 use std::alloc::{AllocError, AllocFailed, Global};

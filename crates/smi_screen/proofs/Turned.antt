@@ -1,6 +1,6 @@
 -- What a turn adds to its look is nothing that the station or the picture knows of.
 use Rattle.std.proofs.Common.{◌≡◌, ℕ, Bool, subst}
-use Rattle.smi_observer.specs.Looking.{Looks, Stepping, View}
+use Rattle.smi_screen.specs.Looking.{Looks, Stepping, View}
 
 -- a look from what there was, in the same name, to what there is
 pub same_look : {T : Type 0} (S : Stepping T) (operator operator' : ℕ) (a a' b b' : View T) (stopped stopped' : Bool)

@@ -2,8 +2,8 @@
 
 use crate::console::NodeConsole;
 use crate::gate::Gate;
-use smi_picture::Picture;
 use smi_tree::Tree;
+use smi_view::Picture;
 use smi_window::Window;
 use std::alloc::Global;
 use std::net::Net;

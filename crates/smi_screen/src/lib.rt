@@ -1,7 +1,7 @@
 //! A screen: an observer of a detector, and a window on what it has seen.
 //!
 //! [`run`] is the whole of it, on one thread. Its station is opened on its store as any other; then it looks, turn
-//! after turn (`smi_observer`), a new frame is made of the picture five times a second (`smi_window`), and the guests
+//! after turn ([`look`]), a new frame is made of the picture five times a second (`smi_window`), and the guests
 //! at the gate have their turn, none of whom is waited for (`gate`). So a guest can hold up nothing but itself,
 //! and there is neither a lock nor a second thread. What a page elsewhere could ask is nothing: [`hosts_of`] says
 //! which names of hosts are answered.
@@ -15,19 +15,33 @@
 //! it has to go unless it has been answered, and a head and a body of bounded length; where one comes too many, the
 //! one whose time is up first goes. What goes out over a connection is said by the theorem of `http_server` from what
 //! the service answers.
+//!
+//! Its station is an observer: its operator watches every object and asks about every domain, again and again, and
+//! orders nothing. [`look`] is a turn of it. What comes over the link is carried to the station (`carrying`); then
+//! the next objects are watched, the next domains asked about, and a tick is made, each where it is time ([`Pace`]).
+//! What a step hands out is sent, and what it shows and answers is noted in a picture. So a turn is a list of deeds,
+//! each a receive, a watch, a question or a tick, each from where the one before left all, and nothing else
+//! (`specs/Looking.antt`); nothing in the picture ever goes back, and no domain is ordered anything.
 #![tactic(auto)]
 
+mod carrying;
 mod console;
 mod gate;
 mod guest;
 mod hosts;
 mod house;
+mod looking;
+mod noting;
+mod pace;
 mod running;
 mod server;
 mod stage;
 
+pub use carrying::{Stopped, carry};
 pub use console::{ConsoleAddress, NodeConsole};
 pub use gate::{Gate, MOST_GUESTS};
 pub use guest::Guest;
 pub use hosts::hosts_of;
+pub use looking::{Came, look};
+pub use pace::Pace;
 pub use running::{Ended, Giving, ScreenSetup, run};

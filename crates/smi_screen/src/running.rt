@@ -3,16 +3,16 @@
 use crate::console::ConsoleAddress;
 use crate::gate::Gate;
 use crate::house::House;
+use crate::pace::Pace;
 use crate::server::ScreenServer;
 use crate::stage::{Stage, staged};
 use bytes::Bytes;
 use smi_link::UdpLink;
-use smi_observer::Pace;
-use smi_picture::Picture;
 use smi_protocol::OpenFault;
 use smi_rows::Stable;
 use smi_station::{Station, migrate};
 use smi_tree::Tree;
+use smi_view::Picture;
 use std::alloc::{AllocError, Global};
 use std::hash::RandomState;
 use std::io::{self, ErrorKind};

@@ -3,18 +3,19 @@
 ghost use Rattle.std.specs.Prelude.{◌≡◌, false};
 ghost use Rattle.smi_node.specs.Carried.{StepsTo};
 ghost use Rattle.smi_node.specs.Linked.{shown_by};
-ghost use Rattle.smi_observer.specs.Looking.{Looks, view};
+ghost use Rattle.smi_screen.specs.Looking.{Looks, view};
 ghost use Rattle.smi_screen.specs.Ending.{has_stopped};
 
 use crate::house::House;
+use crate::looking::{Came, look};
+use crate::pace::Pace;
 use crate::running::Ended;
 use smi_link::DatagramLink;
-use smi_observer::{Came, Pace, look};
 use smi_out::Out;
-use smi_picture::Picture;
 use smi_rows::Stable;
 use smi_station::Station;
 use smi_tree::Tree;
+use smi_view::Picture;
 use std::net::Net;
 use std::sync::Wait;
 use std::time::{Clock, Instant};

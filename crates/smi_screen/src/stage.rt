@@ -3,8 +3,8 @@
 use crate::console::NodeConsole;
 use crate::running::{Giving, ScreenSetup};
 use bytes::Bytes;
-use smi_picture::Picture;
 use smi_tree::Tree;
+use smi_view::Picture;
 use smi_window::{Frame, Orders, Relay, Window};
 use std::alloc::{AllocError, Global};
 use std::mem::replace;

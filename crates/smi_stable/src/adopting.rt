@@ -13,8 +13,8 @@ use crate::schema_shape::{is_empty, is_stable};
 use crate::sqlite_stable::SqliteStable;
 use crate::statement::{fault_of, make_table, test_open};
 use core::snapshot::Snapshot;
+use smi_base::Tally;
 use smi_rows::StoreFault;
-use smi_tally::Tally;
 use sqlite::{Alter, Connection};
 
 /// The table of stable rows is there, and is made where there is none.

@@ -1,17 +1,25 @@
-//! What keeps a station's stable rows when the station stops: [`SqliteStable`], a store over SQL.
+//! What keeps a station's stable rows when the station stops: [`SqliteStable`], a store over SQL, and its file.
 //!
-//! Its rows lie in one table, and each save is one statement. It is a [`Stable`] store, as those of
-//! `smi_rows` are, which has the rows and what is said of stores; both can be named here too.
+//! Its rows lie in one table, and each save is one statement. It is a [`Stable`] store, as those of `smi_rows` are,
+//! which has the rows and what is said of stores; both can be named here too.
+//!
+//! SQLite writes whole pages, and a stable row has few bytes: with pages of 512 bytes a save writes about a sixth of
+//! what it writes with those of 4,096. So [`begin`] makes a file with short pages before [`open`] opens it. A file
+//! that is there keeps the pages that it has.
 #![tactic(auto)]
 
 mod adopting;
+mod beginning;
 mod listing;
+mod opening;
 mod over_sqlite;
 mod schema_shape;
 mod shown;
 mod sqlite_stable;
 mod statement;
 
+pub use beginning::{PAGE_BYTES, begin};
+pub use opening::open;
 pub use smi_rows::{
     DomainRow, Key, MemoryStable, Mode, OperatorRow, Plan, Planned, PlannedStable, Row, RowFault,
     RowFlaw, RowKind, SavedRow, Schema, Stable, StoreFault, StoredLink, Tally, law, write_boot,

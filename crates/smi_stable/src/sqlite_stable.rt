@@ -1,5 +1,5 @@
 use core::snapshot::Snapshot;
-use smi_tally::Tally;
+use smi_base::Tally;
 use sqlite::{Alter, Connection};
 use std::marker::Model;
 

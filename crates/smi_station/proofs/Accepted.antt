@@ -10,7 +10,7 @@ use Rattle.smi_grant.specs.declared.Version.{Version}
 use Rattle.smi_grant.specs.Holder.{is_free, is_in_range}
 use Rattle.smi_grant.specs.Record.{Standing, is_outcome, is_record, last_number}
 use Rattle.smi_message.specs.Message.{Message, is_boot, is_body, is_domain, is_grant_epoch, is_party}
-use Rattle.smi_limits.specs.Between.{is_between}
+use Rattle.smi_base.specs.Between.{is_between}
 use Rattle.smi_message.specs.declared.Body.{Body}
 use Rattle.smi_message.specs.declared.Body.TheVariants as body
 use Rattle.smi_roles.specs.Roles.{is_holder_of, is_number, is_kept_by, is_keeper}

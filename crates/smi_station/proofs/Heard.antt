@@ -14,7 +14,7 @@ use Rattle.smi_protocol.specs.Showing.{domain_of_body, is_spent, moved_by_body, 
 use Rattle.smi_protocol.specs.SoundDisplay.{MayChange}
 use Rattle.smi_protocol.specs.Step.{Out, accepted, body_noticed, conditions_by, nothing_out}
 use Rattle.smi_protocol.specs.Watching.{Notice}
-use Rattle.smi_grants.specs.Kept.{Kept, grants_of}
+use Rattle.smi_holdings.specs.Kept.{Kept, grants_of}
 use Rattle.smi_out.specs.Handed.{sent_after, with_notice}
 use Rattle.smi_plan.specs.Handing.{with_step}
 use Rattle.smi_display.specs.Displayed.{Displayed, display_of}

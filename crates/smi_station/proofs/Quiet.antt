@@ -10,8 +10,8 @@ use Rattle.smi_protocol.specs.GrantStep.{GrantStep, unchanged}
 use Rattle.smi_protocol.specs.Happening.{Orders, Ticks, answer}
 use Rattle.smi_protocol.specs.Ordering.{obeyed, order_comes}
 use Rattle.smi_protocol.specs.Sound.{IsSound}
-use Rattle.smi_command.specs.Order.{take_begun, drop_begun, command_issued}
-use Rattle.smi_command.specs.declared.Link.{Link}
+use Rattle.smi_grant.specs.Order.{take_begun, drop_begun, command_issued}
+use Rattle.smi_grant.specs.declared.Link.{Link}
 use Rattle.smi_grant.specs.declared.Command.{Command}
 use Rattle.smi_grant.specs.declared.Command.TheVariants.{Do, Include, Exclude, Manual, Ignore}
 use Rattle.smi_grant.specs.declared.Holder.TheVariants.{Operator}
@@ -23,10 +23,10 @@ use Rattle.smi_roles.specs.Roles.{is_child_unit}
 use Rattle.smi_protocol.specs.Messages.{object_home, unwatches}
 use Rattle.smi_protocol.specs.declared.order.Order.{Order}
 use Rattle.smi_protocol.specs.declared.order.Order.TheVariants as order
-use Rattle.smi_grants.specs.Kept.{Kept, grants_of}
-use Rattle.smi_grants.specs.Change.{changed}
-use Rattle.smi_grants.specs.declared.change.Change.{Change}
-use Rattle.smi_grants.specs.declared.change.Change.TheVariants as change
+use Rattle.smi_holdings.specs.Kept.{Kept, grants_of}
+use Rattle.smi_holdings.specs.Change.{changed}
+use Rattle.smi_holdings.specs.declared.change.Change.{Change}
+use Rattle.smi_holdings.specs.declared.change.Change.TheVariants as change
 use Rattle.smi_display.specs.Listening.{KeepsTheRest}
 use Rattle.smi_out.specs.Handed.{with_notice}
 use Rattle.smi_plan.specs.Handing.{with_step}

@@ -25,7 +25,7 @@ use Rattle.smi_protocol.specs.Step.{Out, accepted, conditions_by, nothing_out}
 use Rattle.smi_protocol.specs.Watching.{unnoticed}
 use Rattle.smi_protocol.proofs.Lists.{Apart, In, apart_moved, apart_numbers, in_mapped, in_numbers, same}
 use Rattle.smi_protocol.proofs.Tables.{number_self}
-use Rattle.smi_grants.specs.Kept.{Kept, grants_of}
+use Rattle.smi_holdings.specs.Kept.{Kept, grants_of}
 use Rattle.smi_out.specs.Handed.{sent_after}
 use Rattle.smi_display.specs.Displayed.{Displayed, display_of}
 use Rattle.smi_display.specs.Following.{followed_at}

@@ -2,9 +2,9 @@
 use Rattle.std.proofs.Common.{ℕ, ◌≡◌, false, Option, Some, None, refl, sym, ap, ◌∙◌, subst}
 use Rattle.std.specs.Prelude.{is_some, option_map}
 use Rattle.smi_tree.specs.Hierarchy.{Hierarchy}
-use Rattle.smi_grants.specs.Change.{touched}
-use Rattle.smi_grants.specs.Plans.{Plans}
-use Rattle.smi_grants.specs.declared.change.Change.{Change}
+use Rattle.smi_holdings.specs.Change.{touched}
+use Rattle.smi_holdings.specs.Plans.{Plans}
+use Rattle.smi_holdings.specs.declared.change.Change.{Change}
 use Rattle.smi_protocol.specs.Display.{Station}
 use Rattle.smi_protocol.specs.Grants.{Grants}
 use Rattle.smi_protocol.specs.GrantsOf.{grant_step}

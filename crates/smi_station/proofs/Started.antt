@@ -16,9 +16,9 @@ use Rattle.smi_protocol.specs.Tidy.{IsTidy}
 use Rattle.smi_law.proofs.Tidy.{first_tidy}
 use Rattle.smi_protocol.specs.declared.fault.OpenFault.{OpenFault}
 use Rattle.smi_protocol.specs.declared.fault.OpenFault.TheVariants as open_fault
-use Rattle.smi_grants.specs.Kept.{Kept, grants_of}
+use Rattle.smi_holdings.specs.Kept.{Kept, grants_of}
 use Rattle.smi_display.specs.Displayed.{Displayed, display_of}
-use Rattle.smi_load.specs.Starting.{beginning_with}
+use Rattle.smi_start.specs.Starting.{beginning_with}
 use Rattle.smi_station.specs.Core.{Core, IsCore, begun, core_with, station_of}
 
 -- at a start each object may change

@@ -29,7 +29,7 @@ use Rattle.smi_protocol.specs.declared.event.Heard.{Heard}
 use Rattle.smi_protocol.specs.declared.event.Heard.TheVariants.{Refused}
 use Rattle.smi_protocol.specs.declared.event.StepFault.{StepFault}
 use Rattle.smi_protocol.specs.declared.event.StepFault.TheVariants.{NotStored, Stopped, Memory}
-use Rattle.smi_grants.specs.Kept.{Kept, grants_of}
+use Rattle.smi_holdings.specs.Kept.{Kept, grants_of}
 use Rattle.smi_out.specs.Handed.{with_notice}
 use Rattle.smi_display.specs.Displayed.{Displayed, display_of}
 use Rattle.smi_display.specs.Listening.{KeepsTheRest}

@@ -2,8 +2,8 @@
 use Rattle.std.specs.Prelude.{ℕ, ◌≡◌, ◌≤◌, ◌<◌, ◌+◌, ◌⊎◌, Result, OnOk, Option}
 use Rattle.smi_rows.specs.Store.{Rows, Saved, IsSame}
 use Rattle.smi_protocol.specs.declared.event.StepFault.{StepFault}
-use Rattle.smi_grants.specs.Change.{with_saved}
-use Rattle.smi_grants.specs.Save.{IfKept, IfKnown, IfStopped, IfCounted, IfUnfailed}
+use Rattle.smi_holdings.specs.Change.{with_saved}
+use Rattle.smi_holdings.specs.Save.{IfKept, IfKnown, IfStopped, IfCounted, IfUnfailed}
 
 -- A step that saves this row, if any, comes to this result. While the store is honest: after a step the row is
 -- there; where nothing was saved the rows are as before; and where nobody knows, they are one or the other. So are

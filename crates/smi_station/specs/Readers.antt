@@ -3,7 +3,7 @@ use Rattle.std.specs.Prelude.{ℕ, ◌&&◌, if◌then◌else◌, List, Option, 
 use Rattle.smi_grant.specs.declared.Holder.{Holder}
 use Rattle.smi_grant.specs.declared.Shown.{Shown}
 use Rattle.smi_grant.specs.Record.{Standing}
-use Rattle.smi_command.specs.declared.Link.{Link}
+use Rattle.smi_grant.specs.declared.Link.{Link}
 use Rattle.smi_tree.specs.Hierarchy.{Hierarchy}
 use Rattle.smi_tree.specs.Lookups.{operators_of}
 use Rattle.smi_publish.specs.Published.{shown_at}

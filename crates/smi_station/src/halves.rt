@@ -7,7 +7,7 @@ use crate::hearing::hear;
 use crate::obeying::obey;
 use crate::reporting::{report, tick};
 use smi_display::Displayed;
-use smi_grants::{Kept, is_report_here, refusal_of_message};
+use smi_holdings::{Kept, is_report_here, refusal_of_message};
 use smi_message::{Body, Datagram, decode};
 use smi_out::Out;
 use smi_protocol::{Answer, Event, Heard, Order, OrderCode, Request, StepFault, Told};
@@ -131,8 +131,8 @@ fn is_stopped_by(heard: &Result<Heard, StepFault>) -> bool
 
 impl<'a> Core<'a> {
     ghost use Rattle.std.specs.Prelude.{◌≡◌, true, false, is_some, None, Err, OnErr, OnOk, IfErr, IsOk};
-    ghost use Rattle.smi_grants.specs.Kept.{grants_of};
-    ghost use Rattle.smi_grants.specs.Save.{IfKept, IfMemory, IfStopped};
+    ghost use Rattle.smi_holdings.specs.Kept.{grants_of};
+    ghost use Rattle.smi_holdings.specs.Save.{IfKept, IfMemory, IfStopped};
     ghost use Rattle.smi_message.specs.Spelling.{reading};
     ghost use Rattle.smi_message.specs.declared.Body.TheVariants.{Watch};
     ghost use Rattle.smi_protocol.specs.Happening.{Comes, Orders, Reports, Ticks};

@@ -2,7 +2,7 @@
 
 ghost use Rattle.std.specs.Prelude.{◌≡◌, true, false, is_some, None, IfOk, OnOk, OnErr};
 ghost use Rattle.smi_display.specs.Displayed.{display_of};
-ghost use Rattle.smi_grants.specs.Save.{IfMemory};
+ghost use Rattle.smi_holdings.specs.Save.{IfMemory};
 ghost use Rattle.smi_protocol.specs.Happening.{Comes};
 ghost use Rattle.smi_protocol.specs.Refusals.{refusal_of_message};
 ghost use Rattle.smi_protocol.specs.SoundDisplay.{MayChange};
@@ -16,7 +16,7 @@ use crate::noticing::update_display;
 use crate::planning::plan;
 use crate::stirring::{look_before, move_and_follow};
 use smi_display::Displayed;
-use smi_grants::Kept;
+use smi_holdings::Kept;
 use smi_message::Datagram;
 use smi_out::Out;
 use smi_protocol::{Heard, StepFault};

@@ -1,6 +1,6 @@
 //! A station of the control hierarchy: [`Station::step`] is one event.
 //!
-//! A [`Station`] keeps the grants of its domains and the links of its operators and domains (`smi_grants`), the
+//! A [`Station`] keeps the grants of its domains and the links of its operators and domains (`smi_holdings`), the
 //! states of its objects and of those that it watches (`smi_display`), and a store of its rows. What an event makes
 //! of it is defined in `smi_protocol`, under `specs/Step.antt`, and a step is what is defined there, whole: the
 //! station afterwards, the row that is saved, and what is handed out.
@@ -25,5 +25,5 @@ mod saving;
 mod station;
 mod stirring;
 
-pub use smi_load::migrate;
+pub use smi_start::migrate;
 pub use station::Station;

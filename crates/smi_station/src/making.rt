@@ -1,16 +1,16 @@
 //! Saves a planned change and makes it; on a failure clears what was to be handed out.
 
 ghost use Rattle.std.specs.Prelude.{◌≡◌, true, is_some, OnOk, OnErr, IfOk};
-ghost use Rattle.smi_grants.specs.Change.{IsChange};
-ghost use Rattle.smi_grants.specs.Kept.{grants_of};
-ghost use Rattle.smi_grants.specs.Plans.{Plans};
-ghost use Rattle.smi_grants.specs.Save.{IfMemory};
+ghost use Rattle.smi_holdings.specs.Change.{IsChange};
+ghost use Rattle.smi_holdings.specs.Kept.{grants_of};
+ghost use Rattle.smi_holdings.specs.Plans.{Plans};
+ghost use Rattle.smi_holdings.specs.Save.{IfMemory};
 ghost use Rattle.smi_protocol.specs.GrantStep.{GrantStep};
 ghost use Rattle.smi_protocol.specs.Step.{heard_of, nothing_out};
 ghost use Rattle.smi_station.specs.Leaving.{Leaves};
 ghost use Rattle.smi_station.specs.Making.{row_of};
 
-use smi_grants::{Change, Kept, carry_out};
+use smi_holdings::{Change, Kept, carry_out};
 use smi_out::Out;
 use smi_protocol::{Heard, StepFault};
 use smi_rows::Stable;

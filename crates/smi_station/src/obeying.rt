@@ -2,8 +2,8 @@
 
 ghost use Rattle.std.specs.Prelude.{◌≡◌, true, false, is_some, None, IfOk, OnOk, OnErr};
 ghost use Rattle.smi_display.specs.Displayed.{display_of};
-ghost use Rattle.smi_grants.specs.Kept.{grants_of};
-ghost use Rattle.smi_grants.specs.Save.{IfMemory};
+ghost use Rattle.smi_holdings.specs.Kept.{grants_of};
+ghost use Rattle.smi_holdings.specs.Save.{IfMemory};
 ghost use Rattle.smi_protocol.specs.Happening.{Orders};
 ghost use Rattle.smi_protocol.specs.Refusals.{refusal_of};
 ghost use Rattle.smi_protocol.specs.SoundDisplay.{MayChange};
@@ -13,7 +13,7 @@ ghost use Rattle.smi_station.specs.Leaving.{Leaves};
 
 use crate::making::make;
 use smi_display::Displayed;
-use smi_grants::Kept;
+use smi_holdings::Kept;
 use smi_out::Out;
 use smi_plan::order;
 use smi_protocol::{Heard, Order, StepFault};

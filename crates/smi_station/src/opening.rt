@@ -4,16 +4,16 @@ ghost use Rattle.std.specs.Prelude.{◌≡◌, ◌≤◌, ◌<◌, ◌+◌, ◌�
 ghost use Rattle.smi_rows.specs.Store.{Rows, IsSame};
 ghost use Rattle.smi_protocol.specs.Loading.{IsStation, Opens};
 ghost use Rattle.smi_tree.specs.Lookups.{station_count};
-ghost use Rattle.smi_load.specs.Starting.{IfCertain, IfInDoubt, IfStoreFailed, IfStoreUnfailed};
-ghost use Rattle.smi_load.specs.Starting.{IfUnchanged, IsToldAsMemory, after_start, beginning_with};
+ghost use Rattle.smi_start.specs.Starting.{IfCertain, IfInDoubt, IfStoreFailed, IfStoreUnfailed};
+ghost use Rattle.smi_start.specs.Starting.{IfUnchanged, IsToldAsMemory, after_start, beginning_with};
 ghost use Rattle.smi_station.specs.Core.{IsOf, begun};
 
 use crate::halves::Core;
 use smi_display::Displayed;
-use smi_grants::Kept;
-use smi_load::{has_station, loaded_kept, save_boot};
+use smi_holdings::Kept;
 use smi_protocol::OpenFault;
 use smi_rows::Stable;
+use smi_start::{has_station, loaded_kept, save_boot};
 use smi_tree::Tree;
 use std::alloc::Global;
 
@@ -48,7 +48,7 @@ fn with_display<'a>(
 
 ghost use Rattle.std.specs.Prelude.{true, false};
 ghost use Rattle.smi_message.specs.Message.{is_boot};
-ghost use Rattle.smi_grants.specs.Kept.{grants_of};
+ghost use Rattle.smi_holdings.specs.Kept.{grants_of};
 ghost use Rattle.smi_protocol.specs.Opening.{first_display};
 ghost use Rattle.smi_protocol.specs.Sound.{IsSound};
 ghost use Rattle.smi_station.specs.Core.{station_of};

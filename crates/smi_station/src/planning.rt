@@ -1,15 +1,15 @@
 //! What a datagram asks of a station's grants.
 
 ghost use Rattle.std.specs.Prelude.{◌≡◌, ◌≤◌, length, None};
-ghost use Rattle.smi_grants.specs.Kept.{grants_of};
-ghost use Rattle.smi_grants.specs.Plans.{Plans};
+ghost use Rattle.smi_holdings.specs.Kept.{grants_of};
+ghost use Rattle.smi_holdings.specs.Plans.{Plans};
 ghost use Rattle.smi_plan.specs.Handing.{with_step};
 ghost use Rattle.smi_protocol.specs.GrantsOf.{datagram_comes};
 ghost use Rattle.smi_protocol.specs.Refusals.{refusal_of_message};
 ghost use Rattle.smi_protocol.specs.Sound.{IsSound};
 ghost use Rattle.smi_protocol.specs.Step.{nothing_out};
 
-use smi_grants::{Change, Kept};
+use smi_holdings::{Change, Kept};
 use smi_message::{Body, Datagram};
 use smi_out::Out;
 use smi_plan::{ask, drop_grant, run, take, tell};

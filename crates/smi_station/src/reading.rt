@@ -1,9 +1,8 @@
 //! What a station tells of itself.
 
 use crate::halves::Core;
-use smi_command::Link;
-use smi_grant::{Holder, Record, Shown};
-use smi_grants::speaks_for;
+use smi_grant::{Holder, Link, Record, Shown};
+use smi_holdings::speaks_for;
 use smi_roles::{has_domain, is_child_unit, is_keeper};
 use smi_rows::Mode;
 use smi_tree::Tree;

@@ -10,7 +10,7 @@ ghost use Rattle.smi_station.specs.Core.{AreHalves, station_with};
 
 use smi_display::Displayed;
 use smi_grant::Shown;
-use smi_grants::Kept;
+use smi_holdings::Kept;
 use smi_out::Out;
 use smi_publish::Changes;
 

@@ -10,9 +10,9 @@ use std::alloc::Global;
 impl<'a> Core<'a> {
     ghost use Rattle.std.specs.Prelude.{◌≡◌, ◌≤◌, ◌<◌, ◌+◌, ◌⊎◌, IfErr, OnErr, OnOk};
     ghost use Rattle.smi_rows.specs.Store.{IsSame, Rows};
-    ghost use Rattle.smi_load.specs.Starting.{IfCertain, IfInDoubt, IfStoreFailed, IfStoreUnfailed};
-    ghost use Rattle.smi_load.specs.Starting.{IfUnchanged, IsToldAsMemory, after_start};
-    ghost use Rattle.smi_load.specs.Stored.{Restarts};
+    ghost use Rattle.smi_start.specs.Starting.{IfCertain, IfInDoubt, IfStoreFailed, IfStoreUnfailed};
+    ghost use Rattle.smi_start.specs.Starting.{IfUnchanged, IsToldAsMemory, after_start};
+    ghost use Rattle.smi_start.specs.Stored.{Restarts};
     ghost use Rattle.smi_station.specs.Core.{IsOf, IsStoredIn, begun, number_of, station_of, tree_of};
     ghost use Rattle.smi_station.specs.Readers.{restarted};
 
@@ -57,9 +57,9 @@ impl<'a> Core<'a> {
 impl<'a, S: Stable> Station<'a, S> {
     ghost use Rattle.std.specs.Prelude.{◌≡◌, ◌≤◌, ◌<◌, ◌+◌, ◌⊎◌, IfErr, OnErr, OnOk};
     ghost use Rattle.smi_rows.specs.Store.{IsSame, Rows};
-    ghost use Rattle.smi_load.specs.Starting.{IfCertain, IfInDoubt, IfStoreFailed, IfStoreUnfailed};
-    ghost use Rattle.smi_load.specs.Starting.{IfUnchanged, IsToldAsMemory, after_start};
-    ghost use Rattle.smi_load.specs.Stored.{Restarts};
+    ghost use Rattle.smi_start.specs.Starting.{IfCertain, IfInDoubt, IfStoreFailed, IfStoreUnfailed};
+    ghost use Rattle.smi_start.specs.Starting.{IfUnchanged, IsToldAsMemory, after_start};
+    ghost use Rattle.smi_start.specs.Stored.{Restarts};
     ghost use Rattle.smi_station.specs.Core.{IsOf, IsStoredIn, begun, number_of, station_of, tree_of};
     ghost use Rattle.smi_station.specs.Readers.{restarted};
 

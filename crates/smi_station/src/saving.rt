@@ -1,8 +1,8 @@
 //! Whether a step would save a row, found out without making it.
 
 ghost use Rattle.std.specs.Prelude.{◌≡◌, None, is_some};
-ghost use Rattle.smi_grants.specs.Change.{touched};
-ghost use Rattle.smi_grants.specs.Kept.{grants_of};
+ghost use Rattle.smi_holdings.specs.Change.{touched};
+ghost use Rattle.smi_holdings.specs.Kept.{grants_of};
 ghost use Rattle.smi_message.specs.Spelling.{reading};
 ghost use Rattle.smi_protocol.specs.Display.{Station as Defined};
 ghost use Rattle.smi_protocol.specs.Happening.{Comes, Orders};
@@ -12,7 +12,7 @@ ghost use Rattle.smi_protocol.specs.Step.{after, after_event, after_reading, not
 use crate::halves::reported_in;
 use crate::planning::plan;
 use crate::station::Station;
-use smi_grants::{Change, Kept, refusal_of_message};
+use smi_holdings::{Change, Kept, refusal_of_message};
 use smi_message::{Datagram, decode};
 use smi_out::Out;
 use smi_plan::order;

@@ -1,8 +1,7 @@
 use crate::halves::Core;
 use crate::opening::start;
-use smi_command::Link;
-use smi_grant::{Holder, Record, Shown};
-use smi_grants::Kept;
+use smi_grant::{Holder, Link, Record, Shown};
+use smi_holdings::Kept;
 use smi_out::Out;
 use smi_protocol::{Event, Heard, OpenFault, StepFault};
 use smi_rows::{Mode, Stable};
@@ -113,12 +112,12 @@ impl<'a, S: Stable> Station<'a, S> {
     ghost use Rattle.std.specs.Prelude.{◌≤◌, ◌<◌, ◌+◌, ◌⊎◌, IfErr, IfOk, OnOk};
     ghost use Rattle.smi_rows.specs.Store.{Rows, IsSame};
     ghost use Rattle.smi_protocol.specs.Loading.{IsStation, Opens};
-    ghost use Rattle.smi_load.specs.Starting.{IfCertain, IfInDoubt, IfStoreFailed, IfStoreUnfailed};
-    ghost use Rattle.smi_load.specs.Starting.{IfUnchanged, IsToldAsMemory, after_start};
+    ghost use Rattle.smi_start.specs.Starting.{IfCertain, IfInDoubt, IfStoreFailed, IfStoreUnfailed};
+    ghost use Rattle.smi_start.specs.Starting.{IfUnchanged, IsToldAsMemory, after_start};
     ghost use Rattle.smi_station.specs.Core.{IsOf, IsStoredIn, begun};
     ghost use Rattle.smi_station.specs.Readers.{core_in, store_in};
     ghost use Rattle.std.specs.Prelude.{◌≡◌, true, false, Err};
-    ghost use Rattle.smi_grants.specs.Save.{IfKept, IfMemory, IfStopped};
+    ghost use Rattle.smi_holdings.specs.Save.{IfKept, IfMemory, IfStopped};
     ghost use Rattle.smi_protocol.specs.Step.{after_event, nothing_out};
     ghost use Rattle.smi_protocol.specs.declared.event.StepFault.TheVariants.{Stopped};
     ghost use Rattle.smi_station.specs.Core.{MaySendAll, Steps, number_of, station_of, tree_of};

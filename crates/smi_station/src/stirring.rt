@@ -4,7 +4,7 @@ ghost use Rattle.std.specs.Prelude.{◌≡◌, true, false, IfSome, None};
 ghost use Rattle.smi_message.specs.Message.{is_body};
 ghost use Rattle.smi_display.specs.Displayed.{display_of};
 ghost use Rattle.smi_display.specs.Listening.{KeepsTheRest};
-ghost use Rattle.smi_grants.specs.Kept.{grants_of};
+ghost use Rattle.smi_holdings.specs.Kept.{grants_of};
 ghost use Rattle.smi_out.specs.Handed.{sent_after};
 ghost use Rattle.smi_protocol.specs.Refusals.{refusal_of_message};
 ghost use Rattle.smi_protocol.specs.Showing as showing;
@@ -17,7 +17,7 @@ ghost use Rattle.smi_station.specs.Stirring.{action_by, action_of, acted_by, mem
 
 use smi_display::{Displayed, Members};
 use smi_grant::{Command, admit};
-use smi_grants::Kept;
+use smi_holdings::Kept;
 use smi_message::{Body, Datagram};
 use smi_out::Out;
 use smi_publish::Changes;

@@ -4,7 +4,7 @@ use Rattle.std.proofs.Common.{Err, refl, ap, ◌∙◌, sym, subst, ◌⊎◌, i
 use Rattle.std.proofs.lemmas.Bool.Decides.{nat_tests}
 use Rattle.std.specs.Prelude.{nat_lt}
 use Rattle.std.specs.Str.Lines.{lines}
-use Rattle.smi_limits.specs.declared.trees.TheConstants.{MOST_BYTES_OF_A_FILE}
+use Rattle.smi_base.specs.declared.trees.TheConstants.{MOST_BYTES_OF_A_FILE}
 use Rattle.smi_tree.specs.Fault.{fault_code}
 use Rattle.smi_tree.specs.Hierarchy.{Hierarchy, undeclared}
 use Rattle.smi_tree.specs.File.{with_line, with_lines, go_on, at_line, is_complete, ended, tree_of}

@@ -3,7 +3,7 @@ use Rattle.std.proofs.Common.{◌≡◌, ℕ, Bool, true, false, not, List, [], 
 use Rattle.std.proofs.lemmas.Bool.Decides.{nat_tests}
 use Rattle.std.specs.Prelude.{nat_le}
 use Rattle.std.specs.List.{slice_split, list_all}
-use Rattle.smi_limits.specs.declared.trees.TheConstants.{MOST_BYTES_OF_A_NAME}
+use Rattle.smi_base.specs.declared.trees.TheConstants.{MOST_BYTES_OF_A_NAME}
 use Rattle.smi_tree.proofs.Kept.{both-left, both-right}
 use Rattle.smi_tree.specs.Name.{is_name, is_name_byte, begins_with_letter}
 use Rattle.smi_tree.specs.Text.{cuts, words}

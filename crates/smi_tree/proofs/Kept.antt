@@ -8,10 +8,10 @@ use Rattle.std.specs.Prelude.{ok_or, ◌&&◌}
 use Rattle.std.specs.Option.{option_map_or}
 use Rattle.std.specs.List.{AllByRecursion, list_any, sum_by}
 use Rattle.std.proofs.lemmas.List.Sums.{sum_by-append}
-use Rattle.smi_limits.specs.declared.trees.TheConstants.{MOST_ACTIONS, MOST_CHILDREN, MOST_CLASSES, MOST_DEVICES}
-use Rattle.smi_limits.specs.declared.trees.TheConstants.{MOST_DEVICES_OF_A_DOMAIN, MOST_DOMAINS, MOST_LEVELS}
-use Rattle.smi_limits.specs.declared.trees.TheConstants.{MOST_OPERATORS, MOST_OPERATORS_OF_A_STATION}
-use Rattle.smi_limits.specs.declared.trees.TheConstants.{MOST_RULES_OF_A_CLASS, MOST_STATES, MOST_STATIONS}
+use Rattle.smi_base.specs.declared.trees.TheConstants.{MOST_ACTIONS, MOST_CHILDREN, MOST_CLASSES, MOST_DEVICES}
+use Rattle.smi_base.specs.declared.trees.TheConstants.{MOST_DEVICES_OF_A_DOMAIN, MOST_DOMAINS, MOST_LEVELS}
+use Rattle.smi_base.specs.declared.trees.TheConstants.{MOST_OPERATORS, MOST_OPERATORS_OF_A_STATION}
+use Rattle.smi_base.specs.declared.trees.TheConstants.{MOST_RULES_OF_A_CLASS, MOST_STATES, MOST_STATIONS}
 use Rattle.smi_tree.proofs.Cutting.{either}
 use Rattle.smi_tree.proofs.Lawfulness.{Always, Always-then, Always-unless, Always-where, entry-push, entry-suc}
 use Rattle.smi_tree.proofs.Lawfulness.{within-entry, kind-table, known-between, Keeps, Keeps-same, Keeps-push}

@@ -13,10 +13,10 @@ use Rattle.smi_tree.proofs.Cutting.{either}
 use Rattle.smi_tree.proofs.NumberLemmas.{position_from-more, absent-new}
 use Rattle.indexmap.specs.IndexSet.{insert_key}
 use Rattle.std.proofs.lemmas.List.{length-append}
-use Rattle.smi_limits.specs.declared.trees.TheConstants.{MOST_ACTIONS, MOST_BYTES_OF_A_LINE, MOST_CLASSES}
-use Rattle.smi_limits.specs.declared.trees.TheConstants.{MOST_DEVICES, MOST_DEVICES_OF_A_DOMAIN, MOST_DOMAINS}
-use Rattle.smi_limits.specs.declared.trees.TheConstants.{MOST_OPERATORS, MOST_RULES_OF_A_CLASS, MOST_STATES}
-use Rattle.smi_limits.specs.declared.trees.TheConstants.{MOST_STATIONS}
+use Rattle.smi_base.specs.declared.trees.TheConstants.{MOST_ACTIONS, MOST_BYTES_OF_A_LINE, MOST_CLASSES}
+use Rattle.smi_base.specs.declared.trees.TheConstants.{MOST_DEVICES, MOST_DEVICES_OF_A_DOMAIN, MOST_DOMAINS}
+use Rattle.smi_base.specs.declared.trees.TheConstants.{MOST_OPERATORS, MOST_RULES_OF_A_CLASS, MOST_STATES}
+use Rattle.smi_base.specs.declared.trees.TheConstants.{MOST_STATIONS}
 use Rattle.smi_tree.proofs.Lawfulness.{Always, Always-then, Always-unless, Always-where, Always-or, entry-push}
 use Rattle.smi_tree.proofs.Lawfulness.{no-entry, entry-suc}
 use Rattle.smi_tree.proofs.Kept.{both-left, both-right}

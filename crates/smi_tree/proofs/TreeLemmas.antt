@@ -3,7 +3,7 @@ use Rattle.std.proofs.Common.{◌≡◌, ℕ, suc, zero, ◌+◌, ◌≤◌, Boo
 use Rattle.std.proofs.Common.{None, Result, Ok, Err, refl, ap, sym, subst, ◌⊎◌, inl, inr, arith}
 use Rattle.std.proofs.lemmas.Bool.Decides.{nat_tests}
 use Rattle.std.specs.Prelude.{◌==◌, nat_le, nat_lt, ok_or, option_and_then, ◌&&◌}
-use Rattle.smi_limits.specs.declared.trees.TheConstants.{MOST_BYTES_OF_A_LINE}
+use Rattle.smi_base.specs.declared.trees.TheConstants.{MOST_BYTES_OF_A_LINE}
 use Rattle.smi_tree.proofs.Lawfulness.{Always, Always-then, Always-unless, Always-or, entry-suc, no-entry}
 use Rattle.smi_tree.proofs.Kept.{always-at, known-some, both-left, both-right, lawful-state, lawful-action}
 use Rattle.smi_tree.proofs.Kept.{lawful-station, lawful-operator, lawful-class, lawful-move, lawful-accepted}

@@ -3,11 +3,11 @@
 use Rattle.std.specs.Prelude.{ℕ, ◌-◌, ◌==◌, ◌&&◌, ◌||◌, nat_lt, Bool, true, List, [], ◌∷◌, ◌++◌, length, count_by}
 use Rattle.std.specs.Prelude.{is_some, slice_set, ok_or, Option, Some, None, Result, Ok, Err, if◌then◌else◌}
 use Rattle.std.specs.List.{list_any}
-use Rattle.smi_limits.specs.declared.trees.TheConstants.{MOST_DEVICES, MOST_DEVICES_OF_A_DOMAIN}
-use Rattle.smi_limits.specs.declared.trees.TheConstants.{MOST_CHILDREN, MOST_CLASSES, MOST_DOMAINS, MOST_LEVELS}
-use Rattle.smi_limits.specs.declared.trees.TheConstants.{MOST_RULES_OF_A_CLASS}
-use Rattle.smi_limits.specs.declared.trees.TheConstants.{MOST_ACTIONS, MOST_OPERATORS, MOST_STATES, MOST_STATIONS}
-use Rattle.smi_limits.specs.declared.trees.TheConstants.{MOST_OPERATORS_OF_A_STATION}
+use Rattle.smi_base.specs.declared.trees.TheConstants.{MOST_DEVICES, MOST_DEVICES_OF_A_DOMAIN}
+use Rattle.smi_base.specs.declared.trees.TheConstants.{MOST_CHILDREN, MOST_CLASSES, MOST_DOMAINS, MOST_LEVELS}
+use Rattle.smi_base.specs.declared.trees.TheConstants.{MOST_RULES_OF_A_CLASS}
+use Rattle.smi_base.specs.declared.trees.TheConstants.{MOST_ACTIONS, MOST_OPERATORS, MOST_STATES, MOST_STATIONS}
+use Rattle.smi_base.specs.declared.trees.TheConstants.{MOST_OPERATORS_OF_A_STATION}
 use Rattle.smi_tree.specs.Fault.{◌>>=◌}
 use Rattle.smi_tree.specs.Declaration.{declaration_of}
 use Rattle.smi_tree.specs.declared.declaration.Keyword.{Keyword}

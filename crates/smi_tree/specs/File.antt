@@ -3,7 +3,7 @@ use Rattle.std.specs.Prelude.{ℕ, ◌≡◌, ◌+◌, ◌==◌, ◌&&◌, nat_l
 use Rattle.std.specs.Prelude.{codes, Result, Ok, Err, if◌then◌else◌}
 use Rattle.std.specs.Str.{bytes_eq}
 use Rattle.std.specs.Str.Lines.{lines}
-use Rattle.smi_limits.specs.declared.trees.TheConstants.{MOST_BYTES_OF_A_FILE, MOST_BYTES_OF_A_LINE}
+use Rattle.smi_base.specs.declared.trees.TheConstants.{MOST_BYTES_OF_A_FILE, MOST_BYTES_OF_A_LINE}
 use Rattle.smi_tree.specs.Text.{words}
 use Rattle.smi_tree.specs.Fault.{◌>>=◌, fault_code}
 use Rattle.smi_tree.specs.Declaration.{keyword_of}

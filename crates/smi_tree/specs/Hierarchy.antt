@@ -2,7 +2,7 @@
 use Rattle.std.specs.Prelude.{ℕ, ◌≡◌, ◌<◌, ◌≤◌, suc, zero, ◌-◌, ◌==◌, ◌&&◌, Bool, false, List, [], ◌∷◌, length, find}
 use Rattle.std.specs.Prelude.{slice_get, Option, Some, None, option_and_then, if◌then◌else◌}
 use Rattle.std.specs.Option.{option_map_or}
-use Rattle.smi_limits.specs.declared.trees.TheConstants.{MOST_LEVELS}
+use Rattle.smi_base.specs.declared.trees.TheConstants.{MOST_LEVELS}
 use Rattle.smi_tree.specs.declared.number.Address.{Address}
 use Rattle.smi_tree.specs.declared.row.Move.{Move}
 use Rattle.smi_tree.specs.declared.row.Domain.{Domain}

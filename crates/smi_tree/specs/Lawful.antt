@@ -1,11 +1,11 @@
 -- Which hierarchies a tree may be: everything within its limits, every number one that is there.
 use Rattle.std.specs.Prelude.{ℕ, ◌≡◌, ◌<◌, ◌≤◌, ◌==◌, List, length, count_by, Option, Some, option_map}
 use Rattle.std.specs.List.{AllByRecursion}
-use Rattle.smi_limits.specs.declared.trees.TheConstants.{MOST_DEVICES, MOST_DEVICES_OF_A_DOMAIN}
-use Rattle.smi_limits.specs.declared.trees.TheConstants.{MOST_CHILDREN, MOST_CLASSES, MOST_DOMAINS, MOST_LEVELS}
-use Rattle.smi_limits.specs.declared.trees.TheConstants.{MOST_RULES_OF_A_CLASS}
-use Rattle.smi_limits.specs.declared.trees.TheConstants.{MOST_ACTIONS, MOST_OPERATORS, MOST_STATES, MOST_STATIONS}
-use Rattle.smi_limits.specs.declared.trees.TheConstants.{MOST_OPERATORS_OF_A_STATION}
+use Rattle.smi_base.specs.declared.trees.TheConstants.{MOST_DEVICES, MOST_DEVICES_OF_A_DOMAIN}
+use Rattle.smi_base.specs.declared.trees.TheConstants.{MOST_CHILDREN, MOST_CLASSES, MOST_DOMAINS, MOST_LEVELS}
+use Rattle.smi_base.specs.declared.trees.TheConstants.{MOST_RULES_OF_A_CLASS}
+use Rattle.smi_base.specs.declared.trees.TheConstants.{MOST_ACTIONS, MOST_OPERATORS, MOST_STATES, MOST_STATIONS}
+use Rattle.smi_base.specs.declared.trees.TheConstants.{MOST_OPERATORS_OF_A_STATION}
 use Rattle.smi_tree.specs.ClassTable.{ClassTable}
 use Rattle.smi_tree.specs.Hierarchy.{Hierarchy, entry, is_child_of, is_device_of, depth_in}
 use Rattle.smi_tree.specs.Named.{IsNamed}

@@ -3,7 +3,7 @@ use Rattle.std.specs.Prelude.{ℕ, suc, zero, ◌+◌, ◌-◌, ◌==◌, nat_le
 use Rattle.std.specs.Prelude.{None, option_and_then, option_map, if◌then◌else◌}
 use Rattle.std.specs.Option.{option_map_or, option_or}
 use Rattle.std.specs.List.{list_any}
-use Rattle.smi_limits.specs.declared.trees.TheConstants.{MOST_LEVELS}
+use Rattle.smi_base.specs.declared.trees.TheConstants.{MOST_LEVELS}
 use Rattle.smi_tree.specs.Name.{number_of}
 use Rattle.smi_tree.specs.Rules.{state_by}
 use Rattle.smi_tree.specs.ClassTable.{ClassTable}

@@ -3,7 +3,7 @@ use Rattle.std.specs.Prelude.{ℕ, ◌==◌, ◌||◌, ◌&&◌, nat_le, Bool, f
 use Rattle.std.specs.Prelude.{if◌then◌else◌, is_some, Result, Ok, Err, nat_lt, ◌++◌}
 use Rattle.std.specs.List.{list_all, position_from}
 use Rattle.std.specs.Str.{bytes_eq}
-use Rattle.smi_limits.specs.declared.trees.TheConstants.{MOST_BYTES_OF_A_NAME}
+use Rattle.smi_base.specs.declared.trees.TheConstants.{MOST_BYTES_OF_A_NAME}
 use Rattle.smi_tree.specs.declared.fault.Fault.{Fault}
 use Rattle.smi_tree.specs.declared.fault.Fault.TheVariants.{Twice, OverLimit}
 

@@ -14,7 +14,7 @@ use crate::names::Names;
 use crate::number::Address;
 use crate::row::{Class, Device, Domain, Move, Rule, entry};
 use crate::tables::Tables;
-use smi_limits::{
+use smi_base::{
     MOST_ACTIONS, MOST_CHILDREN, MOST_CLASSES, MOST_DEVICES, MOST_DEVICES_OF_A_DOMAIN,
     MOST_DOMAINS, MOST_LEVELS, MOST_OPERATORS, MOST_OPERATORS_OF_A_STATION, MOST_RULES_OF_A_CLASS,
     MOST_STATES, MOST_STATIONS,

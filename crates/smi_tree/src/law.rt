@@ -1,7 +1,7 @@
 //! What a tree file is, line by line, beside the function that [`Tree::read`](crate::Tree::read) computes.
 
 ghost use Rattle.std.specs.Prelude.{ℕ, List, Ok, Err, length, ◌≡◌, ◌<◌, ◌≤◌, ◌⊎◌, ◌↔◌};
-ghost use Rattle.smi_limits.specs.declared.trees.TheConstants.{MOST_BYTES_OF_A_FILE};
+ghost use Rattle.smi_base.specs.declared.trees.TheConstants.{MOST_BYTES_OF_A_FILE};
 ghost use Rattle.smi_tree.specs.declared.fault.TreeFault.TheVariants.{Line};
 ghost use Rattle.smi_tree.specs.Hierarchy.{Hierarchy};
 ghost use Rattle.smi_tree.specs.File.{tree_of};

@@ -1,7 +1,7 @@
 //! What a tree says of its domains, devices, operators and stations. No look-up takes memory.
 
 ghost use Rattle.std.specs.Prelude.{◌≡◌};
-ghost use Rattle.smi_limits.specs.declared.trees.TheConstants.{MOST_LEVELS};
+ghost use Rattle.smi_base.specs.declared.trees.TheConstants.{MOST_LEVELS};
 ghost use Rattle.smi_tree.specs.Lookups.{towards};
 
 use crate::declare::parent_in;
@@ -9,7 +9,7 @@ use crate::number::Address;
 use crate::row::{Class, Device, Domain, entry};
 use crate::rule::state_by;
 use crate::tree::Tree;
-use smi_limits::MOST_LEVELS;
+use smi_base::MOST_LEVELS;
 
 /// The last domain before `domain` on the way up from `target`.
 fn towards(domains: &[Domain], domain: u16, target: u16) -> Option<u16>

@@ -1,7 +1,7 @@
 //! The moves of all device classes.
 
 use crate::row::Move;
-use smi_limits::MOST_ACTIONS;
+use smi_base::MOST_ACTIONS;
 use std::alloc::{AllocError, Global};
 use std::marker::Model;
 

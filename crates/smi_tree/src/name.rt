@@ -10,7 +10,7 @@ ghost use Rattle.std.proofs.Common.{rules};
 use crate::text::{Word, is_same_text};
 use arrayvec::ArrayVec;
 use indexmap::Equivalent;
-use smi_limits::MOST_BYTES_OF_A_NAME;
+use smi_base::MOST_BYTES_OF_A_NAME;
 use std::hash::{Hash, Hasher};
 use std::marker::Model;
 
@@ -22,7 +22,7 @@ pub struct Name<'a> {
 
 impl<'a> Model for Name<'a> {
     ghost use Rattle.std.specs.Prelude.{ℕ, List, length, ◌≡◌, ◌≤◌, true};
-    ghost use Rattle.smi_limits.specs.declared.trees.TheConstants.{MOST_BYTES_OF_A_NAME};
+    ghost use Rattle.smi_base.specs.declared.trees.TheConstants.{MOST_BYTES_OF_A_NAME};
     ghost use Rattle.smi_tree.specs.Name.{is_name};
 
     ghost Value = { List ℕ };

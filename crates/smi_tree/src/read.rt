@@ -10,7 +10,7 @@ use crate::fault::{Fault, LineRefusal, TreeFault};
 use crate::names::Names;
 use crate::tables::Tables;
 use crate::text::{after_word, first_line, first_word};
-use smi_limits::MOST_BYTES_OF_A_LINE;
+use smi_base::MOST_BYTES_OF_A_LINE;
 use std::alloc::Global;
 
 /// Whether a line that begins with this word is a comment.

@@ -5,7 +5,7 @@ use crate::groups::grouped;
 use crate::name::Sought;
 use crate::read::read_lines;
 use crate::tables::Tables;
-use smi_limits::MOST_BYTES_OF_A_FILE;
+use smi_base::MOST_BYTES_OF_A_FILE;
 use std::alloc::{AllocError, Global};
 use std::marker::Model;
 

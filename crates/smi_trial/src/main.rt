@@ -1,12 +1,12 @@
 //! Small runs of the layers: what a refused allocation leaves, what they do at their limits, and how fast they are.
 //!
 //! `smi_trial refused LAYER` makes and changes the objects of a layer, and sees after each allocation that was refused
-//! that its object is unchanged and that the same call then does what it does otherwise (`smi_refused`). It prints
+//! that its object is unchanged and that the same call then does what it does otherwise (`smi_memory`). It prints
 //! `whole` where no allocation was refused, `kept` where all was as it should be after one that was, and `changed`
 //! else. The allocations are refused from outside (tests/refuse.c).
 //!
 //! `smi_trial limits LAYER` and `smi_trial limits LAYER TREE` use a layer at its limits, with ample memory, the second
-//! over the tree file at every limit that tests/trees.py writes (`smi_bounds`). They print `whole` where all was as it
+//! over the tree file at every limit that tests/trees.py writes (`smi_memory`). They print `whole` where all was as it
 //! should be, and `changed` else.
 //!
 //! `smi_trial plays TREE SCHEDULE` and `smi_trial plays TREE SEED STEPS` play a schedule, or one that is drawn, on
@@ -16,10 +16,10 @@
 //! `smi_trial store PATH` saves three rows in a file, for other programs to read.
 //!
 //! `smi_trial random CALLS` makes random calls of watcher lists and compares each answer with that of plain lists
-//! (`smi_lists`). It prints `whole` where all were the same, and `changed` else, and how many were answered how.
+//! (`smi_measures`). It prints `whole` where all were the same, and `changed` else, and how many were answered how.
 //!
 //! `smi_trial board READERS READS`, `smi_trial link ROUNDS` and `smi_trial watchers ROUNDS` print how long the board,
-//! two links over UDP and the watcher lists take, beside a plain measure (`smi_measures`, `smi_lists`).
+//! two links over UDP and the watcher lists take, beside a plain measure (`smi_measures`, `smi_measures`).
 //!
 //! `smi_trial bench FILE ROUNDS` prints for one round the microseconds of `Tree::read` and of a loop that only finds
 //! the lines and words. `smi_trial bench STORE PLAIN SAVES ROWS` prints the microseconds of so many saves to a new
@@ -36,12 +36,12 @@
 
 ghost use Rattle.std.specs.Prelude.{◌≤◌};
 
-use smi_bounds::{holds, holds_over_tree};
-use smi_lists::{random, watching};
 use smi_measures::acts::Choice;
+use smi_measures::lists::{random, watching};
 use smi_measures::{acts, board, links, saves, steps, trees};
+use smi_memory::bounds::{holds, holds_over_tree};
+use smi_memory::{TrialOutcome, outcome_of};
 use smi_plays::{play_drawn, play_file};
-use smi_refused::{TrialOutcome, outcome_of};
 use smi_rig::save_rows;
 use std::{env, io};
 

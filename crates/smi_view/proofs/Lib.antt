@@ -1,6 +1,11 @@
 pub mod Beginnings
 pub mod Counting
+pub mod Furthest
+pub mod Keeping
 pub mod LastRows
 pub mod LastStates
 pub mod Naming
+pub mod Newest
+pub mod Notes
 pub mod Rises
+pub mod Within

@@ -1,7 +1,11 @@
 pub mod Accepting
 pub mod Entries
 pub mod History
+pub mod Keeping
+pub mod Newest
+pub mod Noted
 pub mod Pages
+pub mod Pictured
 pub mod Rising
 pub mod Rows
 pub mod Shows

@@ -70,7 +70,7 @@ impl Watchers {
       OnOk,
       OnErr,
     };
-    ghost use Rattle.smi_limits.specs.declared.trees.TheConstants.{MOST_STATIONS};
+    ghost use Rattle.smi_base.specs.declared.trees.TheConstants.{MOST_STATIONS};
     ghost use Rattle.smi_watchers.specs.Listing.{Listing};
     ghost use Rattle.smi_watchers.specs.Watching.{
       IsAudience,

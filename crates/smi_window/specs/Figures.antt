@@ -7,10 +7,10 @@ use Rattle.smi_grant.specs.declared.Phase.{Phase}
 use Rattle.smi_grant.specs.declared.Phase.TheVariants as phase
 use Rattle.smi_tree.specs.Hierarchy.{Hierarchy}
 use Rattle.smi_tree.specs.Lookups.{device_count, domain_count}
-use Rattle.smi_trace.specs.Words.{domain_word, object_word, state_word}
-use Rattle.smi_picture.specs.Pictured.{Pictured, domain_of, object_of}
-use Rattle.smi_picture.specs.declared.Hearing.{Hearing}
-use Rattle.smi_picture.specs.declared.Sight.{Sight}
+use Rattle.smi_schedule.specs.TraceWords.{domain_word, object_word, state_word}
+use Rattle.smi_view.specs.Pictured.{Pictured, domain_of, object_of}
+use Rattle.smi_view.specs.declared.Hearing.{Hearing}
+use Rattle.smi_view.specs.declared.Sight.{Sight}
 use Rattle.smi_window.specs.declared.figures.Figure.{Figure}
 use Rattle.smi_window.specs.declared.figures.Figure.TheVariants as figure
 use Rattle.smi_window.specs.Words.{listed, quoted}

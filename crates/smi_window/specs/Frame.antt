@@ -2,7 +2,7 @@
 use Rattle.std.specs.Prelude.{ℕ, ◌++◌, List, [], codes}
 use Rattle.std.specs.Fmt.{decimal}
 use Rattle.smi_tree.specs.Hierarchy.{Hierarchy}
-use Rattle.smi_picture.specs.Pictured.{Pictured}
+use Rattle.smi_view.specs.Pictured.{Pictured}
 use Rattle.smi_window.specs.Figures.{figures_text}
 use Rattle.smi_window.specs.Relay.{Relaying}
 use Rattle.smi_window.specs.Orders.{orders_text}

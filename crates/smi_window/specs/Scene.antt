@@ -8,10 +8,10 @@ use Rattle.smi_grant.specs.declared.Phase.TheVariants as phase
 use Rattle.smi_grant.specs.Record as grants
 use Rattle.smi_tree.specs.Hierarchy.{Hierarchy}
 use Rattle.smi_tree.specs.Lookups.{domain_count, device_count}
-use Rattle.smi_trace.specs.Words.{device_word, domain_word, operator_word, state_word}
-use Rattle.smi_picture.specs.Pictured.{Pictured, domain_of, object_of}
-use Rattle.smi_picture.specs.declared.Hearing.{Hearing}
-use Rattle.smi_picture.specs.declared.Sight.{Sight}
+use Rattle.smi_schedule.specs.TraceWords.{device_word, domain_word, operator_word, state_word}
+use Rattle.smi_view.specs.Pictured.{Pictured, domain_of, object_of}
+use Rattle.smi_view.specs.declared.Hearing.{Hearing}
+use Rattle.smi_view.specs.declared.Sight.{Sight}
 use Rattle.smi_window.specs.Words.{listed, quoted}
 
 -- the state that was shown, its version, and when; null where none was

@@ -5,7 +5,8 @@ use Rattle.std.specs.Fmt.{decimal}
 use Rattle.smi_tree.specs.Hierarchy.{Hierarchy, entry}
 use Rattle.smi_tree.specs.Lookups.{accepts, action_count, device_count, domain_count, operator_count, parent_of}
 use Rattle.smi_tree.specs.Lookups.{state_count, station_count, station_of}
-use Rattle.smi_trace.specs.Words.{action_word, device_word, domain_word, operator_word, state_word, station_word}
+use Rattle.smi_schedule.specs.TraceWords.{action_word, device_word, domain_word, operator_word, state_word}
+use Rattle.smi_schedule.specs.TraceWords.{station_word}
 use Rattle.smi_window.specs.declared.shape.Kind.{Kind}
 use Rattle.smi_window.specs.declared.shape.Kind.TheVariants as kind
 use Rattle.smi_window.specs.Words.{flag, listed, quoted}

@@ -22,9 +22,9 @@ ghost use Rattle.smi_window.specs.Figures.{
 use crate::listed::{Listing, put_listed};
 use crate::words::{put, put_number, put_quoted};
 use smi_grant::{Holder, Phase};
-use smi_picture::{Hearing, Picture, Sight};
-use smi_trace::names;
+use smi_schedule::names;
 use smi_tree::Tree;
+use smi_view::{Hearing, Picture, Sight};
 use std::alloc::{AllocError, Global};
 
 /// What is told of each domain in a number of its own.

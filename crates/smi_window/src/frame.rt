@@ -9,8 +9,8 @@ use crate::scene::spell_picture;
 use crate::shape::spell_tree;
 use crate::told::spell_orders;
 use bytes::Bytes;
-use smi_picture::Picture;
 use smi_tree::Tree;
+use smi_view::Picture;
 use std::alloc::{AllocError, Global};
 use std::io::Write;
 

@@ -1,7 +1,7 @@
 //! The picture as JSON.
 
 ghost use Rattle.std.specs.Prelude.{◌≡◌, ◌+◌, ◌++◌, IfOk, OnOk};
-ghost use Rattle.smi_picture.specs.Pictured.{object_of};
+ghost use Rattle.smi_view.specs.Pictured.{object_of};
 ghost use Rattle.smi_tree.specs.Lookups.{domain_count};
 ghost use Rattle.smi_window.specs.Scene.{
   busy_text,
@@ -18,9 +18,9 @@ ghost use Rattle.smi_window.specs.Scene.{
 use crate::listed::{Listing, put_list};
 use crate::words::{put, put_number, put_quoted};
 use smi_grant::{Holder, Phase, Record};
-use smi_picture::{Hearing, Picture, Sight};
-use smi_trace::names;
+use smi_schedule::names;
 use smi_tree::Tree;
+use smi_view::{Hearing, Picture, Sight};
 use std::alloc::{AllocError, Global};
 
 /// A state that was shown.

@@ -3,7 +3,7 @@
 ghost use Rattle.std.specs.Prelude.{◌≡◌, ◌++◌, IfOk, OnOk, option_map};
 ghost use Rattle.smi_tree.specs.Hierarchy.{entry};
 ghost use Rattle.smi_tree.specs.Lookups.{station_of};
-ghost use Rattle.smi_trace.specs.Words.{domain_word, station_word};
+ghost use Rattle.smi_schedule.specs.TraceWords.{domain_word, station_word};
 ghost use Rattle.smi_window.specs.Shape.{
   accepted_text,
   all_kinds_text,
@@ -21,7 +21,7 @@ ghost use Rattle.smi_window.specs.Words.{quoted};
 
 use crate::listed::{Listing, put_list};
 use crate::words::{put, put_flag, put_number, put_quoted};
-use smi_trace::names;
+use smi_schedule::names;
 use smi_tree::Tree;
 use std::alloc::{AllocError, Global};
 

@@ -2,7 +2,7 @@
 
 ghost use Rattle.std.specs.Prelude.{◌≡◌, ◌++◌, OnOk, codes, option_map};
 ghost use Rattle.std.specs.Fmt.{decimal};
-ghost use Rattle.smi_trace.specs.Words.{called};
+ghost use Rattle.smi_schedule.specs.TraceWords.{called};
 ghost use Rattle.smi_window.specs.Words.{flag, quoted};
 
 use std::alloc::AllocError;

@@ -7,8 +7,8 @@ use Rattle.std.proofs.KnownBytes.{Appends-trans}
 use Rattle.smi_tree.specs.Hierarchy.{Hierarchy}
 use Rattle.smi_protocol.specs.declared.item.Item.{Item}
 use Rattle.smi_schedule.specs.Schedule.{items_before_fault}
-use Rattle.smi_trace.specs.Text.{trace_text}
-use Rattle.smi_trace.proofs.Prefixes.{prefix_more}
+use Rattle.smi_schedule.specs.Text.{trace_text}
+use Rattle.smi_schedule.proofs.Prefixes.{prefix_more}
 use Rattle.smi_protocol.specs.Schedule.{first_world, opening_lines, trace_from, trace_of}
 use Rattle.smi_world.specs.Streaming.{IsDone, MadeOfRead, ending_of, text_of}
 use Rattle.smi_world.specs.declared.streaming.Streamed.{Streamed}

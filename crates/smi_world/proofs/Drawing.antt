@@ -8,8 +8,8 @@ use Rattle.smi_tree.specs.Hierarchy.{Hierarchy}
 use Rattle.smi_protocol.specs.declared.item.Item.{Item}
 use Rattle.smi_protocol.specs.declared.item.Line.{Line}
 use Rattle.smi_schedule.specs.Drawn.{item_of, items_drawn, schedule_drawn, seeded, word_of, word_taken}
-use Rattle.smi_trace.specs.Text.{trace_text}
-use Rattle.smi_trace.proofs.Prefixes.{prefix_all, prefix_more}
+use Rattle.smi_schedule.specs.Text.{trace_text}
+use Rattle.smi_schedule.proofs.Prefixes.{prefix_all, prefix_more}
 use Rattle.smi_protocol.specs.Schedule.{World, first_world, lines_of, opening_lines, trace_from, trace_of, turn}
 use Rattle.smi_world.specs.Posts.{Held, IsAt}
 use Rattle.smi_world.proofs.Begun.{begun_all, begun_front}

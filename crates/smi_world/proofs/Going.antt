@@ -9,7 +9,7 @@ use Rattle.std.proofs.KnownBytes.{Appends-trans}
 use Rattle.std.proofs.lemmas.List.{take_at}
 use Rattle.std.proofs.lemmas.Grind.{flat_map-append}
 use Rattle.std.proofs.lemmas.Bool.Decides.{nat_tests}
-use Rattle.smi_limits.specs.declared.trees.TheConstants.{MOST_BYTES_OF_A_LINE}
+use Rattle.smi_base.specs.declared.trees.TheConstants.{MOST_BYTES_OF_A_LINE}
 use Rattle.smi_tree.specs.Fault.{fault_code}
 use Rattle.smi_tree.specs.Hierarchy.{Hierarchy}
 use Rattle.smi_tree.specs.declared.fault.Fault.{Fault}
@@ -23,8 +23,8 @@ use Rattle.smi_schedule.specs.Lines.{Cuts, CutsText, HasNoLine, Window, left}
 use Rattle.smi_schedule.specs.declared.lines.Cut.{Cut}
 use Rattle.smi_schedule.specs.Schedule.{fault_or, first_fault, items_before_fault, items_on}
 use Rattle.smi_schedule.specs.declared.lines.Cut.TheVariants as cut
-use Rattle.smi_trace.specs.Text.{trace_text, line_text}
-use Rattle.smi_trace.proofs.Prefixes.{prefix_more}
+use Rattle.smi_schedule.specs.Text.{trace_text, line_text}
+use Rattle.smi_schedule.proofs.Prefixes.{prefix_more}
 use Rattle.smi_protocol.specs.Schedule.{World, trace_from}
 use Rattle.smi_world.specs.Posts.{Held, IsAt}
 use Rattle.smi_world.specs.Streaming.{IsAllMade, IsFault, MadeOfRead, ended_by, ending_of, lines_after, most_lines}

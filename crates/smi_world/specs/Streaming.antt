@@ -12,7 +12,7 @@ use Rattle.smi_protocol.specs.declared.item.Line.{Line}
 use Rattle.smi_schedule.specs.Schedule.{first_fault, items_before_fault}
 use Rattle.smi_schedule.specs.declared.schedule.ScheduleFault.{ScheduleFault}
 use Rattle.smi_schedule.specs.declared.schedule.ScheduleFault.TheVariants as schedule_fault
-use Rattle.smi_trace.specs.Text.{trace_text}
+use Rattle.smi_schedule.specs.Text.{trace_text}
 use Rattle.smi_protocol.specs.Schedule.{World, lines_of, trace_of, turn}
 use Rattle.smi_world.specs.declared.streaming.Streamed.{Streamed}
 use Rattle.smi_world.specs.declared.streaming.Streamed.TheVariants as streamed

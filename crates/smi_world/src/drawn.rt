@@ -4,13 +4,12 @@ ghost use Rattle.std.specs.Prelude.{◌≡◌, ℕ, OnOk, take};
 ghost use Rattle.std.specs.Io.KnownBytes.{Appends};
 ghost use Rattle.smi_protocol.specs.Schedule.{World as Defined, trace_from, trace_of};
 ghost use Rattle.smi_schedule.specs.Drawn.{items_drawn, schedule_drawn};
-ghost use Rattle.smi_trace.specs.Text.{trace_text};
+ghost use Rattle.smi_schedule.specs.Text.{trace_text};
 ghost use Rattle.smi_world.specs.Posts.{IsAt};
 
 use crate::streaming::{Buffers, new_buffers, write_item, write_opening};
 use crate::world::World;
-use smi_schedule::Drawer;
-use smi_trace::Unwritten;
+use smi_schedule::{Drawer, Unwritten};
 use smi_tree::Tree;
 use std::alloc::Global;
 use std::io::Write;

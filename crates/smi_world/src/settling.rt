@@ -7,14 +7,13 @@ use crate::streaming::{
     Buffers, Streamed, new_buffers, stream_on, unwritten, write_item, write_opening,
 };
 use crate::world::World;
+use smi_base::write_whole;
 use smi_grant::{Holder, Phase};
 use smi_protocol::{Deed, Item};
 use smi_rows::MemoryStable;
-use smi_schedule::Drawer;
+use smi_schedule::{Drawer, Unwritten};
 use smi_station::Station;
-use smi_trace::Unwritten;
 use smi_tree::Tree;
-use smi_write::write_whole;
 use std::alloc::Global;
 use std::io::{Read, Write};
 

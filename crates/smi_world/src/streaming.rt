@@ -3,7 +3,7 @@
 ghost use Rattle.std.specs.Prelude.{◌≡◌, ℕ, true, IfSome, OnOk, take};
 ghost use Rattle.std.specs.Io.KnownBytes.{Appends};
 ghost use Rattle.smi_protocol.specs.Schedule.{World as Defined, lines_of, opening_lines, turn};
-ghost use Rattle.smi_trace.specs.Text.{trace_text};
+ghost use Rattle.smi_schedule.specs.Text.{trace_text};
 ghost use Rattle.smi_schedule.specs.Naming.{has_item};
 ghost use Rattle.smi_world.specs.Posts.{IsAt};
 ghost use Rattle.smi_world.specs.Streaming.{IsDone, MadeOfRead, ending_of, text_of};
@@ -13,8 +13,7 @@ use crate::opening::push_opening;
 use crate::running::act_into;
 use crate::world::World;
 use smi_protocol::{Item, Line};
-use smi_schedule::{Cut, Lines, read_item};
-use smi_trace::{Unwritten, write_lines};
+use smi_schedule::{Cut, Lines, Unwritten, read_item, write_lines};
 use smi_tree::{Fault, Tree};
 use std::alloc::Global;
 use std::io::{Read, Write};

@@ -11,7 +11,7 @@ use crate::naming::has_item;
 use crate::opening::first_posts;
 use crate::post::Post;
 use crate::turning::turn;
-use smi_limits::MOST_SENT;
+use smi_base::MOST_SENT;
 use smi_message::Datagram;
 use smi_protocol::Item;
 use smi_tree::Tree;

@@ -1,9 +1,8 @@
 //! New files get short pages, and any other file is left alone.
 
 use super::disks::{FusedFiles, FusedStore, back, close, disk, found, open};
-use smi_file::{PAGE_BYTES, begin};
 use smi_samples::{BOOT, key};
-use smi_stable::{SavedRow, Stable, StoreFault};
+use smi_stable::{PAGE_BYTES, SavedRow, Stable, StoreFault, begin};
 use sqlite::Files;
 use std::alloc::Global;
 use std::io;

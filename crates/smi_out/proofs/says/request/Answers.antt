@@ -1,5 +1,5 @@
 use Rattle.std.proofs.Common.{◌≡◌, true, arith}
-use Rattle.smi_limits.specs.declared.trees.TheConstants.{MOST_DOMAINS}
+use Rattle.smi_base.specs.declared.trees.TheConstants.{MOST_DOMAINS}
 use Rattle.smi_message.specs.Message.{is_domain}
 use Rattle.smi_out.proofs.Sending.{due_said, between}
 use Rattle.smi_out.proofs.says.request.Goals as goal

@@ -1,6 +1,6 @@
 use Rattle.std.proofs.Common.{◌∙◌, ap}
 use Rattle.smi_grant.specs.Keeper.{drop_after}
-use Rattle.smi_grants.specs.Kept.{grants_of}
+use Rattle.smi_holdings.specs.Kept.{grants_of}
 use Rattle.smi_out.specs.Handed.{kept_after}
 use Rattle.smi_protocol.specs.Step.{Out}
 use Rattle.smi_protocol.proofs.SoundRecords.{drop_sound}

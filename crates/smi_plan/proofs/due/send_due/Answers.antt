@@ -1,6 +1,6 @@
 use Rattle.std.proofs.Common.{◌∙◌, ◌+◌, ◌-◌, List, map, ap, sym}
 use Rattle.std.specs.List.{filter_map, range_with_len}
-use Rattle.smi_command.specs.Link.{due_of}
+use Rattle.smi_grant.specs.Link.{due_of}
 use Rattle.smi_message.specs.Message.{Message}
 use Rattle.smi_out.specs.Handed.{sent_after}
 use Rattle.smi_protocol.specs.Messages.{if_any, requests}

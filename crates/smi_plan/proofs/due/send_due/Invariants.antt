@@ -1,6 +1,6 @@
 use Rattle.std.proofs.Common.{◌≡◌, ◌-◌, map}
 use Rattle.std.specs.List.{filter_map, range_with_len}
-use Rattle.smi_command.specs.Link.{due_of}
+use Rattle.smi_grant.specs.Link.{due_of}
 use Rattle.smi_out.specs.Handed.{sent_after}
 use Rattle.smi_protocol.specs.Messages.{requests}
 use Rattle.smi_plan.proofs.due.send_due.Given as goal

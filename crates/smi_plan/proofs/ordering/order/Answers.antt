@@ -1,7 +1,7 @@
 use Rattle.std.proofs.Common.{◌≡◌, ◌∙◌, None, ap, subst, sym}
-use Rattle.smi_command.specs.declared.Link.{Link}
-use Rattle.smi_command.specs.Order.{command_issued}
-use Rattle.smi_grants.specs.Kept.{grants_of}
+use Rattle.smi_grant.specs.declared.Link.{Link}
+use Rattle.smi_grant.specs.Order.{command_issued}
+use Rattle.smi_holdings.specs.Kept.{grants_of}
 use Rattle.smi_protocol.specs.Happening.{Orders}
 use Rattle.smi_protocol.specs.Refusals.{refusal_of}
 use Rattle.smi_protocol.specs.Request.{order_asking}

@@ -5,7 +5,7 @@ use Rattle.smi_out.specs.Handed.{kept_after, sent_after}
 use Rattle.smi_protocol.specs.Keeping.{child_requests}
 use Rattle.smi_protocol.specs.Step.{Out}
 use Rattle.smi_protocol.proofs.SoundSteps.{run_comes_sound}
-use Rattle.smi_grants.specs.Kept.{grants_of}
+use Rattle.smi_holdings.specs.Kept.{grants_of}
 use Rattle.smi_plan.proofs.Handings.{run_told, same_told, settled_there, told_after}
 use Rattle.smi_plan.proofs.Left.{run_left}
 use Rattle.smi_plan.proofs.running.run.Goals as goal

@@ -1,6 +1,6 @@
 use Rattle.std.proofs.Common.{◌≡◌, drop}
 use Rattle.std.specs.List.{flat_map}
-use Rattle.smi_grants.specs.Kept.{grants_of}
+use Rattle.smi_holdings.specs.Kept.{grants_of}
 use Rattle.smi_out.specs.Handed.{sent_after}
 use Rattle.smi_protocol.specs.Children.{change_of}
 use Rattle.smi_protocol.specs.Keeping.{child_request}

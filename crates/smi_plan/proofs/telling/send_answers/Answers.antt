@@ -1,6 +1,6 @@
 use Rattle.std.proofs.Common.{◌<◌, ◌≤◌, ◌∙◌, ◌+◌, List, Option, length, drop, drop_of_length-le, ap, sym, subst}
 use Rattle.std.proofs.Common.{arith}
-use Rattle.smi_command.specs.declared.Settlement.{Settlement}
+use Rattle.smi_grant.specs.declared.Settlement.{Settlement}
 use Rattle.smi_out.specs.Handed.{answered_after}
 use Rattle.smi_protocol.specs.Messages.{if_any}
 use Rattle.smi_protocol.specs.Step.{Out}

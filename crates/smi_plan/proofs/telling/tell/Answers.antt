@@ -1,5 +1,5 @@
 use Rattle.std.proofs.Common.{◌∙◌, Some, sym, ap}
-use Rattle.smi_grants.specs.Kept.{grants_of}
+use Rattle.smi_holdings.specs.Kept.{grants_of}
 use Rattle.smi_plan.proofs.Listeners.{operator_may, parent_hears, parent_is, parent_within}
 use Rattle.smi_plan.proofs.telling.tell.Goals as goal
 

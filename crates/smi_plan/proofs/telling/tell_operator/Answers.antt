@@ -1,11 +1,11 @@
 use Rattle.std.proofs.Common.{◌∙◌, sym, subst, ap}
-use Rattle.smi_command.specs.Hearing.{told_link}
-use Rattle.smi_command.specs.Pending.{most_pending}
-use Rattle.smi_command.specs.declared.Link.{Link}
-use Rattle.smi_command.specs.declared.LinkHeard.{LinkHeard}
+use Rattle.smi_grant.specs.Hearing.{told_link}
+use Rattle.smi_grant.specs.Pending.{most_pending}
+use Rattle.smi_grant.specs.declared.Link.{Link}
+use Rattle.smi_grant.specs.declared.LinkHeard.{LinkHeard}
 use Rattle.smi_grant.specs.declared.Holder.TheVariants.{Operator}
 use Rattle.smi_grant.proofs.Records.{is_record-facts}
-use Rattle.smi_grants.specs.Kept.{grants_of}
+use Rattle.smi_holdings.specs.Kept.{grants_of}
 use Rattle.smi_protocol.specs.Sound.{IsLink}
 use Rattle.smi_protocol.proofs.SoundOrders.{operator_sound}
 use Rattle.smi_protocol.proofs.Tables.{put_link_here}

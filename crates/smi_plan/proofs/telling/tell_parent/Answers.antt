@@ -1,11 +1,11 @@
 use Rattle.std.proofs.Common.{◌∙◌, List, ◌++◌, sym, subst, ap}
 use Rattle.std.specs.Prelude.{unwrap_or}
-use Rattle.smi_command.specs.Hearing.{told_link}
-use Rattle.smi_command.specs.declared.Link.{Link}
-use Rattle.smi_command.specs.declared.LinkHeard.{LinkHeard}
+use Rattle.smi_grant.specs.Hearing.{told_link}
+use Rattle.smi_grant.specs.declared.Link.{Link}
+use Rattle.smi_grant.specs.declared.LinkHeard.{LinkHeard}
 use Rattle.smi_grant.specs.declared.Holder.TheVariants.{Domain}
 use Rattle.smi_grant.specs.Record.{Standing}
-use Rattle.smi_grants.specs.Kept.{grants_of}
+use Rattle.smi_holdings.specs.Kept.{grants_of}
 use Rattle.smi_out.specs.Handed.{kept_after, sent_after}
 use Rattle.smi_protocol.specs.Grants.{Grants}
 use Rattle.smi_protocol.specs.Hearing.{learned, parent_told}

@@ -1,6 +1,6 @@
 use Rattle.std.proofs.Common.{◌≡◌, ◌∙◌, true, ap, subst}
 use Rattle.smi_message.specs.Message.{Message, is_body}
-use Rattle.smi_grants.specs.Kept.{grants_of}
+use Rattle.smi_holdings.specs.Kept.{grants_of}
 use Rattle.smi_out.specs.Handed.{with_notice}
 use Rattle.smi_protocol.specs.GrantsOf.{datagram_comes}
 use Rattle.smi_protocol.specs.Happening.{Comes}
@@ -10,7 +10,7 @@ use Rattle.smi_display.specs.Displayed.{display_of}
 use Rattle.smi_station.proofs.Heard.{heard_out, heard_station, noticed_room, rest_twice}
 use Rattle.smi_station.proofs.Quiet.{still_halves}
 use Rattle.std.specs.Prelude.{is_some, Result}
-use Rattle.smi_grants.specs.Save.{IfMemory}
+use Rattle.smi_holdings.specs.Save.{IfMemory}
 use Rattle.smi_protocol.specs.declared.event.Heard.{Heard}
 use Rattle.smi_protocol.specs.declared.event.StepFault.{StepFault}
 use Rattle.smi_station.specs.Making.{row_of}

@@ -1,5 +1,5 @@
 use Rattle.std.proofs.Common.{◌≡◌, true, ◌<◌, ◌∙◌, [], List, ap, sym, subst, length, arith}
-use Rattle.smi_grants.specs.Kept.{grants_of}
+use Rattle.smi_holdings.specs.Kept.{grants_of}
 use Rattle.smi_out.specs.Handed.{answered_after, most_answers, with_notice}
 use Rattle.smi_plan.specs.Handing.{with_step}
 use Rattle.smi_protocol.specs.Happening.{Orders}
@@ -11,7 +11,7 @@ use Rattle.smi_protocol.proofs.SoundSteps.{stays_sound}
 use Rattle.smi_display.specs.Displayed.{display_of}
 use Rattle.smi_station.proofs.Quiet.{obeyed_out, obeyed_room, obeyed_station, order_answers, still_halves}
 use Rattle.std.specs.Prelude.{is_some, Result}
-use Rattle.smi_grants.specs.Save.{IfMemory}
+use Rattle.smi_holdings.specs.Save.{IfMemory}
 use Rattle.smi_protocol.specs.declared.event.Heard.{Heard}
 use Rattle.smi_protocol.specs.declared.event.StepFault.{StepFault}
 use Rattle.smi_station.specs.Making.{row_of}

@@ -1,7 +1,7 @@
 use Rattle.std.proofs.Common.{Ok, sym, ap, ◌∙◌, subst}
 use Rattle.smi_protocol.specs.Loading.{Opens}
-use Rattle.smi_load.specs.Starting.{beginning_with}
-use Rattle.smi_load.proofs.Starts.{boot_or_not, boot_saved, doubtful}
+use Rattle.smi_start.specs.Starting.{beginning_with}
+use Rattle.smi_start.proofs.Starts.{boot_or_not, boot_saved, doubtful}
 use Rattle.smi_station.specs.Core.{Core}
 use Rattle.smi_station.proofs.opening.start.Goals as goal
 

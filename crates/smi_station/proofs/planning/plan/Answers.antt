@@ -1,6 +1,6 @@
 use Rattle.std.proofs.Common.{◌≡◌, ◌≤◌, ◌∙◌, None, length, sym, ap, subst}
 use Rattle.smi_message.specs.Message.{Message}
-use Rattle.smi_grants.specs.Kept.{grants_of}
+use Rattle.smi_holdings.specs.Kept.{grants_of}
 use Rattle.smi_protocol.specs.Refusals.{refusal_of_message}
 use Rattle.smi_protocol.specs.Keeping.{drop_comes, run_comes, take_comes}
 use Rattle.smi_protocol.specs.Hearing.{tell_comes}

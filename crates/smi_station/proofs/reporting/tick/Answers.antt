@@ -1,6 +1,6 @@
 use Rattle.std.proofs.Common.{ap, sym, ◌∙◌, subst}
 use Rattle.smi_tree.specs.Hierarchy.{Hierarchy}
-use Rattle.smi_grants.specs.Kept.{grants_of}
+use Rattle.smi_holdings.specs.Kept.{grants_of}
 use Rattle.smi_protocol.specs.Sound.{IsSound}
 use Rattle.smi_protocol.specs.Step.{Out}
 use Rattle.smi_protocol.specs.Ticking.{tick_noticed}

@@ -1,6 +1,6 @@
 use Rattle.std.proofs.Common.{◌∙◌, sym, ap}
 use Rattle.smi_tree.specs.Hierarchy.{Hierarchy}
-use Rattle.smi_grants.specs.Kept.{grants_of}
+use Rattle.smi_holdings.specs.Kept.{grants_of}
 use Rattle.smi_protocol.specs.Happening.{Comes}
 use Rattle.smi_protocol.specs.Refusals.{refusal_of_message}
 use Rattle.smi_station.proofs.Saves.{taken_saves}

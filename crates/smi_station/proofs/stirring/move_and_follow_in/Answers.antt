@@ -5,7 +5,7 @@ use Rattle.smi_publish.specs.Published.{conditions_of}
 use Rattle.smi_out.specs.Handed.{sent_after}
 use Rattle.smi_protocol.specs.Showing.{is_spent}
 use Rattle.smi_protocol.specs.Step.{Out}
-use Rattle.smi_grants.specs.Kept.{grants_of}
+use Rattle.smi_holdings.specs.Kept.{grants_of}
 use Rattle.smi_display.specs.Displayed.{display_of}
 use Rattle.smi_station.specs.Stirring.{acted_by, shown_anew}
 use Rattle.smi_station.proofs.Passing.{acted_first}

@@ -1,8 +1,8 @@
 use Rattle.std.proofs.Common.{◌∙◌, Err, Some, ap, false, refl, true, subst, sym}
-use Rattle.smi_grants.specs.Kept.{Kept}
+use Rattle.smi_holdings.specs.Kept.{Kept}
 use Rattle.smi_rows.specs.Store.{found_in}
 use Rattle.smi_station.specs.Core.{IsStoredIn, number_of, station_of, tree_of}
-use Rattle.smi_load.specs.Stored.{Restarts}
+use Rattle.smi_start.specs.Stored.{Restarts}
 use Rattle.smi_protocol.specs.Step.{nothing_out}
 use Rattle.smi_protocol.specs.declared.fault.OpenFault.{OpenFault}
 use Rattle.smi_world.proofs.Acts.{rows_stay, spent_makes, starts_makes, stays}

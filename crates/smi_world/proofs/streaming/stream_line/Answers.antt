@@ -5,7 +5,7 @@ use Rattle.smi_tree.specs.declared.fault.Fault.{Fault}
 use Rattle.smi_protocol.specs.declared.item.Item.{Item}
 use Rattle.smi_schedule.specs.Line.{item_in}
 use Rattle.smi_schedule.proofs.NamedItems.{read_named}
-use Rattle.smi_trace.specs.Text.{trace_text}
+use Rattle.smi_schedule.specs.Text.{trace_text}
 use Rattle.smi_world.specs.Streaming.{lines_after}
 use Rattle.smi_world.proofs.streaming.stream_line.Goals as goal
 

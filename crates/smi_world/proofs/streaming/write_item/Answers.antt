@@ -3,7 +3,7 @@ use Rattle.std.specs.Io.KnownBytes.{Appends}
 use Rattle.smi_tree.specs.Hierarchy.{Hierarchy}
 use Rattle.smi_protocol.specs.declared.item.Line.{Line}
 use Rattle.smi_protocol.specs.Schedule.{lines_of, turn}
-use Rattle.smi_trace.specs.Text.{trace_text}
+use Rattle.smi_schedule.specs.Text.{trace_text}
 use Rattle.smi_world.proofs.streaming.write_item.Goals as goal
 
 pub returns-in-Ok-clause-prefix : goal.returns-in-Ok-clause-prefix

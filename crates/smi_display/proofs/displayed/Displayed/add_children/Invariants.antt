@@ -1,7 +1,7 @@
 use Rattle.std.proofs.Common.{◌≡◌, ◌≤◌, ◌+◌, length, drop, map}
 use Rattle.std.specs.Prelude.{filter}
 use Rattle.std.specs.Option.{option_map_or}
-use Rattle.smi_grants.specs.Kept.{grants_of}
+use Rattle.smi_holdings.specs.Kept.{grants_of}
 use Rattle.smi_protocol.specs.Showing.{is_member, member}
 use Rattle.smi_view.specs.Accepting.{last_of}
 use Rattle.smi_display.specs.Members.{added}

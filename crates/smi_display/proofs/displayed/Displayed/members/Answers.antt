@@ -1,6 +1,6 @@
 use Rattle.std.proofs.Common.{◌∙◌, ap}
 use Rattle.smi_protocol.specs.Showing.{child_members, device_members}
-use Rattle.smi_grants.specs.Kept.{grants_of}
+use Rattle.smi_holdings.specs.Kept.{grants_of}
 use Rattle.smi_display.specs.Displayed.{display_of}
 use Rattle.smi_display.specs.Members.{Listed, added}
 use Rattle.smi_display.proofs.Listing.{added_twice, added_first}

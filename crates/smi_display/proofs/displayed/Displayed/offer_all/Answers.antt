@@ -1,6 +1,6 @@
 use Rattle.std.proofs.Common.{ℕ, ◌∙◌, ◌++◌, List, ap, sym}
 use Rattle.std.specs.List.{flat_map, range_with_len}
-use Rattle.smi_grants.specs.Kept.{grants_of}
+use Rattle.smi_holdings.specs.Kept.{grants_of}
 use Rattle.smi_protocol.specs.Opening.{object_count}
 use Rattle.smi_protocol.specs.Ticking.{Owed, domains_of, owed_question, owed_to_child, owed_to_domain, owed_watch}
 use Rattle.smi_tree.specs.Lookups.{operators_of, parent_of}

@@ -1,6 +1,6 @@
 use Rattle.std.proofs.Common.{◌≡◌, ◌+◌, ◌-◌}
 use Rattle.std.specs.List.{flat_map, range_with_len}
-use Rattle.smi_grants.specs.Kept.{grants_of}
+use Rattle.smi_holdings.specs.Kept.{grants_of}
 use Rattle.smi_tree.specs.Lookups.{parent_of}
 use Rattle.smi_protocol.specs.Ticking.{owed_to_child}
 use Rattle.smi_display.specs.Sweeping.{offered, sweeping}

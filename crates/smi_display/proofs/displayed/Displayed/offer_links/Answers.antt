@@ -1,8 +1,8 @@
 use Rattle.std.proofs.Common.{◌∙◌, ◌+◌, ◌-◌, ap, sym}
 use Rattle.std.specs.List.{flat_map, range_with_len}
-use Rattle.smi_grants.specs.Kept.{grants_of}
+use Rattle.smi_holdings.specs.Kept.{grants_of}
 use Rattle.smi_protocol.specs.Ticking.{owed_to_domain}
-use Rattle.smi_command.specs.declared.Link.{Link}
+use Rattle.smi_grant.specs.declared.Link.{Link}
 use Rattle.smi_display.specs.Sweeping.{Sweeping, domain_owed, offered, sweeping}
 use Rattle.smi_display.proofs.Sweeps.{range_offered}
 use Rattle.smi_display.proofs.displayed.Displayed.offer_links.Goals as goal

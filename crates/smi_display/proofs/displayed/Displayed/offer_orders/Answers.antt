@@ -1,6 +1,6 @@
 use Rattle.std.proofs.Common.{◌∙◌, ℕ, ◌+◌, ap, sym, subst, drop, get_or}
 use Rattle.std.specs.List.{flat_map}
-use Rattle.smi_grants.specs.Kept.{grants_of}
+use Rattle.smi_holdings.specs.Kept.{grants_of}
 use Rattle.smi_tree.specs.Lawful.{IsBetween}
 use Rattle.smi_tree.specs.Lookups.{operator_count}
 use Rattle.smi_protocol.specs.Ticking.{domains_of, owed_to_domain}

@@ -1,6 +1,6 @@
 use Rattle.std.proofs.Common.{◌≡◌, drop}
 use Rattle.std.specs.List.{flat_map}
-use Rattle.smi_grants.specs.Kept.{grants_of}
+use Rattle.smi_holdings.specs.Kept.{grants_of}
 use Rattle.smi_protocol.specs.Ticking.{domains_of, owed_to_domain}
 use Rattle.smi_display.specs.Sweeping.{offered, sweeping}
 use Rattle.smi_display.proofs.displayed.Displayed.offer_orders.Given as goal

@@ -1,7 +1,7 @@
 use Rattle.std.proofs.Common.{◌∙◌, ◌+◌, ◌-◌, map, ap, sym}
 use Rattle.std.specs.List.{filter_map, range_with_len}
-use Rattle.smi_command.specs.Link.{due_of}
-use Rattle.smi_command.specs.declared.Due.{Due}
+use Rattle.smi_grant.specs.Link.{due_of}
+use Rattle.smi_grant.specs.declared.Due.{Due}
 use Rattle.smi_grant.specs.declared.Holder.TheVariants.{Domain}
 use Rattle.smi_protocol.specs.Messages.{if_any, requests}
 use Rattle.smi_protocol.specs.Ticking.{Owed, owed}

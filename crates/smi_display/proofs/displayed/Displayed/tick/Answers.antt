@@ -1,5 +1,5 @@
 use Rattle.std.proofs.Common.{◌≡◌, ◌∙◌, sym, subst, ap}
-use Rattle.smi_grants.specs.Kept.{grants_of}
+use Rattle.smi_holdings.specs.Kept.{grants_of}
 use Rattle.smi_protocol.specs.Ticking.{all_owed, first_place, most_sent, tick_noticed}
 use Rattle.smi_protocol.specs.declared.Place.{Place}
 use Rattle.smi_protocol.specs.Display.{Display}

@@ -1,6 +1,6 @@
 use Rattle.std.proofs.Common.{◌≤◌, ◌∙◌, ℕ, List, sym, subst, ap}
 use Rattle.std.specs.Prelude.{nat_lt}
-use Rattle.smi_tables.specs.Entries.{entry_or}
+use Rattle.smi_holdings.specs.Entries.{entry_or}
 use Rattle.smi_tree.specs.Lawful.{IsBetween}
 use Rattle.smi_tree.specs.Lookups.{station_count}
 use Rattle.smi_protocol.specs.Watching.{lists_after}

@@ -1,7 +1,7 @@
 use Rattle.std.proofs.Common.{◌≡◌, false}
 use Rattle.smi_node.specs.Carried.{StepsTo}
 use Rattle.smi_node.specs.Linked.{shown_by}
-use Rattle.smi_observer.specs.Looking.{Looks, view}
+use Rattle.smi_screen.specs.Looking.{Looks, view}
 use Rattle.smi_screen.proofs.server.ScreenServer.serve.Given as goal
 
 -- looks so far, all in one name, and the station has not stopped

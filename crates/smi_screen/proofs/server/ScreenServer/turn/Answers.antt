@@ -2,7 +2,7 @@ use Rattle.std.proofs.Common.{ap, sym}
 use Rattle.smi_station.specs.Readers.{Whole}
 use Rattle.smi_node.specs.Carried.{StepsTo}
 use Rattle.smi_node.specs.Linked.{shown_by}
-use Rattle.smi_observer.specs.Looking.{View, view}
+use Rattle.smi_screen.specs.Looking.{View, view}
 use Rattle.smi_screen.specs.Ending.{has_stopped}
 use Rattle.smi_screen.proofs.Turned.{same_look}
 use Rattle.smi_screen.proofs.server.ScreenServer.turn.Goals as goal

@@ -2,8 +2,8 @@ use Rattle.std.proofs.Common.{◌∙◌, false, subst}
 use Rattle.smi_station.specs.Readers.{Whole}
 use Rattle.smi_node.specs.Carried.{StepsTo}
 use Rattle.smi_node.specs.Linked.{shown_by}
-use Rattle.smi_observer.specs.Looking.{Looks, View, view}
-use Rattle.smi_observer.proofs.Looks.{both}
+use Rattle.smi_screen.specs.Looking.{Looks, View, view}
+use Rattle.smi_screen.proofs.Looks.{both}
 use Rattle.smi_screen.specs.Ending.{is_stopped}
 use Rattle.smi_screen.proofs.server.ScreenServer.turns.Goals as goal
 

@@ -1,6 +1,6 @@
 use Rattle.std.proofs.Common.{◌≡◌, ◌∙◌, ◌++◌, ◌∷◌, [], Ok, Some, false, ap, sym, subst}
 use Rattle.std.specs.Prelude.{Option}
-use Rattle.smi_grants.specs.Kept.{grants_of}
+use Rattle.smi_holdings.specs.Kept.{grants_of}
 use Rattle.smi_protocol.specs.Happening.{Orders}
 use Rattle.smi_protocol.specs.Refusals.{refusal_of}
 use Rattle.smi_protocol.specs.Step.{Out, nothing_out, accepted, after}
@@ -11,7 +11,7 @@ use Rattle.smi_rows.specs.Store.{Saved}
 use Rattle.smi_station.specs.Leaving.{Leaves}
 use Rattle.smi_station.proofs.Steps.{made_core, made_steps, made_tidy, runs_on, refused_saves, refused_steps, rests}
 use Rattle.smi_station.proofs.Steps.{running, stands, taken_saves, taken_steps}
-use Rattle.smi_grants.specs.Save.{IfMemory}
+use Rattle.smi_holdings.specs.Save.{IfMemory}
 use Rattle.std.specs.Prelude.{is_some, true}
 use Rattle.smi_station.proofs.halves.Core.obey_or_refuse.Goals as goal
 

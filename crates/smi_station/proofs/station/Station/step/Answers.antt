@@ -6,7 +6,7 @@ use Rattle.smi_station.specs.Core.{IsStoredIn, Steps, number_of, station_of, tre
 use Rattle.smi_station.specs.Leaving.{Leaves}
 use Rattle.smi_station.specs.Readers.{Whole}
 use Rattle.smi_station.specs.Wanting.{adds_by, wants_memory}
-use Rattle.smi_grants.specs.Save.{IfMemory}
+use Rattle.smi_holdings.specs.Save.{IfMemory}
 use Rattle.smi_station.proofs.station.Station.step.Goals as goal
 
 pub returns-clause-step : goal.returns-clause-step

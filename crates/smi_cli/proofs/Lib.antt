@@ -1,4 +1,0 @@
-pub mod Tellable
-pub mod Pieces
-pub mod Going
-pub mod Lines

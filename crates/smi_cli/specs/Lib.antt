@@ -1,5 +1,0 @@
-pub mod Answer
-pub mod Keeper
-pub mod Rows
-pub mod Status
-pub mod Tellable

@@ -1,0 +1,71 @@
+//! Actions that a unit accepts and that move nothing.
+
+ghost use Rattle.std.specs.Prelude.{◌≡◌};
+ghost use Rattle.smi_commands.specs.Doubts as spec;
+
+use smi_tree::Tree;
+
+/// The class of a domain's unit, 0 where the tree does not have the domain.
+fn class_of(tree: &Tree, domain: u16) -> u16
+    ensures { result ≡ spec.class_of tree.now domain }
+{
+    if 1 <= domain && domain <= tree.domain_count() {
+        tree.domain(domain).class
+    } else {
+        0
+    }
+}
+
+/// The domain of a device, 0 where the tree does not have the device.
+fn home_of(tree: &Tree, device: u16) -> u16
+    ensures { result ≡ spec.home_of tree.now device }
+{
+    if 1 <= device && device <= tree.device_count() {
+        tree.device(device).domain
+    } else {
+        0
+    }
+}
+
+/// Whether a device goes to another state from some state by this action.
+fn stirs(tree: &Tree, device: u16, action: u16) -> bool
+    ensures { result ≡ spec.stirs tree.now device action }
+{
+    (0..tree.state_count() + 1).any(|from| tree.moved(device, from, action) != from)
+}
+
+/// Whether a domain is of this class, or lies below one that is.
+fn lies_under(tree: &Tree, class: u16, domain: u16) -> bool
+    ensures { result ≡ spec.lies_under tree.now class domain }
+{
+    (0..tree.domain_count() + 1).any(|above| {
+        class_of(tree, above) == class && (above == domain || tree.is_below(domain, above))
+    })
+}
+
+/// Whether the action moves some device of a domain of this class, or below one.
+fn stirs_below(tree: &Tree, class: u16, action: u16) -> bool
+    ensures { result ≡ spec.stirs_below tree.now class action }
+{
+    (0..tree.device_count() + 1).any(|device| {
+        stirs(tree, device, action) && lies_under(tree, class, home_of(tree, device))
+    })
+}
+
+/// Whether a domain is the first of its class.
+fn is_first_of_class(tree: &Tree, domain: u16) -> bool
+    ensures { result ≡ spec.is_first_of_class tree.now domain }
+{
+    let class = class_of(tree, domain);
+    !(0..domain).any(|other| class_of(tree, other) == class)
+}
+
+/// Whether a domain is the first of its class, accepts the action, and neither it nor any domain of its class has a
+/// device, in it or below, that the action moves.
+pub fn is_idle(tree: &Tree, domain: u16, action: u16) -> bool
+    ensures { result ≡ spec.is_idle tree.now domain action }
+{
+    tree.accepts(domain, action)
+        && is_first_of_class(tree, domain)
+        && !stirs_below(tree, class_of(tree, domain), action)
+}

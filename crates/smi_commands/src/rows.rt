@@ -1,0 +1,124 @@
+//! The rows of a store, a line each.
+
+ghost use Rattle.std.specs.Prelude.{◌≡◌, ◌≢◌, ◌/◌, ◌%◌, ◌∷◌, [], ◌<◌, List, ℕ, OnOk, OnErr, IfOk, IfErr};
+ghost use Rattle.std.specs.Io.KnownBytes.{Appends};
+ghost use Rattle.smi_rows.specs.Store.{Saved, IsListing};
+ghost use Rattle.smi_commands.specs.Rows.{hex_digit, hex, hex_text, row_text, rows_text, listed_fault};
+
+use crate::losses::Losses;
+use smi_base::NotWritten;
+use smi_rows::{SavedRow, Stable, StoreFault};
+use std::io::Write;
+
+/// How a listing ended.
+#[derive(Clone, Copy, Debug, PartialEq, Eq)]
+pub enum Listed {
+    /// All rows are written.
+    Done,
+    /// The store could not be read. Nothing is written.
+    StoreFault,
+    /// A write failed.
+    WriteFault,
+    /// There was no memory for the rows. Nothing is written.
+    Memory,
+}
+
+fn hex_digit(digit: u8) -> u8
+    requires { digit < 16 }
+    ensures { result ≡ hex_digit digit }
+{
+    if digit < 10 {
+        b'0' + digit
+    } else {
+        b'a' + (digit - 10)
+    }
+}
+
+fn write_hex<W: Write>(writer: &mut W, losses: &mut Losses, bytes: &[u8]) -> Result<(), NotWritten>
+    ensures text { OnOk result (Appends (W.contents writer.old) (W.contents writer.new) (hex_text bytes.now)) }
+    ensures whole { OnOk result (losses.new.count ≡ losses.old.count) }
+    ensures lost { OnErr result (losses.old.count < losses.new.count) }
+{
+    for byte in bytes {
+        losses.write(writer, &[hex_digit(*byte / 16), hex_digit(*byte % 16)])?;
+    }
+    Ok(())
+}
+
+fn write_row<W: Write>(
+    writer: &mut W,
+    losses: &mut Losses,
+    row: &SavedRow,
+) -> Result<(), NotWritten>
+    ensures text { OnOk result (Appends (W.contents writer.old) (W.contents writer.new) (row_text row.now)) }
+    ensures whole { OnOk result (losses.new.count ≡ losses.old.count) }
+    ensures lost { OnErr result (losses.old.count < losses.new.count) }
+{
+    losses.write_key(writer, row.key)?;
+    write_hex(writer, losses, row.bytes.as_slice())?;
+    losses.write(writer, b"\n")
+}
+
+fn write_rows<W: Write>(
+    writer: &mut W,
+    losses: &mut Losses,
+    rows: &[SavedRow],
+) -> Result<(), NotWritten>
+    ensures text { OnOk result (Appends (W.contents writer.old) (W.contents writer.new) (rows_text rows.now)) }
+    ensures whole { OnOk result (losses.new.count ≡ losses.old.count) }
+    ensures lost { OnErr result (losses.old.count < losses.new.count) }
+{
+    for row in rows {
+        write_row(writer, losses, row)?;
+    }
+    Ok(())
+}
+
+/// Writes all rows and flushes them.
+fn write_listing<W: Write>(
+    writer: &mut W,
+    losses: &mut Losses,
+    rows: &[SavedRow],
+) -> Result<(), NotWritten>
+    ensures text { OnOk result (Appends (W.contents writer.old) (W.contents writer.new) (rows_text rows.now)) }
+    ensures lost { OnErr result (losses.old.count < losses.new.count) }
+{
+    write_rows(writer, losses, rows)?;
+    losses.flush(writer)
+}
+
+/// Lists what a store answered.
+fn list<W: Write>(
+    loaded: Result<Vec<SavedRow>, StoreFault>,
+    writer: &mut W,
+    losses: &mut Losses,
+) -> Listed
+    ensures done { IfOk loaded (λ rows. result ≡ Listed.Done
+        → Appends (W.contents writer.old) (W.contents writer.new) (rows_text rows.items)) }
+    // Whatever else comes of rows is that a write failed.
+    ensures unwritten { OnOk loaded (result ≢ Listed.Done
+        → (result ≡ Listed.WriteFault) × (losses.old.count < losses.new.count)) }
+    ensures fault { IfErr loaded (λ fault. result ≡ listed_fault fault) }
+{
+    match loaded {
+        Ok(rows) => match write_listing(writer, losses, rows.as_slice()) {
+            Ok(()) => Listed::Done,
+            Err(NotWritten) => Listed::WriteFault,
+        },
+        Err(StoreFault::Memory) => Listed::Memory,
+        Err(StoreFault::Device | StoreFault::Unsure) => Listed::StoreFault,
+    }
+}
+
+/// Writes one line for each row of a store, by rising key: the station, the domain and the operator of
+/// its key and its bytes in hexadecimal, with one space between. (docs/FORMATS.md, "Stable rows".)
+pub fn rows<S: Stable, W: Write>(stable: &mut S, writer: &mut W) -> Listed
+    ensures done { result ≡ Listed.Done → S.is_honest stable.new → S.is_open stable.old →
+        (list : List Saved) × IsListing (S.rows stable.old) list
+        × Appends (W.contents writer.old) (W.contents writer.new) (rows_text list) }
+    ensures failed { result ≡ Listed.StoreFault → S.failures stable.old < S.failures stable.new }
+    // A store that failed is told as nothing else.
+    ensures calm { result ≢ Listed.StoreFault → S.failures stable.new ≡ S.failures stable.old }
+{
+    list(stable.load(), writer, &mut Losses::new())
+}

@@ -1,0 +1,70 @@
+//! How a command ended, and what is told of it on standard error.
+
+ghost use Rattle.std.specs.Prelude.{◌≡◌};
+
+use std::io::Write;
+
+/// How a command ended; its number is the program's exit status.
+#[derive(Clone, Copy, Debug, PartialEq, Eq)]
+pub enum Status {
+    Done,
+    /// An input is refused.
+    Refused,
+    /// The command line is none of the forms.
+    WrongLine,
+    /// A read or a write failed, or a store.
+    Fault,
+    NoMemory,
+}
+
+impl Status {
+    ghost use Rattle.std.specs.Prelude.{◌≡◌};
+    ghost use Rattle.smi_commands.specs.Status.{status_code};
+
+    /// The exit status, 0 to 4.
+    pub fn code(self) -> u8
+        ensures { result ≡ status_code self }
+    {
+        self as u8
+    }
+}
+
+/// Tells that the command line is none of the forms.
+pub fn wrong_line<F: Write>(faults: &mut F) -> Status
+    ensures { result ≡ Status.WrongLine }
+{
+    let _ = writeln!(faults, "wrong line");
+    Status::WrongLine
+}
+
+/// Tells that an input could not be read.
+pub fn read_fault<F: Write>(faults: &mut F) -> Status
+    ensures { result ≡ Status.Fault }
+{
+    let _ = writeln!(faults, "read fault");
+    Status::Fault
+}
+
+/// Tells that an output could not be written.
+pub fn write_fault<F: Write>(faults: &mut F) -> Status
+    ensures { result ≡ Status.Fault }
+{
+    let _ = writeln!(faults, "write fault");
+    Status::Fault
+}
+
+/// Tells that a store could not be opened or read.
+pub fn store_fault<F: Write>(faults: &mut F) -> Status
+    ensures { result ≡ Status.Fault }
+{
+    let _ = writeln!(faults, "store fault");
+    Status::Fault
+}
+
+/// Tells that there was no memory.
+pub fn no_memory<F: Write>(faults: &mut F) -> Status
+    ensures { result ≡ Status.NoMemory }
+{
+    let _ = writeln!(faults, "no memory");
+    Status::NoMemory
+}

@@ -1,0 +1,212 @@
+//! The thread at the front: it hears all who talk to the node, and tells them what they asked for.
+
+use crate::bell::Bell;
+use crate::hall::Hall;
+use crate::outlet::Outlet;
+use crate::reading::{Input, InputEnd};
+use crossbeam_channel::Receiver;
+use smi_base::write_whole;
+use smi_commands::status::{no_memory, read_fault, write_fault};
+use smi_front::{Front, MOST_GIVEN, StationNews};
+use smi_schedule::Unwritten;
+use smi_tree::Tree;
+use smi_view::BoardId;
+use std::io::Write;
+use std::sync::Wait;
+use std::thread::sleep;
+use std::time::{Clock, Duration, Instant};
+
+/// How many lines of the standard input, and how much news, are taken in one round. The texts of all that news are
+/// fewer bytes than a caller may have unsent.
+const LINES: usize = 64;
+
+const NEWS: usize = 512;
+
+/// What the thread has beside its outputs.
+#[derive(Drop)]
+pub(crate) struct Attendant<J: BoardId> {
+    pub(crate) front: Box<Front<J>>,
+    pub(crate) hall: Box<Hall>,
+    pub(crate) bell: Bell,
+    /// Where what the standard input is told goes.
+    pub(crate) outlet: Outlet,
+    /// What is typed at the standard input, and what the station tells.
+    pub(crate) lines: Receiver<Input>,
+    pub(crate) news: Receiver<StationNews>,
+    /// Whether the standard input is heard no more.
+    pub(crate) is_plain_over: bool,
+}
+
+impl<J: BoardId> Attendant<J> {
+    /// What the station has told is noted. Whether there may be more.
+    fn note_news<R: Wait>(&mut self, rt: &R) -> bool {
+        for _ in 0..NEWS {
+            match self.news.try_recv(rt) {
+                Ok(news) => {
+                    if self.front.note(news).is_err() {
+                        self.hall.lose_followers();
+                    }
+                }
+                Err(_) => return false,
+            }
+        }
+        true
+    }
+
+    /// Each answer that is there goes to its caller.
+    fn tell_answers(&mut self, tree: &Tree) {
+        for place in 0..self.front.seat_count() {
+            for _ in 0..MOST_GIVEN {
+                match self.front.answer(place) {
+                    Some(answered) => self.hall.tell_answer(&mut self.front, tree, &answered),
+                    None => break,
+                }
+            }
+        }
+    }
+
+    /// The next line of the standard input, where one is there and may be taken.
+    fn next_line<R: Wait>(&mut self, rt: &R) -> Option<Vec<u8>> {
+        if self.hall.ending.is_some() || !self.hall.plain.has_room() {
+            return None;
+        }
+        match self.lines.try_recv(rt) {
+            Ok(Input::Line(line)) => Some(line),
+            Ok(Input::Ended(ending)) => {
+                self.hall.ending = Some(ending);
+                None
+            }
+            Err(_) => None,
+        }
+    }
+
+    /// How the standard input has ended, once all that it gave is answered, and the answers are written.
+    fn ended(&self) -> Option<InputEnd> {
+        let plain = &self.hall.plain;
+        let is_told = plain.said().is_empty() && self.outlet.is_written();
+        if is_told && plain.is_idle() && !self.front.owes(plain.number()) {
+            self.hall.ending
+        } else {
+            None
+        }
+    }
+}
+
+/// Tells how the standard input ended, where that is a fault.
+fn tell_ending<F: Write>(ending: Result<InputEnd, Unwritten>, faults: &mut F) {
+    match ending {
+        Ok(InputEnd::End) => {}
+        Ok(InputEnd::ReadFault) => {
+            read_fault(faults);
+        }
+        Err(Unwritten::Writer) => {
+            write_fault(faults);
+        }
+        Ok(InputEnd::Memory) | Err(Unwritten::Memory) => {
+            no_memory(faults);
+        }
+    }
+}
+
+/// Hands on what the caller at the standard input is to be told, and tells its faults.
+fn print<J: BoardId, R: Wait, F: Write>(
+    rt: &R,
+    attendant: &mut Attendant<J>,
+    faults: &mut F,
+) -> Result<(), Unwritten> {
+    let plain = &mut attendant.hall.plain;
+    if !plain.faults().is_empty() {
+        let _ = write_whole(faults, plain.faults());
+        plain.faults_told();
+    }
+    attendant.outlet.say(rt, plain)
+}
+
+/// The standard input is heard, line by line, and told. Whether it has more.
+fn serve_plain<J: BoardId, R: Wait, F: Write>(
+    rt: &R,
+    tree: &Tree,
+    now: Option<Instant>,
+    attendant: &mut Attendant<J>,
+    faults: &mut F,
+) -> Result<bool, Unwritten> {
+    if attendant.hall.is_plain_lost() {
+        return Err(Unwritten::Memory);
+    }
+    attendant.front.tell_news(tree, &mut attendant.hall.plain)?;
+    attendant.front.go_on(tree, now, &mut attendant.hall.plain)?;
+    print(rt, attendant, faults)?;
+    for _ in 0..LINES {
+        match attendant.next_line(rt) {
+            Some(line) => {
+                attendant
+                    .front
+                    .hear(tree, now, &mut attendant.hall.plain, line)?;
+                print(rt, attendant, faults)?;
+            }
+            None => return Ok(false),
+        }
+    }
+    Ok(true)
+}
+
+/// The standard input is heard and told, and where it ends, that is told too. Whether it has more.
+fn attend_plain<J: BoardId, R: Wait, F: Write>(
+    rt: &R,
+    tree: &Tree,
+    now: Option<Instant>,
+    attendant: &mut Attendant<J>,
+    faults: &mut F,
+) -> bool {
+    if attendant.is_plain_over {
+        return false;
+    }
+    let ending = match serve_plain(rt, tree, now, attendant, faults) {
+        Ok(true) => return true,
+        Ok(false) => attendant.ended().map(Ok),
+        Err(unwritten) => Some(Err(unwritten)),
+    };
+    if let Some(ending) = ending {
+        attendant.is_plain_over = true;
+        tell_ending(ending, faults);
+    }
+    false
+}
+
+/// Everybody is heard and told once, as far as nothing waits. Whether the standard input, or the station, has more.
+fn round<J: BoardId, R: Wait + Clock, F: Write>(
+    rt: &R,
+    tree: &Tree,
+    attendant: &mut Attendant<J>,
+    faults: &mut F,
+) -> bool {
+    let now = Instant::now(rt).ok();
+    let has_more_news = attendant.note_news(rt);
+    attendant.tell_answers(tree);
+    let has_more_lines = attend_plain(rt, tree, now, attendant, faults);
+    attendant.hall.welcome_all();
+    attendant.hall.serve_guests(&mut attendant.front, tree, now);
+    attendant.front.forget_news();
+    if attendant.front.has_given() {
+        attendant.bell.ring();
+    }
+    has_more_lines || has_more_news
+}
+
+/// Hears and tells, round after round, until the standard input has ended where nobody else can talk to the node.
+pub(crate) fn attend<J: BoardId, R: Wait + Clock, F: Write>(
+    rt: &R,
+    tree: &Tree,
+    attendant: &mut Attendant<J>,
+    faults: &mut F,
+) {
+    for _ in rt.forever() {
+        let has_more = round(rt, tree, attendant, faults);
+        if attendant.is_plain_over && attendant.hall.has_no_door() {
+            return;
+        }
+        if !attendant.hall.wait(&attendant.front, has_more) {
+            sleep(rt, Duration::from_millis(1));
+        }
+    }
+}

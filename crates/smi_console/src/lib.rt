@@ -1,0 +1,44 @@
+//! A node as a crew runs it: a station on its store, served over UDP, and the lines that are read beside it.
+//!
+//! [`run`] begins it. It brings the store's rows into their newest schema, opens the station, makes a seat for each
+//! of its operators and one for reports, a board with one glance, and its socket, in this order (`fitting`), so that
+//! the first fault is told (`faults`, `ending`). Its link reaches the stations at their addresses (`peers`). Then it
+//! serves the station in its own thread (`service`), with `serve_before` of `smi_node`, which is told each step that
+//! it makes, and counts (`smi_node`). What that does to the store is the contract of [`run`].
+//!
+//! Three threads, which nobody joins, have the consoles (`starting`). One reads the lines of the standard input and
+//! hands them on (`reading`); one writes what the standard input is told (`outlet`). The third stands at the front
+//! (`attending`): it has the front desk of `smi_front`, hears the standard input and the connections (`hall`,
+//! `guest`) that come in at the doors (`doors`), and tells each what it asked for. It waits for all of them at
+//! once, for none of them alone, and is woken by the thread that serves (`chime`) once a turn has brought an
+//! answer, a state or an action (`herald`, `dispatch`). Orders that were given are followed by a datagram to the
+//! node's own socket, an empty one that every station refuses, so that a station at rest looks at its seats at once
+//! (`bell`).
+//!
+//! The lines, the statuses and what is printed stand in docs/FORMATS.md, "A node's lines".
+#![tactic(auto)]
+
+mod attending;
+mod bell;
+mod chime;
+mod dispatch;
+mod doors;
+mod ending;
+mod faults;
+mod fitting;
+mod guest;
+mod hall;
+mod herald;
+mod outlet;
+mod peers;
+mod reading;
+mod running;
+mod service;
+mod starting;
+
+pub use doors::ListenAddress;
+pub use faults::{link_fault, opening_fault, print_fault, stopped};
+pub use peers::addresses;
+pub use running::{NodeSetup, run};
+pub use service::Turns;
+pub use starting::Console;

@@ -1,0 +1,130 @@
+//! How the standard output is written without holding up the front.
+
+use crate::chime::Chime;
+use crossbeam_channel::{Receiver, Sender, TrySendError};
+use smi_base::write_whole;
+use smi_front::{Caller, MOST_UNSENT};
+use smi_schedule::Unwritten;
+use std::alloc::Global;
+use std::io::Write;
+use std::sync::atomic::{AtomicBool, AtomicUsize, Ordering};
+use std::sync::{Arc, Wait};
+
+/// How many bytes are handed on at once, and how many times before they are written.
+const AT_ONCE: usize = 4_096;
+
+pub(crate) const HANDED: usize = 16;
+
+/// The most bytes that are handed on to one end of the standard output: after them it counts as faulty.
+const MOST: u64 = 1 << 48;
+
+/// What the thread that writes and the one at the front know of each other.
+#[derive(Drop)]
+pub(crate) struct WriterStatus {
+    /// How many blocks were handed on and are not written.
+    unwritten: AtomicUsize,
+    /// Whether a write has failed.
+    has_failed: AtomicBool,
+}
+
+impl WriterStatus {
+    /// Nothing was handed on.
+    pub(crate) fn new() -> WriterStatus {
+        WriterStatus {
+            unwritten: AtomicUsize::new(0),
+            has_failed: AtomicBool::new(false),
+        }
+    }
+}
+
+/// The way of the front to the thread that writes the standard output. It never waits.
+#[derive(Drop)]
+pub(crate) struct Outlet {
+    alloc: Global,
+    blocks: Sender<Vec<u8>>,
+    progress: Arc<WriterStatus, Global>,
+}
+
+impl Outlet {
+    /// An outlet through which nothing was handed on.
+    pub(crate) fn new(
+        alloc: Global,
+        blocks: Sender<Vec<u8>>,
+        progress: Arc<WriterStatus, Global>,
+    ) -> Outlet {
+        Outlet {
+            alloc,
+            blocks,
+            progress,
+        }
+    }
+
+    /// Whether all that was handed on is written.
+    pub(crate) fn is_written(&self) -> bool {
+        self.progress.unwritten.load(Ordering::SeqCst) == 0
+    }
+
+    /// Hands on a block of what a caller is to be told. Whether there was room.
+    fn hand_on<R: Wait>(&self, rt: &R, caller: &mut Caller) -> Result<bool, Unwritten> {
+        let said = caller.said();
+        let count = said.len().min(AT_ONCE);
+        let block = Vec::from_slice(self.alloc, said.get(..count).unwrap_or(said))?;
+        self.progress.unwritten.fetch_add(1, Ordering::SeqCst);
+        match self.blocks.try_send(rt, block) {
+            Ok(()) => {
+                caller.written(count);
+                return Ok(true);
+            }
+            Err(TrySendError::Full(_)) => {}
+            Err(TrySendError::Disconnected(_)) => return Err(Unwritten::Writer),
+            Err(TrySendError::OutOfMemory(_)) => return Err(Unwritten::Memory),
+        }
+        self.progress.unwritten.fetch_sub(1, Ordering::SeqCst);
+        Ok(false)
+    }
+
+    /// Hands on what a caller is to be told, as far as there is room; the rest stays with the caller.
+    ///
+    /// `Writer` is answered where a write has failed, and where more stays than a caller may have untold.
+    pub(crate) fn say<R: Wait>(&self, rt: &R, caller: &mut Caller) -> Result<(), Unwritten> {
+        if self.progress.has_failed.load(Ordering::SeqCst) {
+            return Err(Unwritten::Writer);
+        }
+        for _ in 0..HANDED {
+            if caller.said().is_empty() || !self.hand_on(rt, caller)? {
+                break;
+            }
+        }
+        if caller.said().len() > MOST_UNSENT {
+            return Err(Unwritten::Writer);
+        }
+        Ok(())
+    }
+}
+
+/// Writes a block, whole.
+fn write_block<W: Write>(writer: &mut W, block: &[u8]) -> bool {
+    write_whole(writer, block).is_ok() && writer.flush().is_ok()
+}
+
+/// Writes block after block, until nobody hands on more, or a write fails; after each the front is woken.
+pub(crate) fn write_all<W: Write, R: Wait>(
+    rt: &R,
+    blocks: &Receiver<Vec<u8>>,
+    progress: &WriterStatus,
+    chime: &Chime,
+    writer: &mut W,
+) {
+    for _ in 0..MOST {
+        let Ok(block) = blocks.recv(rt) else {
+            return;
+        };
+        if !write_block(writer, block.as_slice()) {
+            break;
+        }
+        progress.unwritten.fetch_sub(1, Ordering::SeqCst);
+        chime.ring();
+    }
+    progress.has_failed.store(true, Ordering::SeqCst);
+    chime.ring();
+}

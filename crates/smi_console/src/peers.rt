@@ -1,0 +1,50 @@
+//! Where the stations of a tree are reached, and the link of one of them.
+
+ghost use Rattle.std.specs.Prelude.{◌≡◌, Some, IfOk, length, map};
+ghost use Rattle.smi_tree.specs.Lookups.{station_count};
+ghost use Rattle.smi_console.specs.Peers.{address_in};
+
+use crate::bell::Bell;
+use crate::ending::Halt;
+use smi_link::UdpLink;
+use smi_tree::{Address, Tree};
+use std::alloc::{AllocError, Global};
+use std::net::{Ipv4Addr, Net, SocketAddr, SocketAddrV4};
+use std::time::Clock;
+
+/// The address of a socket at this address of a tree.
+fn socket_address(address: Address) -> SocketAddr
+    ensures { address_in result ≡ Some address }
+{
+    let [first, second, third, fourth] = address.host;
+    let host = Ipv4Addr::new(first, second, third, fourth);
+    SocketAddr::V4(SocketAddrV4::new(host, address.port))
+}
+
+/// The addresses of all stations, by number.
+pub fn addresses(alloc: Global, tree: &Tree) -> Result<Vec<SocketAddr>, AllocError>
+    ensures each { IfOk result (λ peers. map address_in peers.items ≡ map Some tree.now.addresses) }
+    ensures count { IfOk result (λ peers. length peers.items ≡ station_count tree.now) }
+{
+    let mut peers = Vec::new(alloc);
+    for before in 0..tree.station_count() {
+        peers.push(socket_address(tree.address(before + 1)))?;
+    }
+    Ok(peers)
+}
+
+/// A bell to a station, and its link at its own address. The link reaches each station at its address of the tree.
+pub(crate) fn linked<'a, H: Net + Clock + AllocGlobal>(
+    rt: &'a H,
+    tree: &Tree,
+    station: u16,
+) -> Result<(UdpLink<&'a H>, Bell), Halt>
+    ensures { IfOk result (λ r. map address_in r.0.peers ≡ map Some tree.now.addresses) }
+{
+    let peers = addresses(rt.alloc(), tree)?;
+    let place = usize::from(station).saturating_sub(1);
+    let own = peers.get(place).copied().ok_or(Halt::Link)?;
+    let bell = Bell::hung(rt, own)?;
+    let link = UdpLink::open(rt, rt, station, peers)?;
+    Ok((link, bell))
+}

@@ -1,0 +1,158 @@
+//! A node begins, serves, and ends.
+
+ghost use Rattle.std.specs.Prelude.{◌≡◌};
+ghost use Rattle.std.specs.Arc.{arc_value};
+ghost use Rattle.smi_console.specs.Running.{Begins, Runs};
+ghost use Rattle.smi_console.specs.Serving.{IsCrewed, serving};
+
+use crate::doors::ListenAddress;
+use crate::ending::{Halt, told_end};
+use crate::faults::opening_fault;
+use crate::fitting::fitted;
+use crate::service::Turns;
+use crate::starting::Console;
+use smi_commands::status::Status;
+use smi_node::ServeFault;
+use smi_rows::Stable;
+use smi_station::{Station, migrate};
+use smi_tree::Tree;
+use smi_view::{Board, BoardId, Glance, NewBoard, open_board};
+use std::alloc::Global;
+use std::fs::Files;
+use std::io::{Read, Write};
+use std::marker::Brand;
+use std::net::Net;
+use std::sync::{Arc, Wait};
+use std::thread::Threads;
+use std::time::Clock;
+
+/// What a node is run with, beside its store and its console.
+#[derive(Drop)]
+pub struct NodeSetup {
+    pub tree: Arc<Tree, Global>,
+    /// The number of its station, from 1.
+    pub station: u16,
+    /// How long it serves.
+    pub turns: Turns,
+    /// Where it listens for consoles, beside the standard input.
+    pub consoles: Vec<ListenAddress>,
+}
+
+/// Serves a station that is open, with a board that is.
+fn crewed<
+    J: BoardId + Send + Sync + 'static,
+    S: Stable,
+    H: Files + Net + Wait + Threads + Clock + AllocGlobal + Clone + Drop + Send + 'static,
+    I: Read + Drop + Send + 'static,
+    O: Write + Drop + Send + 'static,
+    E: Write + Drop + Send + 'static,
+>(
+    rt: &H,
+    setup: &NodeSetup,
+    station: &mut Station<'_, S>,
+    board: &mut Board<J>,
+    glance: Glance<J>,
+    console: Console<I, O, E>,
+) -> Result<Result<(), ServeFault>, Halt>
+    ensures { IsCrewed (serving S.is_honest S.is_open S.rows S.may_find S.saves S.failures S.doubts) setup.now.turns
+        station.old station.new result }
+{
+    match fitted(rt, setup, station, glance, console) {
+        Ok(service) => {
+            let mut service = service;
+            Ok(service.serve(rt, setup.turns, station, board))
+        }
+        Err(halt) => Err(halt),
+    }
+}
+
+/// The one glance of a board.
+fn only<J: BoardId>(glances: Vec<Glance<J>>) -> Result<Glance<J>, Halt> {
+    let mut glances = glances;
+    glances.pop().ok_or(Halt::Memory)
+}
+
+/// Serves a station that is open.
+fn over_board<
+    J: BoardId + Send + Sync + 'static,
+    S: Stable,
+    H: Files + Net + Wait + Threads + Clock + AllocGlobal + Clone + Drop + Send + 'static,
+    I: Read + Drop + Send + 'static,
+    O: Write + Drop + Send + 'static,
+    E: Write + Drop + Send + 'static,
+>(
+    rt: &H,
+    blank: NewBoard,
+    setup: &NodeSetup,
+    station: &mut Station<'_, S>,
+    console: Console<I, O, E>,
+) -> Result<Result<(), ServeFault>, Halt>
+    requires { blank.seen.book ≡ J.book }
+    ensures { IsCrewed (serving S.is_honest S.is_open S.rows S.may_find S.saves S.failures S.doubts) setup.now.turns
+        station.old station.new result }
+{
+    let (mut board, glances) = open_board::<J, H>(rt, rt.alloc(), blank, 1)?;
+    let served = match only(glances) {
+        Ok(glance) => crewed(rt, setup, station, &mut board, glance, console),
+        Err(halt) => Err(halt),
+    };
+    let _ = board.close(rt);
+    served
+}
+
+/// The station is opened on its store, and served.
+fn opened<
+    S: Stable,
+    H: Files + Net + Wait + Threads + Clock + AllocGlobal + Clone + Drop + Send + 'static,
+    I: Read + Drop + Send + 'static,
+    O: Write + Drop + Send + 'static,
+    E: Write + Drop + Send + 'static,
+    F: Write,
+>(rt: &H, setup: &NodeSetup, store: S, console: Console<I, O, E>, faults: &mut F) -> (Status, S)
+    ensures { Begins S.is_honest S.is_open S.rows S.may_find S.saves S.failures S.doubts (arc_value setup.now.tree)
+        setup.now.station setup.now.turns store result }
+{
+    match Station::open(rt.alloc(), &setup.tree, setup.station, store) {
+        Ok(station) => {
+            let mut station = station;
+            let crewed = over_board::<Brand, _, _, _, _, _>(
+                rt,
+                NewBoard::new(),
+                setup,
+                &mut station,
+                console,
+            );
+            let status = told_end(crewed, faults);
+            (status, station.into_stable())
+        }
+        Err((fault, store)) => (opening_fault(fault, faults), store),
+    }
+}
+
+/// Runs a node, and gives its store back.
+///
+/// The rows of its station are brought into their newest schema, the station is opened, its seats and its board are
+/// made, and last its socket; then it is served, for so many turns or until a fault, while other threads have the
+/// console. What is amiss is told in one line on `faults`, and the status says how the node ended. Those threads tell
+/// their own faults on those of the console, and these end the console alone.
+///
+/// Nothing but the opening and the steps of the station changes the store. That it serves over its own socket and its
+/// own seats no clause says, and none what the threads of the console do: tests/full.py, tests/nodes.py and
+/// tests/consoles.py see that.
+pub fn run<
+    S: Stable,
+    H: Files + Net + Wait + Threads + Clock + AllocGlobal + Clone + Drop + Send + 'static,
+    I: Read + Drop + Send + 'static,
+    O: Write + Drop + Send + 'static,
+    E: Write + Drop + Send + 'static,
+    F: Write,
+>(rt: &H, setup: &NodeSetup, store: S, console: Console<I, O, E>, faults: &mut F) -> (Status, S)
+    ensures { Runs S.is_honest S.is_open S.rows S.may_find S.saves S.failures S.doubts (arc_value setup.now.tree)
+        setup.now.station setup.now.turns store result }
+{
+    let mut store = store;
+    match migrate(rt.alloc(), &setup.tree, setup.station, &mut store) {
+        Ok(_) => opened(rt, setup, store, console, faults),
+        Err(fault) => (opening_fault(fault, faults), store),
+    }
+}

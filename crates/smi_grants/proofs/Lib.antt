@@ -1,9 +1,0 @@
-mod InUse
-mod Tables
-mod Listing
-mod Verdicts
-mod Among
-mod ChildTables
-mod Ordered
-mod Heard
-mod Restoring

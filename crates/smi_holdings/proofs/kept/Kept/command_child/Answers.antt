@@ -1,0 +1,12 @@
+use Rattle.smi_holdings.proofs.kept.Kept.command_child.Goals as goal
+
+pub returns-clause-grants : goal.returns-clause-grants
+returns-clause-grants c =
+    rw (
+      c.link_after-new_link.ensures,
+      c.mode_after-new_mode.ensures,
+      c.child_change-change.ensures,
+      c.tree.ensures.value,
+      c.link-link.ensures,
+      c.mode-mode.ensures,
+    ) at c.put_child.ensures.grants

@@ -1,0 +1,60 @@
+-- What a step changes of the grants, and what it saves.
+use Rattle.std.specs.Prelude.{ℕ, ◌≡◌, true, Option, Some, None, option_map}
+use Rattle.smi_grant.specs.declared.Holder.TheVariants.{Operator, Domain}
+use Rattle.smi_tree.specs.Hierarchy.{Hierarchy}
+use Rattle.smi_tree.specs.Lawful.{IsBetween}
+use Rattle.smi_tree.specs.Lookups.{domain_count, operator_station_of}
+use Rattle.smi_roles.specs.Roles.{is_number, is_parent}
+use Rattle.smi_rows.specs.Store.{Rows, Saved, with_row}
+use Rattle.smi_protocol.specs.Grants.{Grants, put, with_record, with_link}
+use Rattle.smi_protocol.specs.GrantStep.{Touched, OfDomain, OfOperator}
+use Rattle.smi_protocol.specs.Keeping.{commanded}
+use Rattle.smi_protocol.specs.SavedRows.{saved_row}
+use Rattle.smi_holdings.specs.Kept.{Kept, grants_of}
+use Rattle.smi_holdings.specs.declared.change.Change.{Change}
+use Rattle.smi_holdings.specs.declared.change.Change.TheVariants as change
+
+-- the grants after a change
+abbrev pub changed : Hierarchy → Grants → Change → Grants
+changed h g change.Nothing = g
+changed h g (change.Handed d r) = with_record g d r
+changed h g (change.Linked o d l) = with_link g (Operator o) d l
+changed h g (change.Ran d c r code) = record
+    (commanded h g d c) { records = put g.records d r; gathered = put g.gathered d code }
+changed h g (change.Heard p d l r code) = record
+    (with_link g (Domain p) d l) { records = put g.records p r; gathered = put g.gathered p code }
+
+-- whose row it changes
+abbrev pub touched : Change → Option Touched
+touched change.Nothing = None
+touched (change.Handed d r) = Some (OfDomain d)
+touched (change.Linked o d l) = Some (OfOperator o)
+touched (change.Ran d c r code) = Some (OfDomain d)
+touched (change.Heard p d l r code) = Some (OfDomain p)
+
+-- the row that is saved
+abbrev pub saved_by : Hierarchy → ℕ → Grants → Change → Option Saved
+saved_by h number g c = option_map (saved_row h number (changed h g c)) (touched c)
+
+-- the rows after a save
+abbrev pub with_saved : Option Saved → Rows → Rows
+with_saved None rows = rows
+with_saved (Some s) rows = with_row s.key s.bytes rows
+
+-- the tree has what the change is about
+abbrev pub IsChange : Hierarchy → ℕ → Change → Type 0
+IsChange h number change.Nothing = Unit {0}
+IsChange h number (change.Handed d r) = IsBetween 1 (domain_count h) d
+IsChange h number (change.Linked o d l) = (is_number (operator_station_of h o) number ≡ true)
+    × IsBetween 1 (domain_count h) d
+IsChange h number (change.Ran d c r code) = IsBetween 1 (domain_count h) d
+IsChange h number (change.Heard p d l r code) = IsBetween 1 (domain_count h) p × (is_parent h d p ≡ true)
+
+-- grants, and a change of them that is still to come
+pub record Planned : Type 0 where
+  pub kept : Kept
+  pub change : Change
+
+-- the grants after it
+abbrev pub after_of : Planned → Grants
+after_of p = changed p.kept.tree (grants_of p.kept) p.change

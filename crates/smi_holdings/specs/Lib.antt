@@ -1,0 +1,7 @@
+pub mod Change
+pub mod Children
+pub mod Entries
+pub mod Kept
+pub mod Plans
+pub mod Restored
+pub mod Save

@@ -1,0 +1,89 @@
+//! A change is made.
+
+use crate::change::Change;
+use crate::kept::Kept;
+use smi_grant::{Link, Record};
+use smi_rows::Mode;
+
+impl<'a> Kept<'a> {
+    ghost use Rattle.std.specs.Prelude.{◌≡◌, ◌≤◌, true};
+    ghost use Rattle.smi_grant.specs.declared.Holder.TheVariants.{Operator};
+    ghost use Rattle.smi_tree.specs.Lookups.{domain_count, operator_station_of};
+    ghost use Rattle.smi_roles.specs.Roles.{is_number, is_parent};
+    ghost use Rattle.smi_holdings.specs.Children.{with_child};
+    ghost use Rattle.smi_protocol.specs.Grants.{with_record, with_gathered, with_link};
+    ghost use Rattle.smi_holdings.specs.Kept.{grants_of};
+    ghost use Rattle.smi_holdings.specs.Change.{changed, IsChange};
+
+    /// The change is made.
+    pub fn commit(&mut self, change: &Change)
+        requires { IsChange self.old.tree self.old.number change.now }
+        ensures grants { grants_of self.new ≡ changed self.old.tree (grants_of self.old) change.now }
+        ensures tree { self.new.tree ≡ self.old.tree }
+        ensures number { self.new.number ≡ self.old.number }
+    {
+        match *change {
+            Change::Nothing => {}
+            Change::Handed(domain, standing) => self.put_record(domain, standing),
+            Change::Linked(operator, domain, link) => {
+                self.put_operator_link(operator, domain, link)
+            }
+            Change::Ran(domain, command, standing, code) => {
+                self.command_children(domain, command);
+                self.put_record(domain, standing);
+                self.put_gathered(domain, code);
+            }
+            Change::Heard(parent, child, link, standing, code) => {
+                let mode = self.mode(child);
+                self.put_child(parent, child, link, mode);
+                self.put_record(parent, standing);
+                self.put_gathered(parent, code);
+            }
+        }
+    }
+
+    /// Another record of a domain.
+    pub(crate) fn put_record(&mut self, domain: u16, standing: Record)
+        requires least { 1 ≤ domain }
+        requires most { domain ≤ domain_count self.old.tree }
+        ensures grants { grants_of self.new ≡ with_record (grants_of self.old) domain standing }
+        ensures tree { self.new.tree ≡ self.old.tree }
+        ensures number { self.new.number ≡ self.old.number }
+    {
+        self.records[usize::from(domain) - 1] = standing;
+    }
+
+    /// Another code that a domain has gathered.
+    pub(crate) fn put_gathered(&mut self, domain: u16, code: u16)
+        requires least { 1 ≤ domain }
+        requires most { domain ≤ domain_count self.old.tree }
+        ensures grants { grants_of self.new ≡ with_gathered (grants_of self.old) domain code }
+        ensures tree { self.new.tree ≡ self.old.tree }
+        ensures number { self.new.number ≡ self.old.number }
+    {
+        self.gathered[usize::from(domain) - 1] = code;
+    }
+
+    /// Another link of an operator of the station.
+    pub(crate) fn put_operator_link(&mut self, operator: u16, domain: u16, link: Link)
+        requires operator { is_number (operator_station_of self.old.tree operator) self.old.number ≡ true }
+        requires least { 1 ≤ domain }
+        requires most { domain ≤ domain_count self.old.tree }
+        ensures grants { grants_of self.new ≡ with_link (grants_of self.old) (Operator operator) domain link }
+        ensures tree { self.new.tree ≡ self.old.tree }
+        ensures number { self.new.number ≡ self.old.number }
+    {
+        self.operator_links[usize::from(operator) - 1].put(domain, link);
+    }
+
+    /// Another link to a child, and the mode in which it is held.
+    pub(crate) fn put_child(&mut self, domain: u16, child: u16, link: Link, mode: Mode)
+        requires parent { is_parent self.old.tree child domain ≡ true }
+        ensures grants { grants_of self.new ≡ with_child (grants_of self.old) domain child link mode }
+        ensures tree { self.new.tree ≡ self.old.tree }
+        ensures number { self.new.number ≡ self.old.number }
+    {
+        self.child_links.put(child, link);
+        self.modes[usize::from(child) - 1] = mode;
+    }
+}

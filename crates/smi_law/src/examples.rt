@@ -1,0 +1,17 @@
+//! What the definitions say of one small case, as laws: each function does nothing, and its clauses are examples.
+
+ghost use Rattle.std.specs.Prelude.{◌≡◌, [], ◌∷◌, false};
+ghost use Rattle.smi_protocol.specs.examples.WorkedTree.{worked_tree, ANN, DCS};
+ghost use Rattle.smi_law.specs.Answered.{entries_left, told_about};
+ghost use Rattle.smi_law.specs.Example.{asked_again, lost_take, taken};
+ghost use Rattle.smi_law.specs.Rest.{Each, led};
+ghost use Rattle.smi_law.specs.UnderWay.{under_way};
+
+/// A take is lost. A tick sends it again, it comes, and so does its answer: nothing is under way any more, and the
+/// operator was told once.
+pub fn lost_take_is_made_good()
+    ensures waits { under_way worked_tree lost_take ≡ 1 }
+    ensures allowed { Each false worked_tree lost_take asked_again }
+    ensures rests { under_way worked_tree (led worked_tree lost_take asked_again) ≡ 0 }
+    ensures told { told_about ANN DCS (entries_left worked_tree lost_take asked_again) ≡ taken ∷ [] }
+{}

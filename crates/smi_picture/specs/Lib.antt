@@ -1,4 +1,0 @@
-pub mod Keeping
-pub mod Newest
-pub mod Noted
-pub mod Pictured

@@ -1,0 +1,27 @@
+//! Where help is, for whoever types at a terminal.
+
+ghost use Rattle.std.specs.Prelude.{ℕ, OnOk, take};
+ghost use Rattle.std.specs.Io.KnownBytes.{Appends};
+ghost use Rattle.smi_program.specs.Help.{help_after};
+
+use smi_base::{NotWritten, write_whole};
+use smi_commands::status::Status;
+use std::io::Write;
+
+/// Tells where help is, in one line more, where a command has ended as a wrong line and `faults` is a terminal. Else it
+/// writes nothing, so that whoever reads `faults` by a program finds the one line alone.
+///
+/// Its error is that not all could be written.
+pub fn tell_help<F: Write>(status: u8, is_terminal: bool, faults: &mut F) -> Result<(), NotWritten>
+    ensures all { OnOk result
+        (Appends (F.contents faults.old) (F.contents faults.new) (help_after status is_terminal)) }
+    ensures prefix { (n : ℕ) × Appends (F.contents faults.old) (F.contents faults.new)
+        (take n (help_after status is_terminal)) }
+{
+    let help: &[u8] = if status == Status::WrongLine.code() && is_terminal {
+        b"help: man smi\n"
+    } else {
+        b""
+    };
+    write_whole(faults, help)
+}

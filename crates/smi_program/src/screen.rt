@@ -1,0 +1,223 @@
+//! A screen: its tree file is read, its station found, its store opened, and then it looks.
+
+use crate::line::ScreenLine;
+use crate::node::{address_in, opened};
+use crate::tree::{read_marked, read_tree};
+use crate::with_orders::{page_bytes, page_with_orders};
+use crate::words::{Words, bytes_of};
+use bytes::Bytes;
+use smi_commands::status::{Status, no_memory, read_fault, wrong_line};
+use smi_console::{addresses, link_fault, opening_fault, print_fault, stopped};
+use smi_disks::{Stores, TreeMark};
+use smi_screen::{ConsoleAddress, Ended, Giving, ScreenSetup, hosts_of, run};
+use smi_tree::Tree;
+use std::alloc::{AllocError, Global};
+use std::hash::RandomState;
+use std::io::Write;
+use std::net::{Net, TcpListener, TcpStream};
+use std::random::RandomSource;
+use std::rt::Files;
+use std::sync::Wait;
+use std::time::Clock;
+
+/// Tells how a screen ended.
+fn told_end<F: Write>(ended: Ended, faults: &mut F) -> Status {
+    match ended {
+        Ended::Turns => Status::Done,
+        Ended::Stopped => stopped(faults),
+        Ended::Link => link_fault(faults),
+        Ended::Gate => print_fault("screen fault", faults),
+        Ended::Memory => no_memory(faults),
+        Ended::NoOperator => wrong_line(faults),
+        Ended::Opening(fault) => opening_fault(fault, faults),
+    }
+}
+
+/// How many random bytes a key is made of.
+const KEY: usize = 16;
+
+/// Random bytes, as the value of an `Authorization`.
+fn key_in(alloc: Global, bytes: [u8; KEY]) -> Result<Vec<u8>, AllocError> {
+    let mut key = Vec::from_slice(alloc, b"Bearer ")?;
+    for byte in bytes {
+        write!(key, "{byte:02x}").map_err(|_| AllocError)?;
+    }
+    Ok(key)
+}
+
+/// A text whose copies share its bytes.
+fn kept(text: Vec<u8>) -> Result<Bytes, AllocError> {
+    match Bytes::from_vec(text) {
+        Ok(bytes) => Ok(bytes),
+        Err(_) => Err(AllocError),
+    }
+}
+
+/// Where a console is.
+fn console_address_of(alloc: Global, word: &str) -> Result<ConsoleAddress, AllocError> {
+    match address_in(word) {
+        Some(address) => Ok(ConsoleAddress::Address(address)),
+        None => Ok(ConsoleAddress::Path(String::from_str(alloc, word)?)),
+    }
+}
+
+/// A page that may give orders, the key that it has for that, and the console that they go to.
+#[derive(Drop)]
+struct Keyed {
+    page: Bytes,
+    key: Bytes,
+    console: ConsoleAddress,
+}
+
+/// A page that may give orders by a key of these bytes, to the console of this word.
+fn page_with_key(alloc: Global, bytes: [u8; KEY], word: &str) -> Result<Keyed, AllocError> {
+    let key = key_in(alloc, bytes)?;
+    let page = page_with_orders(alloc, key.as_slice())?;
+    Ok(Keyed {
+        page: kept(page)?,
+        key: kept(key)?,
+        console: console_address_of(alloc, word)?,
+    })
+}
+
+/// The page of a screen may give orders from now on, of operators of this tree.
+fn give(setup: &mut ScreenSetup, keyed: Keyed, tree: Tree) {
+    let Keyed { page, key, console } = keyed;
+    setup.page = page;
+    setup.giving = Some(Giving { console, key, tree });
+}
+
+/// Random bytes, which nobody can guess.
+fn random<H: RandomSource, F: Write>(host: &H, faults: &mut F) -> Result<[u8; KEY], Status> {
+    let mut bytes = [0u8; KEY];
+    match host.fill_bytes(&mut bytes) {
+        Ok(()) => Ok(bytes),
+        Err(_) => Err(read_fault(faults)),
+    }
+}
+
+/// The page of a screen may give orders from now on, to the console of this word.
+fn with_orders<H: Files + RandomSource + AllocGlobal, F: Write>(
+    host: &H,
+    words: &Words,
+    line: ScreenLine<'_>,
+    word: &str,
+    setup: &mut ScreenSetup,
+    faults: &mut F,
+) -> Result<(), Status> {
+    let bytes = random(host, faults)?;
+    let tree = read_tree(host, bytes_of(words, line.tree), faults)?;
+    match page_with_key(host.alloc(), bytes, word) {
+        Ok(keyed) => {
+            give(setup, keyed, tree);
+            Ok(())
+        }
+        Err(_) => Err(no_memory(faults)),
+    }
+}
+
+/// What the screen of a station is run with, whose page gives no orders.
+fn setup_of(
+    alloc: Global,
+    tree: &Tree,
+    station: u16,
+    line: ScreenLine<'_>,
+) -> Result<ScreenSetup, AllocError> {
+    let peers = addresses(alloc, tree)?;
+    Ok(ScreenSetup {
+        station,
+        peers,
+        http: line.http,
+        hosts: hosts_of(alloc, line.http, line.name)?,
+        page: Bytes::from_static(page_bytes()),
+        giving: None,
+        turns: line.turns,
+    })
+}
+
+/// The screen of a station looks, with what was set up.
+fn looked<
+    H: Files
+        + Stores
+        + Net<Listener = TcpListener, Stream = TcpStream>
+        + RandomSource
+        + Wait
+        + Clock
+        + AllocGlobal,
+    F: Write,
+>(
+    host: &H,
+    words: &Words,
+    tree: &Tree,
+    mark: &TreeMark,
+    keys: RandomState,
+    setup: &mut ScreenSetup,
+    line: ScreenLine<'_>,
+    faults: &mut F,
+) -> Status {
+    if let Some(word) = line.orders {
+        if let Err(status) = with_orders(host, words, line, word, setup, faults) {
+            return status;
+        }
+    }
+    match opened(host, bytes_of(words, line.store), mark, faults) {
+        Ok(stable) => {
+            let (how, stable) = run(host, tree, keys, setup, stable);
+            host.close(stable);
+            told_end(how, faults)
+        }
+        Err(status) => status,
+    }
+}
+
+/// What the screen of a station is run with is set up, and then it looks.
+fn set_up<
+    H: Files
+        + Stores
+        + Net<Listener = TcpListener, Stream = TcpStream>
+        + RandomSource
+        + Wait
+        + Clock
+        + AllocGlobal,
+    F: Write,
+>(
+    host: &H,
+    words: &Words,
+    tree: &Tree,
+    mark: &TreeMark,
+    station: u16,
+    line: ScreenLine<'_>,
+    faults: &mut F,
+) -> Status {
+    let Ok(keys) = RandomState::new(host) else {
+        return read_fault(faults);
+    };
+    match setup_of(host.alloc(), tree, station, line) {
+        Ok(setup) => {
+            let mut setup = setup;
+            looked(host, words, tree, mark, keys, &mut setup, line, faults)
+        }
+        Err(_) => no_memory(faults),
+    }
+}
+
+/// Runs a screen as its line says, and answers how it ended.
+pub fn run_screen<
+    H: Files
+        + Stores
+        + Net<Listener = TcpListener, Stream = TcpStream>
+        + RandomSource
+        + Wait
+        + Clock
+        + AllocGlobal,
+    F: Write,
+>(host: &H, words: &Words, line: ScreenLine<'_>, faults: &mut F) -> Status {
+    let (tree, mark) = match read_marked(host, bytes_of(words, line.tree), faults) {
+        Ok(found) => found,
+        Err(status) => return status,
+    };
+    match tree.station_named(line.station.as_bytes()) {
+        Some(station) => set_up(host, words, &tree, &mark, station, line, faults),
+        None => wrong_line(faults),
+    }
+}

@@ -1,0 +1,124 @@
+ghost use Rattle.std.specs.Prelude.{◌≡◌, ◌⊎◌, ℕ, IfSome, take};
+ghost use Rattle.std.specs.Str.Lines.{lines};
+ghost use Rattle.std.specs.Io.KnownBytes.{Appends};
+ghost use Rattle.smi_protocol.specs.Schedule.{trace_of};
+ghost use Rattle.smi_schedule.specs.Drawn.{schedule_drawn};
+ghost use Rattle.smi_schedule.specs.Text.{trace_text};
+ghost use Rattle.smi_world.specs.Streaming.{ending_of, text_of};
+ghost use Rattle.smi_world.specs.declared.streaming.Streamed.TheVariants.{Ended};
+ghost use Rattle.smi_program.specs.Ending.{HasFault, status_of};
+
+use smi_commands::status::{Status, no_memory, read_fault, write_fault};
+use smi_schedule::Unwritten;
+use smi_tree::Tree;
+use smi_world::{Settled, Streamed, stream, stream_drawn, stream_drawn_settled, stream_settled};
+use std::alloc::Global;
+use std::io::{Read, Write};
+
+/// Tells how a stream ended, and answers the exit status.
+fn streamed<F: Write>(streamed: Streamed, faults: &mut F) -> u8
+    ensures { result ≡ status_of streamed }
+{
+    match streamed {
+        Streamed::Ended => Status::Done.code(),
+        Streamed::Faulty(line, fault) => {
+            let _ = writeln!(faults, "schedule line {line} fault {fault}");
+            Status::Refused.code()
+        }
+        Streamed::ReadFault => read_fault(faults).code(),
+        Streamed::WriteFault => write_fault(faults).code(),
+        Streamed::Memory => no_memory(faults).code(),
+    }
+}
+
+/// Runs a schedule: writes the text of its trace, reading a line and writing what it leaves before the next is read.
+/// Answers the exit status.
+///
+/// It is 0 where the whole trace is written, and 1 where a line is faulty, which is told on `faults` as
+/// `schedule line L fault C`: then the trace of the lines before it is written. It is 3 where a read or a write failed,
+/// and 4 where memory ran out. (docs/FORMATS.md, "Schedules" and "Traces".)
+pub fn sim<R: Read, W: Write, F: Write>(
+    alloc: Global,
+    tree: &Tree,
+    reader: &mut R,
+    writer: &mut W,
+    faults: &mut F,
+) -> u8
+    ensures ended { IfSome (R.remaining reader.old) (λ input. result ≡ 0 →
+        (ending_of tree.now (lines input) ≡ Ended)
+        × Appends (W.contents writer.old) (W.contents writer.new) (text_of tree.now (lines input))) }
+    ensures refused { IfSome (R.remaining reader.old) (λ input. result ≡ 1 →
+        HasFault tree.now (lines input)
+        × Appends (W.contents writer.old) (W.contents writer.new) (text_of tree.now (lines input))) }
+    ensures prefix { IfSome (R.remaining reader.old) (λ input. (n : ℕ) ×
+        Appends (W.contents writer.old) (W.contents writer.new) (take n (text_of tree.now (lines input)))) }
+    ensures status { (result ≡ 0) ⊎ (result ≡ 1) ⊎ (result ≡ 3) ⊎ (result ≡ 4) }
+{
+    streamed(stream(alloc, tree, reader, writer), faults)
+}
+
+/// Runs the schedule of so many items that a seed draws, and writes the text of its trace while it is drawn. Answers
+/// the exit status: 0 where the whole trace is written, 3 where a write failed, and 4 where memory ran out.
+pub fn sim_drawn<W: Write, F: Write>(
+    alloc: Global,
+    tree: &Tree,
+    seed: u64,
+    steps: u64,
+    writer: &mut W,
+    faults: &mut F,
+) -> u8
+    ensures ended { result ≡ 0 →
+        Appends (W.contents writer.old) (W.contents writer.new)
+        (trace_text tree.now (trace_of tree.now (schedule_drawn tree.now seed steps))) }
+    ensures prefix { (n : ℕ) ×
+        Appends (W.contents writer.old) (W.contents writer.new)
+        (take n (trace_text tree.now (trace_of tree.now (schedule_drawn tree.now seed steps)))) }
+    ensures status { (result ≡ 0) ⊎ (result ≡ 3) ⊎ (result ≡ 4) }
+{
+    match stream_drawn(alloc, tree, seed, steps, writer) {
+        Ok(()) => Status::Done.code(),
+        Err(Unwritten::Writer) => write_fault(faults).code(),
+        Err(Unwritten::Memory) => no_memory(faults).code(),
+    }
+}
+
+/// Tells how a world was led to rest, and answers the exit status.
+fn settled<F: Write>(settled: Settled, faults: &mut F) -> u8 {
+    match settled {
+        Settled::Rests(_) => Status::Done.code(),
+        Settled::Restless => {
+            let _ = writeln!(faults, "not settled");
+            Status::Refused.code()
+        }
+        Settled::Unsettled(how) => streamed(how, faults),
+    }
+}
+
+/// Runs a schedule as [`sim`] does, and goes on until nothing is under way: stations that have stopped start again,
+/// stations tick, and what was sent comes. The lines that this leaves are written like any others, and at the end
+/// `settled after N items`. Answers the exit status: 1 also where nothing came to rest, which is told as
+/// `not settled`.
+pub fn sim_settled<R: Read, W: Write, F: Write>(
+    alloc: Global,
+    tree: &Tree,
+    reader: &mut R,
+    writer: &mut W,
+    faults: &mut F,
+) -> u8 {
+    settled(stream_settled(alloc, tree, reader, writer), faults)
+}
+
+/// The same of the schedule of so many items that a seed draws.
+pub fn sim_drawn_settled<W: Write, F: Write>(
+    alloc: Global,
+    tree: &Tree,
+    seed: u64,
+    steps: u64,
+    writer: &mut W,
+    faults: &mut F,
+) -> u8 {
+    settled(
+        stream_drawn_settled(alloc, tree, seed, steps, writer),
+        faults,
+    )
+}

@@ -1,0 +1,46 @@
+//! The page where orders may be given.
+
+ghost use Rattle.smi_program.specs.declared.page.TheConstants.{PAGE};
+ghost use Rattle.std.specs.Prelude.{◌≡◌, IfOk};
+ghost use Rattle.smi_program.specs.Page.{page_with_orders, script_of, with_orders};
+
+use crate::orders::ORDERS;
+use crate::page::PAGE;
+use std::alloc::{AllocError, Global};
+
+/// The script that has the key.
+fn script_of(alloc: Global, key: &[u8]) -> Result<Vec<u8>, AllocError>
+    ensures { IfOk result (λ text. text.items ≡ script_of key.now) }
+{
+    let mut text = Vec::from_slice(alloc, b"<script>const KEY = \"")?;
+    text.extend_from_slice(key)?;
+    text.extend_from_slice(b"\";</script>\n")?;
+    Ok(text)
+}
+
+/// A page that goes on with a key and with what it has more.
+fn with_orders(alloc: Global, page: &[u8], key: &[u8], orders: &[u8]) -> Result<Vec<u8>, AllocError>
+    ensures { IfOk result (λ text. text.items ≡ with_orders page.now key.now orders.now) }
+{
+    let script = script_of(alloc, key)?;
+    let mut text = Vec::from_slice(alloc, page)?;
+    text.extend_from_slice(script.as_slice())?;
+    text.extend_from_slice(orders)?;
+    Ok(text)
+}
+
+/// The page that may give orders, by this key.
+///
+/// It fails only where memory ran out, which tests alone see.
+pub fn page_with_orders(alloc: Global, key: &[u8]) -> Result<Vec<u8>, AllocError>
+    ensures { IfOk result (λ page. page.items ≡ page_with_orders key.now) }
+{
+    with_orders(alloc, PAGE.as_bytes(), key, ORDERS.as_bytes())
+}
+
+/// The bytes of the page.
+pub fn page_bytes() -> &'static [u8]
+    ensures { result.now ≡ PAGE.now }
+{
+    PAGE.as_bytes()
+}

@@ -1,0 +1,93 @@
+//! What of an event is noted.
+
+ghost use Rattle.std.specs.Prelude.{◌≡◌};
+ghost use Rattle.std.specs.List.{flat_map};
+ghost use Rattle.smi_view.specs.Noted.{TakesIn};
+ghost use Rattle.smi_screen.specs.Noting.{
+  answer_notes,
+  asked_notes,
+  body_notes,
+  datagram_notes,
+  handed_notes,
+  shown_notes,
+};
+
+use smi_grant::{Record, Shown};
+use smi_message::{Body, decode};
+use smi_out::Out;
+use smi_protocol::{Answer, Order};
+use smi_view::Picture;
+
+/// A state that a step showed.
+#[tactic(auto, using(smi_view::proofs::Notes::takes_none))]
+fn note_shown(picture: &mut Picture, shown: Option<Shown>, now: u64)
+    ensures { TakesIn (shown_notes shown now) picture.old picture.new }
+{
+    match shown {
+        Some(shown) => picture.show(shown, now),
+        None => {}
+    }
+}
+
+/// The record that an order was answered with, if it is a question.
+#[tactic(auto, using(smi_view::proofs::Notes::takes_none))]
+fn note_asked(picture: &mut Picture, order: Order, told: &Option<Record>, now: u64)
+    ensures { TakesIn (asked_notes order told.now now) picture.old picture.new }
+{
+    match (order, told) {
+        (Order::Ask(domain), Some(told)) => picture.tell(domain, told, now),
+        _ => {}
+    }
+}
+
+fn note_answer(picture: &mut Picture, answer: &Answer, now: u64)
+    ensures { TakesIn (answer_notes now answer.now) picture.old picture.new }
+{
+    note_asked(picture, answer.told.order, &answer.told.asked, now);
+}
+
+/// All answers of a step.
+fn note_answers(picture: &mut Picture, answers: &[Answer], now: u64)
+    ensures { TakesIn (flat_map (answer_notes now) answers.now) picture.old picture.new }
+{
+    for answer in answers {
+        note_answer(picture, answer, now);
+    }
+}
+
+/// All that a step showed and answered.
+#[tactic(auto, using(smi_view::proofs::Notes::takes_both))]
+pub(crate) fn note_handed(picture: &mut Picture, out: &Out, now: u64)
+    ensures { TakesIn (handed_notes out.now now) picture.old picture.new }
+{
+    note_shown(picture, out.shown(), now);
+    note_answers(picture, out.answers(), now);
+}
+
+/// The record that a datagram tells.
+#[tactic(auto, using(smi_view::proofs::Notes::takes_none))]
+fn note_body(picture: &mut Picture, body: &Body, now: u64)
+    ensures { TakesIn (body_notes body.now now) picture.old picture.new }
+{
+    match body {
+        Body::Tell(domain, told) => picture.tell(*domain, told, now),
+        Body::Ask(..) => {}
+        Body::Take(..) => {}
+        Body::Drop(..) => {}
+        Body::Run(..) => {}
+        Body::Watch(..) => {}
+        Body::State(..) => {}
+        Body::Unwatch(..) => {}
+    }
+}
+
+/// The record in the bytes of a datagram, if they are one and it tells one.
+#[tactic(auto, using(smi_view::proofs::Notes::takes_none))]
+pub(crate) fn note_datagram(picture: &mut Picture, bytes: &[u8], now: u64)
+    ensures { TakesIn (datagram_notes bytes.now now) picture.old picture.new }
+{
+    match decode(bytes) {
+        Ok(datagram) => note_body(picture, &datagram.body, now),
+        Err(_) => {}
+    }
+}

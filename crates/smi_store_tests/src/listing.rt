@@ -1,0 +1,100 @@
+//! The rows of a store as `smi rows` prints them, whatever the order in which they were saved.
+
+use smi_commands::rows::{Listed, rows};
+use smi_samples::{BOOT, HELD, TAKEN, key};
+use smi_stable::{Key, MemoryStable, PlannedStable, SqliteStable, Stable, StoreFault};
+use sqlite::{Connection, FileStore, Files, Options};
+use sqlite_disk::Memory;
+use std::alloc::Global;
+use std::test::Fail;
+
+const LISTING: &str =
+    "1 0 0 0200000000000002\n1 1 0 020100020000000000000001000000000000000000000000\n2 0 2 030000010002020000000000000000010000000000000000\n";
+
+/// Boot 2 of station 1, a domain that operator 2 took, and what that operator holds.
+fn saved_rows() -> [(Key, &'static [u8]); 3] {
+    [
+        (key(1, 0, 0), BOOT),
+        (key(1, 1, 0), TAKEN),
+        (key(2, 0, 2), HELD),
+    ]
+}
+
+const ORDERS: [[usize; 3]; 6] = [
+    [0, 1, 2],
+    [0, 2, 1],
+    [1, 0, 2],
+    [1, 2, 0],
+    [2, 0, 1],
+    [2, 1, 0],
+];
+
+fn save_in<S: Stable>(store: &mut S, order: [usize; 3]) -> Result<(), StoreFault> {
+    for place in order {
+        if let Some((key, bytes)) = saved_rows().get(place) {
+            store.save(*key, bytes)?;
+        }
+    }
+    Ok(())
+}
+
+/// Whether the listing is printed of a store in which the rows were saved in this order.
+fn is_printed<S: Stable>(alloc: Global, store: &mut S, order: [usize; 3]) -> Result<bool, Fail> {
+    save_in(store, order)?;
+    let mut text = Vec::new(alloc);
+    let listed = rows(store, &mut text);
+    Ok(listed == Listed::Done && text.as_slice() == LISTING.as_bytes())
+}
+
+#[test]
+fn rows_in_memory_are_printed(rt: HostRuntime) -> Result<(), Fail> {
+    for order in ORDERS {
+        let mut store = MemoryStable::new(rt.alloc());
+        assert!(rt; is_printed(rt.alloc(), &mut store, order)?, "{order:?}");
+    }
+    Ok(())
+}
+
+#[test]
+fn rows_with_nothing_planned_are_printed(rt: HostRuntime) -> Result<(), Fail> {
+    for order in ORDERS {
+        let mut store = PlannedStable::new(MemoryStable::new(rt.alloc()));
+        assert!(rt; is_printed(rt.alloc(), &mut store, order)?, "{order:?}");
+    }
+    Ok(())
+}
+
+/// A store over SQL whose disk is in memory.
+fn opened(alloc: Global) -> Result<SqliteStable<FileStore<Memory>>, Fail> {
+    let files = Files {
+        log: Memory::new(alloc),
+        db: Memory::new(alloc),
+    };
+    match Connection::open_files(alloc, files, Options::new(1)) {
+        Ok(conn) => adopted(conn),
+        Err(_) => Err("the files are not opened")?,
+    }
+}
+
+fn adopted(conn: Connection<FileStore<Memory>>) -> Result<SqliteStable<FileStore<Memory>>, Fail> {
+    match SqliteStable::adopt(conn) {
+        Ok(store) => Ok(store),
+        Err(_) => Err("the connection is not taken over")?,
+    }
+}
+
+// One function owns the store, and has one way out of it.
+fn is_printed_over_sql(alloc: Global, order: [usize; 3]) -> Result<bool, Fail> {
+    let mut store = opened(alloc)?;
+    let printed = is_printed(alloc, &mut store, order);
+    drop(store.release().into_store().close());
+    printed
+}
+
+#[test]
+fn rows_over_sql_are_printed(rt: HostRuntime) -> Result<(), Fail> {
+    for order in ORDERS {
+        assert!(rt; is_printed_over_sql(rt.alloc(), order)?, "{order:?}");
+    }
+    Ok(())
+}

@@ -1,8 +1,0 @@
-use Rattle.std.proofs.Common.{◌≡◌, length}
-use Rattle.smi_watchers_tests.proofs.lists.filled.Given as goal
-
-abbrev pub invariant-loop-object : goal.invariant-loop-object
-invariant-loop-object l = length l.watchers.lists ≡ l.objects
-
-abbrev pub invariant-loop-station : goal.invariant-loop-station
-invariant-loop-station l = length l.watchers.lists ≡ l.objects
