@@ -42,13 +42,15 @@ class Supply:
         print(self.device.name, state, flush=True)
 
     def report(self, state):
-        """The supply has come into a state. Where the node is away, that is reported once it is there again."""
+        """The supply has come into a state, which is printed once the node knows of it. Where the node is away, that is
+        reported once it is there again."""
         with self.turn:
-            self.come_to(state)
+            self.state = state
             try:
                 self.device.report(state)
             except (lunskaf.Lost, lunskaf.TimeOut) as away:
                 print(away, file=sys.stderr)
+            self.come_to(state)
 
     def start(self):
         """A node that has just begun does not know what the supply is in."""
