@@ -2,6 +2,7 @@ mod Among
 mod ChildTables
 mod Heard
 mod InUse
+pub mod KnownChildren
 mod Listing
 mod Ordered
 mod Restoring

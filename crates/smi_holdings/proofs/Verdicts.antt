@@ -1,5 +1,5 @@
 -- The keeper's verdicts as changes.
-use Rattle.std.proofs.Common.{◌≡◌, ℕ, true, false, refl}
+use Rattle.std.proofs.Common.{◌≡◌, ℕ, List, true, false, refl}
 use Rattle.std.specs.Prelude.{if◌then◌else◌}
 use Rattle.smi_grant.specs.declared.Command.{Command}
 use Rattle.smi_grant.specs.declared.Holder.{Holder}
@@ -15,6 +15,8 @@ use Rattle.smi_protocol.specs.GrantStep.{waits_for_children}
 use Rattle.smi_protocol.specs.Keeping.{commanded, decided, run_comes}
 use Rattle.smi_holdings.specs.declared.change.Change.TheVariants.{Nothing, Ran}
 use Rattle.smi_protocol.specs.declared.Entry.{Entry}
+use Rattle.smi_holdings.specs.Commanded.{AreSo}
+use Rattle.smi_holdings.specs.declared.commanded.CommandedChild.{CommandedChild}
 use Rattle.smi_holdings.specs.Plans.{Plans, handed_by}
 
 pub verdict_planned : (h : Hierarchy) (number : ℕ) (g : Grants) (from d : ℕ) (note : Entry) (v : Verdict)
@@ -25,11 +27,13 @@ verdict_planned h number g from d note Same inside = record { grants = refl; row
 
 -- a command that is admitted runs
 pub run_planned : (h : Hierarchy) (number : ℕ) (g : Grants) (from d : ℕ) (who : Holder) (e n : ℕ) (c : Command)
-    → IsBetween 1 (domain_count h) d → admits (g.records d) who e n ≡ true
+    (xs : List CommandedChild) → IsBetween 1 (domain_count h) d → AreSo h g d c xs
+    → admits (g.records d) who e n ≡ true
     → Plans h number g (run_comes h number g from d who e n c)
     (Ran d c (started (g.records d) (waits_for_children h (commanded h g d c) d) (own_code h g d c))
-    (if waits_for_children h (commanded h g d c) d then own_code h g d c else 0))
-run_planned h number g from d who e n c inside ok = record { grants = rw ok refl; row = rw ok refl; lawful = inside }
+    (if waits_for_children h (commanded h g d c) d then own_code h g d c else 0) xs)
+run_planned h number g from d who e n c xs inside so ok =
+    record { grants = rw ok refl; row = rw ok refl; lawful = (inside, so) }
 
 -- and one that is not changes nothing
 pub run_refused : (h : Hierarchy) (number : ℕ) (g : Grants) (from d : ℕ) (who : Holder) (e n : ℕ) (c : Command)

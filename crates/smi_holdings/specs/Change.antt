@@ -1,5 +1,5 @@
 -- What a step changes of the grants, and what it saves.
-use Rattle.std.specs.Prelude.{ℕ, ◌≡◌, true, Option, Some, None, option_map}
+use Rattle.std.specs.Prelude.{ℕ, ◌≡◌, true, Option, Some, None, option_map, List, []}
 use Rattle.smi_grant.specs.declared.Holder.TheVariants.{Operator, Domain}
 use Rattle.smi_tree.specs.Hierarchy.{Hierarchy}
 use Rattle.smi_tree.specs.Lawful.{IsBetween}
@@ -10,7 +10,9 @@ use Rattle.smi_protocol.specs.Grants.{Grants, put, with_record, with_link}
 use Rattle.smi_protocol.specs.GrantStep.{Touched, OfDomain, OfOperator}
 use Rattle.smi_protocol.specs.Keeping.{commanded}
 use Rattle.smi_protocol.specs.SavedRows.{saved_row}
+use Rattle.smi_holdings.specs.Commanded.{AreSo}
 use Rattle.smi_holdings.specs.Kept.{Kept, grants_of}
+use Rattle.smi_holdings.specs.declared.commanded.CommandedChild.{CommandedChild}
 use Rattle.smi_holdings.specs.declared.change.Change.{Change}
 use Rattle.smi_holdings.specs.declared.change.Change.TheVariants as change
 
@@ -19,7 +21,7 @@ abbrev pub changed : Hierarchy → Grants → Change → Grants
 changed h g change.Nothing = g
 changed h g (change.Handed d r) = with_record g d r
 changed h g (change.Linked o d l) = with_link g (Operator o) d l
-changed h g (change.Ran d c r code) = record
+changed h g (change.Ran d c r code xs) = record
     (commanded h g d c) { records = put g.records d r; gathered = put g.gathered d code }
 changed h g (change.Heard p d l r code) = record
     (with_link g (Domain p) d l) { records = put g.records p r; gathered = put g.gathered p code }
@@ -29,8 +31,16 @@ abbrev pub touched : Change → Option Touched
 touched change.Nothing = None
 touched (change.Handed d r) = Some (OfDomain d)
 touched (change.Linked o d l) = Some (OfOperator o)
-touched (change.Ran d c r code) = Some (OfDomain d)
+touched (change.Ran d c r code xs) = Some (OfDomain d)
 touched (change.Heard p d l r code) = Some (OfDomain p)
+
+-- what is known of the children of a command that has run
+abbrev pub commanded_of : Change → List CommandedChild
+commanded_of change.Nothing = []
+commanded_of (change.Handed d r) = []
+commanded_of (change.Linked o d l) = []
+commanded_of (change.Ran d c r code xs) = xs
+commanded_of (change.Heard p d l r code) = []
 
 -- the row that is saved
 abbrev pub saved_by : Hierarchy → ℕ → Grants → Change → Option Saved
@@ -41,14 +51,14 @@ abbrev pub with_saved : Option Saved → Rows → Rows
 with_saved None rows = rows
 with_saved (Some s) rows = with_row s.key s.bytes rows
 
--- the tree has what the change is about
-abbrev pub IsChange : Hierarchy → ℕ → Change → Type 0
-IsChange h number change.Nothing = Unit {0}
-IsChange h number (change.Handed d r) = IsBetween 1 (domain_count h) d
-IsChange h number (change.Linked o d l) = (is_number (operator_station_of h o) number ≡ true)
+-- the tree has what the change is about, and a command does to children what it says
+abbrev pub IsChange : Hierarchy → ℕ → Grants → Change → Type 0
+IsChange h number g change.Nothing = Unit {0}
+IsChange h number g (change.Handed d r) = IsBetween 1 (domain_count h) d
+IsChange h number g (change.Linked o d l) = (is_number (operator_station_of h o) number ≡ true)
     × IsBetween 1 (domain_count h) d
-IsChange h number (change.Ran d c r code) = IsBetween 1 (domain_count h) d
-IsChange h number (change.Heard p d l r code) = IsBetween 1 (domain_count h) p × (is_parent h d p ≡ true)
+IsChange h number g (change.Ran d c r code xs) = IsBetween 1 (domain_count h) d × AreSo h g d c xs
+IsChange h number g (change.Heard p d l r code) = IsBetween 1 (domain_count h) p × (is_parent h d p ≡ true)
 
 -- grants, and a change of them that is still to come
 pub record Planned : Type 0 where

@@ -1,5 +1,6 @@
 pub mod Change
 pub mod Children
+pub mod Commanded
 pub mod Entries
 pub mod Kept
 pub mod Plans

@@ -16,7 +16,7 @@ use Rattle.smi_holdings.specs.declared.change.Change.TheVariants as change
 pub record Plans (h : Hierarchy) (number : ℕ) (g : Grants) (step : GrantStep) (c : Change) : Type 0 where
   pub grants : step.grants ≡ changed h g c
   pub row : step.row ≡ touched c
-  pub lawful : IsChange h number c
+  pub lawful : IsChange h number g c
 
 -- the operator is the station's, and the tree has the domain
 pub record MayOrder (h : Hierarchy) (number o d : ℕ) : Type 0 where

@@ -21,7 +21,8 @@ impl<'k, 'a> Model for After<'k, 'a> {
 
 impl<'k, 'a> After<'k, 'a> {
     ghost use Rattle.std.specs.Prelude.{◌≡◌};
-    ghost use Rattle.smi_holdings.specs.Change.{after_of};
+    ghost use Rattle.smi_holdings.specs.Change.{after_of, IsChange};
+    ghost use Rattle.smi_holdings.specs.Kept.{grants_of};
 
     /// The grants after this change.
     pub fn of(kept: &'k Kept<'a>, change: &'k Change) -> After<'k, 'a>
@@ -36,7 +37,7 @@ impl<'k, 'a> After<'k, 'a> {
     {
         match *self.change {
             Change::Handed(of, record) if of == domain => record,
-            Change::Ran(of, _, record, _) if of == domain => record,
+            Change::Ran(of, _, record, _, _) if of == domain => record,
             Change::Heard(of, _, _, record, _) if of == domain => record,
             _ => self.kept.record(domain),
         }
@@ -47,7 +48,7 @@ impl<'k, 'a> After<'k, 'a> {
         ensures { result ≡ (after_of self.now).gathered domain }
     {
         match *self.change {
-            Change::Ran(of, _, _, code) if of == domain => code,
+            Change::Ran(of, _, _, code, _) if of == domain => code,
             Change::Heard(of, _, _, _, code) if of == domain => code,
             _ => self.kept.gathered(domain),
         }
@@ -55,24 +56,31 @@ impl<'k, 'a> After<'k, 'a> {
 
     /// The mode in which a domain is held by the one above it.
     pub fn mode(&self, domain: u16) -> Mode
+        requires { IsChange self.now.kept.tree self.now.kept.number (grants_of self.now.kept) self.now.change }
         ensures { result ≡ (after_of self.now).modes domain }
     {
-        match *self.change {
-            Change::Ran(of, command, _, _) => self.kept.mode_commanded(of, command, domain),
+        match self.change {
+            Change::Ran(of, command, _, _, known) => {
+                self.kept.mode_commanded(*of, *command, known, domain)
+            }
             _ => self.kept.mode(domain),
         }
     }
 
     /// The link of a holder to a domain.
     pub fn link(&self, holder: Holder, domain: u16) -> Link
+        requires { IsChange self.now.kept.tree self.now.kept.number (grants_of self.now.kept) self.now.change }
         ensures { result ≡ (after_of self.now).links holder domain }
     {
-        match *self.change {
+        match self.change {
             Change::Linked(operator, to, link)
-                if to == domain && holder == Holder::Operator(operator) => { link }
+                if *to == domain && holder == Holder::Operator(*operator) => { *link }
             Change::Heard(parent, child, link, _, _)
-                if child == domain && holder == Holder::Domain(parent) => { link }
-            Change::Ran(of, command, _, _) => self.kept.link_commanded(of, command, holder, domain),
+                if *child == domain && holder == Holder::Domain(*parent) => { *link }
+            Change::Ran(of, command, _, _, known) => {
+                self.kept
+                    .link_commanded(*of, *command, known, holder, domain)
+            }
             _ => self.kept.link(holder, domain),
         }
     }

@@ -5,6 +5,8 @@ ghost use Rattle.smi_grant.specs.Link.{is_held};
 ghost use Rattle.smi_protocol.specs.Children as spec;
 ghost use Rattle.smi_holdings.specs.Children.{meant};
 
+use crate::change::Change;
+use crate::commanded::{CommandedChild, CommandedChildren};
 use crate::kept::Kept;
 use smi_grant::{Command, Holder, Link, Outcome, begin_drop, begin_take, issue};
 use smi_rows::Mode;
@@ -161,16 +163,25 @@ impl<'a> Kept<'a> {
     ghost use Rattle.smi_protocol.specs.Keeping.{commanded};
     ghost use Rattle.smi_holdings.specs.Kept.{grants_of};
     ghost use Rattle.smi_holdings.specs.Children.{commanded_child};
+    ghost use Rattle.smi_holdings.specs.Change.{commanded_of};
+    ghost use Rattle.smi_holdings.specs.Commanded.{AreSo, AreSoAt};
 
     /// The mode of a domain after a command at another one, which may be its parent.
-    pub(crate) fn mode_commanded(&self, domain: u16, command: Command, child: u16) -> Mode
+    pub(crate) fn mode_commanded(
+        &self,
+        domain: u16,
+        command: Command,
+        known: &CommandedChildren,
+        child: u16,
+    ) -> Mode
+        requires { AreSo self.now.tree (grants_of self.now) domain command known.now }
         ensures { result ≡ (commanded self.now.tree (grants_of self.now) domain command).modes child }
     {
         let mode = self.mode(child);
         if self.tree().parent(child) != Some(domain) {
             return mode;
         }
-        mode_after(&self.change_of(domain, command, child), mode)
+        mode_after(&self.change_in(known, domain, command, child), mode)
     }
 
     /// The link of a holder to a domain after a command at another one, which may be the holder.
@@ -178,45 +189,107 @@ impl<'a> Kept<'a> {
         &self,
         domain: u16,
         command: Command,
+        known: &CommandedChildren,
         holder: Holder,
         child: u16,
     ) -> Link
+        requires { AreSo self.now.tree (grants_of self.now) domain command known.now }
         ensures { result ≡ (commanded self.now.tree (grants_of self.now) domain command).links holder child }
     {
         let link = self.link(holder, child);
         if holder != Holder::Domain(domain) || self.tree().parent(child) != Some(domain) {
             return link;
         }
-        link_after(&self.change_of(domain, command, child), &link)
+        link_after(&self.change_in(known, domain, command, child), &link)
+    }
+
+    /// What a command of a domain does to its children, worked out once for each.
+    pub(crate) fn commanded_by(&self, domain: u16, command: Command) -> CommandedChildren
+        requires least { 1 ≤ domain }
+        requires most { domain ≤ domain_count self.now.tree }
+        ensures { AreSo self.now.tree (grants_of self.now) domain command result }
+    {
+        let mut known = CommandedChildren::new();
+        let children = self.tree().children(domain);
+        for child in children {
+            known.push(CommandedChild {
+                child: *child,
+                change: self.change_of(domain, command, *child),
+            });
+        }
+        known
+    }
+
+    /// What a command of a domain does to a child: as it was worked out, where it was.
+    pub(crate) fn change_in(
+        &self,
+        known: &CommandedChildren,
+        domain: u16,
+        command: Command,
+        child: u16,
+    ) -> ChildChange
+        requires { AreSoAt self.now.tree (grants_of self.now) domain command child known.now }
+        ensures { meant result ≡ spec.change_of self.now.tree (grants_of self.now) domain command child }
+    {
+        for one in known.as_slice() {
+            if one.child == child {
+                return one.change;
+            }
+        }
+        self.change_of(domain, command, child)
+    }
+
+    /// What a command of a domain does to a child, where this change is planned for it.
+    pub fn change_by(
+        &self,
+        planned: &Change,
+        domain: u16,
+        command: Command,
+        child: u16,
+    ) -> ChildChange
+        requires { AreSo self.now.tree (grants_of self.now) domain command (commanded_of planned.now) }
+        ensures { meant result ≡ spec.change_of self.now.tree (grants_of self.now) domain command child }
+    {
+        match planned {
+            Change::Ran(_, _, _, _, known) => self.change_in(known, domain, command, child),
+            _ => self.change_of(domain, command, child),
+        }
     }
 
     /// What a command of a domain does to a child.
-    pub fn change_of(&self, domain: u16, command: Command, child: u16) -> ChildChange
+    fn change_of(&self, domain: u16, command: Command, child: u16) -> ChildChange
         ensures { meant result ≡ spec.change_of self.now.tree (grants_of self.now) domain command child }
     {
         let link = self.link(Holder::Domain(domain), child);
         child_change(self.tree(), domain, command, child, &link, self.mode(child))
     }
 
-    /// A command reaches one child.
-    fn command_child(&mut self, domain: u16, command: Command, child: u16)
+    /// A command reaches one child, and does this to it.
+    fn command_child(&mut self, domain: u16, command: Command, child: u16, change: &ChildChange)
         requires parent { is_parent self.old.tree child domain ≡ true }
+        requires change { meant change.now
+            ≡ spec.change_of self.old.tree (grants_of self.old) domain command child }
         ensures grants { grants_of self.new ≡ commanded_child self.old.tree (grants_of self.old) domain command child }
         ensures tree { self.new.tree ≡ self.old.tree }
         ensures number { self.new.number ≡ self.old.number }
     {
         let link = self.link(Holder::Domain(domain), child);
         let mode = self.mode(child);
-        let change = child_change(self.tree(), domain, command, child, &link, mode);
-        let new_link = link_after(&change, &link);
-        let new_mode = mode_after(&change, mode);
+        let new_link = link_after(change, &link);
+        let new_mode = mode_after(change, mode);
         self.put_child(domain, child, new_link, new_mode);
     }
 
     /// A command reaches all children.
-    pub fn command_children(&mut self, domain: u16, command: Command)
+    pub(crate) fn command_children(
+        &mut self,
+        domain: u16,
+        command: Command,
+        known: &CommandedChildren,
+    )
         requires least { 1 ≤ domain }
         requires most { domain ≤ domain_count self.old.tree }
+        requires so { AreSo self.old.tree (grants_of self.old) domain command known.now }
         ensures grants { grants_of self.new ≡ commanded self.old.tree (grants_of self.old) domain command }
         ensures tree { self.new.tree ≡ self.old.tree }
         ensures number { self.new.number ≡ self.old.number }
@@ -224,7 +297,8 @@ impl<'a> Kept<'a> {
         let tree = self.tree();
         let children = tree.children(domain);
         for child in children {
-            self.command_child(domain, command, *child);
+            let change = self.change_in(known, domain, command, *child);
+            self.command_child(domain, command, *child, &change);
         }
     }
 }

@@ -17,27 +17,27 @@ impl<'a> Kept<'a> {
 
     /// The change is made.
     pub fn commit(&mut self, change: &Change)
-        requires { IsChange self.old.tree self.old.number change.now }
+        requires { IsChange self.old.tree self.old.number (grants_of self.old) change.now }
         ensures grants { grants_of self.new ≡ changed self.old.tree (grants_of self.old) change.now }
         ensures tree { self.new.tree ≡ self.old.tree }
         ensures number { self.new.number ≡ self.old.number }
     {
-        match *change {
+        match change {
             Change::Nothing => {}
-            Change::Handed(domain, standing) => self.put_record(domain, standing),
+            Change::Handed(domain, standing) => self.put_record(*domain, *standing),
             Change::Linked(operator, domain, link) => {
-                self.put_operator_link(operator, domain, link)
+                self.put_operator_link(*operator, *domain, *link)
             }
-            Change::Ran(domain, command, standing, code) => {
-                self.command_children(domain, command);
-                self.put_record(domain, standing);
-                self.put_gathered(domain, code);
+            Change::Ran(domain, command, standing, code, commanded) => {
+                self.command_children(*domain, *command, commanded);
+                self.put_record(*domain, *standing);
+                self.put_gathered(*domain, *code);
             }
             Change::Heard(parent, child, link, standing, code) => {
-                let mode = self.mode(child);
-                self.put_child(parent, child, link, mode);
-                self.put_record(parent, standing);
-                self.put_gathered(parent, code);
+                let mode = self.mode(*child);
+                self.put_child(*parent, *child, *link, mode);
+                self.put_record(*parent, *standing);
+                self.put_gathered(*parent, *code);
             }
         }
     }

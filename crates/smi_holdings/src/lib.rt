@@ -7,6 +7,7 @@
 mod after;
 mod change;
 mod children;
+mod commanded;
 mod commit;
 mod deciding;
 mod entries;
@@ -23,6 +24,7 @@ mod saving;
 pub use after::After;
 pub use change::Change;
 pub use children::ChildChange;
+pub use commanded::{CommandedChild, CommandedChildren};
 pub use entries::entry_of;
 pub use kept::Kept;
 pub use links::Links;

@@ -32,7 +32,7 @@ impl<'k, 'a> After<'k, 'a> {
 
     /// Makes the row ready that the change has saved, if any: its key is answered, and its bytes stand in the room.
     pub fn row(&self, room: &mut Room) -> Result<Option<Key>, AllocError>
-        requires { IsChange self.now.kept.tree self.now.kept.number self.now.change }
+        requires { IsChange self.now.kept.tree self.now.kept.number (grants_of self.now.kept) self.now.change }
         ensures row { IfOk result (λ key. row_with key room.new ≡ saved_by self.now.kept.tree self.now.kept.number
             (grants_of self.now.kept) self.now.change) }
         ensures memory { OnErr result (is_some (saved_by self.now.kept.tree self.now.kept.number
@@ -41,7 +41,7 @@ impl<'k, 'a> After<'k, 'a> {
         match *self.change {
             Change::Nothing => Ok(None),
             Change::Handed(domain, _)
-            | Change::Ran(domain, _, _, _)
+            | Change::Ran(domain, _, _, _, _)
             | Change::Heard(domain, _, _, _, _) => {
                 let key = self.domain_row(room, domain)?;
                 Ok(Some(key))
@@ -55,6 +55,7 @@ impl<'k, 'a> After<'k, 'a> {
 
     /// The row of a domain.
     fn domain_row(&self, room: &mut Room, domain: u16) -> Result<Key, AllocError>
+        requires change { IsChange self.now.kept.tree self.now.kept.number (grants_of self.now.kept) self.now.change }
         requires least { 1 ≤ domain }
         requires most { domain ≤ domain_count self.now.kept.tree }
         ensures { IfOk result (λ key. saved key room.new ≡ rows.saved_row self.now.kept.tree self.now.kept.number
@@ -69,6 +70,7 @@ impl<'k, 'a> After<'k, 'a> {
 
     /// The row of an operator.
     fn operator_row(&self, room: &mut Room, operator: u16) -> Result<Key, AllocError>
+        requires { IsChange self.now.kept.tree self.now.kept.number (grants_of self.now.kept) self.now.change }
         ensures { IfOk result (λ key. saved key room.new ≡ rows.saved_row self.now.kept.tree self.now.kept.number
             (after_of self.now) (OfOperator operator)) }
     {
@@ -91,6 +93,7 @@ impl<'k, 'a> After<'k, 'a> {
 
     /// A domain's links to its children, as they are stored.
     fn child_links(&self, links: &mut Vec<StoredLink>, domain: u16) -> Result<(), AllocError>
+        requires change { IsChange self.now.kept.tree self.now.kept.number (grants_of self.now.kept) self.now.change }
         requires least { 1 ≤ domain }
         requires most { domain ≤ domain_count self.now.kept.tree }
         ensures links { OnOk result (links.new.items ≡ rows.child_links self.now.kept.tree (after_of self.now) domain) }
@@ -110,6 +113,7 @@ impl<'k, 'a> After<'k, 'a> {
 
     /// An operator's links, as they are stored.
     fn operator_links(&self, links: &mut Vec<StoredLink>, operator: u16) -> Result<(), AllocError>
+        requires { IsChange self.now.kept.tree self.now.kept.number (grants_of self.now.kept) self.now.change }
         ensures links { OnOk result (links.new.items
             ≡ rows.operator_links self.now.kept.tree (after_of self.now) operator) }
         ensures few { OnOk result (length links.new.items < 2 ^ 16) }

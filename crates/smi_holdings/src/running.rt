@@ -8,6 +8,7 @@ ghost use Rattle.smi_protocol.specs.Children.{code_at_domain};
 
 use crate::change::Change;
 use crate::children::code_of;
+use crate::commanded::CommandedChildren;
 use crate::kept::Kept;
 use smi_grant::{Command, Holder, Outcome, Record, Verdict, admit, start};
 use smi_tree::Tree;
@@ -59,10 +60,13 @@ impl<'a> Kept<'a> {
     ghost use Rattle.smi_protocol.specs.GrantStep.{waits_for_children};
     ghost use Rattle.smi_protocol.specs.Keeping.{commanded, run_comes};
     ghost use Rattle.smi_holdings.specs.Kept.{grants_of};
+    ghost use Rattle.smi_holdings.specs.Change.{commanded_of};
+    ghost use Rattle.smi_holdings.specs.Commanded.{AreSo};
     ghost use Rattle.smi_holdings.specs.Plans.{Plans};
 
     /// The largest of the codes with which a command begins: the domain's own, and its children's.
-    fn own_code(&self, domain: u16, command: Command) -> u16
+    fn own_code(&self, domain: u16, command: Command, known: &CommandedChildren) -> u16
+        requires so { AreSo self.now.tree (grants_of self.now) domain command known.now }
         requires least { 1 ≤ domain }
         requires most { domain ≤ domain_count self.now.tree }
         ensures { result ≡ own_code self.now.tree (grants_of self.now) domain command }
@@ -71,13 +75,14 @@ impl<'a> Kept<'a> {
         let mut code = code_at_domain(tree, domain, command);
         let children = tree.children(domain);
         for child in children {
-            code = code.max(code_of(&self.change_of(domain, command, *child)));
+            code = code.max(code_of(&self.change_in(known, domain, command, *child)));
         }
         code
     }
 
     /// Whether a child will have to answer after a command.
-    fn waits_after(&self, domain: u16, command: Command) -> bool
+    fn waits_after(&self, domain: u16, command: Command, known: &CommandedChildren) -> bool
+        requires so { AreSo self.now.tree (grants_of self.now) domain command known.now }
         requires least { 1 ≤ domain }
         requires most { domain ≤ domain_count self.now.tree }
         ensures { result ≡ waits_for_children self.now.tree
@@ -85,7 +90,7 @@ impl<'a> Kept<'a> {
     {
         let children = self.tree().children(domain);
         for child in children {
-            let link = self.link_commanded(domain, command, Holder::Domain(domain), *child);
+            let link = self.link_commanded(domain, command, known, Holder::Domain(domain), *child);
             if link.is_unsettled() {
                 return true;
             }
@@ -106,18 +111,20 @@ impl<'a> Kept<'a> {
         requires most { domain ≤ domain_count self.now.tree }
         requires party { is_free holder ≡ false }
         requires number { number ≤ last_number }
-        ensures { (from : ℕ) → Plans self.now.tree self.now.number (grants_of self.now)
+        ensures plan { (from : ℕ) → Plans self.now.tree self.now.number (grants_of self.now)
             (run_comes self.now.tree self.now.number (grants_of self.now) from domain holder epoch number command)
             result }
+        ensures so { AreSo self.now.tree (grants_of self.now) domain command (commanded_of result) }
     {
         let standing = self.record(domain);
         if !admit(&standing, holder, epoch, number) {
             return Change::Nothing;
         }
-        let busy = self.waits_after(domain, command);
-        let own = self.own_code(domain, command);
+        let known = self.commanded_by(domain, command);
+        let busy = self.waits_after(domain, command, &known);
+        let own = self.own_code(domain, command, &known);
         let record = started(&standing, busy, own);
         let code = gathered_at_first(busy, own);
-        Change::Ran(domain, command, record, code)
+        Change::Ran(domain, command, record, code, known)
     }
 }

@@ -55,7 +55,7 @@ pub fn carry_out<S: Stable>(
     store: &mut S,
     change: &Change,
 ) -> Result<Heard, StepFault>
-    requires { IsChange kept.old.tree kept.old.number change.now }
+    requires { IsChange kept.old.tree kept.old.number (grants_of kept.old) change.now }
     ensures grants { OnOk result (grants_of kept.new ≡ changed kept.old.tree (grants_of kept.old) change.now) }
     ensures tree { OnOk result ((kept.new.tree ≡ kept.old.tree) × (kept.new.number ≡ kept.old.number)) }
     ensures unchanged { OnErr result (kept.new ≡ kept.old) }
@@ -104,7 +104,7 @@ fn save_planned<S: Stable>(
     store: &mut S,
     change: &Change,
 ) -> Result<Heard, StepFault>
-    requires { IsChange kept.now.tree kept.now.number change.now }
+    requires { IsChange kept.now.tree kept.now.number (grants_of kept.now) change.now }
     ensures heard { IfOk result (λ heard. heard
         ≡ heard_of (saved_by kept.now.tree kept.now.number (grants_of kept.now) change.now)) }
     ensures saved { S.is_honest store.new → S.is_open store.old

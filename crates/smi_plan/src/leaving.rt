@@ -2,11 +2,13 @@
 
 ghost use Rattle.std.specs.Prelude.{◌≡◌, false, ℕ};
 ghost use Rattle.smi_grant.specs.Holder.{is_free};
+ghost use Rattle.smi_holdings.specs.Change.{commanded_of};
+ghost use Rattle.smi_holdings.specs.Commanded.{AreSo};
 ghost use Rattle.smi_holdings.specs.Kept.{grants_of};
 ghost use Rattle.smi_protocol.specs.Keeping as keeping;
 
 use smi_grant::{Command, Holder, Link, Phase, Record, Verdict};
-use smi_holdings::{ChildChange, Kept};
+use smi_holdings::{Change, ChildChange, Kept};
 use smi_out::Entries;
 use smi_protocol::Entry;
 
@@ -97,26 +99,38 @@ ghost use Rattle.std.specs.Prelude.{◌++◌};
 ghost use Rattle.smi_holdings.specs.Children.{meant};
 
 /// What becomes of a command's target, where it is a child of the domain.
-fn at_target(kept: &Kept<'_>, domain: u16, command: Command, target: u16) -> Option<Entry>
+fn at_target(
+    kept: &Kept<'_>,
+    change: &Change,
+    domain: u16,
+    command: Command,
+    target: u16,
+) -> Option<Entry>
+    requires so { AreSo kept.now.tree (grants_of kept.now) domain command (commanded_of change.now) }
     ensures { if_any result ≡ keeping.entries_at kept.now.tree (grants_of kept.now) domain command target }
 {
     if kept.tree().parent(target) == Some(domain) {
-        child_changed(domain, target, &kept.change_of(domain, command, target))
+        child_changed(
+            domain,
+            target,
+            &kept.change_by(change, domain, command, target),
+        )
     } else {
         None
     }
 }
 
 /// What a command leaves of the child that it is about.
-fn of_child(kept: &Kept<'_>, domain: u16, command: Command) -> Option<Entry>
+fn of_child(kept: &Kept<'_>, change: &Change, domain: u16, command: Command) -> Option<Entry>
+    requires so { AreSo kept.now.tree (grants_of kept.now) domain command (commanded_of change.now) }
     ensures { if_any result ≡ keeping.child_entries kept.now.tree (grants_of kept.now) domain command }
 {
     match command {
         Command::Do(_) => None,
-        Command::Include(target) => at_target(kept, domain, command, target),
-        Command::Exclude(target) => at_target(kept, domain, command, target),
-        Command::Manual(target) => at_target(kept, domain, command, target),
-        Command::Ignore(target) => at_target(kept, domain, command, target),
+        Command::Include(target) => at_target(kept, change, domain, command, target),
+        Command::Exclude(target) => at_target(kept, change, domain, command, target),
+        Command::Manual(target) => at_target(kept, change, domain, command, target),
+        Command::Ignore(target) => at_target(kept, change, domain, command, target),
     }
 }
 
@@ -154,12 +168,14 @@ ghost use Rattle.smi_plan.specs.Leaving.{at_rest};
 /// record of its domain.
 pub(crate) fn ran(
     kept: &Kept<'_>,
+    change: &Change,
     domain: u16,
     epoch: u64,
     number: u32,
     command: Command,
     standing: Record,
 ) -> Entries
+    requires so { AreSo kept.now.tree (grants_of kept.now) domain command (commanded_of change.now) }
     ensures { result ≡ entry.Ran domain epoch number command
         ∷ keeping.child_entries kept.now.tree (grants_of kept.now) domain command
         ++ at_rest domain epoch number standing }
@@ -172,7 +188,7 @@ pub(crate) fn ran(
     };
     Entries::three(
         ran,
-        of_child(kept, domain, command),
+        of_child(kept, change, domain, command),
         ended(domain, epoch, number, standing),
     )
 }

@@ -4,6 +4,8 @@ ghost use Rattle.std.specs.Prelude.{◌≡◌, ◌≤◌, false, true};
 ghost use Rattle.smi_grant.specs.Command as command_spec;
 ghost use Rattle.smi_grant.specs.Holder.{is_free};
 ghost use Rattle.smi_grant.specs.Record.{is_settled, last_number};
+ghost use Rattle.smi_holdings.specs.Change.{commanded_of};
+ghost use Rattle.smi_holdings.specs.Commanded.{AreSo};
 ghost use Rattle.smi_holdings.specs.Kept.{grants_of};
 ghost use Rattle.smi_holdings.specs.Plans.{Plans};
 ghost use Rattle.smi_out.specs.Handed.{sent_after};
@@ -23,7 +25,15 @@ use smi_holdings::{Change, ChildChange, Kept};
 use smi_out::Out;
 
 /// What a child's link is due, where a command has changed it.
-fn send_to_child(out: &mut Out, kept: &Kept<'_>, domain: u16, command: Command, child: u16)
+fn send_to_child(
+    out: &mut Out,
+    kept: &Kept<'_>,
+    change: &Change,
+    domain: u16,
+    command: Command,
+    child: u16,
+)
+    requires so { AreSo kept.now.tree (grants_of kept.now) domain command (commanded_of change.now) }
     requires sound { IsSound kept.now.tree (grants_of kept.now) }
     requires domain { IsBetween 1 (domain_count kept.now.tree) domain }
     requires command { IsCommand kept.now.tree command }
@@ -36,7 +46,7 @@ fn send_to_child(out: &mut Out, kept: &Kept<'_>, domain: u16, command: Command, 
               (change_of kept.now.tree (grants_of kept.now) domain command child));
         } }
 {
-    match kept.change_of(domain, command, child) {
+    match kept.change_by(change, domain, command, child) {
         ChildChange::Relinked(link) => {
             send_due(
                 out,
@@ -53,7 +63,8 @@ fn send_to_child(out: &mut Out, kept: &Kept<'_>, domain: u16, command: Command, 
 }
 
 /// What the children's links are due that a command has changed, by child.
-fn send_to_children(out: &mut Out, kept: &Kept<'_>, domain: u16, command: Command)
+fn send_to_children(out: &mut Out, kept: &Kept<'_>, change: &Change, domain: u16, command: Command)
+    requires so { AreSo kept.now.tree (grants_of kept.now) domain command (commanded_of change.now) }
     requires sound { IsSound kept.now.tree (grants_of kept.now) }
     requires domain { IsBetween 1 (domain_count kept.now.tree) domain }
     requires command { IsCommand kept.now.tree command }
@@ -66,7 +77,7 @@ fn send_to_children(out: &mut Out, kept: &Kept<'_>, domain: u16, command: Comman
 {
     let children = kept.tree().children(domain);
     for child in children {
-        send_to_child(out, kept, domain, command, *child);
+        send_to_child(out, kept, change, domain, command, *child);
     }
 }
 
@@ -98,8 +109,8 @@ pub fn run(
     let standing = record_after(kept, &change, domain);
     send_record(out, kept, from, domain, standing);
     if admit(&kept.record(domain), holder, epoch, number) {
-        send_to_children(out, kept, domain, command);
-        out.keep(ran(kept, domain, epoch, number, command, standing));
+        send_to_children(out, kept, &change, domain, command);
+        out.keep(ran(kept, &change, domain, epoch, number, command, standing));
     }
     change
 }

@@ -81,7 +81,7 @@ pub changed_boot : (h : Hierarchy) (g : Grants) (c : Change) → (changed h g c)
 changed_boot h g change.Nothing = refl
 changed_boot h g (change.Handed d r) = refl
 changed_boot h g (change.Linked o d l) = refl
-changed_boot h g (change.Ran d c r code) = refl
+changed_boot h g (change.Ran d c r code xs) = refl
 changed_boot h g (change.Heard p d l r code) = refl
 
 -- both halves have stayed the station's

@@ -22,7 +22,7 @@ pub(crate) fn make<S: Stable>(
     out: &mut Out,
     change: &Change,
 ) -> Result<Heard, StepFault>
-    requires { IsChange kept.old.tree kept.old.number change.now }
+    requires { IsChange kept.old.tree kept.old.number (grants_of kept.old) change.now }
     ensures grants { (step : GrantStep) → Plans kept.old.tree kept.old.number (grants_of kept.old) step change.now
         → OnOk result (grants_of kept.new ≡ step.grants) }
     ensures heard { (step : GrantStep) → Plans kept.old.tree kept.old.number (grants_of kept.old) step change.now

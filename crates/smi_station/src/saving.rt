@@ -26,7 +26,7 @@ fn has_row(change: &Change) -> bool
         Change::Nothing => false,
         Change::Handed(_, _) => true,
         Change::Linked(_, _, _) => true,
-        Change::Ran(_, _, _, _) => true,
+        Change::Ran(_, _, _, _, _) => true,
         Change::Heard(_, _, _, _, _) => true,
     }
 }

@@ -15,7 +15,7 @@ send_record-requires-clause-told c =
     let k = c.args.kept.now in
     let g = grants_of k in
     told_after k.tree k.number g _ c.run_comes-change.result c.args.domain c.record_after-standing.result
-    (c.run_comes-change.ensures c.args.from)
+    (c.run_comes-change.ensures.plan c.args.from)
     (run_comes_sound k.tree k.number g c.requires.sound c.args.from c.args.domain c.args.holder c.args.epoch
     c.args.number c.args.command c.requires.party c.requires.number c.requires.command.range c.requires.command.known)
     c.record_after-standing.ensures
@@ -27,7 +27,7 @@ send_to_children-requires-clause-rests c =
     ∙ sym c.admit.ensures ∙ c.if-admit.true)
 
 pub returns-then-admit-clause-plan : goal.returns-then-admit-clause-plan
-returns-then-admit-clause-plan c = c.run_comes-change.ensures c.args.from
+returns-then-admit-clause-plan c = c.run_comes-change.ensures.plan c.args.from
 
 pub returns-then-admit-clause-sent : goal.returns-then-admit-clause-sent
 returns-then-admit-clause-sent c =
@@ -44,14 +44,14 @@ returns-then-admit-clause-sent c =
     }) c.send_record.ensures)
     ∙ run_told k.tree k.number g c.args.from c.args.domain c.args.out.now c.args.holder c.args.epoch c.args.number
     c.args.command c.run_comes-change.result c.record_after-standing.result c.ran.result
-    (c.run_comes-change.ensures c.args.from) c.record_after-standing.ensures
+    (c.run_comes-change.ensures.plan c.args.from) c.record_after-standing.ensures
     (c.ran.ensures
     ∙ run_left k.tree k.number g c.args.from c.args.domain c.args.holder c.args.epoch c.args.number c.args.command
-    c.run_comes-change.result c.record_after-standing.result (c.run_comes-change.ensures c.args.from)
+    c.run_comes-change.result c.record_after-standing.result (c.run_comes-change.ensures.plan c.args.from)
     c.record_after-standing.ensures runs) runs
 
 pub returns-else-admit-clause-plan : goal.returns-else-admit-clause-plan
-returns-else-admit-clause-plan c = c.run_comes-change.ensures c.args.from
+returns-else-admit-clause-plan c = c.run_comes-change.ensures.plan c.args.from
 
 pub returns-else-admit-clause-sent : goal.returns-else-admit-clause-sent
 returns-else-admit-clause-sent c =
@@ -62,4 +62,4 @@ returns-else-admit-clause-sent c =
     c.send_record.ensures
     ∙ same_told k.tree k.number g c.args.from c.args.domain c.args.out.now c.args.holder c.args.epoch c.args.number
     c.args.command c.run_comes-change.result c.record_after-standing.result
-    (c.run_comes-change.ensures c.args.from) c.record_after-standing.ensures stays
+    (c.run_comes-change.ensures.plan c.args.from) c.record_after-standing.ensures stays

@@ -5,8 +5,7 @@ returns-clause-grants c =
     rw (
       c.link_after-new_link.ensures,
       c.mode_after-new_mode.ensures,
-      c.child_change-change.ensures,
-      c.tree.ensures.value,
       c.link-link.ensures,
       c.mode-mode.ensures,
+      c.requires.change,
     ) at c.put_child.ensures.grants

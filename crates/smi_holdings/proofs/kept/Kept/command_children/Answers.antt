@@ -7,7 +7,28 @@ use Rattle.smi_holdings.specs.Kept.{grants_of}
 use Rattle.smi_holdings.specs.Children.{is_among, commanded_among, commanded_child}
 use Rattle.smi_holdings.proofs.Among.{among_children, at_among, fresh_child}
 use Rattle.smi_holdings.proofs.ChildTables.{one_more, all_commanded}
+use Rattle.smi_holdings.specs.Commanded.{AreSoAt}
+use Rattle.smi_holdings.proofs.KnownChildren.{still_so}
 use Rattle.smi_holdings.proofs.kept.Kept.command_children.Goals as goal
+
+pub change_in-change-requires : goal.change_in-change-requires
+change_in-change-requires c =
+    let h = c.args.self.now.tree in
+    let g = grants_of c.args.self.now in
+    let d = c.args.domain in
+    let i = c.loop-child.child-index in
+    let xs = c.children-children.result.now in
+    let x = get_or xs i 0 in
+    let listed : xs ≡ children_of h d = c.children-children.ensures
+    ∙ ap (λ (t : Hierarchy). children_of t d) c.tree-tree.ensures.value in
+    let fresh : is_among (take i xs) x ≡ false =
+    subst (λ (ys : List ℕ). is_among (take i ys) (get_or ys i 0) ≡ false) (sym listed)
+    (fresh_child h d i 0 (subst (λ (ys : List ℕ). i < length ys) listed c.loop-child-test.true)) in
+    let inv = c.loop-child.invariant in
+    let known = c.args.known.now in
+    subst (λ (t : Hierarchy). AreSoAt t (grants_of c.loop-child.self) d c.args.command x known) (sym inv.tree)
+    (subst (λ (k : Grants). AreSoAt h k d c.args.command x known) (sym inv.grants)
+    (still_so h g d c.args.command (take i xs) x known fresh c.requires.so))
 
 pub command_child-requires : goal.command_child-requires
 command_child-requires c =
@@ -20,6 +41,7 @@ command_child-requires c =
     record {
       parent = rw c.loop-child.invariant.tree
           (sym (among_children h c.args.domain x) ∙ ap (λ (ys : List ℕ). is_among ys x) (sym listed) ∙ there);
+      change = c.change_in-change.ensures;
     }
 
 pub loop-child-preserved : goal.loop-child-preserved
