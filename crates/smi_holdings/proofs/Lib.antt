@@ -7,5 +7,5 @@ mod Listing
 mod Ordered
 mod Restoring
 mod Tables
-mod Verdicts
+pub mod Verdicts
 pub mod Writes

@@ -1,11 +1,14 @@
 -- What a command does to the children of its domain, worked out before anything changes.
-use Rattle.std.specs.Prelude.{ℕ, ◌≡◌, ◌≤◌, List, length, All}
+use Rattle.std.specs.Prelude.{ℕ, ◌≡◌, ◌≤◌, ◌==◌, List, length, map, All, Option, option_map}
+use Rattle.std.specs.List.{find}
 use Rattle.smi_base.specs.declared.trees.TheConstants.{MOST_CHILDREN}
 use Rattle.smi_grant.specs.declared.Command.{Command}
 use Rattle.smi_tree.specs.Hierarchy.{Hierarchy}
+use Rattle.smi_tree.specs.Lookups.{children_of}
 use Rattle.smi_protocol.specs.Grants.{Grants}
 use Rattle.smi_protocol.specs.Children.{change_of}
 use Rattle.smi_holdings.specs.Children.{meant}
+use Rattle.smi_holdings.specs.declared.children.ChildChange.{ChildChange}
 use Rattle.smi_holdings.specs.declared.commanded.CommandedChild.{CommandedChild}
 
 -- so many places, of which the first hold something
@@ -17,10 +20,11 @@ pub record IsStored (places : List CommandedChild) (count : ℕ) : Type 0 where
 abbrev pub IsSo : Hierarchy → Grants → ℕ → Command → CommandedChild → Type 0
 IsSo h g d c x = meant x.change ≡ change_of h g d c x.child
 
--- and that to each of these
-abbrev pub AreSo : Hierarchy → Grants → ℕ → Command → List CommandedChild → Type 0
-AreSo h g d c xs = All (IsSo h g d c) xs
+-- and that to each child of it, in their order
+pub record AreSo (h : Hierarchy) (g : Grants) (d : ℕ) (c : Command) (xs : List CommandedChild) : Type 0 where
+  pub children : map (λ x. x.child) xs ≡ children_of h d
+  pub each : All (IsSo h g d c) xs
 
--- and that to this child, where it is one of these
-abbrev pub AreSoAt : Hierarchy → Grants → ℕ → Command → ℕ → List CommandedChild → Type 0
-AreSoAt h g d c x xs = All (λ (y : CommandedChild). y.child ≡ x → meant y.change ≡ change_of h g d c x) xs
+-- what it does to one of them
+abbrev pub change_for : List CommandedChild → ℕ → Option ChildChange
+change_for xs x = option_map (λ (y : CommandedChild). y.change) (find (λ (y : CommandedChild). y.child == x) xs)

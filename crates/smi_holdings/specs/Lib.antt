@@ -1,3 +1,4 @@
+pub mod Begun
 pub mod Change
 pub mod Children
 pub mod Commanded

@@ -60,9 +60,7 @@ impl<'k, 'a> After<'k, 'a> {
         ensures { result ≡ (after_of self.now).modes domain }
     {
         match self.change {
-            Change::Ran(of, command, _, _, known) => {
-                self.kept.mode_commanded(*of, *command, known, domain)
-            }
+            Change::Ran(_, _, _, _, known) => self.kept.mode_commanded(known, domain),
             _ => self.kept.mode(domain),
         }
     }
@@ -77,9 +75,8 @@ impl<'k, 'a> After<'k, 'a> {
                 if *to == domain && holder == Holder::Operator(*operator) => { *link }
             Change::Heard(parent, child, link, _, _)
                 if *child == domain && holder == Holder::Domain(*parent) => { *link }
-            Change::Ran(of, command, _, _, known) => {
-                self.kept
-                    .link_commanded(*of, *command, known, holder, domain)
+            Change::Ran(of, _, _, _, known) => {
+                self.kept.link_commanded(*of, known, holder, domain)
             }
             _ => self.kept.link(holder, domain),
         }

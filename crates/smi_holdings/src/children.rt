@@ -5,7 +5,6 @@ ghost use Rattle.smi_grant.specs.Link.{is_held};
 ghost use Rattle.smi_protocol.specs.Children as spec;
 ghost use Rattle.smi_holdings.specs.Children.{meant};
 
-use crate::change::Change;
 use crate::commanded::{CommandedChild, CommandedChildren};
 use crate::kept::Kept;
 use smi_grant::{Command, Holder, Link, Outcome, begin_drop, begin_take, issue};
@@ -127,7 +126,7 @@ pub(crate) fn child_change(
     }
 }
 
-fn link_after(change: &ChildChange, link: &Link) -> Link
+pub(crate) fn link_after(change: &ChildChange, link: &Link) -> Link
     ensures { result ≡ spec.link_after (meant change.now) link.now }
 {
     match change {
@@ -157,50 +156,45 @@ pub(crate) fn code_of(change: &ChildChange) -> u16
 }
 
 impl<'a> Kept<'a> {
-    ghost use Rattle.std.specs.Prelude.{◌≡◌, ◌≤◌, true};
+    ghost use Rattle.std.specs.Prelude.{◌≡◌, ◌≤◌, true, ℕ};
     ghost use Rattle.smi_tree.specs.Lookups.{domain_count};
     ghost use Rattle.smi_roles.specs.Roles.{is_parent};
     ghost use Rattle.smi_protocol.specs.Keeping.{commanded};
     ghost use Rattle.smi_holdings.specs.Kept.{grants_of};
     ghost use Rattle.smi_holdings.specs.Children.{commanded_child};
-    ghost use Rattle.smi_holdings.specs.Change.{commanded_of};
-    ghost use Rattle.smi_holdings.specs.Commanded.{AreSo, AreSoAt};
+    ghost use Rattle.smi_holdings.specs.Commanded.{AreSo};
 
     /// The mode of a domain after a command at another one, which may be its parent.
-    pub(crate) fn mode_commanded(
-        &self,
-        domain: u16,
-        command: Command,
-        known: &CommandedChildren,
-        child: u16,
-    ) -> Mode
-        requires { AreSo self.now.tree (grants_of self.now) domain command known.now }
-        ensures { result ≡ (commanded self.now.tree (grants_of self.now) domain command).modes child }
+    pub(crate) fn mode_commanded(&self, known: &CommandedChildren, child: u16) -> Mode
+        ensures { (d : ℕ) (c : Command) → AreSo self.now.tree (grants_of self.now) d c known.now
+            → result ≡ (commanded self.now.tree (grants_of self.now) d c).modes child }
     {
         let mode = self.mode(child);
-        if self.tree().parent(child) != Some(domain) {
-            return mode;
+        match known.of(child) {
+            Some(change) => mode_after(&change, mode),
+            None => mode,
         }
-        mode_after(&self.change_in(known, domain, command, child), mode)
     }
 
     /// The link of a holder to a domain after a command at another one, which may be the holder.
     pub(crate) fn link_commanded(
         &self,
         domain: u16,
-        command: Command,
         known: &CommandedChildren,
         holder: Holder,
         child: u16,
     ) -> Link
-        requires { AreSo self.now.tree (grants_of self.now) domain command known.now }
-        ensures { result ≡ (commanded self.now.tree (grants_of self.now) domain command).links holder child }
+        ensures { (c : Command) → AreSo self.now.tree (grants_of self.now) domain c known.now
+            → result ≡ (commanded self.now.tree (grants_of self.now) domain c).links holder child }
     {
         let link = self.link(holder, child);
-        if holder != Holder::Domain(domain) || self.tree().parent(child) != Some(domain) {
+        if holder != Holder::Domain(domain) {
             return link;
         }
-        link_after(&self.change_in(known, domain, command, child), &link)
+        match known.of(child) {
+            Some(change) => link_after(&change, &link),
+            None => link,
+        }
     }
 
     /// What a command of a domain does to its children, worked out once for each.
@@ -209,59 +203,18 @@ impl<'a> Kept<'a> {
         requires most { domain ≤ domain_count self.now.tree }
         ensures { AreSo self.now.tree (grants_of self.now) domain command result }
     {
+        let tree = self.tree();
         let mut known = CommandedChildren::new();
-        let children = self.tree().children(domain);
+        let children = tree.children(domain);
         for child in children {
+            let link = self.link(Holder::Domain(domain), *child);
+            let change = child_change(tree, domain, command, *child, &link, self.mode(*child));
             known.push(CommandedChild {
                 child: *child,
-                change: self.change_of(domain, command, *child),
+                change,
             });
         }
         known
-    }
-
-    /// What a command of a domain does to a child: as it was worked out, where it was.
-    pub(crate) fn change_in(
-        &self,
-        known: &CommandedChildren,
-        domain: u16,
-        command: Command,
-        child: u16,
-    ) -> ChildChange
-        requires { AreSoAt self.now.tree (grants_of self.now) domain command child known.now }
-        ensures { meant result ≡ spec.change_of self.now.tree (grants_of self.now) domain command child }
-    {
-        for one in known.as_slice() {
-            if one.child == child {
-                return one.change;
-            }
-        }
-        self.change_of(domain, command, child)
-    }
-
-    /// What a command of a domain does to a child, where this change is planned for it.
-    pub fn change_by(
-        &self,
-        planned: &Change,
-        domain: u16,
-        command: Command,
-        child: u16,
-    ) -> ChildChange
-        requires { AreSo self.now.tree (grants_of self.now) domain command (commanded_of planned.now) }
-        ensures { meant result ≡ spec.change_of self.now.tree (grants_of self.now) domain command child }
-    {
-        match planned {
-            Change::Ran(_, _, _, _, known) => self.change_in(known, domain, command, child),
-            _ => self.change_of(domain, command, child),
-        }
-    }
-
-    /// What a command of a domain does to a child.
-    fn change_of(&self, domain: u16, command: Command, child: u16) -> ChildChange
-        ensures { meant result ≡ spec.change_of self.now.tree (grants_of self.now) domain command child }
-    {
-        let link = self.link(Holder::Domain(domain), child);
-        child_change(self.tree(), domain, command, child, &link, self.mode(child))
     }
 
     /// A command reaches one child, and does this to it.
@@ -294,11 +247,8 @@ impl<'a> Kept<'a> {
         ensures tree { self.new.tree ≡ self.old.tree }
         ensures number { self.new.number ≡ self.old.number }
     {
-        let tree = self.tree();
-        let children = tree.children(domain);
-        for child in children {
-            let change = self.change_in(known, domain, command, *child);
-            self.command_child(domain, command, *child, &change);
+        for one in known.as_slice() {
+            self.command_child(domain, command, one.child, &one.change);
         }
     }
 }

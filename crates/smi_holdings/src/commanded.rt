@@ -35,6 +35,7 @@ impl Model for CommandedChildren {
 
 impl CommandedChildren {
     ghost use Rattle.std.specs.Prelude.{◌≡◌, ◌<◌, ◌++◌, ◌∷◌, [], length};
+    ghost use Rattle.smi_holdings.specs.Commanded.{change_for};
     ghost use Rattle.smi_base.specs.declared.trees.TheConstants.{MOST_CHILDREN};
 
     /// No child.
@@ -56,6 +57,18 @@ impl CommandedChildren {
         ensures { result.now ≡ self.now }
     {
         &self.children[..self.count]
+    }
+
+    /// What the command does to a child; none where it is no child of the domain.
+    pub fn of(&self, child: u16) -> Option<ChildChange>
+        ensures { result ≡ change_for self.now child }
+    {
+        for one in self.as_slice() {
+            if one.child == child {
+                return Some(one.change);
+            }
+        }
+        None
     }
 
     /// One child more.

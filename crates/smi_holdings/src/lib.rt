@@ -30,4 +30,5 @@ pub use kept::Kept;
 pub use links::Links;
 pub use refusal::{is_report_here, refusal_of_message, speaks_for};
 pub use room::Room;
+pub use running::BegunCommand;
 pub use saving::{carry_out, save};

@@ -1,7 +1,8 @@
 -- What a step leaves is read off the record of its domain afterwards.
 use Rattle.std.proofs.Common.{ℕ, ◌≡◌, Bool, true, false, List, [], ◌∷◌, refl, sym, ap, ◌∙◌}
-use Rattle.std.specs.Prelude.{◌&&◌, ◌++◌, not, if◌then◌else◌}
+use Rattle.std.specs.Prelude.{◌&&◌, ◌++◌, not, if◌then◌else◌, Option, Some, None, option_map}
 use Rattle.std.proofs.lemmas.Bool.{and_parts}
+use Rattle.std.proofs.lemmas.Option.{none-some, same_Some}
 use Rattle.smi_grant.specs.declared.Command.{Command}
 use Rattle.smi_grant.specs.declared.Holder.{Holder}
 use Rattle.smi_grant.specs.declared.Holder.TheVariants.{Domain}
@@ -14,15 +15,41 @@ use Rattle.smi_tree.specs.Hierarchy.{Hierarchy}
 use Rattle.smi_holdings.specs.Change.{changed}
 use Rattle.smi_holdings.specs.Plans.{Plans}
 use Rattle.smi_holdings.specs.declared.change.Change.{Change}
-use Rattle.smi_protocol.specs.Children.{own_code}
+use Rattle.smi_roles.specs.Roles.{is_parent}
+use Rattle.smi_holdings.specs.Children.{meant}
+use Rattle.smi_holdings.specs.Commanded.{AreSo, change_for}
+use Rattle.smi_holdings.specs.declared.children.ChildChange.{ChildChange}
+use Rattle.smi_holdings.specs.declared.commanded.CommandedChild.{CommandedChild}
+use Rattle.smi_holdings.proofs.KnownChildren.{known_at}
+use Rattle.smi_protocol.specs.Children.{change_of, own_code}
 use Rattle.smi_protocol.specs.declared.entry.Entry.{Entry}
 use Rattle.smi_protocol.specs.declared.entry.Entry.TheVariants as entry
 use Rattle.smi_protocol.specs.Grants.{Grants}
 use Rattle.smi_protocol.specs.GrantStep.{waits_for_children}
 use Rattle.smi_protocol.specs.Hearing.{ended, ended_entries, ended_record, ends, learned, parent_heard, parent_told}
-use Rattle.smi_protocol.specs.Keeping.{answered, child_entries, commanded, ran, run_comes, settled_at_once}
+use Rattle.smi_protocol.specs.Keeping.{answered, child_entries, commanded, entries_at, let_go_of, mode_changed, ran}
+use Rattle.smi_protocol.specs.Keeping.{run_comes, settled_at_once}
 use Rattle.smi_protocol.proofs.Tables.{put_here, put_link_here}
 use Rattle.smi_plan.specs.Leaving.{at_rest, came_to_rest}
+
+-- what is left of a child, by what is known of it
+abbrev pub left_by : ℕ → ℕ → Option ChildChange → List Entry
+left_by d x None = []
+left_by d x (Some z) = let_go_of d x (meant z) ++ mode_changed x (meant z)
+
+pub left_at : (h : Hierarchy) (g : Grants) (d : ℕ) (c : Command) (xs : List CommandedChild) (x : ℕ)
+    → AreSo h g d c xs → (o : Option ChildChange) → o ≡ change_for xs x → left_by d x o ≡ entries_at h g d c x
+left_at h g d c xs x so o is = by (is_parent h x d) o (ap (option_map meant) is ∙ known_at h g d c xs x so)
+  where
+    by : (b : Bool) (o : Option ChildChange)
+        → option_map meant o ≡ (if b then Some (change_of h g d c x) else None)
+        → left_by d x o
+        ≡ (if b then let_go_of d x (change_of h g d c x) ++ mode_changed x (change_of h g d c x) else [])
+    by true None e = absurd (none-some (change_of h g d c x) e)
+    by true (Some z) e = ap (λ y. let_go_of d x y ++ mode_changed x y)
+        (same_Some (meant z) (change_of h g d c x) e)
+    by false None e = refl
+    by false (Some z) e = absurd (none-some (meant z) (sym e))
 
 module _ (h : Hierarchy) (number : ℕ) (g : Grants) (from d : ℕ) (who : Holder) (e n : ℕ) (c : Command) where
   abbrev busy : Bool

@@ -1,7 +1,9 @@
 -- What is sent of the grants, one by one, and that it can be said.
 use Rattle.std.proofs.Common.{ℕ, zero, suc, inl, inr, ◌≡◌, ◌<◌, ◌+◌, ◌-◌, true, List, [], ◌∷◌, length, drop}
 use Rattle.std.proofs.Common.{drop-cons, get_or, map, Option, Some, None, refl, sym, ap, ◌∙◌, subst, arith}
-use Rattle.std.specs.Prelude.{IfSome}
+use Rattle.std.specs.Prelude.{All, IfSome}
+use Rattle.std.proofs.lemmas.List.{get_or-map, length-map}
+use Rattle.std.proofs.lemmas.List.Folds.{flat_map-map}
 use Rattle.std.specs.List.{cons_option, filter_map, flat_map, range_with_len}
 use Rattle.smi_grant.specs.declared.Due.{Due}
 use Rattle.smi_grant.specs.declared.Due.TheVariants.{Take, Drop, Run}
@@ -15,10 +17,17 @@ use Rattle.smi_roles.specs.Roles.{is_parent}
 use Rattle.smi_tree.specs.Hierarchy.{Hierarchy}
 use Rattle.smi_tree.specs.Lawful.{IsBetween, IsTree}
 use Rattle.smi_tree.specs.Lookups.{children_of, domain_count}
+use Rattle.smi_holdings.specs.Children.{meant}
+use Rattle.smi_holdings.specs.Commanded.{AreSo}
+use Rattle.smi_holdings.specs.declared.children.ChildChange as change
+use Rattle.smi_holdings.specs.declared.children.ChildChange.TheVariants as variants
+use Rattle.smi_holdings.specs.declared.commanded.CommandedChild.{CommandedChild}
+use Rattle.smi_holdings.proofs.KnownChildren.{each_child}
 use Rattle.smi_out.specs.Handed.{is_due, sent_after}
 use Rattle.smi_out.proofs.Sending.{sent_twice}
 use Rattle.smi_protocol.specs.Children.{ChildChange, Relinked, change_of, link_after}
 use Rattle.smi_protocol.specs.Grants.{Grants}
+use Rattle.smi_protocol.specs.Keeping.{child_request, child_requests}
 use Rattle.smi_protocol.specs.Messages.{if_any}
 use Rattle.smi_protocol.specs.Sound as sound_
 use Rattle.smi_protocol.specs.Sound.{IsCommand, IsLink, IsSound, most_handed_on}
@@ -26,6 +35,7 @@ use Rattle.smi_protocol.proofs.Lists.{In}
 use Rattle.smi_protocol.proofs.Ranges.{child_there, due_in}
 use Rattle.smi_protocol.proofs.SoundRuns.{changed}
 use Rattle.smi_protocol.proofs.Tables.{parent_is}
+use Rattle.smi_plan.specs.Asked.{CanBeSaid, IfRelinked, MayBeAsked}
 
 range_next : (low n i : ℕ) → i < n → range_with_len low (n - i) ≡ low ∷ range_with_len (low + 1) (n - (i + 1))
 range_next low n i within = ap (range_with_len low) (one_less n i within)
@@ -54,7 +64,8 @@ due_sent before f due n i within =
     by (Some x) rest = refl
 
 -- a list one by one
-pub list_sent : (before : List Message) (f : ℕ → List Message) (xs : List ℕ) (i d : ℕ) → i < length xs
+pub list_sent : {X : Type 0} (before : List Message) (f : X → List Message) (xs : List X) (i : ℕ) (d : X)
+    → i < length xs
     → sent_after before (flat_map f (drop i xs))
     ≡ sent_after (sent_after before (f (get_or xs i d))) (flat_map f (drop (i + 1) xs))
 list_sent before f xs i d within =
@@ -99,3 +110,36 @@ relinked_due h g sound d x rests c l command child is =
     link_due h most_handed_on l
     (subst (λ (z : ChildChange). IsLink h most_handed_on (link_after z (g.links (Domain d) x))) (sym is)
     (changed h g d c sound rests command x child).link)
+
+-- so can what the links of all children are due
+pub may_be_asked : (h : Hierarchy) → IsTree h → (g : Grants) → IsSound h g → (d : ℕ)
+    → is_settled (g.records d).phase ≡ true → (c : Command) → IsCommand h c → (xs : List CommandedChild)
+    → AreSo h g d c xs → All (MayBeAsked h) xs
+may_be_asked h tree g sound d rests c command xs so = λ k e within.
+    record {
+      child = child_within h tree d (get_or xs k e).child (child k e within);
+      link = by (get_or xs k e).child (child k e within) (get_or xs k e).change (so.each k e within);
+    }
+  where
+    child : (k : ℕ) (e : CommandedChild) → k < length xs → is_parent h (get_or xs k e).child d ≡ true
+    child k e within =
+        subst (λ x. is_parent h x d ≡ true) (get_or-map (λ (y : CommandedChild). y.child) xs k e 0 within)
+        (child_at h d (map (λ (y : CommandedChild). y.child) xs) k 0 so.children
+        (omega (arith, length-map xs (λ (y : CommandedChild). y.child), within)))
+
+    by : (x : ℕ) → is_parent h x d ≡ true → (z : change.ChildChange) → meant z ≡ change_of h g d c x
+        → IfRelinked z CanBeSaid
+    by x there (variants.Stays why) is = tt
+    by x there (variants.Relinked l) is = relinked_due h g sound d x rests c l command there is
+    by x there (variants.ComesInto m) is = tt
+
+-- and that is what all changed links are due
+pub requests_known : (h : Hierarchy) (n : ℕ) (g : Grants) (d : ℕ) (c : Command) (xs : List CommandedChild)
+    → AreSo h g d c xs
+    → flat_map (λ (x : CommandedChild). child_request h n d x.child (meant x.change)) xs ≡ child_requests h n g d c
+requests_known h n g d c xs so =
+    sym (flat_map-map (λ (p : ℕ × ChildChange). child_request h n d p.0 p.1)
+    (λ (x : CommandedChild). (x.child, meant x.change)) xs)
+    ∙ ap (flat_map (λ (p : ℕ × ChildChange). child_request h n d p.0 p.1)) (each_child h g d c (λ x z. (x, z)) xs so)
+    ∙ flat_map-map (λ (p : ℕ × ChildChange). child_request h n d p.0 p.1) (λ x. (x, change_of h g d c x))
+    (children_of h d)

@@ -2,13 +2,15 @@
 
 ghost use Rattle.std.specs.Prelude.{◌≡◌, false, ℕ};
 ghost use Rattle.smi_grant.specs.Holder.{is_free};
-ghost use Rattle.smi_holdings.specs.Change.{commanded_of};
 ghost use Rattle.smi_holdings.specs.Commanded.{AreSo};
+ghost use Rattle.smi_grant.specs.declared.Command.{Command};
 ghost use Rattle.smi_holdings.specs.Kept.{grants_of};
+ghost use Rattle.smi_protocol.specs.Grants.{Grants};
 ghost use Rattle.smi_protocol.specs.Keeping as keeping;
+ghost use Rattle.smi_tree.specs.Hierarchy.{Hierarchy};
 
 use smi_grant::{Command, Holder, Link, Phase, Record, Verdict};
-use smi_holdings::{Change, ChildChange, Kept};
+use smi_holdings::{ChildChange, CommandedChildren, Kept};
 use smi_out::Entries;
 use smi_protocol::Entry;
 
@@ -99,38 +101,27 @@ ghost use Rattle.std.specs.Prelude.{◌++◌};
 ghost use Rattle.smi_holdings.specs.Children.{meant};
 
 /// What becomes of a command's target, where it is a child of the domain.
-fn at_target(
-    kept: &Kept<'_>,
-    change: &Change,
-    domain: u16,
-    command: Command,
-    target: u16,
-) -> Option<Entry>
-    requires so { AreSo kept.now.tree (grants_of kept.now) domain command (commanded_of change.now) }
-    ensures { if_any result ≡ keeping.entries_at kept.now.tree (grants_of kept.now) domain command target }
+fn at_target(known: &CommandedChildren, domain: u16, target: u16) -> Option<Entry>
+    ensures { (h : Hierarchy) (g : Grants) (c : Command) → AreSo h g domain c known.now
+        → if_any result ≡ keeping.entries_at h g domain c target }
 {
-    if kept.tree().parent(target) == Some(domain) {
-        child_changed(
-            domain,
-            target,
-            &kept.change_by(change, domain, command, target),
-        )
-    } else {
-        None
+    match known.of(target) {
+        Some(change) => child_changed(domain, target, &change),
+        None => None,
     }
 }
 
 /// What a command leaves of the child that it is about.
-fn of_child(kept: &Kept<'_>, change: &Change, domain: u16, command: Command) -> Option<Entry>
-    requires so { AreSo kept.now.tree (grants_of kept.now) domain command (commanded_of change.now) }
-    ensures { if_any result ≡ keeping.child_entries kept.now.tree (grants_of kept.now) domain command }
+fn of_child(known: &CommandedChildren, domain: u16, command: Command) -> Option<Entry>
+    ensures { (h : Hierarchy) (g : Grants) → AreSo h g domain command known.now
+        → if_any result ≡ keeping.child_entries h g domain command }
 {
     match command {
         Command::Do(_) => None,
-        Command::Include(target) => at_target(kept, change, domain, command, target),
-        Command::Exclude(target) => at_target(kept, change, domain, command, target),
-        Command::Manual(target) => at_target(kept, change, domain, command, target),
-        Command::Ignore(target) => at_target(kept, change, domain, command, target),
+        Command::Include(target) => at_target(known, domain, target),
+        Command::Exclude(target) => at_target(known, domain, target),
+        Command::Manual(target) => at_target(known, domain, target),
+        Command::Ignore(target) => at_target(known, domain, target),
     }
 }
 
@@ -167,17 +158,15 @@ ghost use Rattle.smi_plan.specs.Leaving.{at_rest};
 /// A command that runs: that it has run, what becomes of its target, and that it has ended, if it has with this
 /// record of its domain.
 pub(crate) fn ran(
-    kept: &Kept<'_>,
-    change: &Change,
+    known: &CommandedChildren,
     domain: u16,
     epoch: u64,
     number: u32,
     command: Command,
     standing: Record,
 ) -> Entries
-    requires so { AreSo kept.now.tree (grants_of kept.now) domain command (commanded_of change.now) }
-    ensures { result ≡ entry.Ran domain epoch number command
-        ∷ keeping.child_entries kept.now.tree (grants_of kept.now) domain command
+    ensures { (h : Hierarchy) (g : Grants) → AreSo h g domain command known.now
+        → result ≡ entry.Ran domain epoch number command ∷ keeping.child_entries h g domain command
         ++ at_rest domain epoch number standing }
 {
     let ran = Entry::Ran {
@@ -188,7 +177,7 @@ pub(crate) fn ran(
     };
     Entries::three(
         ran,
-        of_child(kept, change, domain, command),
+        of_child(known, domain, command),
         ended(domain, epoch, number, standing),
     )
 }
