@@ -1,9 +1,11 @@
 -- What is known of the children of a command.
 use Rattle.std.proofs.Common.{◌≡◌, ◌<◌, ◌+◌, ℕ, suc, List, [], ◌∷◌, ◌++◌, Bool, true, false, Option, Some, None, length}
-use Rattle.std.proofs.Common.{get_or, map, refl, sym, ap, ◌∙◌, arith}
-use Rattle.std.specs.Prelude.{◌==◌, ◌||◌, ◌&&◌, All, if◌then◌else◌, option_map, cond}
+use Rattle.std.proofs.Common.{get_or, map, drop, refl, sym, ap, ◌∙◌, arith}
+use Rattle.std.specs.Prelude.{◌==◌, ◌||◌, ◌&&◌, All, if◌then◌else◌, max, option_map, cond}
 use Rattle.std.specs.List.{find, list_any}
 use Rattle.std.proofs.lemmas.Bool.{eqb-true, eq-eqb}
+use Rattle.std.proofs.Math.Bool.{or_assoc}
+use Rattle.std.proofs.lemmas.List.{drop_more}
 use Rattle.std.proofs.lemmas.Option.{none-some, same_Some}
 use Rattle.smi_grant.specs.declared.Command.{Command}
 use Rattle.smi_grant.specs.declared.Holder.TheVariants.{Domain}
@@ -15,7 +17,7 @@ use Rattle.smi_protocol.specs.Grants.{Grants}
 use Rattle.smi_protocol.specs.GrantStep.{waits_for_children}
 use Rattle.smi_protocol.specs.Keeping.{commanded}
 use Rattle.smi_protocol.specs.Children as spec
-use Rattle.smi_protocol.specs.Children.{change_of, code_at_domain, code_of, largest, link_after, mode_after, own_code}
+use Rattle.smi_protocol.specs.Children.{change_of, largest, link_after, mode_after}
 use Rattle.smi_holdings.specs.Children.{is_among, commanded_among, meant}
 use Rattle.smi_holdings.specs.Commanded.{AreSo, IsSo, change_for}
 use Rattle.smi_holdings.specs.declared.children.ChildChange.{ChildChange}
@@ -46,6 +48,21 @@ abbrev pub link_by : Option ChildChange → Link → Link
 link_by None l = l
 link_by (Some z) l = link_after (meant z) l
 
+-- One more of a list is looked at.
+
+pub any_more : (p : ℕ → Bool) (xs : List ℕ) (i : ℕ) (b : Bool) → i < length xs
+    → ((b || p (get_or xs i 0)) || list_any p (drop (i + 1) xs)) ≡ (b || list_any p (drop i xs))
+any_more p xs i b within = or_assoc b (p (get_or xs i 0)) (list_any p (drop (i + 1) xs))
+    ∙ ap (λ ys. b || list_any p ys) (sym (drop_more xs i 0 within))
+
+three : (a b c : ℕ) → max (max a b) c ≡ max a (max b c)
+three a b c = omega arith
+
+pub largest_more : (f : ℕ → ℕ) (xs : List ℕ) (i m : ℕ) → i < length xs
+    → max (max m (f (get_or xs i 0))) (largest (map f (drop (i + 1) xs))) ≡ max m (largest (map f (drop i xs)))
+largest_more f xs i m within = three m (f (get_or xs i 0)) (largest (map f (drop (i + 1) xs)))
+    ∙ ap (λ ys. max m (largest (map f ys))) (sym (drop_more xs i 0 within))
+
 module _ (h : Hierarchy) (g : Grants) (d : ℕ) (c : Command) where
   -- what comes of each child, by what is known of it
   each_of : {X : Type 0} (F : ℕ → spec.ChildChange → X) (xs : List CommandedChild) → All (IsSo h g d c) xs
@@ -60,11 +77,6 @@ module _ (h : Hierarchy) (g : Grants) (d : ℕ) (c : Command) where
   pub each_child : {X : Type 0} (F : ℕ → spec.ChildChange → X) (xs : List CommandedChild) → AreSo h g d c xs
       → map (λ x. F x.child (meant x.change)) xs ≡ map (λ y. F y (change_of h g d c y)) (children_of h d)
   each_child F xs so = each_of F xs so.each ∙ ap (map (λ y. F y (change_of h g d c y))) so.children
-
-  -- the codes of the children
-  pub own_known : (xs : List CommandedChild) → AreSo h g d c xs
-      → largest (code_at_domain h d c ∷ map (λ x. code_of (meant x.change)) xs) ≡ own_code h g d c
-  own_known xs so = ap (λ codes. largest (code_at_domain h d c ∷ codes)) (each_child (λ x z. code_of z) xs so)
 
   -- what is known of a child
   pub known_at : (xs : List CommandedChild) (x : ℕ) → AreSo h g d c xs
@@ -88,34 +100,20 @@ module _ (h : Hierarchy) (g : Grants) (d : ℕ) (c : Command) where
           by rest true e = ap Some (all 0 y (omega arith) ∙ ap (change_of h g d c) (eqb-true y.child x e))
           by rest false e = rest
 
-  -- whether one of them has to answer
-  pub waits_known : (xs : List CommandedChild) → AreSo h g d c xs
-      → list_any (λ x. is_unsettled (link_after (meant x.change) (g.links (Domain d) x.child))) xs
-      ≡ waits_for_children h (commanded h g d c) d
-  waits_known xs so =
-      go xs so.each
-      ∙ ap (list_any (λ y. is_unsettled (link_after (change_of h g d c y) (g.links (Domain d) y)))) so.children
-      ∙ same_tests (λ y. is_unsettled (link_after (change_of h g d c y) (g.links (Domain d) y)))
-      (λ y. is_unsettled ((commanded h g d c).links (Domain d) y)) (children_of h d)
-      (λ k e within. at (get_or (children_of h d) k e)
-      (sym (among_children h d (get_or (children_of h d) k e)) ∙ at_among (children_of h d) k e within))
-    where
-      go : (ys : List CommandedChild) → All (IsSo h g d c) ys
-          → list_any (λ (x : CommandedChild). is_unsettled (link_after (meant x.change) (g.links (Domain d) x.child))) ys
-          ≡ list_any (λ y. is_unsettled (link_after (change_of h g d c y) (g.links (Domain d) y)))
-          (map (λ (x : CommandedChild). x.child) ys)
-      go [] all = refl
-      go (y ∷ ys) all =
-          ap (λ z. is_unsettled (link_after z (g.links (Domain d) y.child))
-          || list_any (λ (x : CommandedChild). is_unsettled (link_after (meant x.change) (g.links (Domain d) x.child))) ys)
-          (all 0 y (omega arith))
-          ∙ ap (λ b. is_unsettled (link_after (change_of h g d c y.child) (g.links (Domain d) y.child)) || b)
-          (go ys (λ k z within. all (suc k) z (omega (arith, within))))
+  -- whether a child has to answer
+  pub answers_at : (y : ℕ) → is_parent h y d ≡ true
+      → is_unsettled (link_after (change_of h g d c y) (g.links (Domain d) y))
+      ≡ is_unsettled ((commanded h g d c).links (Domain d) y)
+  answers_at y child = rw (child, eq-eqb d d refl) refl
 
-      at : (y : ℕ) → is_parent h y d ≡ true
-          → is_unsettled (link_after (change_of h g d c y) (g.links (Domain d) y))
-          ≡ is_unsettled ((commanded h g d c).links (Domain d) y)
-      at y child = rw (child, eq-eqb d d refl) refl
+  -- whether one of them has
+  pub answer_known : list_any (λ y. is_unsettled (link_after (change_of h g d c y) (g.links (Domain d) y)))
+      (children_of h d)
+      ≡ waits_for_children h (commanded h g d c) d
+  answer_known = same_tests (λ y. is_unsettled (link_after (change_of h g d c y) (g.links (Domain d) y)))
+      (λ y. is_unsettled ((commanded h g d c).links (Domain d) y)) (children_of h d)
+      (λ k e within. answers_at (get_or (children_of h d) k e)
+      (sym (among_children h d (get_or (children_of h d) k e)) ∙ at_among (children_of h d) k e within))
 
   -- the mode of a child after what is known of it, and of any other domain as it was
   pub mode_known : (xs : List CommandedChild) (x : ℕ) → AreSo h g d c xs → (o : Option ChildChange)

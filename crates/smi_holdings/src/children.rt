@@ -5,7 +5,7 @@ ghost use Rattle.smi_grant.specs.Link.{is_held};
 ghost use Rattle.smi_protocol.specs.Children as spec;
 ghost use Rattle.smi_holdings.specs.Children.{meant};
 
-use crate::commanded::{CommandedChild, CommandedChildren};
+use crate::commanded::CommandedChildren;
 use crate::kept::Kept;
 use smi_grant::{Command, Holder, Link, Outcome, begin_drop, begin_take, issue};
 use smi_rows::Mode;
@@ -195,26 +195,6 @@ impl<'a> Kept<'a> {
             Some(change) => link_after(&change, &link),
             None => link,
         }
-    }
-
-    /// What a command of a domain does to its children, worked out once for each.
-    pub(crate) fn commanded_by(&self, domain: u16, command: Command) -> CommandedChildren
-        requires least { 1 ≤ domain }
-        requires most { domain ≤ domain_count self.now.tree }
-        ensures { AreSo self.now.tree (grants_of self.now) domain command result }
-    {
-        let tree = self.tree();
-        let mut known = CommandedChildren::new();
-        let children = tree.children(domain);
-        for child in children {
-            let link = self.link(Holder::Domain(domain), *child);
-            let change = child_change(tree, domain, command, *child, &link, self.mode(*child));
-            known.push(CommandedChild {
-                child: *child,
-                change,
-            });
-        }
-        known
     }
 
     /// A command reaches one child, and does this to it.

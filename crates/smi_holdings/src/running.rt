@@ -1,14 +1,13 @@
 //! What a command that runs at a domain will make of it.
 
-ghost use Rattle.std.specs.Prelude.{◌≡◌, ◌<◌, ◌∷◌, false, true, if◌then◌else◌, map};
+ghost use Rattle.std.specs.Prelude.{◌≡◌, ◌<◌, false, true, if◌then◌else◌};
 ghost use Rattle.smi_grant.specs.Holder.{is_free};
 ghost use Rattle.smi_grant.specs.Keeper as keeper;
 ghost use Rattle.smi_grant.specs.Record.{is_settled, last_number};
-ghost use Rattle.smi_protocol.specs.Children.{code_at_domain, code_of, largest};
-ghost use Rattle.smi_holdings.specs.Children.{meant};
+ghost use Rattle.smi_protocol.specs.Children.{code_at_domain};
 
-use crate::children::{code_of, link_after};
-use crate::commanded::CommandedChildren;
+use crate::children::{child_change, code_of, link_after};
+use crate::commanded::{CommandedChild, CommandedChildren};
 use crate::kept::Kept;
 use smi_grant::{Command, Holder, Outcome, Record, Verdict, admit, start};
 use smi_tree::Tree;
@@ -20,6 +19,15 @@ pub struct BegunCommand {
     pub standing: Record,
     pub code: u16,
     pub children: CommandedChildren,
+}
+
+/// What a command comes to: whether a child has to answer, the largest of the codes with which it begins, the domain's
+/// own and its children's, and what it does to these.
+#[derive(Drop)]
+struct Reached {
+    is_busy: bool,
+    code: u16,
+    children: CommandedChildren,
 }
 
 /// The code of a command at its domain, whatever becomes of it at the children.
@@ -38,17 +46,6 @@ fn code_at_domain(tree: &Tree, domain: u16, command: Command) -> u16
     } else {
         otherwise.code()
     }
-}
-
-/// The largest of the codes with which a command begins: the domain's own, and its children's.
-fn own_code(tree: &Tree, domain: u16, command: Command, known: &CommandedChildren) -> u16
-    ensures { result ≡ largest (code_at_domain tree.now domain command ∷ map (λ x. code_of (meant x.change)) known.now) }
-{
-    let mut code = code_at_domain(tree, domain, command);
-    for one in known.as_slice() {
-        code = code.max(code_of(&one.change));
-    }
-    code
 }
 
 /// What a domain has gathered when a command begins: the command's own code while it is busy.
@@ -73,29 +70,45 @@ fn started(standing: &Record, busy: bool, code: u16) -> Record
 
 impl<'a> Kept<'a> {
     ghost use Rattle.std.specs.Prelude.{◌≡◌, ◌≤◌, false, IfNone, IfSome};
-    ghost use Rattle.std.specs.List.{list_any};
-    ghost use Rattle.smi_grant.specs.declared.Holder.TheVariants.{Domain};
     ghost use Rattle.smi_grant.specs.Holder.{is_free};
-    ghost use Rattle.smi_grant.specs.Link.{is_unsettled};
     ghost use Rattle.smi_grant.specs.Record.{last_number};
     ghost use Rattle.smi_tree.specs.Lookups.{domain_count};
-    ghost use Rattle.smi_protocol.specs.Children.{link_after};
+    ghost use Rattle.smi_protocol.specs.Children.{own_code};
+    ghost use Rattle.smi_protocol.specs.GrantStep.{waits_for_children};
+    ghost use Rattle.smi_protocol.specs.Keeping.{commanded};
     ghost use Rattle.smi_holdings.specs.Begun.{Begins};
-    ghost use Rattle.smi_holdings.specs.Children.{meant};
+    ghost use Rattle.smi_holdings.specs.Commanded.{AreSo};
     ghost use Rattle.smi_holdings.specs.Kept.{grants_of};
 
-    /// Whether a child will have to answer after a command of its domain.
-    fn waits_after(&self, domain: u16, known: &CommandedChildren) -> bool
-        ensures { result ≡ list_any (λ x. is_unsettled (link_after (meant x.change)
-            ((grants_of self.now).links (Domain domain) x.child))) known.now }
+    /// What a command of a domain comes to, by one look at each of its children.
+    fn reached_by(&self, domain: u16, command: Command) -> Reached
+        requires least { 1 ≤ domain }
+        requires most { domain ≤ domain_count self.now.tree }
+        ensures busy { result.is_busy
+            ≡ waits_for_children self.now.tree (commanded self.now.tree (grants_of self.now) domain command) domain }
+        ensures code { result.code ≡ own_code self.now.tree (grants_of self.now) domain command }
+        ensures children { AreSo self.now.tree (grants_of self.now) domain command result.children }
     {
-        for one in known.as_slice() {
-            let link = link_after(&one.change, &self.link(Holder::Domain(domain), one.child));
-            if link.is_unsettled() {
-                return true;
-            }
+        let tree = self.tree();
+        let mut is_busy = false;
+        let mut code = code_at_domain(tree, domain, command);
+        let mut known = CommandedChildren::new();
+        let children = tree.children(domain);
+        for child in children {
+            let link = self.link(Holder::Domain(domain), *child);
+            let change = child_change(tree, domain, command, *child, &link, self.mode(*child));
+            is_busy |= link_after(&change, &link).is_unsettled();
+            code = code.max(code_of(&change));
+            known.push(CommandedChild {
+                child: *child,
+                change,
+            });
         }
-        false
+        Reached {
+            is_busy,
+            code,
+            children: known,
+        }
     }
 
     /// A command comes. Where the domain's record admits it, it begins; else nothing comes of it.
@@ -119,13 +132,11 @@ impl<'a> Kept<'a> {
         if !admit(&standing, holder, epoch, number) {
             return None;
         }
-        let children = self.commanded_by(domain, command);
-        let busy = self.waits_after(domain, &children);
-        let own = own_code(self.tree(), domain, command, &children);
+        let reached = self.reached_by(domain, command);
         Some(BegunCommand {
-            standing: started(&standing, busy, own),
-            code: gathered_at_first(busy, own),
-            children,
+            standing: started(&standing, reached.is_busy, reached.code),
+            code: gathered_at_first(reached.is_busy, reached.code),
+            children: reached.children,
         })
     }
 }
