@@ -36,8 +36,8 @@
 //! number of the caller with that of the order itself. A caller that is none of its own is told nothing, whomever it
 //! is handed.
 //!
-//! So from a line that was cut to the bytes that its caller is to be told, nothing is left to the code. Left to the
-//! code above it is:
+//! So from a line that was cut to the bytes that its caller is to be told, nothing is left to the code. What is left
+//! to the code that calls this:
 //!
 //! - that those bytes are what a socket writes, that each answer is offered to all callers, and that no two of them
 //!   have one number;

@@ -43,26 +43,26 @@
 //!
 //! ## Wrong definitions, and what breaks
 //!
-//! Each was tried in place of the right one, with the worked examples left out. The lemmas were seen to break; not
-//! all of them, as only the first messages were kept.
+//! Each was tried in place of the right one, with the worked examples left out. Behind it stand lemmas that were seen
+//! to break. There are more, as only the first messages were kept.
 //!
-//! - a take is granted whatever epoch it has seen: `RecordMoves.body_moves`: no such move of one record; then
+//! - *A take is granted whatever epoch it has seen.* `RecordMoves.body_moves`: no such move of one record; then
 //!   `LinkMoves`, `StepKinds`.
-//! - a command runs under any number, so again when it comes again: `RecordMoves.run_moves`.
-//! - a command ends before the children have answered: `RecordMoves.ended_moves`; by itself `WorkTold.at_ended`: a
+//! - *A command runs under any number, so again when it comes again.* `RecordMoves.run_moves`.
+//! - *A command ends before the children have answered.* `RecordMoves.ended_moves`; by itself `WorkTold.at_ended`: a
 //!   settled domain waits for no child.
-//! - a drop begins where a command is pending: `RecordMoves.order_rests`, `LinkMoves.order_moves`,
+//! - *A drop begins where a command is pending.* `RecordMoves.order_rests`, `LinkMoves.order_moves`,
 //!   `StepKinds.order_kind`.
-//! - an operator's link is out on any told record: `LinkMoves.tell_moves`.
-//! - a number is given twice: `RecordMoves.order_rests`, `LinkMoves.order_moves`, `StepKinds.order_kind`.
-//! - versions begin anew at a start: `ShownStart.boot_here`.
-//! - a state that answers another boot is taken: `ShownNotice.state_noted`, `SaysStates.state_says`,
+//! - *An operator's link is out on any told record.* `LinkMoves.tell_moves`.
+//! - *A number is given twice.* `RecordMoves.order_rests`, `LinkMoves.order_moves`, `StepKinds.order_kind`.
+//! - *Versions begin anew at a start.* `ShownStart.boot_here`.
+//! - *A state that answers another boot is taken.* `ShownNotice.state_noted`, `SaysStates.state_says`,
 //!   `Tidy.state_tidy`.
-//! - an action goes on to a manual child: `LinkMoves.handed`, `ChildKinds.handed`.
-//! - a parent is freed while its command is at work: `RecordMoves.body_moves`.
-//! - a station may send any run: `Viewed.spoken`.
-//! - a child keeps its mode over a new grant: `WorkRuns.kid`.
-//! - devices that moved are not passed on: `ShownNotice.changes_`, `SaysStates.passed_shown`.
+//! - *An action goes on to a manual child.* `LinkMoves.handed`, `ChildKinds.handed`.
+//! - *A parent is freed while its command is at work.* `RecordMoves.body_moves`.
+//! - *A station may send any run.* `Viewed.spoken`.
+//! - *A child keeps its mode over a new grant.* `WorkRuns.kid`.
+//! - *Devices that moved are not passed on.* `ShownNotice.changes_`, `SaysStates.passed_shown`.
 //!
 //! Most of these break a lemma because the definition no longer has the form that the lemma goes through. That alone
 //! does not show that the law is false of it, but that it does not hold by this proof. More are among the must-fail

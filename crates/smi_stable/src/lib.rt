@@ -9,7 +9,7 @@
 //!
 //! # How it is proved
 //!
-//! What stands in the files under `proofs/`, which are about SQL:
+//! The proofs of the store are about SQL. Under `proofs/`:
 //!
 //! - `SqlTexts`: the texts mean their commands.
 //! - `SqlSaves`, `SqlReplaced`: the statement adds the row, or changes the one row that has the key; each other key
@@ -17,9 +17,11 @@
 //! - `SqlKeeps`: what a fault leaves, and what a stop leaves.
 //! - `SqlLoads`, `SqlUnique`: the answer of the query has each key once.
 //! - `SqlKeys`: keys as SQL compares them.
-//! - `SqlGiven`: of a refused `adopt`: what the connection that is given back holds (docs/DECISIONS.md says what is
-//!   proved of one).
+//! - `SqlGiven`: what the connection holds that a refused `adopt` gives back (docs/DECISIONS.md says what is proved
+//!   of one).
 //! - `SqlCauses`: an open connection fails when out of memory or with its disk.
+//! - `SqlAdopts`: what is known of a connection that was taken over.
+//! - `SqlMakes`: what the statement that makes the table does.
 //! - `SqlRefuses`: a database without a table does not refuse the table.
 //!
 //! What is said of any store, and of rows, is proved in `smi_rows`. Trusted: the toolchain and the contracts of

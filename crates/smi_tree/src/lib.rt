@@ -71,10 +71,13 @@
 //!
 //! ## Only tested
 //!
-//! On the built program: that a read with ample memory succeeds. Each fault, each limit at its last value and one
-//! past, and lines with two faults, of which the one that is tested first is told (`tests/trees.py`). That a refused
-//! allocation is answered as out of memory, which the contract leaves open: each allocation of a run is refused in
-//! turn (`tests/growths.py`).
+//! On the built program:
+//!
+//! - that a read with ample memory succeeds;
+//! - each fault, each limit at its last value and one past, and lines with two faults, of which the one that is
+//!   tested first is told (`tests/trees.py`);
+//! - that a refused allocation is answered as out of memory, which the contract leaves open: each allocation of a run
+//!   is refused in turn (`tests/growths.py`).
 #![tactic(auto)]
 
 mod actions;
