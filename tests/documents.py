@@ -241,7 +241,8 @@ def weaker_cases():
 
 def long_names(text):
     """The names between backquotes that can be those of a file, a type, a definition or a lemma, without paths."""
-    found = {it for quoted in re.findall(r"`([^`/]+)`", text) for it in re.findall(r"\w+", quoted)}
+    quoted = [it for it in re.findall(r"`([^`]+)`", text) if "/" not in it]
+    found = {it for name in quoted for it in re.findall(r"\w+", name)}
     return sorted(it for it in found if "_" in it or it[0].isupper())
 
 
