@@ -30,8 +30,9 @@
 //! - `Schedule`: what a list of items makes of all stations of a tree, and which trace it leaves (`trace_of`).
 //! - `Played`: what is seen of each item of a worked example.
 //!
-//! Each worked example is a list of items. Its law says that the trace is that one, line by line (`Makes`). Wrong
-//! definitions (edits of files under `specs/` in `must-fail/`) are refused by these laws.
+//! Each worked example is a list of items. Its law says that the trace is that one, line by line (`Makes`): entries,
+//! datagrams, answers and rows are computed by the checker. Wrong definitions (edits of files under `specs/` in
+//! `must-fail/`) are refused by these laws.
 //!
 //! ## Soundness, of one station
 //!

@@ -48,8 +48,22 @@
 //! No clause of `read` names the board. So that what is read was published, and not only put, rests on the code of
 //! `publish`: a copy is given a row when it is published, and not before.
 //!
-//! Trusted: the toolchain, and the statements of `left_right`, `crossbeam_utils`, `atomic_table` and `logbook`, which
-//! are the kit's.
+//! `law::readings_rise` speaks of publications whose versions rise (`specs/Rising`). By `proofs/Rises` a longer
+//! beginning of such rows has no older last row.
+//!
+//! ## The picture
+//!
+//! - `specs/Newest` says what is had of an object once one more state is shown (`shown_after`), and of a domain once
+//!   one more record is told (`told_after`).
+//! - `specs/Noted` lifts this to a list of notes, the first of them first (`object_after`, `domain_after`). `show`
+//!   and `tell` take one note in (`TakesIn`).
+//! - The laws of `picture_law` are by induction on that list: `proofs/Newest` for objects, `Furthest` for domains.
+//! - That nothing goes back is `KeepsUp` (`specs/Keeping`). `proofs/Keeping` has it of a picture that takes notes in.
+//!
+//! ## What is trusted
+//!
+//! The toolchain, and the statements of `left_right`, `crossbeam_utils`, `atomic_table` and `logbook`, which are the
+//! kit's.
 #![tactic(auto)]
 
 mod board;
