@@ -39,7 +39,9 @@ PATIENCE = 20
 # What a reader of a first page can be asked to read.
 README_LINES = 150
 # What docs/PROOF.md may ask of its readers: so many lines, and so many words in a sentence.
-PROOF_LINES, MOST_WORDS = 200, 40
+PROOF_LINES, MOST_WORDS = 160, 40
+# Under what lib.rt says how its crate is proved.
+STORY = "How it is proved"
 # What is in a command that only looks, and may be given again.
 LOOKS = (" show ", "tools/rows.py", "tools/status.py")
 # The code of a command whose outcome was not seen: it stands in no record.
@@ -221,23 +223,62 @@ def crate_cases():
 
 
 def weaker_cases():
-    """docs/PROOFS-BY-CRATE.md names edits of the crates beside them, and files and lemmas that are there."""
-    text = read("docs", "PROOFS-BY-CRATE.md")
+    """docs/GATE.md names edits of the crates beside them, and functions, clauses and edits that are there."""
+    text = read("docs", "GATE.md")
     count = 0
     for of, edits in tables(section(text, "Weaker edits")):
         crates = re.findall(r"`(\w+)`", of)
         for name in re.findall(r"`(\w+)`", edits):
             count += 1
-            yield "PROOFS-BY-CRATE.md: %s has %s" % (of, name), any(
+            yield "GATE.md: %s has %s" % (of, name), any(
                 is_edit(it, name) or in_code(name, it, "") for it in crates)
-    yield verdict.case("PROOFS-BY-CRATE.md names weaker edits", count, 20, ">")
-    whole = "".join(read(it) for folder in ("src/**/*.rt", "specs/**/*.antt", "proofs/**/*.antt")
-                    for it in places.found_by("crates/*/" + folder))
-    proofs = {os.path.basename(it)[:-len(".antt")] for it in places.found_by("crates/*/*/**/*.antt")}
+    yield verdict.case("GATE.md names weaker edits", count, 20, ">")
+    there = names_there(places.found_by("crates/*"))
     edits = {os.path.basename(it)[:-len(".edit")] for it in places.found_by("crates/*/*/*.edit")}
-    found = set(re.findall(r"\w+", whole)) | proofs | edits
-    for name in sorted({it for it in re.findall(r"`(\w+)`", text) if "_" in it or it[0].isupper()}):
-        yield "PROOFS-BY-CRATE.md: there is %s" % name, name in found
+    for name in long_names(section(text, "Weaker edits") + section(text, "What was searched")):
+        yield "GATE.md: there is %s" % name, name in there | edits
+
+
+def long_names(text):
+    """The names between backquotes that can be those of a file, a type, a definition or a lemma, without paths."""
+    quoted = [it for it in re.findall(r"`([^`]+)`", text) if "/" not in it]
+    found = {it for name in quoted for it in re.findall(r"\w+", name)}
+    return sorted(it for it in found if "_" in it or it[0].isupper())
+
+
+def names_there(folders):
+    """The words of all code, definitions and proofs of these crates, without comments, and the names of their files."""
+    paths = [it for folder in folders for kind in ("src/**/*.rt", "specs/**/*.antt", "proofs/**/*.antt")
+             for it in places.found_by(os.path.join(folder, kind))]
+    text = re.sub(r"^\s*(//|--).*$", "", "\n".join(map(read, paths)), flags=re.M)
+    files = {os.path.splitext(os.path.basename(it))[0] for it in paths}
+    return set(re.findall(r"\w+", text)) | files | set(map(os.path.basename, folders))
+
+
+def story_of(crate):
+    """What the head of a crate's lib.rt says below "How it is proved", or nothing where it says nothing of it."""
+    head = re.findall(r"^//!(?: (.*)|$)", read("crates", crate, "src", "lib.rt"), flags=re.M)
+    return section("\n".join(head), STORY)
+
+
+def story_cases():
+    """What lib.rt says of how its crate is proved names files and lemmas that are there, in short sentences."""
+    everywhere = names_there(places.found_by("crates/*"))
+    libraries = [it.split("/")[1] for it in places.found_by("crates/*/src/lib.rt")]
+    crates = sorted(it for it in libraries if story_of(it))
+    for crate in crates:
+        text = " ".join(story_of(crate).split())
+        for kind, name in sorted(set(re.findall(r"`(specs|proofs)/(\w+)`", text))):
+            at = os.path.join(ROOT, "crates", crate, kind, name)
+            yield "%s: there is %s/%s" % (crate, kind, name), os.path.isfile(at + ".antt") or os.path.isdir(at)
+        for path in sorted(set(re.findall(r"\b(?:tests|docs)/\w+\.\w+", text))):
+            yield "%s: there is %s" % (crate, path), os.path.isfile(os.path.join(ROOT, path))
+        lost = [it for it in long_names(text) if it not in everywhere]
+        yield "%s: what lib.rt names is there%s" % (crate, ", but " + " ".join(lost) if lost else ""), not lost
+        for sentence in filter(is_long, sentences(story_of(crate))):
+            yield "%s: lib.rt has short sentences, but: %s" % (crate, sentence[:60]), False
+    yield verdict.case("crates say how they are proved", len(crates), 20, ">")
+    yield "a name that is not there is seen", long_names("`no_such_name`") and "no_such_name" not in everywhere
 
 
 def spread_cases():
@@ -675,6 +716,7 @@ def cases(program, only):
     yield from local_cases()
     yield from crate_cases()
     yield from weaker_cases()
+    yield from story_cases()
     yield from spread_cases()
     yield from proof_cases()
     yield from planted_cases()

@@ -10,6 +10,50 @@
 //! (`unreached_states`). Each is a function of the tree, and takes no memory. Searches go through all numbers from 0
 //! to the last. What has a number in a tree has it from 1, and 0 passes no test; as the state of a member it stands
 //! for one that was not shown yet.
+//!
+//! # How it is proved
+//!
+//! ## Checking a tree file
+//!
+//! `check` answers status 0 or 3 only for a file that `tree_of` accepts, 1 only for one that it refuses, and nothing
+//! else but 4. The printed line and the fault's line are tested.
+//!
+//! ## Listing the rows of a store
+//!
+//! `rows` is over any store and any writer that tells its bytes. On `Done`, while the store is honest and was open,
+//! what is written is `rows_text` (`specs/Rows`) of the store's rows by rising key, and nothing else. The loop's
+//! invariant is that the lines of the rows so far are written (`proofs/Lines`). The opening of the file and the texts
+//! of faults are tested.
+//!
+//! Which fault comes:
+//!
+//! - `StoreFault` comes only where the store counted a failure (`failed`).
+//! - `rows` cannot say why the other two come, since std's `Write` counts no failures, and a store no refused memory.
+//! - `list`, which does the work on what `load` answered, can. `Memory` is told where the store answered that memory
+//!   ran out, and nowhere else (`fault`). Of rows that were loaded `WriteFault` is told only where a write or a flush
+//!   failed (`unwritten`).
+//! - Such failures are counted by `Losses`, whose field is private. Its three functions raise the count where the
+//!   writer failed, and nothing else can.
+//!
+//! ## Answering
+//!
+//! `answer` is over any reader and writer that tell their bytes. On `Ended` and `Refused` what is written is exactly
+//! the list of answers of the keeper's definition over the datagrams read, from the new record, up to the first
+//! refusal. The result is the definition's (`done`). In every case a prefix of that list is written and nothing else
+//! (`front`). So `Ended` comes only at the reader's end with nothing refused, and `Refused(k, c)` only where datagram
+//! `k` is the first refused, by `c`.
+//!
+//! - `Keeper::answer` takes one piece of 44 bytes.
+//! - `answer_each` answers the pieces of a block. It says of them, whatever is read later, that the answers to all
+//!   are its answers and those to what is left of the block and to what comes later.
+//! - The loop's invariant (`proofs/Going`) says of three parts that they are the answers to the whole input: what is
+//!   written so far, the answers to the bytes that the block still has, and those to all that is left.
+//!
+//! Not said by any contract, and only tested:
+//!
+//! - that a read or write fault of `answer` has a cause, since std's `Read` and `Write` count no failures;
+//! - that a buffer is flushed, since its contract keeps the bytes that it holds;
+//! - the bound of 2^32 reads, and the texts and statuses of the program.
 #![tactic(auto)]
 
 pub mod answer;

@@ -16,6 +16,20 @@
 //! (`bell`).
 //!
 //! The lines, the statuses and what is printed stand in docs/FORMATS.md, "A node's lines".
+//!
+//! # How it is proved
+//!
+//! `Runs` (`specs/Running`) is made of what the calls below promise: all of `migrate` (`MigratesOn`), all of
+//! `Station::open` (`OpensOn`), and of the service that each round is `Serves` of `smi_node`.
+//!
+//! - `ServesFor` (`specs/Serving`) says of an endless node that it was served a million turns, so often, and then
+//!   ended with a fault. The loop's invariant counts the rounds.
+//! - `IsServed` hides the link, the desk and the board behind "some", so that no caller has to name the node's own.
+//! - Where the station is open and no service begins, it is left unchanged.
+//!
+//! Seen by tests alone: that `run` serves over its own socket and seats (`tests/full.py`, `tests/nodes.py`), and the
+//! threads. The channels between them promise no order, so no clause says that a line which is read is heard once and
+//! in its turn (`tests/consoles.py`).
 #![tactic(auto)]
 
 mod attending;

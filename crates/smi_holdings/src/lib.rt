@@ -2,6 +2,32 @@
 //!
 //! The tables are lists whose entries are counted from 1. What does not stand in them has a default, so a table is
 //! read at any number ([`entry_of`]); contracts see it as a function of the number.
+//!
+//! # How it is proved
+//!
+//! `Kept` holds what a station keeps of grants in tables by number. Contracts see them as the `Grants` of
+//! `smi_protocol` that they stand for (`grants_of`). Each reader is that table, each write the table with one entry
+//! replaced (`proofs/Tables`).
+//!
+//! `Change` is what a step will change, and `After` the grants as it will leave them (`after_of`). Records, codes,
+//! modes and links read there are those of the changed grants, and `row` is the row that the definition saves.
+//!
+//! - `take_comes`, `drop_comes`, `run_comes`, `operator_told` and `parent_told` each answer a change. It makes of the
+//!   grants what the definition of the same name makes of them, and saves its row (`Plans`). `listener` is the holder
+//!   whom a told record changes.
+//! - A run goes over the domain's children three times: for the code with which it begins, for whether a child will
+//!   have to answer, and when it is made (`command_children`). Each is proved to be the definition over all children
+//!   (`proofs/Among`, `ChildTables`).
+//! - `refusal_of_message`, `refusal_of_order` and `is_report_here` are the definitions' refusals.
+//!
+//! `carry_out` writes the row, saves it, and then makes the change.
+//!
+//! - On `Ok` the grants are changed and the store has the row.
+//! - On a fault the tables are as before. The store's rows are the old ones, or after an unsure save the old or the
+//!   new.
+//! - What an open may find at any moment is the old or the new rows (`crash`).
+//! - It answers `Memory` only where there is a row to save. `saves()` rises by at most one.
+//! - `Stopped` and `NotStored` come only where the store counted a failure.
 #![tactic(auto)]
 
 mod after;

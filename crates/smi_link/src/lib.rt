@@ -9,6 +9,35 @@
 //! else does; and where a link tells its datagrams, as `MemoryLink` does, what it received and what it
 //! handed on grow by just what the calls gave and took. A caller over any link is proved once, from the
 //! trait.
+//!
+//! # How it is proved
+//!
+//! `specs/Link` says what any link shows: `Receives` and `Sends`, by cases on the answer. A caller over any link is
+//! proved from the trait: the test `pass_on` of `smi_part_tests` receives a datagram, sends it on, and ensures for
+//! every link that tells that both lists grow by that one datagram.
+//!
+//! `specs/Memory` has the state of a link in memory and what each call makes of it: `with_datagram`, `with_nothing`,
+//! `with_fault`, `failing_after`, `refused`, `Gives`, `Takes`. `MemoryLink` ensures these beside the trait's clauses,
+//! so a caller who knows that it is in memory knows exactly what it gives. What is *received* is the datagrams among
+//! what it gave, so it grows by one when a datagram is given (`proofs/Given`).
+//!
+//! A `MemoryLink` grows its lists by `Growth` alone, whose field is private. `push` and `reserve` raise its count
+//! where std's `Vec` refused to grow, and nothing else can. So a `send` that fails without a plan, and a `put` that
+//! fails, have raised it (`fails`, `refused`), and a body that gives up by itself is refused. What `Growth` says of
+//! the refusal rests on two short bodies, each one `if` over the call of `Vec`.
+//!
+//! The counts are `Tally` of `smi_base`. A tally remembers its last step as contracts see it (std's `Snapshot`), and
+//! a step remembers the one before it in the same way. So it has no bytes, its count has no end, and nothing of it is
+//! proved by hand.
+//!
+//! Of `UdpLink` contracts see the addresses and the count of failures (`specs/Udp`):
+//!
+//! - `open` and `over` keep the addresses that they are given and begin with no failure. A link is opened only for a
+//!   station that has an address.
+//! - `receive` and `send` leave the addresses unchanged, and a datagram is handed on only to a station that has one.
+//! - How many milliseconds a call may still wait is `left_at` (`specs/Patience`), of when the link's patience began
+//!   and of the moment that its clock gave.
+//! - Not claimed: any byte, that a datagram arrives, what the clock says, that `receive` returns.
 #![tactic(auto)]
 
 mod frame;

@@ -8,6 +8,19 @@
 //! Between bytes and datagram stand the numbers at each place, together as they are written and one
 //! by one as they are read: `layout` knows where they stand and nothing of what they mean, `kinds`
 //! knows what they mean and nothing of bytes.
+//!
+//! # How it is proved
+//!
+//! `decode` has three clauses. What is read is spelled so (`found`). What is spelled so is read (`only`). The result
+//! is the reading function's, so each refusal is the first test that fails (`exact`). `encode` gives the spelling.
+//!
+//! Between bytes and datagram stands `Fields`, the plain number at each place.
+//!
+//! - The layout, from bytes to fields and back, is proved once and knows no kinds (`proofs/Bytes`). The kinds are
+//!   about numbers alone.
+//! - That what fields say has just those fields is proved in one step for all kinds, from the fields that a kind uses
+//!   (`proofs/Back`).
+//! - The other way is `proofs/Again`, and `proofs/Laws` puts the two together.
 #![tactic(auto)]
 
 mod bad;

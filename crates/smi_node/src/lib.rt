@@ -13,6 +13,16 @@
 //! [`Counts`] has in numbers what a node has done since it began, which one thread raises while others read them. A
 //! [`CountedLink`] is a link that counts what comes and goes over it, with the contract of a link of its own; a
 //! [`Counter`] is the witness of a node who counts what its steps answer. Nothing in a station knows of either.
+//!
+//! # How it is proved
+//!
+//! `Carries` (`specs/Carried`) is the station's step, then `Follows`: what was sent, which command was marked, what
+//! was published, which orders were answered. `Serves` (`specs/Served`) is a list of them, turn after turn.
+//!
+//! - `proofs/Sends`: what is sent, one datagram after the other.
+//! - `proofs/Edges`: what each carry leaves unchanged, as how many seats there are.
+//! - `proofs/Turned` has what the parts of a turn answer, `proofs/Service` turn after turn up to the end.
+//! - `proofs/Counted`: what whole turns leave of the link, so what was received and how often it failed.
 #![tactic(auto)]
 
 mod carrying;

@@ -4,6 +4,12 @@
 //! An [`Out`] is made once, without memory, and used for one step after the other. A step sends at most 64
 //! datagrams; what goes beyond that is as if it had been lost. The functions beside it make the datagrams of a
 //! station, each of which is in the ranges of its kind (docs/FORMATS.md, "Datagrams").
+//!
+//! # How it is proved
+//!
+//! An `Out` is seen as lists and values (`Out` of `smi_protocol`, specs/Step). `send` adds a datagram while there are
+//! fewer than 64. That is `sent_after` (`specs/Handed`), which from nothing on is the first 64 of what is sent
+//! (`proofs/Sending`). The functions beside it make each datagram of a station as the definitions have it.
 #![tactic(auto)]
 
 mod entries;

@@ -10,6 +10,22 @@
 //! (docs/PROTOCOL.md, "States and versions"); a changed state adds 1 to the object's sequence and an
 //! unchanged one nothing; nothing is shown but what has changed; and only the making of a `Publisher`
 //! takes memory.
+//!
+//! # How it is proved
+//!
+//! `specs/Published` has what is published: `conditions_of`, `shown_at`, `change_at`, `changes_at`.
+//! `specs/Publishing` says how conditions change, as functions of an object's number: `first_condition`, `come_to`,
+//! `reported`, `acted`, `evaluated`.
+//!
+//! Each public function ensures that the conditions afterwards *are* that function of those before, which is an
+//! equation of functions. It also ensures that its answer is the changes between the two.
+//!
+//! - `report` and the readers need no proof by hand.
+//! - `run_action` goes over the devices with the invariant `SoFar` (`proofs/Acting`): the devices so far have moved,
+//!   the others have not, and the changes so far are those of the whole.
+//! - It rests on the numbers of a domain's devices being rising (`proofs/DeviceNumbers`), so that none moves twice,
+//!   and on the tree being lawful (at most sixteen devices).
+//! - `new` is proved by `proofs/FirstConditions`.
 #![tactic(auto)]
 
 mod changes;

@@ -22,6 +22,17 @@
 //! What a step hands out is sent, and what it shows and answers is noted in a picture. So a turn is a list of deeds,
 //! each a receive, a watch, a question or a tick, each from where the one before left all, and nothing else
 //! (`specs/Looking.antt`); nothing in the picture ever goes back, and no domain is ordered anything.
+//!
+//! # How it is proved
+//!
+//! What an observer works with is a `View`: its station, what its link shows, and its picture (`specs/Looking`). It
+//! is over any way to step (`Stepping`), so nothing here knows what a station is. A `Deed` is what an observer does,
+//! `Does` what it leaves, and `Looks` a list of them. What of an event is noted stands in `specs/Noting`.
+//!
+//! - `proofs/Looks` puts deeds together: none, one, some and then others.
+//! - `proofs/Turned`: what a turn of the screen adds to its look is nothing that the station or the picture knows of.
+//! - `proofs/Keeping`: whatever an observer does, its picture keeps up with what was had in it (`looks_keep`,
+//!   `KeepsUp` of `smi_view`).
 #![tactic(auto)]
 
 mod carrying;

@@ -6,6 +6,26 @@
 //! SQLite writes whole pages, and a stable row has few bytes: with pages of 512 bytes a save writes about a sixth of
 //! what it writes with those of 4,096. So [`begin`] makes a file with short pages before [`open`] opens it. A file
 //! that is there keeps the pages that it has.
+//!
+//! # How it is proved
+//!
+//! The proofs of the store are about SQL. Under `proofs/`:
+//!
+//! - `SqlTexts`: the texts mean their commands.
+//! - `SqlSaves`, `SqlReplaced`: the statement adds the row, or changes the one row that has the key; each other key
+//!   keeps its bytes.
+//! - `SqlKeeps`: what a fault leaves, and what a stop leaves.
+//! - `SqlLoads`, `SqlUnique`: the answer of the query has each key once.
+//! - `SqlKeys`: keys as SQL compares them.
+//! - `SqlGiven`: what the connection holds that a refused `adopt` gives back (docs/DECISIONS.md says what is proved
+//!   of one).
+//! - `SqlCauses`: an open connection fails when out of memory or with its disk.
+//! - `SqlAdopts`: what is known of a connection that was taken over.
+//! - `SqlMakes`: what the statement that makes the table does.
+//! - `SqlRefuses`: a database without a table does not refuse the table.
+//!
+//! What is said of any store, and of rows, is proved in `smi_rows`. Trusted: the toolchain and the contracts of
+//! `sqlite`.
 #![tactic(auto)]
 
 mod adopting;

@@ -19,6 +19,51 @@
 //! caller gives. Whatever was noted, in whatever order, the picture has of each object the newest of the states by
 //! their versions, and of each domain the furthest of the records by their ranks ([`picture_law`]); so what is had
 //! never goes back.
+//!
+//! # How it is proved
+//!
+//! ## Accepting
+//!
+//! `specs/Accepting` has the rule of `accept`: `is_newer`, `acceptance`, `last_after`. `accept` ensures that its
+//! answer is `acceptance` of the boot, the last state and the echo. The last states afterwards are `last_after`, an
+//! equation of functions of an object's number (`proofs/LastStates`).
+//!
+//! ## The board
+//!
+//! - The rows that were put on a board are a history that only grows (`specs/History`). A word of `logbook` counts
+//!   them. Whoever knows a count knows that its rows begin all others of that history (`Rows`, whose contracts see
+//!   the list; `proofs/Counting`, `proofs/Beginnings`).
+//! - The board stands on `left_right` under a rule (`specs/Pages`). `Keeps` says that the map of a copy is that of
+//!   the rows which its mark counts, and that the copy is of the history that each thread knows of. `Finds` is what a
+//!   reading and a publication do. That each step keeps the rule is `proofs/Naming`.
+//! - `specs/Shows` names what the two ends show: `publications` and `pending`, `seen` and `told`. `specs/Rows` has
+//!   what publications say of an object (`last_row`). That the map of a copy has the last row of each object is
+//!   `proofs/LastRows`.
+//!
+//! That nothing goes back for one glance follows. `seen` of `read` says that what is seen begins with what was seen
+//! before; `covers` says that it begins with all that was told. Rows of one object stand in the order in which they
+//! were put. That what is told was published is `tell`'s clause; that board and glance have one history is in their
+//! types.
+//!
+//! No clause of `read` names the board. So that what is read was published, and not only put, rests on the code of
+//! `publish`: a copy is given a row when it is published, and not before.
+//!
+//! `law::readings_rise` speaks of publications whose versions rise (`specs/Rising`). By `proofs/Rises` a longer
+//! beginning of such rows has no older last row.
+//!
+//! ## The picture
+//!
+//! - `specs/Newest` says what is had of an object once one more state is shown (`shown_after`), and of a domain once
+//!   one more record is told (`told_after`).
+//! - `specs/Noted` lifts this to a list of notes, the first of them first (`object_after`, `domain_after`). `show`
+//!   and `tell` take one note in (`TakesIn`).
+//! - The laws of `picture_law` are by induction on that list: `proofs/Newest` for objects, `Furthest` for domains.
+//! - That nothing goes back is `KeepsUp` (`specs/Keeping`). `proofs/Keeping` has it of a picture that takes notes in.
+//!
+//! ## What is trusted
+//!
+//! The toolchain, and the statements of `left_right`, `crossbeam_utils`, `atomic_table` and `logbook`, which are the
+//! kit's.
 #![tactic(auto)]
 
 mod board;

@@ -23,6 +23,22 @@
 //! order of an operator of the tree alone ([`is_order_line`]), while there is a connection, and while fewer than
 //! [`MOST_ERRANDS`] wait.
 //! (docs/FORMATS.md, "The screen".)
+//!
+//! # How it is proved
+//!
+//! Each text is a definition, put together from what `specs/Words` has: `tree_text` (`specs/Shape`), `picture_text`
+//! (`specs/Scene`), `figures_text` (`specs/Figures`), `orders_text` (`specs/Orders`). A function puts its text behind
+//! what a buffer has.
+//!
+//! `what_is_asked` (`specs/Answers`) goes through the tests of a request in their order, over the parts of it that
+//! matter (`specs/Asking`). `left_by` says what a request leaves of the window.
+//!
+//! What each call leaves of the relay stands in `specs/Relay` (`given`, `sent`, `heard`, `opened`, `closed`). An
+//! errand waits only on the connection on which it was given: `first` is the number of the first errand of this one
+//! (`is_waiting`, `specs/Errand`).
+//!
+//! Little of it is proved by hand: lists that are put together text by text (`proofs/Numbered`), and whether the host
+//! of a request is among those that are answered (`proofs/Hosts`).
 #![tactic(auto)]
 
 mod ending;
