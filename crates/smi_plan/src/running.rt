@@ -85,13 +85,7 @@ pub fn run(
                 command,
                 begun.standing,
             ));
-            Change::Ran(
-                domain,
-                command,
-                begun.standing,
-                begun.code,
-                begun.children,
-            )
+            Change::Ran(domain, command, begun.standing, begun.code, begun.children)
         }
         None => {
             send_record(out, kept, from, domain, kept.record(domain));

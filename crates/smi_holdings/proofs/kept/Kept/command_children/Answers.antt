@@ -93,6 +93,9 @@ returns-clause-grants c =
     ∙ c.requires.so.children in
     c.loop-one.invariant.grants
     ∙ ap (commanded_among h g d c.args.command)
-    (take_all c.loop-one.one-index xs (omega (arith, length-map known (λ (y : CommandedChild). y.child),
-    c.loop-one-test.false)) ∙ listed)
+    (take_all c.loop-one.one-index xs (omega (
+      arith,
+      length-map known (λ (y : CommandedChild). y.child),
+      c.loop-one-test.false,
+    )) ∙ listed)
     ∙ all_commanded h g d c.args.command
