@@ -13,7 +13,7 @@ smi: bin/smi
 
 bin/smi: $(SOURCES)
 	@python3 tools/libraries.py --lanes $(LANES) smi
-	cd crates/smi && rt run -- answer < /dev/null > /dev/null
+	@python3 tools/libraries.py --lanes $(LANES) --program smi
 	mkdir -p bin
 	cp crates/smi/out/smi bin/smi
 
@@ -170,6 +170,6 @@ bench: bin/smi bin/smi_trial
 
 bin/smi_trial: $(SOURCES)
 	@python3 tools/libraries.py --lanes $(LANES) smi_trial
-	cd crates/smi_trial && rt run < /dev/null
+	@python3 tools/libraries.py --lanes $(LANES) --program smi_trial
 	mkdir -p bin
 	cp crates/smi_trial/out/smi_trial bin/smi_trial

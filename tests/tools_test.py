@@ -237,7 +237,7 @@ class Libraries(unittest.TestCase):
         that are slow end after others."""
         begun, done, sound, lock = [], set(), [], threading.Lock()
 
-        def build(crate):
+        def build(crate, _jobs):
             with lock:
                 begun.append(crate.name)
                 sound.append(all(it.name in done for it in crate.deps))
@@ -257,6 +257,45 @@ class Libraries(unittest.TestCase):
 
     def test_long_chains_first(self):
         self.assertEqual(self.built(1)[0][:2], ["one", "two"])
+
+    def jobs(self, crates, lanes):
+        """By how many processes each library is proved."""
+        given = {}
+
+        def build(crate, jobs):
+            given[crate.name] = jobs
+            return True, "", 1
+
+        with mock.patch.object(libraries, "build", build), mock.patch.object(kit, "costs", dict):
+            printed(libraries.build_all, crates, lanes)
+        return given
+
+    def test_lanes_that_nobody_has_are_jobs(self):
+        below = Crate("below")
+        above = Crate("above", (below,))
+        self.assertEqual(self.jobs([below, above], 4), {"below": 4, "above": 4})
+        self.assertEqual(self.jobs([below, Crate("beside")], 4), {"below": 2, "beside": 2})
+        self.assertEqual(self.jobs([below, Crate("beside")], 2), {"below": 1, "beside": 1})
+
+    def test_each_sum_is_worked_out_once_in_a_call(self):
+        class Summed(Crate):
+            asked = []
+
+            def stamp(self):
+                self.asked.append(self.name)
+                return "%s(%s)" % (self.name, " ".join(dep.stamp() for dep in self.deps))
+
+        low = Summed("low")
+        middle = [Summed(name, (low,)) for name in ("left", "right")]
+        high = Summed("high", tuple(middle))
+        plain = high.stamp()
+        self.assertEqual(Summed.asked.count("low"), 2)
+        with mock.patch.object(kit, "crates", lambda: [low]):
+            libraries.sum_each_once()
+        for _ in range(2):
+            Summed.asked.clear()
+            self.assertEqual(high.stamp(), plain)
+            self.assertEqual(sorted(Summed.asked), ["high", "left", "low", "right"])
 
     def test_the_first_that_fails_ends_it(self):
         self.assertEqual(self.built(1, ["two"]), (["one", "two"], False, True))

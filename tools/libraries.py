@@ -1,9 +1,15 @@
 """Proves and builds the libraries below some crates, several side by side, each once those that it stands on are there.
 
-usage: libraries.py [--lanes N] CRATE.. | libraries.py --one CRATE | libraries.py --estimate CRATE..
+usage: libraries.py [--lanes N] CRATE.. | libraries.py --program CRATE | libraries.py --one CRATE [--jobs N]
+       libraries.py --estimate CRATE..
 
 `rt lib` would do the same one library after the other, since it keeps others out of all crates below the one that it
 builds. Here each library is built by a process of its own (--one), and only once all below it stand still.
+
+A library that is begun while few others are gets the lanes that nobody has as jobs of its own: what stands at the end
+of the chain is proved by all processors. The toolchain would give it one, since it reckons with several times the
+memory that such a check takes. --program proves and builds a program once its libraries are there, and runs it as
+`rt run` does; its standard input is empty.
 
 What was built and has not changed is left as it is. A line tells of each library that is proved, with the processor
 seconds that it took, from nothing where nothing was kept, and how long the rest will take, by the record of costs.txt
@@ -23,6 +29,8 @@ import tempfile
 
 import kit
 
+# What a program is run with, so that it ends at once.
+ARGUMENTS = {"smi": ("answer",)}
 # What a library is taken to cost, in processor seconds, that the record does not have.
 UNKNOWN = 60
 
@@ -54,11 +62,31 @@ class Pace:
         return "; some %d minutes left" % self.minutes() if self.left else ""
 
 
-def build(crate):
+def sum_each_once():
+    """Has the sum of each crate worked out once in a call: some toolchains do so once for each way that leads down to
+    it, of which there are thousands for what stands highest."""
+    kind, within, known = type(kit.crates()[0]), [], {}
+    plain = kind.stamp
+
+    def stamp(crate):
+        if not within:
+            known.clear()
+        within.append(crate)
+        try:
+            if crate.name not in known:
+                known[crate.name] = plain(crate)
+            return known[crate.name]
+        finally:
+            within.pop()
+
+    kind.stamp = stamp
+
+
+def build(crate, jobs):
     """Whether the library is proved and built, what was said of it, and the processor seconds that it took."""
     with tempfile.TemporaryFile("w+", encoding="utf-8", errors="replace") as said:
-        child = subprocess.Popen([sys.executable, __file__, "--one", crate.name], stdin=subprocess.DEVNULL, stdout=said,
-                                 stderr=said)
+        child = subprocess.Popen([sys.executable, __file__, "--one", crate.name, "--jobs", str(jobs)],
+                                 stdin=subprocess.DEVNULL, stdout=said, stderr=said)
         _, status, use = os.wait4(child.pid, 0)
         child.returncode = os.waitstatus_to_exitcode(status)
         said.seek(0)
@@ -81,9 +109,10 @@ def build_all(crates, lanes):
         while running or well and waiting:
             missing = {it.name for it in [*waiting, *running.values()]}
             ready = [it for it in waiting if missing.isdisjoint(dep.name for dep in it.deps)] if well else []
-            for crate in sorted(ready, key=lambda it: -above[it.name])[:lanes - len(running)]:
+            free = lanes - len(running)
+            for crate in sorted(ready, key=lambda it: -above[it.name])[:free]:
                 waiting.remove(crate)
-                running[pool.submit(build, crate)] = crate
+                running[pool.submit(build, crate, max(1, free // len(ready)))] = crate
             for done in concurrent.futures.wait(running, return_when=concurrent.futures.FIRST_COMPLETED).done:
                 crate, (is_built, said, seconds) = running.pop(done), done.result()
                 well, ended = well and is_built, ended + 1
@@ -94,17 +123,30 @@ def build_all(crates, lanes):
     return well
 
 
+def run_program(crate, jobs):
+    """Proves and builds the program, whose libraries are there, and runs it on empty input; the status of that."""
+    os.chdir(crate.folder)
+    with open(os.devnull, encoding="ascii") as nothing:
+        os.dup2(nothing.fileno(), 0)
+    return kit.rt.main(["run", "--jobs", str(jobs), "--", *ARGUMENTS.get(crate.name, ())])
+
+
 def main():
     words = argparse.ArgumentParser(description=__doc__.split("\n\n")[0])
     words.add_argument("--lanes", type=int, default=1, help="how many are proved side by side")
     words.add_argument("--one", metavar="CRATE", help="build this library alone")
+    words.add_argument("--program", metavar="CRATE", help="prove and build this program, and run it")
+    words.add_argument("--jobs", type=int, default=1, help="by how many processes the one library is proved")
     words.add_argument("--estimate", action="store_true", help="say what the missing libraries will take")
     words.add_argument("crates", nargs="*", metavar="CRATE")
     said = words.parse_args()
+    sum_each_once()
     if said.one:
         # (older toolchains have no such word, and do not keep others out)
         getattr(kit.rt, "share_work", lambda **_: None)(is_alone=True)
-        sys.exit(kit.crates([said.one])[0].build_rlib([], anew=False))
+        sys.exit(kit.crates([said.one])[0].build_rlib(["--jobs", str(said.jobs)], anew=False))
+    if said.program:
+        sys.exit(run_program(kit.crates([said.program])[0], said.lanes))
     below = {it.name for crate in kit.crates(said.crates) for it in crate.below()}
     missing = [it for it in kit.crates() if it.name in below and not it.is_built()]
     if said.estimate:
