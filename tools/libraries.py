@@ -7,8 +7,8 @@ usage: libraries.py [--lanes N] CRATE.. | libraries.py --program CRATE | librari
 builds. Here each library is built by a process of its own (--one), and only once all below it stand still.
 
 A library that is begun while few others are gets the lanes that nobody has as jobs of its own: what stands at the end
-of the chain is proved by all processors. The toolchain would give it one, since it reckons with several times the
-memory that such a check takes. --program proves and builds a program once its libraries are there, and runs it as
+of the chain is proved by all processors. The toolchain gives such a crate one, since it reckons with several times the
+memory that the check takes; where no lane is free it chooses. --program proves and builds a program once its libraries are there, and runs it as
 `rt run` does; its standard input is empty.
 
 What was built and has not changed is left as it is. A line tells of each library that is proved, with the processor
@@ -85,8 +85,8 @@ def sum_each_once():
 def build(crate, jobs):
     """Whether the library is proved and built, what was said of it, and the processor seconds that it took."""
     with tempfile.TemporaryFile("w+", encoding="utf-8", errors="replace") as said:
-        child = subprocess.Popen([sys.executable, __file__, "--one", crate.name, "--jobs", str(jobs)],
-                                 stdin=subprocess.DEVNULL, stdout=said, stderr=said)
+        words = ["--one", crate.name, *(["--jobs", str(jobs)] if jobs > 1 else [])]
+        child = subprocess.Popen([sys.executable, __file__, *words], stdin=subprocess.DEVNULL, stdout=said, stderr=said)
         _, status, use = os.wait4(child.pid, 0)
         child.returncode = os.waitstatus_to_exitcode(status)
         said.seek(0)
@@ -136,7 +136,7 @@ def main():
     words.add_argument("--lanes", type=int, default=1, help="how many are proved side by side")
     words.add_argument("--one", metavar="CRATE", help="build this library alone")
     words.add_argument("--program", metavar="CRATE", help="prove and build this program, and run it")
-    words.add_argument("--jobs", type=int, default=1, help="by how many processes the one library is proved")
+    words.add_argument("--jobs", type=int, help="by how many processes the one library is proved")
     words.add_argument("--estimate", action="store_true", help="say what the missing libraries will take")
     words.add_argument("crates", nargs="*", metavar="CRATE")
     said = words.parse_args()
@@ -144,7 +144,7 @@ def main():
     if said.one:
         # (older toolchains have no such word, and do not keep others out)
         getattr(kit.rt, "share_work", lambda **_: None)(is_alone=True)
-        sys.exit(kit.crates([said.one])[0].build_rlib(["--jobs", str(said.jobs)], anew=False))
+        sys.exit(kit.crates([said.one])[0].build_rlib(["--jobs", str(said.jobs)] if said.jobs else [], anew=False))
     if said.program:
         sys.exit(run_program(kit.crates([said.program])[0], said.lanes))
     below = {it.name for crate in kit.crates(said.crates) for it in crate.below()}
