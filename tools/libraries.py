@@ -8,8 +8,8 @@ builds. Here each library is built by a process of its own (--one), and only onc
 
 A library that is begun while few others are gets the lanes that nobody has as jobs of its own: what stands at the end
 of the chain is proved by all processors. The toolchain gives such a crate one, since it reckons with several times the
-memory that the check takes; where no lane is free it chooses. --program proves and builds a program once its libraries are there, and runs it as
-`rt run` does; its standard input is empty.
+memory that the check takes; where no lane is free it chooses. --program proves and builds a program once its
+libraries are there, and runs it as `rt run` does; its standard input is empty.
 
 What was built and has not changed is left as it is. A line tells of each library that is proved, with the processor
 seconds that it took, from nothing where nothing was kept, and how long the rest will take, by the record of costs.txt

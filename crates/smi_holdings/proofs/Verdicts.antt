@@ -49,9 +49,3 @@ begun_planned h number g from d who e n c b inside begins =
     (Ran d c (started (g.records d) (waits_for_children h (commanded h g d c) d) (own_code h g d c)) code b.children))
     (sym begins.1.code)
     (run_planned h number g from d who e n c b.children inside begins.1.children begins.0))
-
--- and one that is not changes nothing
-pub run_refused : (h : Hierarchy) (number : ℕ) (g : Grants) (from d : ℕ) (who : Holder) (e n : ℕ) (c : Command)
-    → admits (g.records d) who e n ≡ false
-    → Plans h number g (run_comes h number g from d who e n c) Nothing
-run_refused h number g from d who e n c off = record { grants = rw off refl; row = rw off refl; lawful = tt }

@@ -1,5 +1,5 @@
 -- What a step changes of the grants, and what it saves.
-use Rattle.std.specs.Prelude.{ℕ, ◌≡◌, true, Option, Some, None, option_map, List, []}
+use Rattle.std.specs.Prelude.{ℕ, ◌≡◌, true, Option, Some, None, option_map}
 use Rattle.smi_grant.specs.declared.Holder.TheVariants.{Operator, Domain}
 use Rattle.smi_tree.specs.Hierarchy.{Hierarchy}
 use Rattle.smi_tree.specs.Lawful.{IsBetween}
@@ -12,7 +12,6 @@ use Rattle.smi_protocol.specs.Keeping.{commanded}
 use Rattle.smi_protocol.specs.SavedRows.{saved_row}
 use Rattle.smi_holdings.specs.Commanded.{AreSo}
 use Rattle.smi_holdings.specs.Kept.{Kept, grants_of}
-use Rattle.smi_holdings.specs.declared.commanded.CommandedChild.{CommandedChild}
 use Rattle.smi_holdings.specs.declared.change.Change.{Change}
 use Rattle.smi_holdings.specs.declared.change.Change.TheVariants as change
 
@@ -33,14 +32,6 @@ touched (change.Handed d r) = Some (OfDomain d)
 touched (change.Linked o d l) = Some (OfOperator o)
 touched (change.Ran d c r code xs) = Some (OfDomain d)
 touched (change.Heard p d l r code) = Some (OfDomain p)
-
--- what is known of the children of a command that has run
-abbrev pub commanded_of : Change → List CommandedChild
-commanded_of change.Nothing = []
-commanded_of (change.Handed d r) = []
-commanded_of (change.Linked o d l) = []
-commanded_of (change.Ran d c r code xs) = xs
-commanded_of (change.Heard p d l r code) = []
 
 -- the row that is saved
 abbrev pub saved_by : Hierarchy → ℕ → Grants → Change → Option Saved

@@ -12,15 +12,16 @@
 //! `Change` is what a step will change, and `After` the grants as it will leave them (`after_of`). Records, codes,
 //! modes and links read there are those of the changed grants, and `row` is the row that the definition saves.
 //!
-//! - `take_comes`, `drop_comes`, `operator_told` and `parent_told` each answer a change. It makes of the grants what the
-//!   definition of the same name makes of them, and saves its row (`Plans`). `listener` is the holder whom a told record
-//!   changes.
-//! - `run_comes` answers what a command comes to that the record admits (`Begins`, specs/Begun); the change that is made
-//!   of it has `Plans` (`begun_planned`, proofs/Verdicts).
-//! - It looks at each child once (`reached_by`): for what becomes of it, for the code with which the command begins, and
-//!   for whether a child will have to answer. What becomes of them stands in a list of all children, in their order
-//!   (`AreSo`, specs/Commanded); who asks of one, or goes over all, reads it there (`proofs/KnownChildren`). When it is
-//!   made (`command_children`) the tables are those of the definition over all children (`proofs/Among`, `ChildTables`).
+//! - `take_comes`, `drop_comes`, `operator_told` and `parent_told` each answer a change. It makes of the grants what
+//!   the definition of the same name makes of them, and saves its row (`Plans`). `listener` is the holder whom a told
+//!   record changes.
+//! - `run_comes` answers what a command comes to that the record admits (`Begins`, specs/Begun). The change that is
+//!   made of it has `Plans` (`begun_planned`, proofs/Verdicts).
+//! - It looks at each child once (`reached_by`): for what becomes of it, for the code with which the command begins,
+//!   and for whether a child will have to answer. What becomes of them stands in a list of all children, in their
+//!   order (`AreSo`, specs/Commanded). Who asks of one, or goes over all, reads it there (`proofs/KnownChildren`).
+//! - When it is made (`command_children`) the tables are those of the definition over all children (`proofs/Among`,
+//!   `ChildTables`).
 //! - `refusal_of_message`, `refusal_of_order` and `is_report_here` are the definitions' refusals.
 //!
 //! `carry_out` writes the row, saves it, and then makes the change.

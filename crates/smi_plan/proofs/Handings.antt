@@ -94,20 +94,6 @@ module _ (h : Hierarchy) (number : ℕ) (g : Grants) (from d : ℕ) (out : Out) 
         ∙ sym (ap (λ b. with_step out (if b then ran h number g from d e n c busy own
         else answered h number g from d)) runs)
 
-    -- and one that does not
-    pub same_told : (change : Change) (r : Standing)
-        → Plans h number g (run_comes h number g from d who e n c) change → r ≡ (changed h g change).records d
-        → admits (g.records d) who e n ≡ false
-        → telling out (tells h number from d r) ≡ with_step out (run_comes h number g from d who e n c)
-    same_told change r plans is stays =
-        let here : (run_comes h number g from d who e n c).grants.records d ≡ g.records d =
-        ap (λ b. (if b then ran h number g from d e n c busy own else answered h number g from d).grants.records d)
-        stays in
-        ap (λ (z : Standing). telling out (tells h number from d z))
-        (is ∙ ap (λ (a : Grants). a.records d) (sym plans.grants) ∙ here)
-        ∙ sym (ap (λ b. with_step out (if b then ran h number g from d e n c busy own
-        else answered h number g from d)) stays)
-
 -- a command runs where nothing is at work
 pub settled_there : (g : Grants) (d : ℕ) (who : Holder) (e n : ℕ) → admits (g.records d) who e n ≡ true
     → is_settled (g.records d).phase ≡ true

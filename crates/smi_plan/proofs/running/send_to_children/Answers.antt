@@ -1,5 +1,5 @@
-use Rattle.std.proofs.Common.{◌≡◌, ◌<◌, ◌∙◌, ◌+◌, ◌++◌, ℕ, List, [], length, get_or, drop, drop_of_length-le, refl, ap, sym}
-use Rattle.std.proofs.Common.{subst}
+use Rattle.std.proofs.Common.{◌≡◌, ◌<◌, ◌∙◌, ◌+◌, ◌++◌, ℕ, List, [], length, get_or, drop, drop_of_length-le, refl}
+use Rattle.std.proofs.Common.{ap, sym, subst}
 use Rattle.std.proofs.lemmas.List.{drop_more}
 use Rattle.std.specs.List.{flat_map}
 use Rattle.std.proofs.lemmas.List.Elements.{All-get_or}
@@ -31,8 +31,8 @@ one_of h known items i one is within at asked =
     (sym is) asked))
 
 -- what is sent with one child more
-one_asked : (f : CommandedChild → List Message) (xs : List CommandedChild) (i : ℕ) (one : CommandedChild) (out next : Out)
-    → i < length xs → one ≡ get_or xs i one
+one_asked : (f : CommandedChild → List Message) (xs : List CommandedChild) (i : ℕ) (one : CommandedChild)
+    (out next : Out) → i < length xs → one ≡ get_or xs i one
     → next ≡ record out { datagrams = sent_after out.datagrams (f one) }
     → record next { datagrams = sent_after next.datagrams (flat_map f (drop (i + 1) xs)) }
     ≡ record out { datagrams = sent_after out.datagrams (flat_map f (drop i xs)) }

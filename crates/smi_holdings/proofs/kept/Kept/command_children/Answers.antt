@@ -26,10 +26,15 @@ command_child-requires c =
     let one = c.one-item.result in
     let xs = map (λ (y : CommandedChild). y.child) known in
     let inv = c.loop-one.invariant in
-    let within : i < length xs = omega (arith, length-map known (λ (y : CommandedChild). y.child), c.loop-one-test.true) in
+    let within : i < length xs = omega (
+      arith,
+      length-map known (λ (y : CommandedChild). y.child),
+      c.loop-one-test.true,
+    ) in
     let listed : xs ≡ children_of h d = ap (map (λ (y : CommandedChild). y.child)) c.as_slice-one-items.ensures
     ∙ c.requires.so.children in
-    let this : get_or xs i 0 ≡ one.child = get_or-map (λ (y : CommandedChild). y.child) known i one 0 c.loop-one-test.true
+    let this : get_or xs i 0 ≡ one.child = get_or-map (λ (y : CommandedChild). y.child) known i one 0
+    c.loop-one-test.true
     ∙ ap (λ (y : CommandedChild). y.child) (sym c.one-item.is) in
     let fresh : is_among (take i xs) one.child ≡ false =
     subst (λ x. is_among (take i xs) x ≡ false) this
@@ -62,7 +67,11 @@ loop-one-preserved c =
     let xs = map (λ (y : CommandedChild). y.child) known in
     let inv = c.loop-one.invariant in
     let e = c.command_child.ensures in
-    let within : i < length xs = omega (arith, length-map known (λ (y : CommandedChild). y.child), c.loop-one-test.true) in
+    let within : i < length xs = omega (
+      arith,
+      length-map known (λ (y : CommandedChild). y.child),
+      c.loop-one-test.true,
+    ) in
     let listed : xs ≡ children_of h d = ap (map (λ (y : CommandedChild). y.child)) c.as_slice-one-items.ensures
     ∙ c.requires.so.children in
     let this : (e : ℕ) → get_or xs i e ≡ one.child =
