@@ -1,5 +1,5 @@
 -- The keeper's verdicts as changes.
-use Rattle.std.proofs.Common.{◌≡◌, ℕ, List, true, false, refl, sym, subst}
+use Rattle.std.proofs.Common.{◌≡◌, ℕ, List, true, refl, sym, subst}
 use Rattle.std.specs.Prelude.{if◌then◌else◌}
 use Rattle.smi_grant.specs.declared.Command.{Command}
 use Rattle.smi_grant.specs.declared.Holder.{Holder}
@@ -14,7 +14,7 @@ use Rattle.smi_protocol.specs.Grants.{Grants}
 use Rattle.smi_protocol.specs.Children.{own_code}
 use Rattle.smi_protocol.specs.GrantStep.{waits_for_children}
 use Rattle.smi_protocol.specs.Keeping.{commanded, decided, run_comes}
-use Rattle.smi_holdings.specs.declared.change.Change.TheVariants.{Nothing, Ran}
+use Rattle.smi_holdings.specs.declared.change.Change.TheVariants.{Ran}
 use Rattle.smi_protocol.specs.declared.Entry.{Entry}
 use Rattle.smi_holdings.specs.Begun.{Begins}
 use Rattle.smi_holdings.specs.Commanded.{AreSo}

@@ -7,7 +7,6 @@ use Rattle.smi_protocol.specs.Keeping.{child_requests}
 use Rattle.smi_protocol.specs.Step.{Out}
 use Rattle.smi_protocol.proofs.SoundSteps.{run_comes_sound}
 use Rattle.smi_protocol.proofs.Tables.{put_here}
-use Rattle.smi_tree.specs.Hierarchy.{Hierarchy}
 use Rattle.smi_tree.specs.Lawful.{IsTree}
 use Rattle.smi_holdings.specs.Kept.{grants_of}
 use Rattle.smi_holdings.specs.declared.change.Change.TheVariants.{Ran}

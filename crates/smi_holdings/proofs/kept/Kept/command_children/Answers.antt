@@ -1,14 +1,13 @@
-use Rattle.std.proofs.Common.{◌≡◌, ◌<◌, ◌+◌, ℕ, List, true, false, take, length, map, get_or, ap, sym, subst, ◌∙◌}
+use Rattle.std.proofs.Common.{◌≡◌, ◌<◌, ℕ, List, true, false, take, length, map, get_or, ap, sym, subst, ◌∙◌}
 use Rattle.std.proofs.Common.{arith}
 use Rattle.std.proofs.lemmas.List.{get_or-map, length-map, take_all}
 use Rattle.std.proofs.lemmas.List.Elements.{All-get_or}
 use Rattle.smi_tree.specs.Hierarchy.{Hierarchy}
 use Rattle.smi_tree.specs.Lookups.{children_of}
-use Rattle.smi_roles.specs.Roles.{is_parent}
 use Rattle.smi_protocol.specs.Children.{change_of}
 use Rattle.smi_protocol.specs.Grants.{Grants}
 use Rattle.smi_holdings.specs.Kept.{grants_of}
-use Rattle.smi_holdings.specs.Children.{is_among, commanded_among, commanded_child, meant}
+use Rattle.smi_holdings.specs.Children.{is_among, commanded_among, commanded_child}
 use Rattle.smi_holdings.specs.Commanded.{IsSo}
 use Rattle.smi_holdings.specs.declared.commanded.CommandedChild.{CommandedChild}
 use Rattle.smi_holdings.proofs.Among.{among_children, at_among, fresh_child}

@@ -1,4 +1,4 @@
-use Rattle.std.proofs.Common.{◌≡◌, ◌∙◌, Some, None, ap}
+use Rattle.std.proofs.Common.{◌∙◌, Some, None, ap}
 use Rattle.smi_rows.specs.declared.Mode.{Mode}
 use Rattle.smi_protocol.specs.Children.{mode_after}
 use Rattle.smi_holdings.specs.Children.{meant}

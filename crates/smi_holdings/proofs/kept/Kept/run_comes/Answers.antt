@@ -1,4 +1,4 @@
-use Rattle.std.proofs.Common.{◌≡◌, ◌∙◌, true, ap, sym}
+use Rattle.std.proofs.Common.{◌∙◌, ap, sym}
 use Rattle.smi_grant.specs.Keeper.{admits}
 use Rattle.smi_grant.specs.Record.{Standing}
 use Rattle.smi_holdings.proofs.kept.Kept.run_comes.Goals as goal
