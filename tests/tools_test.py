@@ -25,9 +25,11 @@ HERE = os.path.dirname(os.path.abspath(__file__))
 ROOT = os.path.dirname(HERE)
 sys.path.insert(0, os.path.join(ROOT, "tools"))
 
-import gate  # noqa: E402 (these stand in tools/)
+import edits  # noqa: E402 (these stand in tools/)
+import gate  # noqa: E402
 import kit  # noqa: E402
 import libraries  # noqa: E402
+import parts  # noqa: E402
 import soak  # noqa: E402
 import verdict  # noqa: E402
 from costs_test import Crate, Landings, Records as RecordsOfCosts, Tables  # noqa: E402, F401
@@ -151,6 +153,47 @@ class Records(unittest.TestCase):
         self.assertEqual(gate.recorded(), {"one": "12"})
         gate.write_record({"two": "22"})
         self.assertEqual(gate.lines_of_record(), {("one", "kit-a"): "11", ("two", "kit-b"): "22"})
+
+
+class Parts(unittest.TestCase):
+    """How the edits of a crate are parted."""
+
+    @staticmethod
+    def edit(name, function, may_be_twin):
+        return mock.Mock(path=name, function=function, may_be_twin=may_be_twin, how=edits.AGAIN)
+
+    def test_each_once(self):
+        found = [self.edit(str(number), "f%d" % (number % 4), number % 3 == 0) for number in range(20)]
+        for count in (1, 2, 7):
+            made = parts.parts_of(found, count)
+            self.assertEqual(len(made), count)
+            self.assertEqual(sorted(it.path for part in made for it in part), sorted(it.path for it in found))
+
+    def test_twins_stay_together_and_others_do_not(self):
+        twins = [self.edit("t%d" % number, "twin", True) for number in range(3)]
+        alone = [self.edit("a%d" % number, "alone", False) for number in range(3)]
+        made = parts.parts_of([*alone, *twins], 3)
+        self.assertEqual([sorted(it.path for it in part) for part in made], [["t0", "t1", "t2"], ["a0", "a2"], ["a1"]])
+
+    def test_one_that_does_not_fit_is_in_a_part(self):
+        bad = mock.Mock(spec=["path", "how", "function"], path="bad", how=edits.BAD, function=None)
+        self.assertEqual(parts.parts_of([bad], 1), [[bad]])
+
+    def test_a_crate_that_is_tried_in_parts(self):
+        with tempfile.TemporaryDirectory() as folder, tempfile.TemporaryDirectory() as room:
+            crate = mock.Mock(folder=folder)
+            crate.name = "one"
+            os.mkdir(os.path.join(folder, "edits"))
+            for name in ("a", "b", "c"):
+                with open(os.path.join(folder, "edits", name + ".edit"), "w", encoding="utf-8") as file:
+                    file.write("function: %s\n" % name)
+            with mock.patch.object(kit, "costs", lambda: {"one": kit.Cost(1, None, 3, 1201)}), \
+                    mock.patch.object(edits, "Edit", lambda _crate, path: self.edit(path, path, True)):
+                made = parts.folders_of(crate, [os.path.join(folder, "edits")], room)
+            found = [edits.paths_of([at]) for at in made]
+            self.assertEqual([len(it) for it in found], [1, 1, 1])
+            self.assertEqual({os.path.realpath(it) for at in found for it in at},
+                             {os.path.join(os.path.realpath(folder), "edits", it + ".edit") for it in "abc"})
 
 
 class Sums(unittest.TestCase):

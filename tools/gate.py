@@ -29,6 +29,7 @@ import time
 
 import edits
 import kit
+import parts
 
 RECORD = os.path.join(kit.ROOT, "edits.ok")
 PROGRAMS = ("smi", "smi_trial")
@@ -179,7 +180,7 @@ def try_edits(is_whole, since):
     skipped = [crate for crate in crates if known.get(crate.name) == sums[crate.name]]
     trying = [crate for crate in crates if crate not in skipped]
     passed, failed = run([sys.executable, "tests/edits_test.py", str(since)]) if trying else (0, 0)
-    tried = edits.try_all(trying, "edits", since=since) if trying else {}
+    tried = parts.try_all(trying, "edits", since=since) if trying else {}
     refused, others = edits.summary(tried)
     if is_whole and not failed:
         well = {name for name, of in tried.items() if of and all(it.how == edits.REFUSED for it in of)}
@@ -193,7 +194,7 @@ def record(names):
     """The edits of these crates, and their lines of the record where all are refused."""
     crates = [crate for crate in kit.crates() if crate.name in names]
     before = {crate.name: kit.own_sum(crate) for crate in kit.crates()}
-    tried = edits.try_all(crates, "edits")
+    tried = parts.try_all(crates, "edits")
     well = {name for name, of in tried.items() if of and all(it.how == edits.REFUSED for it in of)}
     is_same = all(kit.own_sum(crate) == before[crate.name] for crate in kit.crates())
     if is_same:

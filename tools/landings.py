@@ -4,6 +4,7 @@ Nothing is run: each task is taken to last as long as it did when it was measure
 """
 
 import collections
+import math
 import os
 
 import edits
@@ -12,6 +13,8 @@ import kit
 # What is to be done: how many seconds it takes, and what has to be done before.
 Task = collections.namedtuple("Task", "seconds after")
 UNKNOWN = kit.Cost()
+# The edits of a crate are tried in parts where they take longer than so many processor seconds (tools/parts.py).
+LONG = 600
 
 
 def count_of(crate):
@@ -29,6 +32,11 @@ def of_edits(crate, found):
     """How long all edits take that a crate has now, each as those of it that were measured, or else as those of all."""
     cost = found.get(crate.name, UNKNOWN)
     return count_of(crate) * (cost.tried / cost.edits if cost.tried else pace(found))
+
+
+def part_count(count, seconds):
+    """Into how many parts so many edits are parted that take so long."""
+    return max(min(count, 1), min(count, math.ceil(seconds / LONG)))
 
 
 def proofs(crates, found):
@@ -70,7 +78,11 @@ class Landing:
             above |= {crate.name} if not changed or any(dep.name in above for dep in crate.deps) else set()
         self.crates = [crate for crate in crates if crate.name in above]
         self.proofs = {**proofs(self.crates, found), **tests(self.crates, found)}
-        self.edits = {it.name: Task(of_edits(it, found), ()) for it in self.crates if count_of(it)}
+        self.edits = {}
+        for crate in self.crates:
+            seconds = of_edits(crate, found)
+            many = part_count(count_of(crate), seconds)
+            self.edits |= {(crate.name, part): Task(seconds / many, ()) for part in range(many)}
         self.count = sum(map(count_of, self.crates))
 
     def work(self):
