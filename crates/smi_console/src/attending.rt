@@ -7,10 +7,9 @@ use crate::reading::{Input, InputEnd};
 use crossbeam_channel::Receiver;
 use smi_base::write_whole;
 use smi_commands::status::{no_memory, read_fault, write_fault};
-use smi_front::{Front, MOST_GIVEN, StationNews};
+use smi_front::{Front, MOST_GIVEN, Showing, StationNews};
 use smi_schedule::Unwritten;
 use smi_tree::Tree;
-use smi_view::BoardId;
 use std::io::Write;
 use std::sync::Wait;
 use std::thread::sleep;
@@ -24,8 +23,8 @@ const NEWS: usize = 512;
 
 /// What the thread has beside its outputs.
 #[derive(Drop)]
-pub(crate) struct Attendant<J: BoardId> {
-    pub(crate) front: Box<Front<J>>,
+pub(crate) struct Attendant<G: Showing + Drop> {
+    pub(crate) front: Box<Front<G>>,
     pub(crate) hall: Box<Hall>,
     pub(crate) bell: Bell,
     /// Where what the standard input is told goes.
@@ -37,7 +36,7 @@ pub(crate) struct Attendant<J: BoardId> {
     pub(crate) is_plain_over: bool,
 }
 
-impl<J: BoardId> Attendant<J> {
+impl<G: Showing + Drop> Attendant<G> {
     /// What the station has told is noted. Whether there may be more.
     fn note_news<R: Wait>(&mut self, rt: &R) -> bool {
         for _ in 0..NEWS {
@@ -109,9 +108,9 @@ fn tell_ending<F: Write>(ending: Result<InputEnd, Unwritten>, faults: &mut F) {
 }
 
 /// Hands on what the caller at the standard input is to be told, and tells its faults.
-fn print<J: BoardId, R: Wait, F: Write>(
+fn print<G: Showing + Drop, R: Wait, F: Write>(
     rt: &R,
-    attendant: &mut Attendant<J>,
+    attendant: &mut Attendant<G>,
     faults: &mut F,
 ) -> Result<(), Unwritten> {
     let plain = &mut attendant.hall.plain;
@@ -123,11 +122,11 @@ fn print<J: BoardId, R: Wait, F: Write>(
 }
 
 /// The standard input is heard, line by line, and told. Whether it has more.
-fn serve_plain<J: BoardId, R: Wait, F: Write>(
+fn serve_plain<G: Showing + Drop, R: Wait, F: Write>(
     rt: &R,
     tree: &Tree,
     now: Option<Instant>,
-    attendant: &mut Attendant<J>,
+    attendant: &mut Attendant<G>,
     faults: &mut F,
 ) -> Result<bool, Unwritten> {
     if attendant.hall.is_plain_lost() {
@@ -151,11 +150,11 @@ fn serve_plain<J: BoardId, R: Wait, F: Write>(
 }
 
 /// The standard input is heard and told, and where it ends, that is told too. Whether it has more.
-fn attend_plain<J: BoardId, R: Wait, F: Write>(
+fn attend_plain<G: Showing + Drop, R: Wait, F: Write>(
     rt: &R,
     tree: &Tree,
     now: Option<Instant>,
-    attendant: &mut Attendant<J>,
+    attendant: &mut Attendant<G>,
     faults: &mut F,
 ) -> bool {
     if attendant.is_plain_over {
@@ -174,10 +173,10 @@ fn attend_plain<J: BoardId, R: Wait, F: Write>(
 }
 
 /// Everybody is heard and told once, as far as nothing waits. Whether the standard input, or the station, has more.
-fn round<J: BoardId, R: Wait + Clock, F: Write>(
+fn round<G: Showing + Drop, R: Wait + Clock, F: Write>(
     rt: &R,
     tree: &Tree,
-    attendant: &mut Attendant<J>,
+    attendant: &mut Attendant<G>,
     faults: &mut F,
 ) -> bool {
     let now = Instant::now(rt).ok();
@@ -194,10 +193,10 @@ fn round<J: BoardId, R: Wait + Clock, F: Write>(
 }
 
 /// Hears and tells, round after round, until the standard input has ended where nobody else can talk to the node.
-pub(crate) fn attend<J: BoardId, R: Wait + Clock, F: Write>(
+pub(crate) fn attend<G: Showing + Drop, R: Wait + Clock, F: Write>(
     rt: &R,
     tree: &Tree,
-    attendant: &mut Attendant<J>,
+    attendant: &mut Attendant<G>,
     faults: &mut F,
 ) {
     for _ in rt.forever() {

@@ -4,24 +4,23 @@ ghost use Rattle.std.specs.Prelude.{◌≡◌, ◌++◌, ◌∷◌, [], IfOk, le
 ghost use Rattle.smi_operator.specs.Sides.{IsDeskOf};
 
 use crate::bell::Bell;
-use crate::chime::{Chime, ChimedLink};
+use crate::chime::Chime;
 use crate::dispatch::Dispatch;
 use crate::ending::Halt;
 use crate::hall::Hall;
-use crate::herald::Herald;
-use crate::peers::linked;
+use crate::herald::{Herald, Keeps};
+use crate::peers::{Linking, UdpLinking};
 use crate::running::NodeSetup;
 use crate::service::Service;
+use crate::side::{Chimed, StationSide};
 use crate::starting::{Console, Lobby, begin_console};
 use crossbeam_channel::Sender;
 use smi_base::MOST_OPERATORS_OF_A_STATION;
-use smi_front::{Front, Office, StationNews, boxed};
+use smi_front::{Front, Office, Showing, StationNews, boxed};
 use smi_link::{DatagramLink, UdpLink};
-use smi_node::{CountedLink, Counter, Counts};
+use smi_node::{Counter, Counts};
 use smi_operator::{Desk, Seat, open_seats};
-use smi_rows::Stable;
-use smi_station::Station;
-use smi_view::{BoardId, Glance, Picture};
+use smi_view::Picture;
 use std::alloc::{AllocError, Global};
 use std::fs::Files;
 use std::io::{ErrorKind, Read, Write};
@@ -59,49 +58,58 @@ fn seated(alloc: Global, operators: &[u16]) -> Result<Seats, AllocError>
 }
 
 /// The front desk of a node, over the seats of its operators and behind them nobody's.
-fn front_of<J: BoardId>(
+fn front_of<G: Showing + Drop>(
     alloc: Global,
     setup: &NodeSetup,
     operators: &[u16],
     own: Vec<Seat>,
     reports: Seat,
-    glance: Glance<J>,
-    counts: Arc<Counts, Global>,
-) -> Result<Box<Front<J>>, AllocError> {
-    let picture = Picture::new(alloc, setup.tree.object_count(), 0)?;
+    glance: G,
+    counts: &Arc<Counts, Global>,
+) -> Result<Box<Front<G>>, AllocError> {
     let office = Office::open(alloc, operators, own, reports)?;
+    let picture = Picture::new(alloc, setup.tree.object_count(), 0)?;
+    let counts = Arc::try_clone(counts)?;
     Front::open(alloc, office, glance, counts, picture)
 }
 
-/// What a node has before its consoles begin: the station's link, the desk of its seats, the front desk over these,
-/// and a bell to the station.
+/// The seats of a station's operators and one for reports, at the front, and their desk.
+fn seated_front<G: Showing + Drop>(
+    alloc: Global,
+    setup: &NodeSetup,
+    operators: &[u16],
+    glance: G,
+    counts: &Arc<Counts, Global>,
+) -> Result<(Box<Front<G>>, Box<Desk>), AllocError> {
+    let Seats { own, reports, desk } = seated(alloc, operators)?;
+    match front_of(alloc, setup, operators, own, reports, glance, counts) {
+        Ok(front) => Ok((front, desk)),
+        Err(refused) => Err(refused),
+    }
+}
+
+/// What a node has before its consoles begin: the station's side, the front desk over its seats, and a bell to the
+/// station.
 #[derive(Drop)]
-struct Ends<L: Drop, J: BoardId> {
-    link: L,
-    desk: Box<Desk>,
-    front: Box<Front<J>>,
+struct Ends<L: Drop, G: Showing + Drop> {
+    side: StationSide<L>,
+    front: Box<Front<G>>,
     bell: Bell,
 }
 
 /// The seats of a station's operators and one for reports, at the front, their desk, and last the station's link.
-fn posted<'a, J: BoardId, H: Net + Clock + AllocGlobal>(
-    rt: &'a H,
+fn posted<K: Linking, G: Showing + Drop>(
+    alloc: Global,
     setup: &NodeSetup,
     operators: &[u16],
-    glance: Glance<J>,
-    counts: &Arc<Counts, Global>,
-) -> Result<Ends<UdpLink<&'a H>, J>, Halt> {
-    let alloc = rt.alloc();
-    let counts = Arc::try_clone(counts)?;
-    let Seats { own, reports, desk } = seated(alloc, operators)?;
-    let front = front_of(alloc, setup, operators, own, reports, glance, counts)?;
-    let (link, bell) = linked(rt, &setup.tree, setup.station)?;
-    Ok(Ends {
-        link,
-        desk,
-        front,
-        bell,
-    })
+    glance: G,
+    linking: &K,
+) -> Result<Ends<K::Link, G>, Halt> {
+    let counts = counted(alloc)?;
+    let (front, desk) = seated_front(alloc, setup, operators, glance, &counts)?;
+    let (link, bell) = linking.linked(&setup.tree, setup.station)?;
+    let side = StationSide::new(alloc, link, desk, counts)?;
+    Ok(Ends { side, front, bell })
 }
 
 /// The hall of a node, with its doors, and a chime to it.
@@ -119,22 +127,30 @@ fn hall_of<H: Files + Net + AllocGlobal>(
     }
 }
 
-/// All that stands at the front of a node, with its doors, and a chime to it.
-fn lobby_of<J: BoardId, H: Files + Net + AllocGlobal>(
+/// What a node has before its threads begin: the station's side, what stands at the front, and a chime to it.
+#[derive(Drop)]
+struct BothSides<L: Drop, G: Showing + Drop> {
+    side: StationSide<L>,
+    lobby: Lobby<G>,
+    chime: Arc<Chime, Global>,
+}
+
+/// The seats of a station and its link, and then the hall of its node.
+fn both_sides<K: Linking, G: Showing + Drop, H: Files + Net + AllocGlobal>(
     rt: &H,
     setup: &NodeSetup,
-    front: Box<Front<J>>,
-    bell: Bell,
-) -> Result<(Lobby<J>, Arc<Chime, Global>), Halt> {
+    operators: &[u16],
+    glance: G,
+    linking: &K,
+) -> Result<BothSides<K::Link, G>, Halt> {
+    let ends = posted(rt.alloc(), setup, operators, glance, linking)?;
     let (hall, chime) = hall_of(rt, setup)?;
-    let own = Arc::try_clone(&chime)?;
-    let lobby = Lobby {
-        front,
-        hall,
-        bell,
-        chime: own,
-    };
-    Ok((lobby, chime))
+    let Ends { side, front, bell } = ends;
+    Ok(BothSides {
+        side,
+        lobby: Lobby { front, hall, bell },
+        chime,
+    })
 }
 
 /// Counts that both sides share.
@@ -145,39 +161,49 @@ fn counted(alloc: Global) -> Result<Arc<Counts, Global>, Halt> {
     }
 }
 
-/// The link of a station, which is counted, and wakes the thread at the front.
-fn link_with<L: DatagramLink + Drop>(
-    link: L,
-    counts: &Arc<Counts, Global>,
-    chime: &Arc<Chime, Global>,
-) -> Result<ChimedLink<CountedLink<L>>, AllocError> {
-    let counts = Arc::try_clone(counts)?;
-    let chime = Arc::try_clone(chime)?;
-    Ok(ChimedLink::over(CountedLink::over(link, counts), chime))
-}
-
-/// Who tells the thread at the front of what a station does, by this way, and counts.
-fn herald_of<S: Stable, H: Wait + AllocGlobal + Clone + Drop>(
+/// What hands on news to the thread at the front, by this way, and wakes it.
+fn dispatch_of<H: Wait + AllocGlobal + Clone + Drop>(
     rt: &H,
-    setup: &NodeSetup,
-    station: &Station<'_, S>,
-    counts: &Arc<Counts, Global>,
     chime: &Arc<Chime, Global>,
     news: Sender<StationNews>,
-) -> Result<Herald<H>, AllocError> {
-    let counts = Arc::try_clone(counts)?;
+) -> Result<Dispatch<H>, AllocError> {
     let chime = Arc::try_clone(chime)?;
-    let tree = Arc::try_clone(&setup.tree)?;
     let there = rt.clone()?;
-    let dispatch = Dispatch::new(rt.alloc(), there, chime, news);
-    Herald::new(rt.alloc(), tree, station, Counter::new(counts), dispatch)
+    Dispatch::new(rt.alloc(), there, chime, news)
 }
 
-/// The threads of the consoles begin, and the station's side is what it is served with, over any link.
+/// Who tells the thread at the front of what a station does, and counts.
+fn herald_of<T: Keeps, H: Wait + Drop>(
+    alloc: Global,
+    setup: &NodeSetup,
+    station: &T,
+    counts: &Arc<Counts, Global>,
+    dispatch: Dispatch<H>,
+) -> Result<Herald<H>, AllocError> {
+    let tree = Arc::try_clone(&setup.tree)?;
+    let counts = Arc::try_clone(counts)?;
+    Herald::new(alloc, tree, station, Counter::new(counts), dispatch)
+}
+
+/// The station's side is what it is served with, over any link.
+fn service_of<L: DatagramLink + Drop, T: Keeps, H: Wait + AllocGlobal + Clone + Drop>(
+    rt: &H,
+    setup: &NodeSetup,
+    station: &T,
+    side: StationSide<L>,
+    chime: Arc<Chime, Global>,
+    news: Sender<StationNews>,
+) -> Result<Service<Chimed<L>, Herald<H>>, AllocError> {
+    let dispatch = dispatch_of(rt, &chime, news)?;
+    let herald = herald_of(rt.alloc(), setup, station, side.counts(), dispatch)?;
+    side.into_service(rt.alloc(), chime, herald)
+}
+
+/// The station's seats and its link are made, and the threads of its consoles begin, in this order.
 fn manned<
-    J: BoardId + Send + Sync + 'static,
-    L: DatagramLink + Drop,
-    S: Stable,
+    K: Linking,
+    G: Showing + Drop + Send + 'static,
+    T: Keeps,
     H: Files + Net + Wait + Threads + Clock + AllocGlobal + Clone + Drop + Send + 'static,
     I: Read + Drop + Send + 'static,
     O: Write + Drop + Send + 'static,
@@ -185,32 +211,25 @@ fn manned<
 >(
     rt: &H,
     setup: &NodeSetup,
-    station: &Station<'_, S>,
-    counts: &Arc<Counts, Global>,
-    ends: Ends<L, J>,
+    station: &T,
+    glance: G,
+    linking: &K,
     console: Console<I, O, E>,
-) -> Result<Service<ChimedLink<CountedLink<L>>, Herald<H>>, Halt> {
-    let Ends {
-        link,
-        desk,
-        front,
-        bell,
-    } = ends;
-    let (lobby, chime) = lobby_of(rt, setup, front, bell)?;
-    let link = link_with(link, counts, &chime)?;
-    let news = begin_console(rt, setup, lobby, console)?;
-    let herald = herald_of(rt, setup, station, counts, &chime, news)?;
-    Ok(Service::new(rt.alloc(), link, desk, herald)?)
+) -> Result<Service<Chimed<K::Link>, Herald<H>>, Halt> {
+    let sides = both_sides(rt, setup, station.sitting(), glance, linking)?;
+    let BothSides { side, lobby, chime } = sides;
+    let news = begin_console(rt, setup, lobby, &chime, console)?;
+    Ok(service_of(rt, setup, station, side, chime, news)?)
 }
 
 /// What a station is served with by a node.
-pub(crate) type Fitted<'a, H> = Service<ChimedLink<CountedLink<UdpLink<&'a H>>>, Herald<H>>;
+pub(crate) type Fitted<'a, H> = Service<Chimed<UdpLink<&'a H>>, Herald<H>>;
 
-/// What an open station is served with: its seats, its link, and the threads of its consoles, in this order.
+/// What an open station is served with by a node: its seats, its link, and the threads of its consoles, in this order.
 pub(crate) fn fitted<
     'a,
-    J: BoardId + Send + Sync + 'static,
-    S: Stable,
+    G: Showing + Drop + Send + 'static,
+    T: Keeps,
     H: Files + Net + Wait + Threads + Clock + AllocGlobal + Clone + Drop + Send + 'static,
     I: Read + Drop + Send + 'static,
     O: Write + Drop + Send + 'static,
@@ -218,11 +237,9 @@ pub(crate) fn fitted<
 >(
     rt: &'a H,
     setup: &NodeSetup,
-    station: &Station<'_, S>,
-    glance: Glance<J>,
+    station: &T,
+    glance: G,
     console: Console<I, O, E>,
 ) -> Result<Fitted<'a, H>, Halt> {
-    let counts = counted(rt.alloc())?;
-    let ends = posted(rt, setup, station.operators(), glance, &counts)?;
-    manned(rt, setup, station, &counts, ends, console)
+    manned(rt, setup, station, glance, &UdpLinking { rt }, console)
 }

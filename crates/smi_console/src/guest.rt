@@ -2,9 +2,8 @@
 
 use crate::doors::Stream;
 use mio::event::Event;
-use smi_front::{Caller, Cutter, Front, MOST_UNSENT, Manners};
+use smi_front::{Caller, Cutter, Front, MOST_UNSENT, Manners, SeatAnswer, Showing};
 use smi_tree::Tree;
-use smi_view::BoardId;
 use std::alloc::{AllocError, Global};
 use std::io::ErrorKind;
 use std::time::Instant;
@@ -131,9 +130,9 @@ impl ConsoleGuest {
     }
 
     /// Its lines are heard.
-    fn talk<J: BoardId>(
+    fn talk<G: Showing + Drop>(
         &mut self,
-        front: &mut Front<J>,
+        front: &mut Front<G>,
         tree: &Tree,
         now: Option<Instant>,
     ) -> Result<(), AllocError> {
@@ -185,8 +184,24 @@ impl ConsoleGuest {
         is_late || self.caller.said().len() > MOST_UNSENT
     }
 
+    /// An answer is told to it, where it is of its order. Whether it is; one that can't be told it leaves.
+    pub(crate) fn is_answered<G: Showing + Drop>(
+        &mut self,
+        front: &mut Front<G>,
+        tree: &Tree,
+        answered: &SeatAnswer,
+    ) -> bool {
+        match front.tell(tree, &mut self.caller, answered) {
+            Ok(is_own) => is_own,
+            Err(_) => {
+                self.leaves = true;
+                true
+            }
+        }
+    }
+
     /// Whether all that it typed is answered, or nobody is there to be answered.
-    fn is_done<J: BoardId>(&self, front: &Front<J>) -> bool {
+    fn is_done<G: Showing + Drop>(&self, front: &Front<G>) -> bool {
         self.is_over
             && self.cutter.is_used_up()
             && self.caller.is_idle()
@@ -195,9 +210,9 @@ impl ConsoleGuest {
     }
 
     /// Its lines are heard, and what it is to be told is written, as far as nothing waits.
-    pub(crate) fn turn<J: BoardId>(
+    pub(crate) fn turn<G: Showing + Drop>(
         &mut self,
-        front: &mut Front<J>,
+        front: &mut Front<G>,
         tree: &Tree,
         now: Option<Instant>,
     ) {

@@ -5,9 +5,8 @@ use crate::guest::ConsoleGuest;
 use crate::reading::InputEnd;
 use mio::event::Event;
 use mio::{Events, Poll, Registry, Token, Waker};
-use smi_front::{Caller, Front, Manners, SeatAnswer, boxed};
+use smi_front::{Caller, Front, Manners, SeatAnswer, Showing, boxed};
 use smi_tree::Tree;
-use smi_view::BoardId;
 use std::alloc::{AllocError, Global};
 use std::fs::Files;
 use std::io;
@@ -58,19 +57,20 @@ pub(crate) struct Hall {
     events: Events<Global>,
 }
 
-/// An entrance at this place, known to the poll by this number.
-fn entrance_at<R: Files + Net>(
+/// An entrance at this place is added to others, known to the poll by its number.
+fn add_entrance<R: Files + Net>(
     rt: &R,
     place: &ListenAddress,
     registry: &Registry,
-    number: usize,
-) -> io::Result<Entrance> {
+    entrances: &mut Vec<Entrance>,
+) -> io::Result<()> {
     let mut door = Door::open(rt, place)?;
-    door.register(registry, number)?;
-    Ok(Entrance {
+    door.register(registry, entrances.len().saturating_add(FIRST_DOOR))?;
+    entrances.push(Entrance {
         door,
         is_called: true,
-    })
+    })?;
+    Ok(())
 }
 
 /// The entrances of a hall at these places are added to others, each known to the poll by its number.
@@ -80,8 +80,8 @@ fn open_entrances<R: Files + Net>(
     registry: &Registry,
     entrances: &mut Vec<Entrance>,
 ) -> io::Result<()> {
-    for (place, number) in places.iter().zip(FIRST_DOOR..) {
-        entrances.push(entrance_at(rt, place, registry, number)?)?;
+    for place in places {
+        add_entrance(rt, place, registry, entrances)?;
     }
     Ok(())
 }
@@ -97,6 +97,20 @@ fn hear_of(entrances: &mut [Entrance], guests: &mut [ConsoleGuest], event: &Even
     for guest in guests.iter_mut() {
         if usize::try_from(guest.number()) == Ok(number) {
             guest.hear_of(event);
+        }
+    }
+}
+
+/// An answer is told to the guest who gave its order, where that is one of these.
+fn tell_guests<G: Showing + Drop>(
+    guests: &mut [ConsoleGuest],
+    front: &mut Front<G>,
+    tree: &Tree,
+    answered: &SeatAnswer,
+) {
+    for guest in guests.iter_mut() {
+        if guest.is_answered(front, tree, answered) {
+            return;
         }
     }
 }
@@ -139,29 +153,16 @@ impl Hall {
     }
 
     /// An answer is told to its caller, where that has not left.
-    pub(crate) fn tell_answer<J: BoardId>(
+    pub(crate) fn tell_answer<G: Showing + Drop>(
         &mut self,
-        front: &mut Front<J>,
+        front: &mut Front<G>,
         tree: &Tree,
         answered: &SeatAnswer,
     ) {
         match front.tell(tree, &mut self.plain, answered) {
-            Ok(true) => return,
-            Ok(false) => {}
-            Err(_) => {
-                self.is_plain_lost = true;
-                return;
-            }
-        }
-        for guest in self.guests.iter_mut() {
-            match front.tell(tree, guest.caller(), answered) {
-                Ok(true) => return,
-                Ok(false) => {}
-                Err(_) => {
-                    guest.leave();
-                    return;
-                }
-            }
+            Ok(true) => {}
+            Ok(false) => tell_guests(&mut self.guests, front, tree, answered),
+            Err(_) => self.is_plain_lost = true,
         }
     }
 
@@ -228,9 +229,9 @@ impl Hall {
     }
 
     /// Each connection is heard and told, as far as nothing waits; those that are done leave.
-    pub(crate) fn serve_guests<J: BoardId>(
+    pub(crate) fn serve_guests<G: Showing + Drop>(
         &mut self,
-        front: &mut Front<J>,
+        front: &mut Front<G>,
         tree: &Tree,
         now: Option<Instant>,
     ) {
@@ -241,7 +242,7 @@ impl Hall {
     }
 
     /// How long to wait at most for something to come.
-    fn patience<J: BoardId>(&self, front: &Front<J>, has_more: bool) -> Option<Duration> {
+    fn patience<G: Showing + Drop>(&self, front: &Front<G>, has_more: bool) -> Option<Duration> {
         if has_more || self.guests.iter().any(|guest| guest.can_go_on()) {
             return Some(Duration::from_millis(0));
         }
@@ -257,7 +258,7 @@ impl Hall {
     }
 
     /// Waits until something comes, or until it is time to look again. Whether it could wait.
-    pub(crate) fn wait<J: BoardId>(&mut self, front: &Front<J>, has_more: bool) -> bool {
+    pub(crate) fn wait<G: Showing + Drop>(&mut self, front: &Front<G>, has_more: bool) -> bool {
         let patience = self.patience(front, has_more);
         let has_waited = self.poll.poll(&mut self.events, patience).is_ok();
         let (entrances, guests) = (&mut self.entrances, &mut self.guests);

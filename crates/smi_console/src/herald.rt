@@ -12,6 +12,27 @@ use smi_tree::Tree;
 use std::alloc::{AllocError, Global};
 use std::sync::{Arc, Wait};
 
+/// What a herald asks of a station.
+///
+/// A function over a station is dear to prove, and these two are all that is asked of it before it is served.
+pub(crate) trait Keeps {
+    /// The operators who sit there.
+    fn sitting(&self) -> &[u16];
+
+    /// The newest state of an object that it keeps.
+    fn state_of(&self, object: u16) -> Option<Shown>;
+}
+
+impl<'a, S: Stable> Keeps for Station<'a, S> {
+    fn sitting(&self) -> &[u16] {
+        self.operators()
+    }
+
+    fn state_of(&self, object: u16) -> Option<Shown> {
+        self.current(object)
+    }
+}
+
 /// Tells of the states that the objects of its station pass through, of those that the station takes, and of the
 /// actions that it does; it also counts.
 ///
@@ -30,16 +51,16 @@ impl<H: Wait + Drop> Herald<H> {
     /// A herald of a station who has told nothing but the states of what the station keeps.
     ///
     /// Its error is that memory was refused.
-    pub(crate) fn new<S: Stable>(
+    pub(crate) fn new<T: Keeps>(
         alloc: Global,
         tree: Arc<Tree, Global>,
-        station: &Station<'_, S>,
+        station: &T,
         counter: Counter,
         dispatch: Dispatch<H>,
     ) -> Result<Herald<H>, AllocError> {
         let mut owed = Vec::new(alloc);
         for object in 1..=tree.object_count() {
-            owed.push(station.current(object))?;
+            owed.push(station.state_of(object))?;
         }
         let mut herald = Herald {
             tree,

@@ -2,9 +2,10 @@
 //!
 //! [`run`] begins it. It brings the store's rows into their newest schema, opens the station, makes a seat for each
 //! of its operators and one for reports, a board with one glance, and its socket, in this order (`fitting`), so that
-//! the first fault is told (`faults`, `ending`). Its link reaches the stations at their addresses (`peers`). Then it
-//! serves the station in its own thread (`service`), with `serve_before` of `smi_node`, which is told each step that
-//! it makes, and counts (`smi_node`). What that does to the store is the contract of [`run`].
+//! the first fault is told (`faults`, `ending`). Its link reaches the stations at their addresses (`peers`); until the
+//! threads have begun it stands on the station's side, with the desk (`side`). Then the node serves the station in its
+//! own thread (`service`), with `serve_before` of `smi_node`, which is told each step that it makes, and counts
+//! (`smi_node`). What that does to the store is the contract of [`run`].
 //!
 //! Three threads, which nobody joins, have the consoles (`starting`). One reads the lines of the standard input and
 //! hands them on (`reading`); one writes what the standard input is told (`outlet`). The third stands at the front
@@ -48,6 +49,7 @@ mod peers;
 mod reading;
 mod running;
 mod service;
+mod side;
 mod starting;
 
 pub use doors::ListenAddress;

@@ -1,11 +1,11 @@
 //! How the standard output is written without holding up the front.
 
 use crate::chime::Chime;
-use crossbeam_channel::{Receiver, Sender, TrySendError};
+use crossbeam_channel::{Receiver, Sender, TrySendError, bounded};
 use smi_base::write_whole;
 use smi_front::{Caller, MOST_UNSENT};
 use smi_schedule::Unwritten;
-use std::alloc::Global;
+use std::alloc::{AllocError, Global};
 use std::io::Write;
 use std::sync::atomic::{AtomicBool, AtomicUsize, Ordering};
 use std::sync::{Arc, Wait};
@@ -13,14 +13,14 @@ use std::sync::{Arc, Wait};
 /// How many bytes are handed on at once, and how many times before they are written.
 const AT_ONCE: usize = 4_096;
 
-pub(crate) const HANDED: usize = 16;
+const HANDED: usize = 16;
 
 /// The most bytes that are handed on to one end of the standard output: after them it counts as faulty.
 const MOST: u64 = 1 << 48;
 
 /// What the thread that writes and the one at the front know of each other.
 #[derive(Drop)]
-pub(crate) struct WriterStatus {
+struct WriterStatus {
     /// How many blocks were handed on and are not written.
     unwritten: AtomicUsize,
     /// Whether a write has failed.
@@ -29,7 +29,7 @@ pub(crate) struct WriterStatus {
 
 impl WriterStatus {
     /// Nothing was handed on.
-    pub(crate) fn new() -> WriterStatus {
+    fn new() -> WriterStatus {
         WriterStatus {
             unwritten: AtomicUsize::new(0),
             has_failed: AtomicBool::new(false),
@@ -45,20 +45,35 @@ pub(crate) struct Outlet {
     progress: Arc<WriterStatus, Global>,
 }
 
-impl Outlet {
-    /// An outlet through which nothing was handed on.
-    pub(crate) fn new(
-        alloc: Global,
-        blocks: Sender<Vec<u8>>,
-        progress: Arc<WriterStatus, Global>,
-    ) -> Outlet {
-        Outlet {
-            alloc,
-            blocks,
-            progress,
-        }
-    }
+/// What comes out of an outlet, for the thread that writes.
+#[derive(Drop)]
+pub(crate) struct Inflow {
+    blocks: Receiver<Vec<u8>>,
+    progress: Arc<WriterStatus, Global>,
+}
 
+/// What both ends of an outlet know.
+fn progress_of_none(alloc: Global) -> Result<Arc<WriterStatus, Global>, AllocError> {
+    match Arc::new(alloc, WriterStatus::new()) {
+        Ok(progress) => Ok(progress),
+        Err(_refused) => Err(AllocError),
+    }
+}
+
+/// An outlet through which nothing was handed on, and what comes out of it.
+pub(crate) fn open_outlet(alloc: Global) -> Result<(Outlet, Inflow), AllocError> {
+    let progress = progress_of_none(alloc)?;
+    let own = Arc::try_clone(&progress)?;
+    let (sender, blocks) = bounded(alloc, HANDED)?;
+    let outlet = Outlet {
+        alloc,
+        blocks: sender,
+        progress: own,
+    };
+    Ok((outlet, Inflow { blocks, progress }))
+}
+
+impl Outlet {
     /// Whether all that was handed on is written.
     pub(crate) fn is_written(&self) -> bool {
         self.progress.unwritten.load(Ordering::SeqCst) == 0
@@ -108,23 +123,17 @@ fn write_block<W: Write>(writer: &mut W, block: &[u8]) -> bool {
 }
 
 /// Writes block after block, until nobody hands on more, or a write fails; after each the front is woken.
-pub(crate) fn write_all<W: Write, R: Wait>(
-    rt: &R,
-    blocks: &Receiver<Vec<u8>>,
-    progress: &WriterStatus,
-    chime: &Chime,
-    writer: &mut W,
-) {
+pub(crate) fn write_all<W: Write, R: Wait>(rt: &R, inflow: &Inflow, chime: &Chime, writer: &mut W) {
     for _ in 0..MOST {
-        let Ok(block) = blocks.recv(rt) else {
+        let Ok(block) = inflow.blocks.recv(rt) else {
             return;
         };
         if !write_block(writer, block.as_slice()) {
             break;
         }
-        progress.unwritten.fetch_sub(1, Ordering::SeqCst);
+        inflow.progress.unwritten.fetch_sub(1, Ordering::SeqCst);
         chime.ring();
     }
-    progress.has_failed.store(true, Ordering::SeqCst);
+    inflow.progress.has_failed.store(true, Ordering::SeqCst);
     chime.ring();
 }

@@ -6,7 +6,7 @@ ghost use Rattle.smi_console.specs.Peers.{address_in};
 
 use crate::bell::Bell;
 use crate::ending::Halt;
-use smi_link::UdpLink;
+use smi_link::{DatagramLink, UdpLink};
 use smi_tree::{Address, Tree};
 use std::alloc::{AllocError, Global};
 use std::net::{Ipv4Addr, Net, SocketAddr, SocketAddrV4};
@@ -34,7 +34,7 @@ pub fn addresses(alloc: Global, tree: &Tree) -> Result<Vec<SocketAddr>, AllocErr
 }
 
 /// A bell to a station, and its link at its own address. The link reaches each station at its address of the tree.
-pub(crate) fn linked<'a, H: Net + Clock + AllocGlobal>(
+fn linked<'a, H: Net + Clock + AllocGlobal>(
     rt: &'a H,
     tree: &Tree,
     station: u16,
@@ -47,4 +47,25 @@ pub(crate) fn linked<'a, H: Net + Clock + AllocGlobal>(
     let bell = Bell::hung(rt, own)?;
     let link = UdpLink::open(rt, rt, station, peers)?;
     Ok((link, bell))
+}
+
+/// How a station gets its link, and a bell to it.
+pub(crate) trait Linking {
+    type Link: DatagramLink + Drop;
+
+    fn linked(&self, tree: &Tree, station: u16) -> Result<(Self::Link, Bell), Halt>;
+}
+
+/// A link over UDP.
+#[derive(Drop)]
+pub(crate) struct UdpLinking<'a, H> {
+    pub(crate) rt: &'a H,
+}
+
+impl<'a, H: Net + Clock + AllocGlobal> Linking for UdpLinking<'a, H> {
+    type Link = UdpLink<&'a H>;
+
+    fn linked(&self, tree: &Tree, station: u16) -> Result<(UdpLink<&'a H>, Bell), Halt> {
+        linked(self.rt, tree, station)
+    }
 }

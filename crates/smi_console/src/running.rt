@@ -9,10 +9,11 @@ use crate::doors::ListenAddress;
 use crate::ending::{Halt, told_end};
 use crate::faults::opening_fault;
 use crate::fitting::fitted;
-use crate::service::Turns;
+use crate::service::{Service, Turns};
 use crate::starting::Console;
 use smi_commands::status::Status;
-use smi_node::ServeFault;
+use smi_link::DatagramLink;
+use smi_node::{ServeFault, Witness};
 use smi_rows::Stable;
 use smi_station::{Station, migrate};
 use smi_tree::Tree;
@@ -38,26 +39,18 @@ pub struct NodeSetup {
     pub consoles: Vec<ListenAddress>,
 }
 
-/// Serves a station that is open, with a board that is.
-fn crewed<
-    J: BoardId + Send + Sync + 'static,
-    S: Stable,
-    H: Files + Net + Wait + Threads + Clock + AllocGlobal + Clone + Drop + Send + 'static,
-    I: Read + Drop + Send + 'static,
-    O: Write + Drop + Send + 'static,
-    E: Write + Drop + Send + 'static,
->(
-    rt: &H,
+/// Serves a station that is open, with a board that is, where all is there that it is served with.
+fn crewed<S: Stable, L: DatagramLink + Drop, V: Witness + Drop, J: BoardId, R: Wait>(
+    rt: &R,
     setup: &NodeSetup,
     station: &mut Station<'_, S>,
     board: &mut Board<J>,
-    glance: Glance<J>,
-    console: Console<I, O, E>,
+    fitted: Result<Service<L, V>, Halt>,
 ) -> Result<Result<(), ServeFault>, Halt>
     ensures { IsCrewed (serving S.is_honest S.is_open S.rows S.may_find S.saves S.failures S.doubts) setup.now.turns
         station.old station.new result }
 {
-    match fitted(rt, setup, station, glance, console) {
+    match fitted {
         Ok(service) => {
             let mut service = service;
             Ok(service.serve(rt, setup.turns, station, board))
@@ -73,27 +66,30 @@ fn only<J: BoardId>(glances: Vec<Glance<J>>) -> Result<Glance<J>, Halt> {
 }
 
 /// Serves a station that is open.
-fn over_board<
-    J: BoardId + Send + Sync + 'static,
-    S: Stable,
-    H: Files + Net + Wait + Threads + Clock + AllocGlobal + Clone + Drop + Send + 'static,
-    I: Read + Drop + Send + 'static,
-    O: Write + Drop + Send + 'static,
-    E: Write + Drop + Send + 'static,
->(
+fn over_board<J, S, H, I, O, E>(
     rt: &H,
     blank: NewBoard,
     setup: &NodeSetup,
     station: &mut Station<'_, S>,
     console: Console<I, O, E>,
 ) -> Result<Result<(), ServeFault>, Halt>
+where
+    J: BoardId + Send + Sync + 'static,
+    S: Stable,
+    H: Files + Net + Wait + Threads + Clock + AllocGlobal + Clone + Drop + Send + 'static,
+    I: Read + Drop + Send + 'static,
+    O: Write + Drop + Send + 'static,
+    E: Write + Drop + Send + 'static,
     requires { blank.seen.book ≡ J.book }
     ensures { IsCrewed (serving S.is_honest S.is_open S.rows S.may_find S.saves S.failures S.doubts) setup.now.turns
         station.old station.new result }
 {
     let (mut board, glances) = open_board::<J, H>(rt, rt.alloc(), blank, 1)?;
     let served = match only(glances) {
-        Ok(glance) => crewed(rt, setup, station, &mut board, glance, console),
+        Ok(glance) => {
+            let fitted = fitted(rt, setup, station, glance, console);
+            crewed(rt, setup, station, &mut board, fitted)
+        }
         Err(halt) => Err(halt),
     };
     let _ = board.close(rt);
@@ -101,14 +97,20 @@ fn over_board<
 }
 
 /// The station is opened on its store, and served.
-fn opened<
+fn opened<S, H, I, O, E, F>(
+    rt: &H,
+    setup: &NodeSetup,
+    store: S,
+    console: Console<I, O, E>,
+    faults: &mut F,
+) -> (Status, S)
+where
     S: Stable,
     H: Files + Net + Wait + Threads + Clock + AllocGlobal + Clone + Drop + Send + 'static,
     I: Read + Drop + Send + 'static,
     O: Write + Drop + Send + 'static,
     E: Write + Drop + Send + 'static,
     F: Write,
->(rt: &H, setup: &NodeSetup, store: S, console: Console<I, O, E>, faults: &mut F) -> (Status, S)
     ensures { Begins S.is_honest S.is_open S.rows S.may_find S.saves S.failures S.doubts (arc_value setup.now.tree)
         setup.now.station setup.now.turns store result }
 {
@@ -139,14 +141,20 @@ fn opened<
 /// Nothing but the opening and the steps of the station changes the store. That it serves over its own socket and its
 /// own seats no clause says, and none what the threads of the console do: tests/full.py, tests/nodes.py and
 /// tests/consoles.py see that.
-pub fn run<
+pub fn run<S, H, I, O, E, F>(
+    rt: &H,
+    setup: &NodeSetup,
+    store: S,
+    console: Console<I, O, E>,
+    faults: &mut F,
+) -> (Status, S)
+where
     S: Stable,
     H: Files + Net + Wait + Threads + Clock + AllocGlobal + Clone + Drop + Send + 'static,
     I: Read + Drop + Send + 'static,
     O: Write + Drop + Send + 'static,
     E: Write + Drop + Send + 'static,
     F: Write,
->(rt: &H, setup: &NodeSetup, store: S, console: Console<I, O, E>, faults: &mut F) -> (Status, S)
     ensures { Runs S.is_honest S.is_open S.rows S.may_find S.saves S.failures S.doubts (arc_value setup.now.tree)
         setup.now.station setup.now.turns store result }
 {

@@ -4,13 +4,11 @@ use crate::attending::{Attendant, attend};
 use crate::bell::Bell;
 use crate::chime::Chime;
 use crate::hall::Hall;
-use crate::outlet::{HANDED, Outlet, WriterStatus, write_all};
+use crate::outlet::{Outlet, open_outlet, write_all};
 use crate::reading::{Input, read_all};
 use crate::running::NodeSetup;
 use crossbeam_channel::{Receiver, Sender, bounded};
-use smi_front::{Front, StationNews};
-use smi_tree::Tree;
-use smi_view::BoardId;
+use smi_front::{Front, Showing, StationNews, boxed};
 use std::alloc::{AllocError, Global};
 use std::io::{Read, Write};
 use std::sync::{Arc, Wait};
@@ -35,8 +33,9 @@ const NEWS: usize = 4_096;
 fn begin_reading<
     H: Wait + Threads + AllocGlobal + Clone + Drop + Send + 'static,
     I: Read + Drop + Send + 'static,
->(rt: &H, input: I, lines: Sender<Input>, chime: Arc<Chime, Global>) -> Result<(), AllocError> {
+>(rt: &H, input: I, lines: Sender<Input>, chime: &Arc<Chime, Global>) -> Result<(), AllocError> {
     let there = rt.clone()?;
+    let chime = Arc::try_clone(chime)?;
     let alloc = rt.alloc();
     let begun = spawn(rt, move || {
         let mut input = input;
@@ -54,17 +53,12 @@ fn begin_writing<
     H: Wait + Threads + AllocGlobal + Clone + Drop + Send + 'static,
     O: Write + Drop + Send + 'static,
 >(rt: &H, output: O, chime: &Arc<Chime, Global>) -> Result<Outlet, AllocError> {
-    let chime = Arc::try_clone(chime)?;
-    let (sender, blocks) = bounded(rt.alloc(), HANDED)?;
-    let progress = match Arc::new(rt.alloc(), WriterStatus::new()) {
-        Ok(progress) => progress,
-        Err(_refused) => return Err(AllocError),
-    };
-    let outlet = Outlet::new(rt.alloc(), sender, Arc::try_clone(&progress)?);
     let there = rt.clone()?;
+    let chime = Arc::try_clone(chime)?;
+    let (outlet, inflow) = open_outlet(rt.alloc())?;
     let begun = spawn(rt, move || {
         let mut output = output;
-        write_all(&there, &blocks, &progress, &chime, &mut output)
+        write_all(&there, &inflow, &chime, &mut output)
     });
     match begun {
         Ok(_thread) => Ok(outlet),
@@ -74,11 +68,12 @@ fn begin_writing<
 
 /// Starts the thread at the front. Nobody joins it: it ends with the program, or before.
 fn begin_attending<
-    J: BoardId + Send + Sync + 'static,
+    G: Showing + Drop + Send + 'static,
     H: Wait + Threads + Clock + AllocGlobal + Clone + Drop + Send + 'static,
     E: Write + Drop + Send + 'static,
->(rt: &H, tree: Arc<Tree, Global>, attendant: Attendant<J>, faults: E) -> Result<(), AllocError> {
+>(rt: &H, setup: &NodeSetup, attendant: Box<Attendant<G>>, faults: E) -> Result<(), AllocError> {
     let there = rt.clone()?;
+    let tree = Arc::try_clone(&setup.tree)?;
     let begun = spawn(rt, move || {
         let (mut attendant, mut faults) = (attendant, faults);
         attend(&there, &tree, &mut attendant, &mut faults)
@@ -91,46 +86,21 @@ fn begin_attending<
 
 /// What stands at the front beside its threads.
 #[derive(Drop)]
-pub(crate) struct Lobby<J: BoardId> {
-    pub(crate) front: Box<Front<J>>,
+pub(crate) struct Lobby<G: Showing + Drop> {
+    pub(crate) front: Box<Front<G>>,
     pub(crate) hall: Box<Hall>,
     pub(crate) bell: Bell,
-    pub(crate) chime: Arc<Chime, Global>,
 }
 
-/// The ways to the thread at the front: of lines that were read, and of news, each with its two ends.
-#[derive(Drop)]
-struct Ways {
-    line_sender: Sender<Input>,
-    lines: Receiver<Input>,
-    news_sender: Sender<StationNews>,
-    news: Receiver<StationNews>,
-}
-
-fn open_ways(alloc: Global) -> Result<Ways, AllocError> {
-    let (line_sender, lines) = bounded(alloc, LINES)?;
-    let (news_sender, news) = bounded(alloc, NEWS)?;
-    Ok(Ways {
-        line_sender,
-        lines,
-        news_sender,
-        news,
-    })
-}
-
-/// What the thread at the front has, beside the chime to it.
-fn attendant_of<J: BoardId>(
-    lobby: Lobby<J>,
+/// What the thread at the front has of this lobby.
+fn attendant_of<G: Showing + Drop>(
+    alloc: Global,
+    lobby: Lobby<G>,
     outlet: Outlet,
     lines: Receiver<Input>,
     news: Receiver<StationNews>,
-) -> (Attendant<J>, Arc<Chime, Global>) {
-    let Lobby {
-        front,
-        hall,
-        bell,
-        chime,
-    } = lobby;
+) -> Result<Box<Attendant<G>>, AllocError> {
+    let Lobby { front, hall, bell } = lobby;
     let attendant = Attendant {
         front,
         hall,
@@ -140,12 +110,31 @@ fn attendant_of<J: BoardId>(
         news,
         is_plain_over: false,
     };
-    (attendant, chime)
+    boxed(alloc, attendant)
+}
+
+/// Starts the thread at the front of this lobby, and answers the way by which it is told news.
+fn begin_front<
+    G: Showing + Drop + Send + 'static,
+    H: Wait + Threads + Clock + AllocGlobal + Clone + Drop + Send + 'static,
+    E: Write + Drop + Send + 'static,
+>(
+    rt: &H,
+    setup: &NodeSetup,
+    lobby: Lobby<G>,
+    outlet: Outlet,
+    lines: Receiver<Input>,
+    faults: E,
+) -> Result<Sender<StationNews>, AllocError> {
+    let (sender, news) = bounded(rt.alloc(), NEWS)?;
+    let attendant = attendant_of(rt.alloc(), lobby, outlet, lines, news)?;
+    begin_attending(rt, setup, attendant, faults)?;
+    Ok(sender)
 }
 
 /// Starts the threads of a node's consoles, and answers the way by which they are told news.
 pub(crate) fn begin_console<
-    J: BoardId + Send + Sync + 'static,
+    G: Showing + Drop + Send + 'static,
     H: Wait + Threads + Clock + AllocGlobal + Clone + Drop + Send + 'static,
     I: Read + Drop + Send + 'static,
     O: Write + Drop + Send + 'static,
@@ -153,24 +142,18 @@ pub(crate) fn begin_console<
 >(
     rt: &H,
     setup: &NodeSetup,
-    lobby: Lobby<J>,
+    lobby: Lobby<G>,
+    chime: &Arc<Chime, Global>,
     console: Console<I, O, E>,
 ) -> Result<Sender<StationNews>, AllocError> {
-    let tree = Arc::try_clone(&setup.tree)?;
     let Console {
         input,
         output,
         faults,
     } = console;
-    let outlet = begin_writing(rt, output, &lobby.chime)?;
-    let Ways {
-        line_sender,
-        lines,
-        news_sender,
-        news,
-    } = open_ways(rt.alloc())?;
-    let (attendant, chime) = attendant_of(lobby, outlet, lines, news);
-    begin_attending(rt, tree, attendant, faults)?;
+    let outlet = begin_writing(rt, output, chime)?;
+    let (line_sender, lines) = bounded(rt.alloc(), LINES)?;
+    let news = begin_front(rt, setup, lobby, outlet, lines, faults)?;
     begin_reading(rt, input, line_sender, chime)?;
-    Ok(news_sender)
+    Ok(news)
 }

@@ -9,14 +9,15 @@ use crate::caller::Caller;
 use crate::faults::tell_fault;
 use crate::news::{StationNews, spell_news};
 use crate::office::{Office, SeatAnswer};
+use crate::showing::Showing;
 use crate::tag::{Tag, tagged};
-use crate::telling::{shown, spell_told};
+use crate::telling::spell_told;
 use smi_base::MOST_BYTES_OF_A_LINE;
 use smi_grant::Shown;
 use smi_node::Counts;
 use smi_schedule::spell_board;
 use smi_tree::{Fault, Tree};
-use smi_view::{BoardId, Glance, Picture, is_newer};
+use smi_view::{Picture, is_newer};
 use std::alloc::{AllocError, Global};
 use std::marker::Model;
 use std::sync::Arc;
@@ -29,9 +30,9 @@ const LINES_AT_ONCE: usize = 64;
 ///
 /// Contracts see the wickets, what the board has shown, the newest states, and the news.
 #[derive(Drop)]
-pub struct Front<J: BoardId> {
+pub struct Front<G: Showing + Drop> {
     pub(crate) office: Office,
-    glance: Glance<J>,
+    glance: G,
     pub(crate) counts: Arc<Counts, Global>,
     pub(crate) picture: Picture,
     /// What the station told since that was last forgotten.
@@ -40,12 +41,17 @@ pub struct Front<J: BoardId> {
     pub(crate) alloc: Global,
 }
 
-impl<J: BoardId> Model for Front<J> {
+impl<G: Showing + Drop> Model for Front<G> {
     ghost use Rattle.smi_front.specs.Front.{Fronted};
 
     ghost Value = { Fronted };
 
-    ghost view = { λ f. record { office = f.office; board = f.glance; picture = f.picture; news = f.news.items } };
+    ghost view = { λ f. record {
+      office = f.office;
+      board = G.shows f.glance;
+      picture = f.picture;
+      news = f.news.items;
+    } };
 }
 
 /// Tells a caller of news, as it wants to be told.
@@ -71,7 +77,7 @@ fn tell_of(
     }
 }
 
-impl<J: BoardId> Front<J> {
+impl<G: Showing + Drop> Front<G> {
     ghost use Rattle.std.specs.Prelude.{◌≡◌, ◌≢◌, [], true, false, length, Ok, IfOk, IfSome, IfNone, OnOk, OnErr};
     ghost use Rattle.smi_front.specs.Asked.{asked_in};
     ghost use Rattle.smi_front.specs.Caller.{ending, may_go_on, saying};
@@ -87,11 +93,11 @@ impl<J: BoardId> Front<J> {
     pub fn open(
         alloc: Global,
         office: Office,
-        glance: Glance<J>,
+        glance: G,
         counts: Arc<Counts, Global>,
         picture: Picture,
-    ) -> Result<Box<Front<J>>, AllocError>
-        ensures { IfOk result (λ f. f.value ≡ fronted office glance picture) }
+    ) -> Result<Box<Front<G>>, AllocError>
+        ensures { IfOk result (λ f. f.value ≡ fronted office (G.shows glance) picture) }
     {
         let front = Front {
             office,
@@ -169,7 +175,7 @@ impl<J: BoardId> Front<J> {
                 Ok(())
             }
             Asked::Board(object) => {
-                let shown = shown(&mut self.glance, object);
+                let shown = self.glance.shown(object);
                 spell_board(&mut self.text, tree, object, shown)?;
                 caller.say(tag, self.text.as_slice())
             }

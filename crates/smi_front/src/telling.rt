@@ -1,8 +1,7 @@
 //! What callers are told: how their orders end, and what they ask of the whole node.
 
-ghost use Rattle.std.specs.Prelude.{◌≡◌, ◌⊎◌, None, OnOk, IfOk};
+ghost use Rattle.std.specs.Prelude.{◌≡◌, OnOk, IfOk};
 ghost use Rattle.smi_tree.specs.Text.{words};
-ghost use Rattle.smi_view.specs.Rows.{last_row};
 ghost use Rattle.smi_front.specs.Asked.{objects_in};
 ghost use Rattle.smi_front.specs.Caller.{OnlySays};
 ghost use Rattle.smi_front.specs.Front.{told_by};
@@ -11,43 +10,33 @@ ghost use Rattle.smi_front.specs.Hearing.{wish_of};
 use crate::asked::behind_first;
 use crate::caller::{Caller, Wish};
 use crate::front::Front;
+use crate::showing::Showing;
 use crate::tag::Tag;
 use crate::whole::Whole;
 use crate::wicket::Wicket;
-use smi_grant::Shown;
 use smi_protocol::{Entry, Line, Told};
 use smi_schedule::{spell, spell_board, spell_report, spell_waiting};
 use smi_tree::{Tree, first_word};
-use smi_view::{BoardId, Glance, Picture};
+use smi_view::Picture;
 use std::alloc::{AllocError, Global};
 use std::io::Write;
 use std::time::Instant;
 
-/// What a line may ask, a line each.
+/// What a line may ask, a line each, with its line feed.
 const HELP: [&str; 12] = [
-    "help order OPERATOR take|drop|ask DOMAIN",
-    "help order OPERATOR do DOMAIN ACTION",
-    "help order OPERATOR include|exclude|manual|ignore DOMAIN CHILD",
-    "help order OPERATOR watch|unwatch OBJECT",
-    "help report DEVICE STATE",
-    "help show OBJECT -- the last state that the station took of an object that it watches",
-    "help states -- the newest state of each object that the station keeps or watches",
-    "help follow [OBJECT ..] -- these states and each later one, of some objects or of all",
-    "help actions [DEVICE ..] -- each action that is done at some devices from now on, or at all",
-    "help under way -- the orders that are not answered yet, with their seconds",
-    "help counts -- what this node has counted since it began",
-    "help @TAG LINE -- any of these at once, its answers behind the tag",
+    "help order OPERATOR take|drop|ask DOMAIN\n",
+    "help order OPERATOR do DOMAIN ACTION\n",
+    "help order OPERATOR include|exclude|manual|ignore DOMAIN CHILD\n",
+    "help order OPERATOR watch|unwatch OBJECT\n",
+    "help report DEVICE STATE\n",
+    "help show OBJECT -- the last state that the station took of an object that it watches\n",
+    "help states -- the newest state of each object that the station keeps or watches\n",
+    "help follow [OBJECT ..] -- these states and each later one, of some objects or of all\n",
+    "help actions [DEVICE ..] -- each action that is done at some devices from now on, or at all\n",
+    "help under way -- the orders that are not answered yet, with their seconds\n",
+    "help counts -- what this node has counted since it began\n",
+    "help @TAG LINE -- any of these at once, its answers behind the tag\n",
 ];
-
-/// What the board shows of an object; nothing where it gave no reading.
-pub(crate) fn shown<J: BoardId>(glance: &mut Glance<J>, object: u16) -> Option<Shown>
-    ensures { (result ≡ None) ⊎ (result ≡ last_row object glance.new.seen) }
-{
-    match glance.read(object) {
-        Ok(shown) => shown,
-        Err(_) => None,
-    }
-}
 
 /// How an order of an operator ended, or a report of nobody, in words.
 pub(crate) fn spell_told(
@@ -219,14 +208,13 @@ fn tell_followed(
 fn list_help(text: &mut Vec<u8>, caller: &mut Caller, tag: Option<Tag>) -> Result<(), AllocError>
     ensures { OnlySays caller.old caller.new }
 {
-    for line in HELP {
+    for line in HELP.iter() {
         caller.say(tag, line.as_bytes())?;
-        caller.say(None, b"\n")?;
     }
     tell_count(text, caller, tag, "help", HELP.len())
 }
 
-impl<J: BoardId> Front<J> {
+impl<G: Showing + Drop> Front<G> {
     ghost use Rattle.std.specs.Prelude.{◌≡◌, OnOk};
     ghost use Rattle.smi_tree.specs.Text.{words};
     ghost use Rattle.smi_front.specs.Caller.{OnlySays};
