@@ -1,6 +1,6 @@
 //! Which states a view accepts, and what the glances of a board read.
 
-ghost use Rattle.std.specs.Prelude.{◌≡◌};
+ghost use Rattle.std.specs.Prelude.{◌≡◌, ◌≤◌, length};
 
 use smi_grant::{Shown, Version};
 use smi_view::{Acceptance, Board, BoardId, Glance, NewBoard, NoReading, View, open_board};
@@ -19,20 +19,30 @@ fn shown(object: u16, boot: u32, sequence: u32, state: u16) -> Shown
     }
 }
 
+/// Whether states of object 2 are accepted as they have to be, and what was accepted last meanwhile.
+fn accepted_in_turn(view: &mut View) -> [bool; 11]
+    requires { 2 ≤ length view.old.table }
+{
+    [
+        view.last(2) == None,
+        view.accept(1, shown(2, 1, 1, 2)) == Acceptance::OtherBoot,
+        view.last(2) == None,
+        view.accept(2, shown(2, 1, 1, 2)) == Acceptance::Accepted,
+        view.accept(2, shown(2, 1, 1, 2)) == Acceptance::NotNewer,
+        view.accept(2, shown(2, 1, 0, 1)) == Acceptance::NotNewer,
+        view.last(2) == Some(shown(2, 1, 1, 2)),
+        view.accept(2, shown(2, 2, 0, 1)) == Acceptance::Accepted,
+        view.last(2) == Some(shown(2, 2, 0, 1)),
+        view.last(3) == None,
+        view.last(0) == None,
+    ]
+}
+
 #[test]
 fn newer_versions_of_this_boot(rt: HostRuntime) -> Result<(), Fail> {
     let mut view = View::new(rt.alloc(), 3, 2)?;
-    assert_eq!(rt; view.last(2), None);
-    assert_eq!(rt; view.accept(1, shown(2, 1, 1, 2)), Acceptance::OtherBoot);
-    assert_eq!(rt; view.last(2), None);
-    assert_eq!(rt; view.accept(2, shown(2, 1, 1, 2)), Acceptance::Accepted);
-    assert_eq!(rt; view.accept(2, shown(2, 1, 1, 2)), Acceptance::NotNewer);
-    assert_eq!(rt; view.accept(2, shown(2, 1, 0, 1)), Acceptance::NotNewer);
-    assert_eq!(rt; view.last(2), Some(shown(2, 1, 1, 2)));
-    assert_eq!(rt; view.accept(2, shown(2, 2, 0, 1)), Acceptance::Accepted);
-    assert_eq!(rt; view.last(2), Some(shown(2, 2, 0, 1)));
-    assert_eq!(rt; view.last(3), None);
-    assert_eq!(rt; view.last(0), None);
+    let found = accepted_in_turn(&mut view);
+    assert_eq!(rt; found, [true; 11]);
     Ok(())
 }
 

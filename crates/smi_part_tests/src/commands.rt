@@ -46,168 +46,181 @@ fn settled(heard: &LinkHeard) -> [Option<(u32, u16)>; 3] {
     [at(0), at(1), at(2)]
 }
 
+/// Whether a link that hears a record becomes this, and tells these settlements.
+fn becomes(link: Link, heard: Record, wanted: Link, codes: [Option<(u32, u16)>; 3]) -> bool {
+    let (now, what) = told(&link, BOB, &heard);
+    now == wanted && settled(&what) == codes
+}
+
 #[test]
-fn records_heard(rt: HostRuntime) {
+fn records_heard_by_links_that_hold_nothing(rt: HostRuntime) {
     let free = Record::fresh();
     let mine = Record {
         epoch: 1,
         holder: BOB,
         ..free
     };
-    let (none, one) = (Pending::new(), only(START));
-    let nothing = [None; 3];
-    let table = [
-        (
-            Link::Taking(0),
-            Record { epoch: 2, ..free },
-            Link::Taking(2),
-            nothing,
-        ),
-        (
-            Link::Taking(0),
-            Record {
-                holder: Holder::Operator(1),
-                ..mine
-            },
-            Link::Out(1),
-            [Some((0, 5)), None, None],
-        ),
-        (Link::Taking(0), free, Link::Taking(0), nothing),
-        (
-            Link::Taking(0),
-            mine,
-            held(1, 0, none),
-            [Some((0, 0)), None, None],
-        ),
-        (Link::Taking(2), mine, Link::Taking(2), nothing),
-        (
-            Link::Taking(LAST_EPOCH),
-            Record {
-                epoch: LAST_EPOCH,
-                ..free
-            },
-            Link::Out(LAST_EPOCH),
-            [Some((0, 9)), None, None],
-        ),
-        (
+    let others = Record {
+        holder: Holder::Operator(1),
+        ..mine
+    };
+    let again = Record { epoch: 2, ..free };
+    let last = Record {
+        epoch: LAST_EPOCH,
+        ..free
+    };
+    let later = Record { epoch: 4, ..free };
+    let (none, nothing, done) = (Pending::new(), [None; 3], [Some((0, 0)), None, None]);
+    let (taken, spent) = ([Some((0, 5)), None, None], [Some((0, 9)), None, None]);
+    let rows = [
+        becomes(Link::Taking(0), again, Link::Taking(2), nothing),
+        becomes(Link::Taking(0), others, Link::Out(1), taken),
+        becomes(Link::Taking(0), free, Link::Taking(0), nothing),
+        becomes(Link::Taking(0), mine, held(1, 0, none), done),
+        becomes(Link::Taking(2), mine, Link::Taking(2), nothing),
+        becomes(Link::Taking(LAST_EPOCH), last, Link::Out(LAST_EPOCH), spent),
+        becomes(
             Link::Taking(u64::MAX),
             mine,
             Link::Taking(u64::MAX),
             nothing,
         ),
-        (
-            held(1, 2, two(CONFIGURE, START)),
-            Record {
-                last: 2,
-                outcome: 1,
-                ..mine
-            },
+        becomes(Link::Dropping(1), later, Link::Out(4), done),
+        becomes(Link::Dropping(1), mine, Link::Dropping(1), nothing),
+        becomes(Link::Out(0), mine, Link::Out(0), nothing),
+    ];
+    assert_eq!(rt; rows, [true; 10]);
+}
+
+#[test]
+fn records_heard_by_links_that_hold(rt: HostRuntime) {
+    let mine = Record {
+        epoch: 1,
+        holder: BOB,
+        ..Record::fresh()
+    };
+    let settled = Record {
+        last: 2,
+        outcome: 1,
+        ..mine
+    };
+    let second = Record {
+        last: 2,
+        phase: Phase::Busy,
+        ..mine
+    };
+    let first = Record {
+        last: 1,
+        phase: Phase::Busy,
+        ..mine
+    };
+    let (none, one, both) = (Pending::new(), only(START), two(CONFIGURE, START));
+    let (nothing, unseen) = ([None; 3], [Some((1, 8)), None, None]);
+    let rows = [
+        becomes(
+            held(1, 2, both),
+            settled,
             held(1, 2, none),
             [Some((1, 8)), Some((2, 1)), None],
         ),
-        (
-            held(1, 2, two(CONFIGURE, START)),
-            Record {
-                last: 2,
-                phase: Phase::Busy,
-                ..mine
-            },
-            held(1, 2, one),
-            [Some((1, 8)), None, None],
-        ),
-        (
-            held(1, 2, two(CONFIGURE, START)),
-            Record {
-                last: 1,
-                phase: Phase::Busy,
-                ..mine
-            },
-            held(1, 2, two(CONFIGURE, START)),
-            nothing,
-        ),
-        (
-            held(3, 2, two(CONFIGURE, START)),
-            Record {
-                last: 2,
-                outcome: 1,
-                ..mine
-            },
-            held(3, 2, two(CONFIGURE, START)),
-            nothing,
-        ),
-        (
-            Link::Dropping(1),
-            Record { epoch: 4, ..free },
-            Link::Out(4),
-            [Some((0, 0)), None, None],
-        ),
-        (Link::Dropping(1), mine, Link::Dropping(1), nothing),
-        (Link::Out(0), mine, Link::Out(0), nothing),
+        becomes(held(1, 2, both), second, held(1, 2, one), unseen),
+        becomes(held(1, 2, both), first, held(1, 2, both), nothing),
+        becomes(held(3, 2, both), settled, held(3, 2, both), nothing),
     ];
-    for (i, (link, heard, left, codes)) in table.iter().enumerate() {
-        let (now, what) = told(link, BOB, heard);
-        assert_eq!(rt; now, *left, "row {i}");
-        assert_eq!(rt; settled(&what), *codes, "row {i}");
-    }
-    let renewed = told(&Link::Taking(0), BOB, &Record { epoch: 2, ..free });
-    assert_eq!(rt; renewed.1, LinkHeard::Renewed);
-    assert_eq!(rt; told(&Link::Taking(0), BOB, &free).1, LinkHeard::Unchanged);
+    assert_eq!(rt; rows, [true; 4]);
     assert_eq!(rt; Outcome::Unseen.code(), 8);
+}
+
+/// What a link that is taking hears where nothing settles.
+fn heard_while_taking(heard: Record) -> LinkHeard {
+    told(&Link::Taking(0), BOB, &heard).1
+}
+
+#[test]
+fn records_that_settle_nothing(rt: HostRuntime) {
+    let free = Record::fresh();
+    let heard = [
+        heard_while_taking(Record { epoch: 2, ..free }) == LinkHeard::Renewed,
+        heard_while_taking(free) == LinkHeard::Unchanged,
+    ];
+    assert_eq!(rt; heard, [true; 2]);
+}
+
+/// Whether a link answers a take, a command and a drop so.
+fn obeys(
+    link: Link,
+    taken: Result<Link, u16>,
+    issued: Result<Link, u16>,
+    dropped: Result<Link, u16>,
+) -> bool {
+    begin_take(&link) == taken && issue(&link, START) == issued && begin_drop(&link) == dropped
 }
 
 #[test]
 fn orders_given(rt: HostRuntime) {
-    let none = Pending::new();
-    let one = only(START);
-    let links = [
-        (Link::Out(3), Ok(Link::Taking(3)), Err(21), Err(21)),
-        (Link::Taking(3), Err(23), Err(21), Err(21)),
-        (Link::Dropping(3), Err(23), Err(21), Err(21)),
-        (
+    let (none, one) = (Pending::new(), only(START));
+    let last = held(3, 1_000_000, one);
+    let rows = [
+        obeys(Link::Out(3), Ok(Link::Taking(3)), Err(21), Err(21)),
+        obeys(Link::Taking(3), Err(23), Err(21), Err(21)),
+        obeys(Link::Dropping(3), Err(23), Err(21), Err(21)),
+        obeys(
             held(3, 999_999, none),
             Err(23),
-            Ok(held(3, 1_000_000, one)),
+            Ok(last),
             Ok(Link::Dropping(3)),
         ),
-        (
+        obeys(
             held(3, 1_000_000, none),
             Err(23),
             Err(24),
             Ok(Link::Dropping(3)),
         ),
-        (
+        obeys(
             held(u64::MAX, u32::MAX, none),
             Err(23),
             Err(24),
             Ok(Link::Dropping(u64::MAX)),
         ),
-        (
+        obeys(
             held(3, 1, one),
             Err(23),
             Ok(held(3, 2, two(START, START))),
             Err(22),
         ),
     ];
-    for (i, (link, taken, issued, dropped)) in links.iter().enumerate() {
-        assert_eq!(rt; begin_take(link), *taken, "row {i}");
-        assert_eq!(rt; issue(link, START), *issued, "row {i}");
-        assert_eq!(rt; begin_drop(link), *dropped, "row {i}");
-    }
-    let mut full = held(1, 0, none);
+    assert_eq!(rt; rows, [true; 7]);
+}
+
+/// A link with as many pending commands as there is room for.
+fn filled() -> Result<Link, u16> {
+    let mut full = held(1, 0, Pending::new());
     for _ in 0..MOST_PENDING {
-        full = issue(&full, START).expect(&rt, "there is room");
+        full = issue(&full, START)?;
     }
-    assert_eq!(rt; issue(&full, START), Err(22));
-    assert_eq!(rt; begin_drop(&full), Err(22));
-    assert_eq!(rt; due(&full, 7), Some(Due::Run(1, 8, START)));
-    assert_eq!(rt; due(&full, 8), None);
+    Ok(full)
+}
+
+/// What such a link answers to a command and a drop, and what it is due last.
+fn at_the_limit() -> Result<[bool; 4], u16> {
+    let full = filled()?;
+    Ok([
+        issue(&full, START) == Err(22),
+        begin_drop(&full) == Err(22),
+        due(&full, 7) == Some(Due::Run(1, 8, START)),
+        due(&full, 8) == None,
+    ])
+}
+
+#[test]
+fn orders_with_all_commands_pending(rt: HostRuntime) {
+    assert_eq!(rt; at_the_limit(), Ok([true; 4]));
     let codes = [
-        Refusal::NotHeld,
-        Refusal::CommandPending,
-        Refusal::NotOut,
-        Refusal::NumbersSpent,
-    ]
-    .map(Refusal::code);
+        Refusal::NotHeld.code(),
+        Refusal::CommandPending.code(),
+        Refusal::NotOut.code(),
+        Refusal::NumbersSpent.code(),
+    ];
     assert_eq!(rt; codes, [21, 22, 23, 24]);
 }
 

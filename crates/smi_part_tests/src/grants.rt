@@ -40,42 +40,32 @@ fn grant_from_take_to_drop(rt: HostRuntime) {
         epoch: LAST_EPOCH - 1,
         ..HELD
     };
-    let table = [
-        (take(&fresh, BOB, 0), Verdict::New(HELD)),
-        (take(&HELD, Holder::Operator(1), 1), Verdict::Same),
-        (start(&HELD, true, 0), Verdict::New(busy)),
-        (drop_grant(&busy, BOB, 1), Verdict::Same),
-        (settle(&busy, 5), Verdict::New(done)),
-        (start(&HELD, false, 5), Verdict::New(done)),
-        (drop_grant(&done, BOB, 1), Verdict::New(free)),
-        (drop_grant(&done, BOB, 3), Verdict::Same),
-        (take(&free, BOB, 0), Verdict::Same),
-        (take(&spent, BOB, LAST_EPOCH), Verdict::Same),
-        (
-            take(&last_free, BOB, LAST_EPOCH - 2),
-            Verdict::New(last_held),
-        ),
-        (
-            drop_grant(&last_held, BOB, LAST_EPOCH - 1),
-            Verdict::New(spent),
-        ),
+    let made = [
+        take(&fresh, BOB, 0) == Verdict::New(HELD),
+        take(&HELD, Holder::Operator(1), 1) == Verdict::Same,
+        start(&HELD, true, 0) == Verdict::New(busy),
+        drop_grant(&busy, BOB, 1) == Verdict::Same,
+        settle(&busy, 5) == Verdict::New(done),
+        start(&HELD, false, 5) == Verdict::New(done),
+        drop_grant(&done, BOB, 1) == Verdict::New(free),
+        drop_grant(&done, BOB, 3) == Verdict::Same,
+        take(&free, BOB, 0) == Verdict::Same,
+        take(&spent, BOB, LAST_EPOCH) == Verdict::Same,
+        take(&last_free, BOB, LAST_EPOCH - 2) == Verdict::New(last_held),
+        drop_grant(&last_held, BOB, LAST_EPOCH - 1) == Verdict::New(spent),
     ];
-    for (i, (made, wanted)) in table.iter().enumerate() {
-        assert_eq!(rt; made, wanted, "row {i}");
-    }
+    assert_eq!(rt; made, [true; 12]);
+}
+
+#[test]
+fn commands_that_are_admitted(rt: HostRuntime) {
     let admitted = [
-        (BOB, 1, 1, true),
-        (BOB, 1, 2, false),
-        (BOB, 3, 1, false),
-        (Holder::Domain(2), 1, 1, false),
+        admit(&HELD, BOB, 1, 1),
+        admit(&HELD, BOB, 1, 2),
+        admit(&HELD, BOB, 3, 1),
+        admit(&HELD, Holder::Domain(2), 1, 1),
     ];
-    for (holder, epoch, number, wanted) in admitted {
-        assert_eq!(rt;
-            admit(&HELD, holder, epoch, number),
-            wanted,
-            "{holder:?} {epoch} {number}"
-        );
-    }
+    assert_eq!(rt; admitted, [true, false, false, false]);
     // 2^62
     assert_eq!(rt; LAST_EPOCH.to_be_bytes(), [0x40, 0, 0, 0, 0, 0, 0, 0]);
     ranks_rise();
@@ -108,46 +98,46 @@ fn which_records_there_are(rt: HostRuntime) {
     }
 }
 
+/// Whether a holder has this kind and number, and is in range.
+fn is_holder(holder: Holder, kind: u8, number: u16) -> bool {
+    (holder.kind(), holder.number(), holder.is_in_range()) == (kind, number, true)
+        && Holder::from_kind(kind, number) == Some(holder)
+}
+
 #[test]
-fn numbers_in_datagrams_and_rows(rt: HostRuntime) {
-    let holders = [
-        (0, 0, Some(Holder::Free)),
-        (1, 32, Some(Holder::Operator(32))),
-        (2, 128, Some(Holder::Domain(128))),
-        (0, 1, None),
-        (3, 1, None),
+fn kinds_and_numbers_of_holders(rt: HostRuntime) {
+    let found = [
+        is_holder(Holder::Free, 0, 0),
+        is_holder(Holder::Operator(32), 1, 32),
+        is_holder(Holder::Domain(128), 2, 128),
+        Holder::from_kind(0, 1) == None,
+        Holder::from_kind(3, 1) == None,
     ];
-    for (kind, number, holder) in holders {
-        assert_eq!(rt; Holder::from_kind(kind, number), holder, "{kind} {number}");
-        let told = holder.map(|it| (it.kind(), it.number(), it.is_in_range()));
-        assert_eq!(rt;
-            told,
-            holder.map(|_| (kind, number, true)),
-            "{kind} {number}"
-        );
-    }
-    let commands = [
-        (1, 64, Some(Command::Do(64))),
-        (2, 128, Some(Command::Include(128))),
-        (3, 1, Some(Command::Exclude(1))),
-        (4, 2, Some(Command::Manual(2))),
-        (5, 3, Some(Command::Ignore(3))),
-        (0, 1, None),
-        (6, 1, None),
+    assert_eq!(rt; found, [true; 5]);
+}
+
+/// Whether a command has this verb and argument, and is in range.
+fn is_command(command: Command, verb: u16, argument: u16) -> bool {
+    (command.verb(), command.argument(), command.is_in_range()) == (verb, argument, true)
+        && Command::from_verb(verb, argument) == Some(command)
+}
+
+#[test]
+fn verbs_and_arguments_of_commands(rt: HostRuntime) {
+    let found = [
+        is_command(Command::Do(64), 1, 64),
+        is_command(Command::Include(128), 2, 128),
+        is_command(Command::Exclude(1), 3, 1),
+        is_command(Command::Manual(2), 4, 2),
+        is_command(Command::Ignore(3), 5, 3),
+        Command::from_verb(0, 1) == None,
+        Command::from_verb(6, 1) == None,
     ];
-    for (verb, argument, command) in commands {
-        assert_eq!(rt;
-            Command::from_verb(verb, argument),
-            command,
-            "{verb} {argument}"
-        );
-        let told = command.map(|it| (it.verb(), it.argument(), it.is_in_range()));
-        assert_eq!(rt;
-            told,
-            command.map(|_| (verb, argument, true)),
-            "{verb} {argument}"
-        );
-    }
+    assert_eq!(rt; found, [true; 7]);
+}
+
+#[test]
+fn numbers_out_of_range(rt: HostRuntime) {
     let outside = [
         Holder::Operator(0).is_in_range(),
         Holder::Operator(33).is_in_range(),
@@ -160,13 +150,18 @@ fn numbers_in_datagrams_and_rows(rt: HostRuntime) {
         is_outcome(10),
     ];
     assert_eq!(rt; outside, [false; 9]);
-    for outcome in [0, 7, 9] {
-        assert!(rt; is_outcome(outcome), "{outcome}");
-    }
-    for (number, phase) in [(0, Some(Phase::Settled)), (1, Some(Phase::Busy)), (2, None)] {
-        assert_eq!(rt; Phase::from_number(number), phase);
-        assert_eq!(rt; phase.map(Phase::number), phase.map(|_| number));
-    }
+    assert_eq!(rt; [is_outcome(0), is_outcome(7), is_outcome(9)], [true; 3]);
+}
+
+#[test]
+fn numbers_of_phases(rt: HostRuntime) {
+    let found = [
+        Phase::from_number(0),
+        Phase::from_number(1),
+        Phase::from_number(2),
+    ];
+    assert_eq!(rt; found, [Some(Phase::Settled), Some(Phase::Busy), None]);
+    assert_eq!(rt; [Phase::Settled.number(), Phase::Busy.number()], [0, 1]);
 }
 
 #[test]

@@ -143,71 +143,79 @@ fn the_worked_file(rt: HostRuntime) -> Result<(), Fail> {
     Ok(())
 }
 
+/// Lines behind those of `BEGUN`, and the fault of each.
+const BEHIND: [(&[u8], (u64, u16)); 41] = [
+    (b"", (0, 0)),
+    (b"\n# a comment\n \t\n", (0, 0)),
+    (b"station Q 1.2.3.004:65535\r\n", (0, 0)),
+    (b"stat S", (12, 1)),
+    (b"state", (12, 2)),
+    (b"state X Y", (12, 2)),
+    (b"state x", (12, 3)),
+    (b"state 1X", (12, 3)),
+    (b"state ABCDEFGHIJKLMNOP", (0, 0)),
+    (b"state ABCDEFGHIJKLMNOPQ", (12, 3)),
+    (b"state X\r", (12, 3)),
+    (b"state S", (12, 4)),
+    (b"action A", (12, 4)),
+    (b"station P 1.2.3.4:5", (12, 4)),
+    (b"devclass U S", (12, 4)),
+    (b"operator M P", (12, 4)),
+    (b"device O M D", (12, 4)),
+    (b"domain O P U -", (12, 4)),
+    (b"move D S A S", (12, 4)),
+    (b"accept U A", (12, 4)),
+    (b"operator N Q", (12, 5)),
+    (b"devclass E X", (12, 5)),
+    (b"domain N P U O", (12, 5)),
+    (b"device N O D", (12, 5)),
+    (b"tree 2", (12, 7)),
+    (b"station Q 1.2.3:5", (12, 8)),
+    (b"station Q 1.2.3.256:5", (12, 8)),
+    (b"station Q 1.2.3.4:0", (12, 8)),
+    (b"station Q 1.2.3.4:00000000005", (12, 8)),
+    (b"move U S A T", (12, 9)),
+    (b"accept D A", (12, 9)),
+    (b"any D S T", (12, 9)),
+    (b"domain N P D M", (12, 9)),
+    (b"device N M U", (12, 9)),
+    // Two faults in one line: the one that is tested first.
+    (b"tree", (12, 7)),
+    (b"stat", (12, 1)),
+    (b"state x y", (12, 2)),
+    (b"station x 1.2.3:4", (12, 3)),
+    (b"station P 1.2.3:4", (12, 8)),
+    (b"operator O Q", (12, 5)),
+    (b"device O M U", (12, 4)),
+];
+
+/// Whole files, and the fault of each.
+const WHOLE: [(&[u8], (u64, u16)); 8] = [
+    (b"", (0, 12)),
+    (b"# nothing\n", (0, 12)),
+    (b"state S\n", (1, 7)),
+    (b"\n\nstat\n", (3, 7)),
+    (b"tree 0\n", (1, 3)),
+    (b"tree 65536\n", (1, 3)),
+    (b"tree 00000065535\n", (1, 3)),
+    (
+        b"tree 1\nstate S\naction A\nstation P 1.2.3.4:5\noperator O P\n",
+        (0, 12),
+    ),
+];
+
 #[test]
-fn each_fault(rt: HostRuntime) -> Result<(), Fail> {
-    let alloc = rt.alloc();
-    let behind: [(&[u8], (u64, u16)); 41] = [
-        (b"", (0, 0)),
-        (b"\n# a comment\n \t\n", (0, 0)),
-        (b"station Q 1.2.3.004:65535\r\n", (0, 0)),
-        (b"stat S", (12, 1)),
-        (b"state", (12, 2)),
-        (b"state X Y", (12, 2)),
-        (b"state x", (12, 3)),
-        (b"state 1X", (12, 3)),
-        (b"state ABCDEFGHIJKLMNOP", (0, 0)),
-        (b"state ABCDEFGHIJKLMNOPQ", (12, 3)),
-        (b"state X\r", (12, 3)),
-        (b"state S", (12, 4)),
-        (b"action A", (12, 4)),
-        (b"station P 1.2.3.4:5", (12, 4)),
-        (b"devclass U S", (12, 4)),
-        (b"operator M P", (12, 4)),
-        (b"device O M D", (12, 4)),
-        (b"domain O P U -", (12, 4)),
-        (b"move D S A S", (12, 4)),
-        (b"accept U A", (12, 4)),
-        (b"operator N Q", (12, 5)),
-        (b"devclass E X", (12, 5)),
-        (b"domain N P U O", (12, 5)),
-        (b"device N O D", (12, 5)),
-        (b"tree 2", (12, 7)),
-        (b"station Q 1.2.3:5", (12, 8)),
-        (b"station Q 1.2.3.256:5", (12, 8)),
-        (b"station Q 1.2.3.4:0", (12, 8)),
-        (b"station Q 1.2.3.4:00000000005", (12, 8)),
-        (b"move U S A T", (12, 9)),
-        (b"accept D A", (12, 9)),
-        (b"any D S T", (12, 9)),
-        (b"domain N P D M", (12, 9)),
-        (b"device N M U", (12, 9)),
-        // Two faults in one line: the one that is tested first.
-        (b"tree", (12, 7)),
-        (b"stat", (12, 1)),
-        (b"state x y", (12, 2)),
-        (b"station x 1.2.3:4", (12, 3)),
-        (b"station P 1.2.3:4", (12, 8)),
-        (b"operator O Q", (12, 5)),
-        (b"device O M U", (12, 4)),
-    ];
-    for (line, want) in behind {
-        assert_eq!(rt; fault_behind(alloc, line)?, want, "{line:?}");
+fn each_fault_behind_other_lines(rt: HostRuntime) -> Result<(), Fail> {
+    for (line, want) in BEHIND {
+        assert_eq!(rt; fault_behind(rt.alloc(), line)?, want, "{line:?}");
     }
-    let whole: [(&[u8], (u64, u16)); 8] = [
-        (b"", (0, 12)),
-        (b"# nothing\n", (0, 12)),
-        (b"state S\n", (1, 7)),
-        (b"\n\nstat\n", (3, 7)),
-        (b"tree 0\n", (1, 3)),
-        (b"tree 65536\n", (1, 3)),
-        (b"tree 00000065535\n", (1, 3)),
-        (
-            b"tree 1\nstate S\naction A\nstation P 1.2.3.4:5\noperator O P\n",
-            (0, 12),
-        ),
-    ];
-    for (bytes, want) in whole {
-        assert_eq!(rt; fault_of(alloc, bytes)?, want, "{bytes:?}");
+    Ok(())
+}
+
+#[test]
+fn each_fault_of_a_whole_file(rt: HostRuntime) -> Result<(), Fail> {
+    for (bytes, want) in WHOLE {
+        assert_eq!(rt; fault_of(rt.alloc(), bytes)?, want, "{bytes:?}");
     }
     Ok(())
 }

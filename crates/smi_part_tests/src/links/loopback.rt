@@ -1,5 +1,6 @@
 //! Links at addresses of this machine.
 
+use super::begins_with;
 use smi_link::{DatagramLink, Reception, UdpLink};
 use std::alloc::{AllocError, Global};
 use std::cell::Cell;
@@ -37,53 +38,84 @@ fn open(
     UdpLink::open(rt, rt, station, peers)
 }
 
-/// Whether a datagram of this byte alone stands in the beginning of a buffer.
-fn begins_with(buffer: &[u8; 45], byte: u8) -> bool {
-    &buffer[..44] == [byte; 44].as_slice()
+/// What a link of station 2 receives of a socket at station 1's address, and what that receives of the link: how many
+/// bytes, and from which address.
+fn exchanged<L: DatagramLink>(
+    link: &mut L,
+    there: &UdpSocket,
+    second: SocketAddr,
+) -> io::Result<((Reception, bool), (usize, bool))> {
+    let mut buffer = [0u8; 45];
+    there.set_read_timeout(Some(Duration::from_secs(5)))?;
+    there.send_to(&[9; 44], second)?;
+    let came = link.receive(&mut buffer);
+    let is_nines = begins_with(&buffer, 9);
+    if link.send(1, &[8; 44]) != Ok(()) {
+        return Ok(((came, is_nines), (0, false)));
+    }
+    let (count, from) = there.recv_from(&mut buffer)?;
+    let is_its = from == second && begins_with(&buffer, 8);
+    Ok(((came, is_nines), (count, is_its)))
+}
+
+/// Whether a socket can be bound to an address.
+fn is_free(rt: &HostRuntime, address: SocketAddr) -> bool {
+    UdpSocket::bind(rt, address).is_ok()
 }
 
 #[test]
 fn opened_at_its_own_address(rt: HostRuntime) -> Result<(), Fail> {
-    let mut buffer = [0u8; 45];
     let (first, second) = free_addresses(&rt)?;
-    let mut link = open(&rt, 2, first, second)?;
     let there = UdpSocket::bind(&rt, first)?;
-    assert!(rt; UdpSocket::bind(&rt, second).is_err());
-    there.set_read_timeout(Some(Duration::from_secs(5)))?;
-    there.send_to(&[9; 44], second)?;
-    assert_eq!(rt; link.receive(&mut buffer), Reception::Received(44));
-    assert!(rt; begins_with(&buffer, 9));
-    assert_eq!(rt; link.send(1, &[8; 44]), Ok(()));
-    let (count, from) = there.recv_from(&mut buffer)?;
-    assert_eq!(rt; count, 44);
-    assert!(rt; from == second && begins_with(&buffer, 8));
+    let mut link = open(&rt, 2, first, second)?;
+    let is_free_meanwhile = is_free(&rt, second);
+    let found = exchanged(&mut link, &there, second);
     drop(link);
-    assert!(rt; UdpSocket::bind(&rt, second).is_ok());
+    assert_eq!(rt; (is_free_meanwhile, is_free(&rt, second)), (false, true));
+    assert_eq!(rt; found?, ((Reception::Received(44), true), (44, true)));
     Ok(())
+}
+
+/// Whether a link of a station can be opened.
+fn can_be_opened(rt: &HostRuntime, station: u16, first: SocketAddr, second: SocketAddr) -> bool {
+    open(rt, station, first, second).is_ok()
 }
 
 #[test]
 fn not_opened_where_the_address_is_in_use(rt: HostRuntime) -> Result<(), Fail> {
     let (first, second) = free_addresses(&rt)?;
     let there = UdpSocket::bind(&rt, first)?;
-    assert!(rt; open(&rt, 1, first, second).is_err());
-    assert!(rt; open(&rt, 0, first, second).is_err());
-    assert!(rt; open(&rt, 3, first, second).is_err());
+    let meanwhile = [
+        can_be_opened(&rt, 1, first, second),
+        can_be_opened(&rt, 0, first, second),
+        can_be_opened(&rt, 3, first, second),
+    ];
     drop(there);
-    assert!(rt; open(&rt, 1, first, second).is_ok());
+    assert_eq!(rt; meanwhile, [false; 3]);
+    assert!(rt; can_be_opened(&rt, 1, first, second));
     Ok(())
+}
+
+/// What a link receives of an empty datagram and of one with 44 bytes.
+fn received_of_two<L: DatagramLink>(
+    link: &mut L,
+    there: &UdpSocket,
+    first: SocketAddr,
+) -> io::Result<[Reception; 2]> {
+    let mut buffer = [0u8; 45];
+    there.send_to(&[], first)?;
+    there.send_to(&[1; 44], first)?;
+    Ok([link.receive(&mut buffer), link.receive(&mut buffer)])
 }
 
 #[test]
 fn an_empty_datagram_has_no_bytes(rt: HostRuntime) -> Result<(), Fail> {
-    let mut buffer = [0u8; 45];
     let (first, second) = free_addresses(&rt)?;
-    let mut link = open(&rt, 1, first, second)?;
     let there = UdpSocket::bind(&rt, second)?;
-    there.send_to(&[], first)?;
-    there.send_to(&[1; 44], first)?;
-    assert_eq!(rt; link.receive(&mut buffer), Reception::Received(0));
-    assert_eq!(rt; link.receive(&mut buffer), Reception::Received(44));
+    let mut link = open(&rt, 1, first, second)?;
+    let found = received_of_two(&mut link, &there, first);
+    drop(link);
+    assert_eq!(rt; found?, [Reception::Received(0), Reception::Received(44)]);
     Ok(())
 }
 
@@ -165,6 +197,21 @@ fn shortest_rest(
     Ok(shortest)
 }
 
+/// Of datagrams that wait in the socket all the time, which calls are told that nothing has come: of twenty, of four
+/// and of one; and the shortest rest after these.
+fn nothings_in_turn(
+    rt: &HostRuntime,
+    link: &mut UdpLink<Looked>,
+    there: &UdpSocket,
+    first: SocketAddr,
+) -> io::Result<([u64; 3], u128)> {
+    for _ in 0..20 {
+        there.send_to(&[1; 44], first)?;
+    }
+    let seen = [nothings(link, 20), nothings(link, 4), nothings(link, 1)];
+    Ok((seen, shortest_rest(rt, link, there, first)?))
+}
+
 /// Datagrams wait in the socket all the time. The first call begins a patience of ten milliseconds; at those three,
 /// six and nine milliseconds later some of it is left, and at twelve none: the fifth call is told that nothing has
 /// come, and the sixth begins anew. Where no datagram waits, a call waits for no longer than what is left.
@@ -175,16 +222,13 @@ fn nothing_comes_in_time_whatever_waits(rt: HostRuntime) -> Result<(), Fail> {
     let clock = Looked {
         looks: Cell::new(0),
     };
-    let mut link = UdpLink::open(&rt, clock, 1, peers)?;
     let there = UdpSocket::bind(&rt, second)?;
-    for _ in 0..20 {
-        there.send_to(&[1; 44], first)?;
-    }
-    assert_eq!(rt; nothings(&mut link, 20), 0b1000_0100_0010_0001_0000);
-    // Four datagrams are left, and the patience has just ended.
-    assert_eq!(rt; nothings(&mut link, 4), 0);
-    assert_eq!(rt; nothings(&mut link, 1), 1);
-    let shortest = shortest_rest(&rt, &mut link, &there, first)?;
+    let mut link = UdpLink::open(&rt, clock, 1, peers)?;
+    let found = nothings_in_turn(&rt, &mut link, &there, first);
+    drop(link);
+    let (seen, shortest) = found?;
+    // After twenty calls four datagrams are left, and the patience has just ended.
+    assert_eq!(rt; seen, [0b1000_0100_0010_0001_0000, 0, 1]);
     assert!(rt; shortest < 10, "{shortest} ms");
     Ok(())
 }
