@@ -20,7 +20,7 @@ use Rattle.smi_protocol.specs.Children as spec
 use Rattle.smi_protocol.specs.Children.{change_of, largest, link_after, mode_after}
 use Rattle.smi_holdings.specs.Children.{is_among, commanded_among, meant}
 use Rattle.smi_holdings.specs.Commanded.{AreSo, IsSo, change_for}
-use Rattle.smi_holdings.specs.declared.children.ChildChange.{ChildChange}
+use Rattle.smi_holdings.specs.declared.running.ChildChange.{ChildChange}
 use Rattle.smi_holdings.specs.declared.commanded.CommandedChild.{CommandedChild}
 use Rattle.smi_grant.specs.declared.Link.{Link}
 use Rattle.smi_rows.specs.declared.Mode.{Mode}

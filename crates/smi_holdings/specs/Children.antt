@@ -10,8 +10,8 @@ use Rattle.smi_tree.specs.Hierarchy.{Hierarchy}
 use Rattle.smi_rows.specs.declared.Mode.{Mode}
 use Rattle.smi_protocol.specs.Grants.{Grants, put, with_link}
 use Rattle.smi_protocol.specs.Children as children
-use Rattle.smi_holdings.specs.declared.children.ChildChange.{ChildChange}
-use Rattle.smi_holdings.specs.declared.children.ChildChange.TheVariants as change
+use Rattle.smi_holdings.specs.declared.running.ChildChange.{ChildChange}
+use Rattle.smi_holdings.specs.declared.running.ChildChange.TheVariants as change
 
 -- the same in the words of the definitions
 abbrev pub meant : ChildChange → children.ChildChange

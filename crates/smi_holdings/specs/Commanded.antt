@@ -8,7 +8,7 @@ use Rattle.smi_tree.specs.Lookups.{children_of}
 use Rattle.smi_protocol.specs.Grants.{Grants}
 use Rattle.smi_protocol.specs.Children.{change_of}
 use Rattle.smi_holdings.specs.Children.{meant}
-use Rattle.smi_holdings.specs.declared.children.ChildChange.{ChildChange}
+use Rattle.smi_holdings.specs.declared.running.ChildChange.{ChildChange}
 use Rattle.smi_holdings.specs.declared.commanded.CommandedChild.{CommandedChild}
 
 -- so many places, of which the first hold something

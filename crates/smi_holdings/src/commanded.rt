@@ -1,6 +1,6 @@
 //! What a command that runs at a domain does to the domain's children, worked out once for each.
 
-use crate::children::ChildChange;
+use crate::running::ChildChange;
 use smi_base::MOST_CHILDREN;
 use smi_grant::Outcome;
 use std::marker::Model;

@@ -1,8 +1,10 @@
 //! A change is made.
 
 use crate::change::Change;
+use crate::commanded::CommandedChildren;
 use crate::kept::Kept;
-use smi_grant::{Link, Record};
+use crate::running::{ChildChange, link_after, mode_after};
+use smi_grant::{Command, Holder, Link, Record};
 use smi_rows::Mode;
 
 impl<'a> Kept<'a> {
@@ -10,7 +12,10 @@ impl<'a> Kept<'a> {
     ghost use Rattle.smi_grant.specs.declared.Holder.TheVariants.{Operator};
     ghost use Rattle.smi_tree.specs.Lookups.{domain_count, operator_station_of};
     ghost use Rattle.smi_roles.specs.Roles.{is_number, is_parent};
-    ghost use Rattle.smi_holdings.specs.Children.{with_child};
+    ghost use Rattle.smi_holdings.specs.Children.{commanded_child, meant, with_child};
+    ghost use Rattle.smi_holdings.specs.Commanded.{AreSo};
+    ghost use Rattle.smi_protocol.specs.Children as spec;
+    ghost use Rattle.smi_protocol.specs.Keeping.{commanded};
     ghost use Rattle.smi_protocol.specs.Grants.{with_record, with_gathered, with_link};
     ghost use Rattle.smi_holdings.specs.Kept.{grants_of};
     ghost use Rattle.smi_holdings.specs.Change.{changed, IsChange};
@@ -39,6 +44,36 @@ impl<'a> Kept<'a> {
                 self.put_record(*parent, *standing);
                 self.put_gathered(*parent, *code);
             }
+        }
+    }
+
+    /// A command reaches one child, and does this to it.
+    fn command_child(&mut self, domain: u16, command: Command, child: u16, change: &ChildChange)
+        requires parent { is_parent self.old.tree child domain ≡ true }
+        requires change { meant change.now
+            ≡ spec.change_of self.old.tree (grants_of self.old) domain command child }
+        ensures grants { grants_of self.new ≡ commanded_child self.old.tree (grants_of self.old) domain command child }
+        ensures tree { self.new.tree ≡ self.old.tree }
+        ensures number { self.new.number ≡ self.old.number }
+    {
+        let link = self.link(Holder::Domain(domain), child);
+        let mode = self.mode(child);
+        let new_link = link_after(change, &link);
+        let new_mode = mode_after(change, mode);
+        self.put_child(domain, child, new_link, new_mode);
+    }
+
+    /// A command reaches all children.
+    fn command_children(&mut self, domain: u16, command: Command, known: &CommandedChildren)
+        requires least { 1 ≤ domain }
+        requires most { domain ≤ domain_count self.old.tree }
+        requires so { AreSo self.old.tree (grants_of self.old) domain command known.now }
+        ensures grants { grants_of self.new ≡ commanded self.old.tree (grants_of self.old) domain command }
+        ensures tree { self.new.tree ≡ self.old.tree }
+        ensures number { self.new.number ≡ self.old.number }
+    {
+        for one in known.as_slice() {
+            self.command_child(domain, command, one.child, &one.change);
         }
     }
 

@@ -23,15 +23,17 @@ impl<'a> Kept<'a> {
     ghost use Rattle.smi_tree.specs.Lookups.{domain_count};
     ghost use Rattle.smi_protocol.specs.Keeping.{take_comes, drop_comes};
     ghost use Rattle.smi_holdings.specs.Kept.{grants_of};
-    ghost use Rattle.smi_holdings.specs.Plans.{Plans};
+    ghost use Rattle.smi_grant.specs.Keeper.{take_after, drop_after};
+    ghost use Rattle.smi_holdings.specs.Plans.{handed_by, Plans};
 
     /// A take comes.
     pub fn take_comes(&self, domain: u16, holder: Holder, seen: u64) -> Change
         requires least { 1 ≤ domain }
         requires most { domain ≤ domain_count self.now.tree }
         requires party { is_free holder ≡ false }
-        ensures { (from : ℕ) → Plans self.now.tree self.now.number (grants_of self.now)
+        ensures plan { (from : ℕ) → Plans self.now.tree self.now.number (grants_of self.now)
             (take_comes self.now.tree self.now.number (grants_of self.now) from domain holder seen) result }
+        ensures change { result ≡ handed_by domain (take_after ((grants_of self.now).records domain) holder seen) }
     {
         handed_by(domain, take(&self.record(domain), holder, seen))
     }
@@ -41,8 +43,9 @@ impl<'a> Kept<'a> {
         requires least { 1 ≤ domain }
         requires most { domain ≤ domain_count self.now.tree }
         requires party { is_free holder ≡ false }
-        ensures { (from : ℕ) → Plans self.now.tree self.now.number (grants_of self.now)
+        ensures plan { (from : ℕ) → Plans self.now.tree self.now.number (grants_of self.now)
             (drop_comes self.now.tree self.now.number (grants_of self.now) from domain holder epoch) result }
+        ensures change { result ≡ handed_by domain (drop_after ((grants_of self.now).records domain) holder epoch) }
     {
         handed_by(domain, drop_grant(&self.record(domain), holder, epoch))
     }

@@ -36,7 +36,6 @@
 
 mod after;
 mod change;
-mod children;
 mod commanded;
 mod commit;
 mod deciding;
@@ -47,18 +46,16 @@ mod links;
 mod opening;
 mod refusal;
 mod room;
-mod row;
 mod running;
 mod saving;
 
 pub use after::After;
 pub use change::Change;
-pub use children::ChildChange;
 pub use commanded::{CommandedChild, CommandedChildren};
 pub use entries::entry_of;
 pub use kept::Kept;
 pub use links::Links;
 pub use refusal::{is_report_here, refusal_of_message, speaks_for};
 pub use room::Room;
-pub use running::BegunCommand;
+pub use running::{BegunCommand, ChildChange};
 pub use saving::{carry_out, save};

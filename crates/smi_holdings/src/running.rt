@@ -1,15 +1,21 @@
-//! What a command that runs at a domain will make of it.
+//! What a command that runs at a domain will make of it, and of its links to its children.
 
 ghost use Rattle.std.specs.Prelude.{◌≡◌, ◌<◌, false, true, if◌then◌else◌};
 ghost use Rattle.smi_grant.specs.Holder.{is_free};
 ghost use Rattle.smi_grant.specs.Keeper as keeper;
+ghost use Rattle.smi_grant.specs.Link.{is_held};
+ghost use Rattle.smi_grant.specs.Outcome.{outcome_code};
 ghost use Rattle.smi_grant.specs.Record.{is_settled, last_number};
+ghost use Rattle.smi_protocol.specs.Children as spec;
 ghost use Rattle.smi_protocol.specs.Children.{code_at_domain};
+ghost use Rattle.smi_holdings.specs.Children.{meant};
 
-use crate::children::{child_change, code_of, link_after};
 use crate::commanded::{CommandedChild, CommandedChildren};
 use crate::kept::Kept;
-use smi_grant::{Command, Holder, Outcome, Record, Verdict, admit, start};
+use smi_grant::{
+    Command, Holder, Link, Outcome, Record, Verdict, admit, begin_drop, begin_take, issue, start,
+};
+use smi_rows::Mode;
 use smi_tree::Tree;
 
 /// A command that begins at a domain: the domain's record with it, the code that the domain has then gathered, and what
@@ -29,6 +35,150 @@ struct Reached {
     code: u16,
     children: CommandedChildren,
 }
+
+/// What happens to a child.
+#[derive(Clone, Copy, Debug)]
+pub enum ChildChange {
+    /// Nothing, and the outcome says why, if it is not `Done`.
+    Stays(Outcome),
+    Relinked(Link),
+    ComesInto(Mode),
+}
+
+// ---- at one child
+
+fn relinked_or(otherwise: Outcome, link: Result<Link, u16>) -> ChildChange
+    ensures { meant result ≡ spec.relinked_or (outcome_code otherwise) link }
+{
+    match link {
+        Ok(link) => ChildChange::Relinked(link),
+        Err(_) => ChildChange::Stays(otherwise),
+    }
+}
+
+fn handed_on(otherwise: Outcome, command: Command, link: &Link, mode: Mode) -> ChildChange
+    ensures { meant result ≡ spec.handed_on (outcome_code otherwise) command link.now mode }
+{
+    if link.is_held() && mode != Mode::Manual {
+        relinked_or(Outcome::ChildNumbersUsed, issue(link, command))
+    } else {
+        ChildChange::Stays(otherwise)
+    }
+}
+
+fn comes_into(new: Mode, old: Mode) -> ChildChange
+    ensures { meant result ≡ spec.comes_into new old }
+{
+    if new == old {
+        ChildChange::Stays(Outcome::InThatMode)
+    } else {
+        ChildChange::ComesInto(new)
+    }
+}
+
+fn aimed_at(command: Command, link: &Link, mode: Mode) -> ChildChange
+    ensures { meant result ≡ spec.aimed_at command link.now mode }
+{
+    match command {
+        Command::Do(_) => ChildChange::Stays(Outcome::Done),
+        Command::Include(_) => {
+            if link.is_held() {
+                comes_into(Mode::Included, mode)
+            } else {
+                relinked_or(Outcome::Done, begin_take(link))
+            }
+        }
+        Command::Exclude(_) => relinked_or(Outcome::ChildNotHeld, begin_drop(link)),
+        Command::Manual(_) => comes_into_held(Mode::Manual, link, mode),
+        Command::Ignore(_) => comes_into_held(Mode::Ignored, link, mode),
+    }
+}
+
+fn comes_into_held(new: Mode, link: &Link, mode: Mode) -> ChildChange
+    ensures { meant result ≡ (if is_held link.now then spec.comes_into new mode else spec.Stays 4) }
+{
+    if link.is_held() {
+        comes_into(new, mode)
+    } else {
+        ChildChange::Stays(Outcome::ChildNotHeld)
+    }
+}
+
+fn targeted(
+    tree: &Tree,
+    target: u16,
+    command: Command,
+    child: u16,
+    link: &Link,
+    mode: Mode,
+) -> ChildChange
+    ensures { meant result ≡ spec.targeted tree.now target command child link.now mode }
+{
+    if target == child {
+        aimed_at(command, link, mode)
+    } else if tree.is_below(target, child) {
+        handed_on(Outcome::NotHandedOn, command, link, mode)
+    } else {
+        ChildChange::Stays(Outcome::Done)
+    }
+}
+
+/// What a command of a domain does to a child.
+fn child_change(
+    tree: &Tree,
+    domain: u16,
+    command: Command,
+    child: u16,
+    link: &Link,
+    mode: Mode,
+) -> ChildChange
+    ensures { meant result ≡ spec.child_change tree.now domain command child link.now mode }
+{
+    match command {
+        Command::Do(action) => {
+            if tree.accepts(domain, action) {
+                handed_on(Outcome::Done, command, link, mode)
+            } else {
+                ChildChange::Stays(Outcome::Done)
+            }
+        }
+        Command::Include(target)
+        | Command::Exclude(target)
+        | Command::Manual(target)
+        | Command::Ignore(target) => targeted(tree, target, command, child, link, mode),
+    }
+}
+
+pub(crate) fn link_after(change: &ChildChange, link: &Link) -> Link
+    ensures { result ≡ spec.link_after (meant change.now) link.now }
+{
+    match change {
+        ChildChange::Relinked(new) => *new,
+        _ => *link,
+    }
+}
+
+pub(crate) fn mode_after(change: &ChildChange, mode: Mode) -> Mode
+    ensures { result ≡ spec.mode_after (meant change.now) mode }
+{
+    match change {
+        ChildChange::Stays(_) => mode,
+        ChildChange::Relinked(new) => { if new.is_held() { mode } else { Mode::Included } }
+        ChildChange::ComesInto(new) => *new,
+    }
+}
+
+/// The code of the outcome that comes of one child.
+fn code_of(change: &ChildChange) -> u16
+    ensures { result ≡ spec.code_of (meant change.now) }
+{
+    match change {
+        ChildChange::Stays(outcome) => outcome.code(),
+        ChildChange::Relinked(_) | ChildChange::ComesInto(_) => Outcome::Done.code(),
+    }
+}
+
+// ---- at the domain
 
 /// The code of a command at its domain, whatever becomes of it at the children.
 fn code_at_domain(tree: &Tree, domain: u16, command: Command) -> u16

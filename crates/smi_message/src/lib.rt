@@ -6,8 +6,8 @@
 //! docs/FORMATS.md, "Datagrams".
 //!
 //! Between bytes and datagram stand the numbers at each place, together as they are written and one
-//! by one as they are read: `layout` knows where they stand and nothing of what they mean, `kinds`
-//! knows what they mean and nothing of bytes.
+//! by one as they are read. What knows where they stand knows nothing of what they mean, and what knows
+//! what they mean knows nothing of bytes.
 //!
 //! # How it is proved
 //!
@@ -24,14 +24,14 @@
 #![tactic(auto)]
 
 mod bad;
-mod codec;
 mod datagram;
 mod fields;
-mod kinds;
-mod layout;
+mod reading;
 mod refusal;
+mod writing;
 
 pub use bad::Bad;
-pub use codec::{decode, encode};
 pub use datagram::{Body, Datagram};
+pub use reading::decode;
 pub use refusal::DatagramRefusal;
+pub use writing::encode;

@@ -18,7 +18,7 @@ use Rattle.smi_holdings.specs.declared.change.Change.{Change}
 use Rattle.smi_roles.specs.Roles.{is_parent}
 use Rattle.smi_holdings.specs.Children.{meant}
 use Rattle.smi_holdings.specs.Commanded.{AreSo, change_for}
-use Rattle.smi_holdings.specs.declared.children.ChildChange.{ChildChange}
+use Rattle.smi_holdings.specs.declared.running.ChildChange.{ChildChange}
 use Rattle.smi_holdings.specs.declared.commanded.CommandedChild.{CommandedChild}
 use Rattle.smi_holdings.proofs.KnownChildren.{known_at}
 use Rattle.smi_protocol.specs.Children.{change_of, own_code}

@@ -19,8 +19,8 @@ use Rattle.smi_tree.specs.Lawful.{IsBetween, IsTree}
 use Rattle.smi_tree.specs.Lookups.{children_of, domain_count}
 use Rattle.smi_holdings.specs.Children.{meant}
 use Rattle.smi_holdings.specs.Commanded.{AreSo}
-use Rattle.smi_holdings.specs.declared.children.ChildChange as change
-use Rattle.smi_holdings.specs.declared.children.ChildChange.TheVariants as variants
+use Rattle.smi_holdings.specs.declared.running.ChildChange as change
+use Rattle.smi_holdings.specs.declared.running.ChildChange.TheVariants as variants
 use Rattle.smi_holdings.specs.declared.commanded.CommandedChild.{CommandedChild}
 use Rattle.smi_holdings.proofs.KnownChildren.{each_child}
 use Rattle.smi_out.specs.Handed.{is_due, sent_after}

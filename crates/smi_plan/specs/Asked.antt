@@ -5,8 +5,8 @@ use Rattle.smi_grant.specs.Link.{due_of}
 use Rattle.smi_tree.specs.Hierarchy.{Hierarchy}
 use Rattle.smi_tree.specs.Lawful.{IsBetween}
 use Rattle.smi_tree.specs.Lookups.{domain_count}
-use Rattle.smi_holdings.specs.declared.children.ChildChange.{ChildChange}
-use Rattle.smi_holdings.specs.declared.children.ChildChange.TheVariants as change
+use Rattle.smi_holdings.specs.declared.running.ChildChange.{ChildChange}
+use Rattle.smi_holdings.specs.declared.running.ChildChange.TheVariants as change
 use Rattle.smi_holdings.specs.declared.commanded.CommandedChild.{CommandedChild}
 use Rattle.smi_out.specs.Handed.{is_due}
 

@@ -16,14 +16,10 @@
 //! - What a step leaves in a trace is read off the record of its domain afterwards (`proofs/Left`).
 #![tactic(auto)]
 
-mod asking;
-mod due;
-mod leaving;
+mod keeping;
 mod ordering;
-mod running;
 mod telling;
 
-pub use asking::{ask, drop_grant, take};
+pub use keeping::{ask, drop_grant, run, take};
 pub use ordering::order;
-pub use running::run;
 pub use telling::tell;

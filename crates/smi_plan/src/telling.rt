@@ -7,13 +7,11 @@ ghost use Rattle.smi_protocol.specs.Happening.{answer, answer_command};
 ghost use Rattle.smi_protocol.specs.Hearing as hearing;
 ghost use Rattle.smi_plan.specs.Handing.{with_step};
 
-use crate::asking::{record_after, send_record};
-use crate::due::send_due;
-use crate::leaving::{is_settled, learned, rested};
+use crate::keeping::{is_settled, record_after, send_due, send_record};
 use smi_grant::{Command, Holder, Link, LinkHeard, Record, Settlement, Settlements, told};
 use smi_holdings::{Change, Kept};
 use smi_out::{Entries, Out};
-use smi_protocol::{Answer, Mark, Order, Told};
+use smi_protocol::{Answer, Entry, Mark, Order, Told};
 use smi_roles::holder_station;
 use smi_tree::Tree;
 
@@ -165,6 +163,20 @@ fn answer_heard(out: &mut Out, operator: u16, domain: u16, link: &Link, heard: &
     }
 }
 
+/// A take has come to its grant.
+fn learned(holder: Holder, domain: u16, old: &Link, new: &Link) -> Option<Entry>
+    ensures { if_any result ≡ hearing.learned holder domain old.now new.now }
+{
+    match (old, new) {
+        (Link::Taking(_), Link::Held { epoch, .. }) => Some(Entry::Learned {
+            holder,
+            domain,
+            epoch: *epoch,
+        }),
+        _ => None,
+    }
+}
+
 /// An operator's link is told a record that it listens to: what it is due now is sent, and what has settled is
 /// answered.
 fn tell_operator(
@@ -229,6 +241,24 @@ ghost use Rattle.smi_rows.specs.Ranges.{is_standing};
 ghost use Rattle.smi_tree.specs.Lawful.{IsBetween};
 ghost use Rattle.smi_tree.specs.Lookups.{domain_count, station_count};
 ghost use Rattle.smi_plan.specs.Handing.{told_end};
+
+/// The command of a domain has ended, if it has with this record of it.
+fn rested(domain: u16, old: Record, new: Record) -> Option<Entry>
+    ensures { if_any result ≡ came_to_rest domain old new }
+{
+    if !is_settled(old.phase) && is_settled(new.phase) {
+        Some(Entry::Settled {
+            domain,
+            epoch: new.epoch,
+            number: new.last,
+            outcome: new.outcome,
+        })
+    } else {
+        None
+    }
+}
+
+ghost use Rattle.smi_plan.specs.Leaving.{came_to_rest};
 
 /// A domain's link to a child is told a record that it listens to: where its command ends with it, its holder is
 /// told so, and what the link is due now is sent.

@@ -4,8 +4,9 @@
 //! the domain above it (docs/PROTOCOL.md, "The record"). No function takes memory.
 #![tactic(auto)]
 
-mod holding;
-mod keeping;
+mod roles;
 
-pub use holding::{holder_station, is_at, is_child_unit, is_command_of, is_holder_of, is_parent};
-pub use keeping::{has_domain, has_object, is_keeper, is_kept_by, keeper_of};
+pub use roles::{
+    has_domain, has_object, holder_station, is_at, is_child_unit, is_command_of, is_holder_of,
+    is_keeper, is_kept_by, is_parent, keeper_of,
+};

@@ -1,30 +1,169 @@
-//! A datagram that a station takes: its grants are saved and changed, and then its display.
+//! A datagram that comes to a station: it is refused, or what it asks of the grants is planned, saved and made, and
+//! the display follows.
 
-ghost use Rattle.std.specs.Prelude.{◌≡◌, true, false, is_some, None, IfOk, OnOk, OnErr};
-ghost use Rattle.smi_display.specs.Displayed.{display_of};
-ghost use Rattle.smi_holdings.specs.Save.{IfMemory};
+ghost use Rattle.std.specs.Prelude.{◌≡◌, ◌≤◌, true, false, is_some, length, None, IfOk, IfSome, OnOk, OnErr};
+ghost use Rattle.smi_message.specs.declared.Body.TheVariants.{Watch};
+ghost use Rattle.smi_protocol.specs.GrantStep.{GrantStep};
+ghost use Rattle.smi_protocol.specs.GrantsOf.{datagram_comes};
 ghost use Rattle.smi_protocol.specs.Happening.{Comes};
 ghost use Rattle.smi_protocol.specs.Refusals.{refusal_of_message};
+ghost use Rattle.smi_protocol.specs.Sound.{IsSound};
 ghost use Rattle.smi_protocol.specs.SoundDisplay.{MayChange};
-ghost use Rattle.smi_protocol.specs.Step.{accepted, nothing_out};
-ghost use Rattle.smi_station.specs.Core.{AreHalves, station_with};
+ghost use Rattle.smi_protocol.specs.Step.{accepted, heard_of, nothing_out};
+ghost use Rattle.smi_holdings.specs.Change.{IsChange};
+ghost use Rattle.smi_holdings.specs.Kept.{grants_of};
+ghost use Rattle.smi_holdings.specs.Plans.{Plans};
+ghost use Rattle.smi_holdings.specs.Save.{IfMemory};
+ghost use Rattle.smi_display.specs.Displayed.{display_of};
+ghost use Rattle.smi_plan.specs.Handing.{with_step};
+ghost use Rattle.smi_station.specs.Core.{AreHalves, same_or_memory, station_with};
 ghost use Rattle.smi_station.specs.Leaving.{Leaves};
+ghost use Rattle.smi_station.specs.Making.{row_of};
 ghost use Rattle.smi_station.specs.Stirring.{is_watch};
 
-use crate::making::make;
 use crate::noticing::update_display;
-use crate::planning::plan;
+use crate::station::Core;
 use crate::stirring::{look_before, move_and_follow};
 use smi_display::Displayed;
-use smi_holdings::Kept;
-use smi_message::Datagram;
+use smi_holdings::{Change, Kept, carry_out, refusal_of_message};
+use smi_message::{Body, Datagram};
 use smi_out::Out;
+use smi_plan::{ask, drop_grant, run, take, tell};
 use smi_protocol::{Heard, StepFault};
 use smi_rows::Stable;
+use std::alloc::AllocError;
+
+/// A watch: of which object, since which boot of the station that watches.
+#[derive(Clone, Copy)]
+struct WatchAsked {
+    object: u16,
+    echo: u32,
+}
+
+/// The watch that a datagram is, if it is one.
+fn watched_in(body: &Body) -> Option<WatchAsked>
+    ensures watch { IfSome result (λ watched. body.now ≡ Watch watched.object watched.echo) }
+    ensures other { result ≡ None → is_watch body.now ≡ false }
+{
+    match *body {
+        Body::Watch(object, echo) => Some(WatchAsked { object, echo }),
+        Body::Ask(_) => None,
+        Body::Take(_, _, _) => None,
+        Body::Drop(_, _, _) => None,
+        Body::Run(_, _, _, _, _) => None,
+        Body::Tell(_, _) => None,
+        Body::State(_, _, _, _) => None,
+        Body::Unwatch(_, _) => None,
+    }
+}
+
+impl<'a> Core<'a> {
+    ghost use Rattle.std.specs.Prelude.{◌≡◌, true, false, None, IfErr, OnErr};
+    ghost use Rattle.smi_holdings.specs.Save.{IfMemory};
+    ghost use Rattle.smi_message.specs.declared.Body.TheVariants.{Watch};
+    ghost use Rattle.smi_protocol.specs.Happening.{Comes};
+    ghost use Rattle.smi_protocol.specs.Refusals.{refusal_of_message};
+    ghost use Rattle.smi_protocol.specs.Step.{accepted, after, nothing_out};
+    ghost use Rattle.smi_protocol.specs.declared.event.StepFault.TheVariants.{Memory};
+    ghost use Rattle.smi_station.specs.Core.{Steps, number_of, station_of, tree_of};
+    ghost use Rattle.smi_station.specs.Leaving.{Leaves};
+    ghost use Rattle.smi_station.specs.Wanting.{adds, adds_taken, wants_memory};
+
+    /// A datagram comes.
+    pub(crate) fn datagram<S: Stable>(
+        &mut self,
+        store: &mut S,
+        out: &mut Out,
+        datagram: &Datagram,
+    ) -> Result<Heard, StepFault>
+        requires runs { self.old.is_stopped ≡ false }
+        requires empty { out.old ≡ nothing_out }
+        ensures step { Steps self.old self.new (after (tree_of self.old) (number_of self.old) (station_of self.old)
+            (Comes datagram.now)) out.new result }
+        ensures store { Leaves S.is_honest S.is_open S.rows S.may_find S.saves S.failures S.doubts store.old store.new
+            result
+            (after (tree_of self.old) (number_of self.old) (station_of self.old) (Comes datagram.now)).saved }
+        ensures memory { IfMemory result (wants_memory
+            (after (tree_of self.old) (number_of self.old) (station_of self.old) (Comes datagram.now)).saved
+            (adds_taken (tree_of self.old) (number_of self.old) (station_of self.old).display datagram.now) ≡ true) }
+        ensures unchanged { OnErr result (self.new ≡ self.old) }
+    {
+        match refusal_of_message(self.kept.tree(), self.kept.number(), datagram) {
+            Some(code) => Ok(Heard::Refused(code)),
+            None => self.accept(store, out, datagram),
+        }
+    }
+
+    /// A datagram that is not refused comes.
+    fn accept<S: Stable>(
+        &mut self,
+        store: &mut S,
+        out: &mut Out,
+        datagram: &Datagram,
+    ) -> Result<Heard, StepFault>
+        requires runs { self.old.is_stopped ≡ false }
+        requires accepted { refusal_of_message (tree_of self.old) (number_of self.old) datagram.now ≡ None }
+        requires empty { out.old ≡ nothing_out }
+        ensures step { Steps self.old self.new (accepted (tree_of self.old) (number_of self.old)
+            (station_of self.old) (Comes datagram.now)) out.new result }
+        ensures store { Leaves S.is_honest S.is_open S.rows S.may_find S.saves S.failures S.doubts store.old store.new
+            result
+            (accepted (tree_of self.old) (number_of self.old) (station_of self.old) (Comes datagram.now)).saved }
+        ensures memory { IfMemory result (wants_memory
+            (accepted (tree_of self.old) (number_of self.old) (station_of self.old) (Comes datagram.now)).saved
+            (adds (station_of self.old).display datagram.now.from datagram.now.body) ≡ true) }
+        ensures unchanged { OnErr result (self.new ≡ self.old) }
+    {
+        match watched_in(&datagram.body) {
+            Some(watched) => self.watch(out, datagram, watched),
+            None => hear(
+                &mut self.kept,
+                &mut self.display,
+                &mut self.is_stopped,
+                store,
+                out,
+                datagram,
+            ),
+        }
+    }
+
+    /// A watch that is not refused comes.
+    fn watch(
+        &mut self,
+        out: &mut Out,
+        datagram: &Datagram,
+        watched: WatchAsked,
+    ) -> Result<Heard, StepFault>
+        requires runs { self.old.is_stopped ≡ false }
+        requires accepted { refusal_of_message (tree_of self.old) (number_of self.old) datagram.now ≡ None }
+        requires body { datagram.now.body ≡ Watch watched.object watched.echo }
+        requires empty { out.old ≡ nothing_out }
+        ensures step { Steps self.old self.new (accepted (tree_of self.old) (number_of self.old)
+            (station_of self.old) (Comes datagram.now)) out.new result }
+        ensures unchanged { OnErr result (self.new ≡ self.old) }
+        ensures fault { IfErr result (λ fault. fault ≡ Memory) }
+        ensures memory { OnErr result (adds (station_of self.old).display datagram.now.from datagram.now.body ≡ true) }
+    {
+        let done = self
+            .display
+            .watch_comes(out, datagram.from, watched.object, watched.echo);
+        same_or_memory(done)
+    }
+}
+
+/// A watch saves nothing, and memory may run out for it.
+fn same_or_memory(done: Result<(), AllocError>) -> Result<Heard, StepFault>
+    ensures { result ≡ same_or_memory done }
+{
+    match done {
+        Ok(()) => Ok(Heard::Same),
+        Err(_) => Err(StepFault::Memory),
+    }
+}
 
 /// A datagram that is not refused comes; but for a watch. The station stops where one of its objects has come to the
 /// last sequence.
-pub(crate) fn hear<S: Stable>(
+fn hear<S: Stable>(
     kept: &mut Kept<'_>,
     display: &mut Displayed<'_>,
     is_stopped: &mut bool,
@@ -71,4 +210,65 @@ pub(crate) fn hear<S: Stable>(
         }
         Err(fault) => Err(fault),
     }
+}
+
+/// The change of the grants that a datagram asks for, and what is sent and answered for it. A watch, an unwatch and
+/// a state ask for none.
+pub(crate) fn plan(out: &mut Out, kept: &Kept<'_>, datagram: &Datagram) -> Change
+    requires sound { IsSound kept.now.tree (grants_of kept.now) }
+    requires accepted { refusal_of_message kept.now.tree kept.now.number datagram.now ≡ None }
+    requires empty { out.old ≡ nothing_out }
+    ensures plan { Plans kept.now.tree kept.now.number (grants_of kept.now)
+        (datagram_comes kept.now.tree kept.now.number (grants_of kept.now) datagram.now.from datagram.now.body) result }
+    ensures sent { out.new ≡ with_step nothing_out
+        (datagram_comes kept.now.tree kept.now.number (grants_of kept.now) datagram.now.from datagram.now.body) }
+    ensures few { length out.new.answers ≤ 8 }
+{
+    let _tree = kept.tree();
+    let from = datagram.from;
+    match datagram.body {
+        Body::Ask(domain) => {
+            ask(out, kept, from, domain);
+            Change::Nothing
+        }
+        Body::Take(domain, holder, seen) => take(out, kept, from, domain, holder, seen),
+        Body::Drop(domain, holder, epoch) => drop_grant(out, kept, from, domain, holder, epoch),
+        Body::Run(domain, holder, epoch, number, command) => run(
+            out, kept, from, domain, holder, epoch, number, command,
+        ),
+        Body::Tell(domain, news) => tell(out, kept, domain, &news),
+        Body::Watch(_, _) => Change::Nothing,
+        Body::State(_, _, _, _) => Change::Nothing,
+        Body::Unwatch(_, _) => Change::Nothing,
+    }
+}
+
+/// A change is saved and then made. A fault leaves the grants unchanged, and nothing is handed out.
+pub(crate) fn make<S: Stable>(
+    kept: &mut Kept<'_>,
+    store: &mut S,
+    out: &mut Out,
+    change: &Change,
+) -> Result<Heard, StepFault>
+    requires { IsChange kept.old.tree kept.old.number (grants_of kept.old) change.now }
+    ensures grants { (step : GrantStep) → Plans kept.old.tree kept.old.number (grants_of kept.old) step change.now
+        → OnOk result (grants_of kept.new ≡ step.grants) }
+    ensures heard { (step : GrantStep) → Plans kept.old.tree kept.old.number (grants_of kept.old) step change.now
+        → IfOk result (λ heard. heard ≡ heard_of (row_of kept.old.tree kept.old.number step)) }
+    ensures store { (step : GrantStep) → Plans kept.old.tree kept.old.number (grants_of kept.old) step change.now
+        → Leaves S.is_honest S.is_open S.rows S.may_find S.saves S.failures S.doubts store.old store.new result
+        (row_of kept.old.tree kept.old.number step) }
+    ensures memory { (step : GrantStep) → Plans kept.old.tree kept.old.number (grants_of kept.old) step change.now
+        → IfMemory result (is_some (row_of kept.old.tree kept.old.number step) ≡ true) }
+    ensures same { OnOk result ((kept.new.tree ≡ kept.old.tree) × (kept.new.number ≡ kept.old.number)
+        × (kept.new.boot ≡ kept.old.boot)) }
+    ensures unchanged { OnErr result (kept.new ≡ kept.old) }
+    ensures out { OnOk result (out.new ≡ out.old) }
+    ensures cleared { OnErr result (out.new ≡ nothing_out) }
+{
+    let made = carry_out(kept, store, change);
+    if made.is_err() {
+        out.clear();
+    }
+    made
 }

@@ -37,14 +37,11 @@
 //!   of one station alone.
 #![tactic(auto)]
 
-mod halves;
 mod hearing;
 pub mod law;
-mod making;
 mod noticing;
 mod obeying;
 mod opening;
-mod planning;
 mod reading;
 mod reporting;
 mod restarting;

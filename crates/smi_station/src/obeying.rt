@@ -1,26 +1,140 @@
-//! An order that a station takes.
+//! An order that comes to a station: it is refused, or what it asks of the grants is planned, saved and made, and the
+//! display follows.
 
-ghost use Rattle.std.specs.Prelude.{◌≡◌, true, false, is_some, None, IfOk, OnOk, OnErr};
+ghost use Rattle.std.specs.Prelude.{◌≡◌, true, false, is_some, ℕ, None, IfOk, IfSome, OnOk, OnErr};
 ghost use Rattle.smi_display.specs.Displayed.{display_of};
 ghost use Rattle.smi_holdings.specs.Kept.{grants_of};
 ghost use Rattle.smi_holdings.specs.Save.{IfMemory};
-ghost use Rattle.smi_protocol.specs.Happening.{Orders};
+ghost use Rattle.smi_protocol.specs.Happening.{Orders, answer};
 ghost use Rattle.smi_protocol.specs.Refusals.{refusal_of};
 ghost use Rattle.smi_protocol.specs.SoundDisplay.{MayChange};
-ghost use Rattle.smi_protocol.specs.Step.{accepted, nothing_out};
+ghost use Rattle.smi_protocol.specs.Step.{accepted, nothing_out, ordered_or_reported};
+ghost use Rattle.smi_protocol.specs.declared.Order.TheVariants.{Report};
 ghost use Rattle.smi_station.specs.Core.{AreHalves, station_with};
 ghost use Rattle.smi_station.specs.Leaving.{Leaves};
 
-use crate::making::make;
+use crate::hearing::make;
+use crate::station::Core;
 use smi_display::Displayed;
 use smi_holdings::Kept;
 use smi_out::Out;
 use smi_plan::order;
-use smi_protocol::{Heard, Order, StepFault};
+use smi_protocol::{Answer, Heard, Order, Request, StepFault, Told};
 use smi_rows::Stable;
 
+/// A report of a device's state.
+#[derive(Clone, Copy)]
+pub(crate) struct Reported {
+    device: u16,
+    state: u16,
+}
+
+/// The report that an order holds, if it holds one.
+pub(crate) fn reported_in(order: &Order) -> Option<Reported>
+    ensures report { IfSome result (λ reported. order.now ≡ Report reported.device reported.state) }
+    ensures other { (operator : ℕ) → result ≡ None
+        → ordered_or_reported operator order.now ≡ Orders operator order.now }
+{
+    match order.request() {
+        Request::Report(device, state) => Some(Reported { device, state }),
+        Request::Take(_)
+        | Request::Drop(_)
+        | Request::Command(_, _)
+        | Request::Ask(_)
+        | Request::Watch(_)
+        | Request::Unwatch(_) => None,
+    }
+}
+
+/// An operator is told why its order was refused.
+fn refusal(operator: u16, order: &Order, code: u16) -> Answer
+    ensures { result ≡ answer operator order.now code }
+{
+    Answer {
+        operator,
+        told: Told {
+            order: *order,
+            code,
+            asked: None,
+        },
+        mark: None,
+    }
+}
+
+impl<'a> Core<'a> {
+    ghost use Rattle.std.specs.Prelude.{◌≡◌, true, false, is_some, OnErr};
+    ghost use Rattle.smi_holdings.specs.Save.{IfMemory};
+    ghost use Rattle.smi_protocol.specs.Happening.{Orders};
+    ghost use Rattle.smi_protocol.specs.Step.{after, nothing_out, ordered_or_reported};
+    ghost use Rattle.smi_station.specs.Core.{Steps, number_of, station_of, tree_of};
+    ghost use Rattle.smi_station.specs.Leaving.{Leaves};
+
+    /// An operator orders.
+    pub(crate) fn order<S: Stable>(
+        &mut self,
+        store: &mut S,
+        out: &mut Out,
+        operator: u16,
+        order: &Order,
+    ) -> Result<Heard, StepFault>
+        requires runs { self.old.is_stopped ≡ false }
+        requires empty { out.old ≡ nothing_out }
+        ensures step { Steps self.old self.new (after (tree_of self.old) (number_of self.old) (station_of self.old)
+            (ordered_or_reported operator order.now)) out.new result }
+        ensures store { Leaves S.is_honest S.is_open S.rows S.may_find S.saves S.failures S.doubts store.old store.new
+            result
+            (after (tree_of self.old) (number_of self.old) (station_of self.old)
+            (ordered_or_reported operator order.now)).saved }
+        ensures memory { IfMemory result (is_some
+            (after (tree_of self.old) (number_of self.old) (station_of self.old)
+            (ordered_or_reported operator order.now)).saved ≡ true) }
+        ensures unchanged { OnErr result (self.new ≡ self.old) }
+    {
+        match reported_in(order) {
+            Some(reported) => self.report(out, reported.device, reported.state),
+            None => self.obey_or_refuse(store, out, operator, order),
+        }
+    }
+
+    /// An operator orders, and does not report.
+    fn obey_or_refuse<S: Stable>(
+        &mut self,
+        store: &mut S,
+        out: &mut Out,
+        operator: u16,
+        order: &Order,
+    ) -> Result<Heard, StepFault>
+        requires runs { self.old.is_stopped ≡ false }
+        requires empty { out.old ≡ nothing_out }
+        ensures step { Steps self.old self.new (after (tree_of self.old) (number_of self.old) (station_of self.old)
+            (Orders operator order.now)) out.new result }
+        ensures store { Leaves S.is_honest S.is_open S.rows S.may_find S.saves S.failures S.doubts store.old store.new
+            result
+            (after (tree_of self.old) (number_of self.old) (station_of self.old) (Orders operator order.now)).saved }
+        ensures memory { IfMemory result (is_some
+            (after (tree_of self.old) (number_of self.old) (station_of self.old) (Orders operator order.now)).saved
+            ≡ true) }
+        ensures unchanged { OnErr result (self.new ≡ self.old) }
+    {
+        match self.kept.refusal_of_order(operator, order) {
+            Some(code) => {
+                out.answer(refusal(operator, order, code));
+                Ok(Heard::Refused(code))
+            }
+            None => obey(
+                &mut self.kept,
+                &mut self.display,
+                store,
+                out,
+                operator,
+                order,
+            ),
+        }
+    }
+}
+
 /// An order of an operator of the station that is not refused comes.
-pub(crate) fn obey<S: Stable>(
+fn obey<S: Stable>(
     kept: &mut Kept<'_>,
     display: &mut Displayed<'_>,
     store: &mut S,

@@ -8,7 +8,7 @@ ghost use Rattle.smi_start.specs.Starting.{IfCertain, IfInDoubt, IfStoreFailed, 
 ghost use Rattle.smi_start.specs.Starting.{IfUnchanged, IsToldAsMemory, after_start, beginning_with};
 ghost use Rattle.smi_station.specs.Core.{IsOf, begun};
 
-use crate::halves::Core;
+use crate::station::Core;
 use smi_display::Displayed;
 use smi_holdings::Kept;
 use smi_protocol::OpenFault;

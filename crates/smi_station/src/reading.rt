@@ -1,6 +1,6 @@
 //! What a station tells of itself.
 
-use crate::halves::Core;
+use crate::station::Core;
 use smi_grant::{Holder, Link, Record, Shown};
 use smi_holdings::speaks_for;
 use smi_roles::{has_domain, is_child_unit, is_keeper};

@@ -8,10 +8,12 @@ ghost use Rattle.smi_protocol.specs.SoundDisplay.{MayChange};
 ghost use Rattle.smi_protocol.specs.Step.{accepted, nothing_out};
 ghost use Rattle.smi_station.specs.Core.{AreHalves, station_with};
 
+use crate::station::Core;
 use smi_display::Displayed;
 use smi_grant::Shown;
-use smi_holdings::Kept;
+use smi_holdings::{Kept, is_report_here};
 use smi_out::Out;
+use smi_protocol::{Heard, OrderCode, StepFault};
 use smi_publish::Changes;
 
 /// What one object shows anew, if it does.
@@ -50,7 +52,7 @@ ghost use Rattle.smi_tree.specs.Lawful.{IsBetween};
 ghost use Rattle.smi_tree.specs.Lookups.{device_count, domain_count};
 
 /// A device that the station keeps reports its state. Whether one of its objects has come to the last sequence.
-pub(crate) fn report(
+fn report(
     kept: &Kept<'_>,
     display: &mut Displayed<'_>,
     out: &mut Out,
@@ -80,7 +82,7 @@ pub(crate) fn report(
 }
 
 /// Time passes.
-pub(crate) fn tick(kept: &Kept<'_>, display: &mut Displayed<'_>, out: &mut Out)
+fn tick(kept: &Kept<'_>, display: &mut Displayed<'_>, out: &mut Out)
     requires halves { AreHalves kept.now display.old }
     requires room { MayChange (display_of display.old) }
     requires empty { out.old ≡ nothing_out }
@@ -92,4 +94,43 @@ pub(crate) fn tick(kept: &Kept<'_>, display: &mut Displayed<'_>, out: &mut Out)
     ensures room { MayChange (display_of display.new) }
 {
     display.tick(out, kept);
+}
+
+impl<'a> Core<'a> {
+    ghost use Rattle.std.specs.Prelude.{◌≡◌, false, IsOk};
+    ghost use Rattle.smi_protocol.specs.Happening.{Reports, Ticks};
+    ghost use Rattle.smi_protocol.specs.Step.{after, nothing_out};
+    ghost use Rattle.smi_station.specs.Core.{Steps, number_of, station_of, tree_of};
+
+    /// A device reports.
+    pub(crate) fn report(
+        &mut self,
+        out: &mut Out,
+        device: u16,
+        state: u16,
+    ) -> Result<Heard, StepFault>
+        requires runs { self.old.is_stopped ≡ false }
+        requires empty { out.old ≡ nothing_out }
+        ensures step { Steps self.old self.new (after (tree_of self.old) (number_of self.old) (station_of self.old)
+            (Reports device state)) out.new result }
+        ensures made { IsOk result }
+    {
+        if !is_report_here(self.kept.tree(), self.kept.number(), device, state) {
+            return Ok(Heard::Refused(OrderCode::NotHere.code()));
+        }
+        self.is_stopped = report(&self.kept, &mut self.display, out, device, state);
+        Ok(Heard::Same)
+    }
+
+    /// Time passes.
+    pub(crate) fn tick(&mut self, out: &mut Out) -> Result<Heard, StepFault>
+        requires runs { self.old.is_stopped ≡ false }
+        requires empty { out.old ≡ nothing_out }
+        ensures step { Steps self.old self.new (after (tree_of self.old) (number_of self.old) (station_of self.old)
+            Ticks) out.new result }
+        ensures made { IsOk result }
+    {
+        tick(&self.kept, &mut self.display, out);
+        Ok(Heard::Same)
+    }
 }

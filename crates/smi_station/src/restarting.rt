@@ -1,8 +1,7 @@
 //! A station starts again.
 
-use crate::halves::Core;
 use crate::opening::start;
-use crate::station::Station;
+use crate::station::{Core, Station};
 use smi_protocol::OpenFault;
 use smi_rows::Stable;
 use std::alloc::Global;

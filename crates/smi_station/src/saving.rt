@@ -9,9 +9,9 @@ ghost use Rattle.smi_protocol.specs.Happening.{Comes, Orders};
 ghost use Rattle.smi_protocol.specs.Sound.{IsSound};
 ghost use Rattle.smi_protocol.specs.Step.{after, after_event, after_reading, nothing_out, ordered_or_reported};
 
-use crate::halves::reported_in;
-use crate::planning::plan;
-use crate::station::Station;
+use crate::hearing::plan;
+use crate::obeying::reported_in;
+use crate::station::{Core, Station};
 use smi_holdings::{Change, Kept, refusal_of_message};
 use smi_message::{Datagram, decode};
 use smi_out::Out;
@@ -127,5 +127,3 @@ impl<'a> Core<'a> {
         is_saved(&self.kept, scratch, event)
     }
 }
-
-use crate::halves::Core;

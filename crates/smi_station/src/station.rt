@@ -1,13 +1,37 @@
-use crate::halves::Core;
+//! A station, what it keeps, and how an event comes to it.
+
+ghost use Rattle.std.specs.Prelude.{◌≡◌};
+ghost use Rattle.smi_station.specs.Core.{is_stopped_by};
+
 use crate::opening::start;
+use smi_display::Displayed;
 use smi_grant::{Holder, Link, Record, Shown};
 use smi_holdings::Kept;
+use smi_message::decode;
 use smi_out::Out;
 use smi_protocol::{Event, Heard, OpenFault, StepFault};
 use smi_rows::{Mode, Stable};
 use smi_tree::Tree;
 use std::alloc::Global;
 use std::marker::Model;
+
+/// The half of the grants, the half of the display, and whether the station has stopped.
+#[derive(Drop)]
+pub(crate) struct Core<'a> {
+    pub(crate) kept: Kept<'a>,
+    pub(crate) display: Displayed<'a>,
+    pub(crate) is_stopped: bool,
+}
+
+impl<'a> Model for Core<'a> {
+    ghost use Rattle.smi_station.specs.Core as core;
+
+    ghost Value = { core.Core };
+
+    ghost view = { λ c. record { kept = c.kept; displayed = c.display; is_stopped = c.is_stopped } };
+
+    ghost invariant = { λ c. core.IsCore (record { kept = c.kept; displayed = c.display; is_stopped = c.is_stopped }) };
+}
 
 /// A station: its part of the control hierarchy, and the store of its rows. Contracts see what it keeps, and the
 /// store.
@@ -213,5 +237,114 @@ impl<'a, S: Stable> Station<'a, S> {
     {
         let _tree = self.core.tree();
         self.core.step(&mut self.store, event, out)
+    }
+}
+
+/// Whether a step has stopped its station.
+fn is_stopped_by(heard: &Result<Heard, StepFault>) -> bool
+    ensures { result ≡ is_stopped_by heard.now }
+{
+    match heard {
+        Err(StepFault::Stopped) => true,
+        _ => false,
+    }
+}
+
+impl<'a> Core<'a> {
+    ghost use Rattle.std.specs.Prelude.{◌≡◌, true, false, Err, OnErr, OnOk};
+    ghost use Rattle.smi_holdings.specs.Save.{IfKept, IfMemory, IfStopped};
+    ghost use Rattle.smi_message.specs.Spelling.{reading};
+    ghost use Rattle.smi_protocol.specs.Step.{after_event, after_reading, nothing_out};
+    ghost use Rattle.smi_protocol.specs.declared.event.StepFault.TheVariants.{Stopped};
+    ghost use Rattle.smi_station.specs.Core.{MaySendAll, Steps, number_of, station_of, tree_of};
+    ghost use Rattle.smi_station.specs.Leaving.{Leaves};
+    ghost use Rattle.smi_station.specs.Wanting.{adds_by, adds_read, wants_memory};
+
+    /// An event comes. A station that has stopped makes no step.
+    fn step<S: Stable>(
+        &mut self,
+        store: &mut S,
+        event: Event<'_>,
+        out: &mut Out,
+    ) -> Result<Heard, StepFault>
+        ensures step { self.old.is_stopped ≡ false
+            → Steps self.old self.new (after_event (tree_of self.old) (number_of self.old) (station_of self.old)
+            event.entry) out.new result }
+        ensures store { self.old.is_stopped ≡ false
+            → Leaves S.is_honest S.is_open S.rows S.may_find S.saves S.failures S.doubts store.old store.new result
+            (after_event (tree_of self.old) (number_of self.old) (station_of self.old) event.entry).saved }
+        ensures memory { self.old.is_stopped ≡ false → IfMemory result (wants_memory
+            (after_event (tree_of self.old) (number_of self.old) (station_of self.old) event.entry).saved
+            (adds_by (tree_of self.old) (number_of self.old) (station_of self.old).display event.entry) ≡ true) }
+        ensures may_send { self.old.is_stopped ≡ false → OnOk result (MaySendAll self.new out.new.datagrams) }
+        ensures kept { IfKept result (self.new ≡ self.old) }
+        ensures stops { IfStopped result (self.new ≡ record self.old { is_stopped = true }) }
+        ensures stopped { self.old.is_stopped ≡ true
+            → (result ≡ Err Stopped) × (out.new ≡ nothing_out) × (store.new ≡ store.old) }
+    {
+        out.clear();
+        if self.is_stopped {
+            return Err(StepFault::Stopped);
+        }
+        let heard = self.step_running(store, event, out);
+        if is_stopped_by(&heard) {
+            self.is_stopped = true;
+        }
+        heard
+    }
+
+    /// An event comes to a station that runs.
+    fn step_running<S: Stable>(
+        &mut self,
+        store: &mut S,
+        event: Event<'_>,
+        out: &mut Out,
+    ) -> Result<Heard, StepFault>
+        requires runs { self.old.is_stopped ≡ false }
+        requires empty { out.old ≡ nothing_out }
+        ensures step { Steps self.old self.new (after_event (tree_of self.old) (number_of self.old)
+            (station_of self.old) event.entry) out.new result }
+        ensures store { Leaves S.is_honest S.is_open S.rows S.may_find S.saves S.failures S.doubts store.old store.new
+            result
+            (after_event (tree_of self.old) (number_of self.old) (station_of self.old) event.entry).saved }
+        ensures memory { IfMemory result (wants_memory
+            (after_event (tree_of self.old) (number_of self.old) (station_of self.old) event.entry).saved
+            (adds_by (tree_of self.old) (number_of self.old) (station_of self.old).display event.entry) ≡ true) }
+        ensures may_send { OnOk result (MaySendAll self.new out.new.datagrams) }
+        ensures unchanged { OnErr result (self.new ≡ self.old) }
+    {
+        let _tree = self.kept.tree();
+        match event {
+            Event::Datagram(bytes) => self.read(store, out, bytes),
+            Event::Order(operator, order) => self.order(store, out, operator, &order),
+            Event::Report(device, state) => self.report(out, device, state),
+            Event::Tick => self.tick(out),
+        }
+    }
+
+    /// Bytes come.
+    fn read<S: Stable>(
+        &mut self,
+        store: &mut S,
+        out: &mut Out,
+        bytes: &[u8],
+    ) -> Result<Heard, StepFault>
+        requires runs { self.old.is_stopped ≡ false }
+        requires empty { out.old ≡ nothing_out }
+        ensures step { Steps self.old self.new (after_reading (tree_of self.old) (number_of self.old)
+            (station_of self.old) (reading bytes.now)) out.new result }
+        ensures store { Leaves S.is_honest S.is_open S.rows S.may_find S.saves S.failures S.doubts store.old store.new
+            result
+            (after_reading (tree_of self.old) (number_of self.old) (station_of self.old) (reading bytes.now)).saved }
+        ensures memory { IfMemory result (wants_memory
+            (after_reading (tree_of self.old) (number_of self.old) (station_of self.old) (reading bytes.now)).saved
+            (adds_read (tree_of self.old) (number_of self.old) (station_of self.old).display (reading bytes.now))
+            ≡ true) }
+        ensures unchanged { OnErr result (self.new ≡ self.old) }
+    {
+        match decode(bytes) {
+            Ok(datagram) => self.datagram(store, out, &datagram),
+            Err(bad) => Ok(Heard::Refused(bad.code())),
+        }
     }
 }

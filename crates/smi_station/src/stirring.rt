@@ -28,10 +28,10 @@ use smi_tree::Tree;
 pub(crate) struct BeforeStep {
     /// The domain, if there is one.
     pub domain: Option<u16>,
-    /// Its members.
-    pub before: Members,
     /// The action that runs there, if one does.
     pub action: Option<u16>,
+    /// Its members.
+    pub before: Members,
 }
 
 /// The domain whose members a datagram may change.
@@ -116,10 +116,11 @@ pub(crate) fn look_before(
     ensures within { IfSome result.domain (IsBetween 1 (domain_count display.now.tree)) }
 {
     let domain = domain_of(kept.tree(), &datagram.body);
+    let action = action_of(kept, &datagram.body);
     BeforeStep {
         domain,
+        action,
         before: members_in(display, kept, domain),
-        action: action_of(kept, &datagram.body),
     }
 }
 

@@ -1,0 +1,111 @@
+use Rattle.std.proofs.Common.{◌≡◌, ◌≤◌, ◌∙◌, None, length, sym, ap, subst}
+use Rattle.smi_message.specs.Message.{Message}
+use Rattle.smi_holdings.specs.Kept.{grants_of}
+use Rattle.smi_protocol.specs.Refusals.{refusal_of_message}
+use Rattle.smi_protocol.specs.Keeping.{drop_comes, run_comes, take_comes}
+use Rattle.smi_protocol.specs.Hearing.{tell_comes}
+use Rattle.smi_protocol.specs.Step.{Out}
+use Rattle.smi_plan.specs.Handing.{with_step}
+use Rattle.smi_station.proofs.Accepted.{asked_there, dropped_there, run_there, taken_there, told_there}
+use Rattle.smi_station.proofs.Outcomes.{run_answers, take_answers}
+use Rattle.smi_station.proofs.hearing.plan.Goals as goal
+
+pub ask-requires-clause-domain : goal.ask-requires-clause-domain
+ask-requires-clause-domain c =
+    let k = c.args.kept.now in
+    asked_there k.tree c.tree-tree.ensures.kept.tree k.number _ c.datagram.invariant.body
+    (subst (λ (m : Message). refusal_of_message k.tree k.number m ≡ None) (sym c.datagram.view_is)
+    c.requires.accepted)
+    c.in-Ask.domain c.in-Ask.is
+
+pub take-requires-clause-domain : goal.take-requires-clause-domain
+take-requires-clause-domain c =
+    let k = c.args.kept.now in
+    (taken_there k.tree c.tree-tree.ensures.kept.tree k.number _ c.datagram.invariant.body
+    (subst (λ (m : Message). refusal_of_message k.tree k.number m ≡ None) (sym c.datagram.view_is)
+    c.requires.accepted)
+    c.in-Take.domain c.in-Take.holder c.in-Take.seen c.in-Take.is).domain
+
+pub drop_grant-requires-clause-domain : goal.drop_grant-requires-clause-domain
+drop_grant-requires-clause-domain c =
+    let k = c.args.kept.now in
+    (dropped_there k.tree c.tree-tree.ensures.kept.tree k.number _ c.datagram.invariant.body
+    (subst (λ (m : Message). refusal_of_message k.tree k.number m ≡ None) (sym c.datagram.view_is)
+    c.requires.accepted)
+    c.in-Drop.domain c.in-Drop.holder c.in-Drop.epoch c.in-Drop.is).domain
+
+pub run-requires-clause-domain : goal.run-requires-clause-domain
+run-requires-clause-domain c =
+    let k = c.args.kept.now in
+    (run_there k.tree c.tree-tree.ensures.kept.tree k.number _ c.datagram.invariant.body
+    (subst (λ (m : Message). refusal_of_message k.tree k.number m ≡ None) (sym c.datagram.view_is)
+    c.requires.accepted)
+    c.in-Run.domain c.in-Run.holder c.in-Run.epoch c.in-Run.number c.in-Run.command c.in-Run.is).0.domain
+
+pub tell-requires-clause-domain : goal.tell-requires-clause-domain
+tell-requires-clause-domain c =
+    let k = c.args.kept.now in
+    (told_there k.tree c.tree-tree.ensures.kept.tree k.number _ c.datagram.invariant.body
+    (subst (λ (m : Message). refusal_of_message k.tree k.number m ≡ None) (sym c.datagram.view_is)
+    c.requires.accepted)
+    c.in-Tell.domain c.in-Tell.news c.in-Tell.is).0
+
+pub returns-in-Take-clause-plan : goal.returns-in-Take-clause-plan
+returns-in-Take-clause-plan c = rw (← c.datagram.view_is, c.in-Take.is) c.take.ensures.plan
+
+pub returns-in-Take-clause-sent : goal.returns-in-Take-clause-sent
+returns-in-Take-clause-sent c =
+    let k = c.args.kept.now in
+    rw (← c.datagram.view_is, c.in-Take.is) (c.take.ensures.sent
+    ∙ ap (λ (o : Out). with_step o (take_comes k.tree k.number (grants_of k) c.datagram.inside.from
+    c.in-Take.domain c.in-Take.holder c.in-Take.seen)) c.requires.empty)
+
+pub returns-in-Take-clause-few : goal.returns-in-Take-clause-few
+returns-in-Take-clause-few c =
+    let k = c.args.kept.now in
+    subst (λ (o : Out). length o.answers ≤ 8) (sym
+    (c.take.ensures.sent
+    ∙ ap (λ (o : Out). with_step o (take_comes k.tree k.number (grants_of k) c.datagram.inside.from
+    c.in-Take.domain c.in-Take.holder c.in-Take.seen)) c.requires.empty))
+    (take_answers k.tree k.number (grants_of k) c.datagram.inside.from c.in-Take.domain c.in-Take.holder
+    c.in-Take.seen)
+
+pub returns-in-Drop-clause-plan : goal.returns-in-Drop-clause-plan
+returns-in-Drop-clause-plan c = rw (← c.datagram.view_is, c.in-Drop.is) c.drop_grant.ensures.plan
+
+pub returns-in-Drop-clause-sent : goal.returns-in-Drop-clause-sent
+returns-in-Drop-clause-sent c =
+    let k = c.args.kept.now in
+    rw (← c.datagram.view_is, c.in-Drop.is) (c.drop_grant.ensures.sent
+    ∙ ap (λ (o : Out). with_step o (drop_comes k.tree k.number (grants_of k) c.datagram.inside.from
+    c.in-Drop.domain c.in-Drop.holder c.in-Drop.epoch)) c.requires.empty)
+
+pub returns-in-Run-clause-plan : goal.returns-in-Run-clause-plan
+returns-in-Run-clause-plan c = rw (← c.datagram.view_is, c.in-Run.is) c.run.ensures.plan
+
+pub returns-in-Run-clause-sent : goal.returns-in-Run-clause-sent
+returns-in-Run-clause-sent c =
+    let k = c.args.kept.now in
+    rw (← c.datagram.view_is, c.in-Run.is) (c.run.ensures.sent
+    ∙ ap (λ (o : Out). with_step o (run_comes k.tree k.number (grants_of k) c.datagram.inside.from c.in-Run.domain
+    c.in-Run.holder c.in-Run.epoch c.in-Run.number c.in-Run.command)) c.requires.empty)
+
+pub returns-in-Run-clause-few : goal.returns-in-Run-clause-few
+returns-in-Run-clause-few c =
+    let k = c.args.kept.now in
+    subst (λ (o : Out). length o.answers ≤ 8) (sym
+    (c.run.ensures.sent
+    ∙ ap (λ (o : Out). with_step o (run_comes k.tree k.number (grants_of k) c.datagram.inside.from c.in-Run.domain
+    c.in-Run.holder c.in-Run.epoch c.in-Run.number c.in-Run.command)) c.requires.empty))
+    (run_answers k.tree k.number (grants_of k) c.datagram.inside.from c.in-Run.domain c.in-Run.holder
+    c.in-Run.epoch c.in-Run.number c.in-Run.command)
+
+pub returns-in-Tell-clause-plan : goal.returns-in-Tell-clause-plan
+returns-in-Tell-clause-plan c = rw (← c.datagram.view_is, c.in-Tell.is) c.tell.ensures.plan
+
+pub returns-in-Tell-clause-sent : goal.returns-in-Tell-clause-sent
+returns-in-Tell-clause-sent c =
+    let k = c.args.kept.now in
+    rw (← c.datagram.view_is, c.in-Tell.is) (c.tell.ensures.sent
+    ∙ ap (λ (o : Out). with_step o (tell_comes k.tree k.number (grants_of k) c.in-Tell.domain c.in-Tell.news))
+    c.requires.empty)
