@@ -104,6 +104,13 @@ class Landings(unittest.TestCase):
                 self.assertEqual(landings.of_edits(Crate("one", (), folder), found), wanted)
 
 
+    def test_edits_in_parts(self):
+        # no edit, one edit that takes long, two and three of ten minutes each, and many that are quick
+        for count, seconds, wanted in [(0, 0, 0), (1, 4000, 1), (2, 1200, 2), (3, 1801, 3), (90, 600, 1), (90, 601, 2),
+                                       (7, 0, 1)]:
+            self.assertEqual(landings.part_count(count, seconds), wanted, (count, seconds))
+
+
 class Tables(unittest.TestCase):
     """What the documents tell."""
 

@@ -317,9 +317,9 @@ def planted_cases():
     for path, is_right in [
             ("crates/smi_holdings/proofs/kept/Kept/put_child/Answers.antt", True),
             ("crates/smi_holdings/proofs/commit/Kept/put_child/Answers.antt", False),
-            ("crates/smi_plan/proofs/running/run/Answers.antt", True),
-            ("crates/smi_plan/proofs/asking/run/Answers.antt", False),
-            ("crates/smi_plan/proofs/running/run/Lemmas.antt", False)]:
+            ("crates/smi_plan/proofs/keeping/run/Answers.antt", True),
+            ("crates/smi_plan/proofs/ordering/run/Answers.antt", False),
+            ("crates/smi_plan/proofs/keeping/run/Lemmas.antt", False)]:
         yield verdict.case("a proof at %s" % path, places.stands_right(path), is_right)
 
 
