@@ -155,6 +155,65 @@ class Records(unittest.TestCase):
         self.assertEqual(gate.lines_of_record(), {("one", "kit-a"): "11", ("two", "kit-b"): "22"})
 
 
+class Bodies(unittest.TestCase):
+    """Which function an edit is in."""
+
+    TEXT = """impl<L> Served for Side<L>
+{
+    fn one(&self) -> u16 {
+        self.one
+    }
+
+    fn with_a_clause(&self) -> u16
+        ensures { result ≡ self.now.two }
+    {
+        self.two
+    }
+
+    fn of_many<
+        A: Read + Drop,
+    >(
+        &mut self,
+        response: &mut Response,
+    ) -> Result<(), AllocError> {
+        self.answer(response)
+    }
+
+    fn of_nothing(
+        &mut self,
+    ) -> bool {}
+
+    fn bounded<A>(
+        &self,
+    ) -> Result<A, AllocError>
+    where
+        A: Read,
+    {
+        self.three
+    }
+}
+"""
+
+    def function_of(self, words):
+        start = self.TEXT.index(words)
+        found = edits.enclosing(self.TEXT, start, start + len(words))
+        return found and found[1]
+
+    def test_each_in_its_own(self):
+        for words, name in [("self.one", "one"), ("self.two\n", "with_a_clause"), ("self.answer", "of_many"),
+                            ("{}", "of_nothing"), ("self.three", "bounded")]:
+            with self.subTest(words):
+                self.assertEqual(self.function_of(words), name)
+
+    def test_none_where_it_is_in_a_head_or_a_clause(self):
+        for words in ("self.now.two", "response: &mut Response", "A: Read,", "Side<L>"):
+            with self.subTest(words):
+                self.assertIsNone(self.function_of(words))
+
+    def test_none_where_it_reaches_out_of_one(self):
+        self.assertIsNone(self.function_of("self.one\n    }\n\n    fn with_a_clause"))
+
+
 class Parts(unittest.TestCase):
     """How the edits of a crate are parted."""
 

@@ -60,12 +60,14 @@ def body_of(lines, head):
     begins = None
     for at in range(head, len(lines)):
         line = lines[at]
-        if begins is None and (line.endswith(" {") and at == head or line == indent + "{"):
+        # the line in which a head ends that has no clauses: its only one, or that of its last parameter
+        is_last = at == head or line.startswith((indent + ")", indent + ">"))
+        if begins is None and (line.endswith(" {") and is_last or line == indent + "{"):
             begins = at
-        elif line.startswith(indent + "}") or line == indent + "{}" or line.endswith("{}") and at == head:
+        elif line.startswith(indent + "}") or line == indent + "{}" or line.endswith("{}") and is_last:
             return range(at if begins is None else begins, at + 1)
-        elif at > head and begins is None and line and not line.startswith((indent + " ", indent + ")",
-                                                                            indent + "where")):
+        elif at > head and begins is None and line and not (is_last
+                                                            or line.startswith((indent + " ", indent + "where"))):
             return None
     return None
 
