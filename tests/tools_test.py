@@ -214,6 +214,36 @@ class Bodies(unittest.TestCase):
         self.assertIsNone(self.function_of("self.one\n    }\n\n    fn with_a_clause"))
 
 
+class Twins(unittest.TestCase):
+    """What the twin tells that nothing has changed."""
+
+    def is_proved_itself(self, *lines):
+        said = "".join("%s\n" % it for it in ("fn one::order::issue: proved", *lines, "only=3 proved=1"))
+        return edits.is_proved_itself("one::order::issue__same", said)
+
+    def test_proved(self):
+        self.assertTrue(self.is_proved_itself("fn one::order::issue__same: proved"))
+
+    def test_what_it_calls_is_edited(self):
+        for called in ("`one::a`, which is not proved", "`one::a` and `one::b::C::d`, which are not proved"):
+            self.assertTrue(self.is_proved_itself("fn one::order::issue__same: no proof: it calls " + called))
+
+    def test_a_goal_of_its_own_is_left(self):
+        for why in ("`search` did not prove `returns`; it calls `one::a`, which is not proved",
+                    "expected answers in ./proofs/order/issue__same/Answers.antt", "not checked"):
+            self.assertFalse(self.is_proved_itself("fn one::order::issue__same: no proof: " + why))
+        said = "fn one::order::issue__same: no proof: it calls `one::a`, which is not proved"
+        self.assertFalse(self.is_proved_itself("note: src/order.rt:7:5: it is not proved here", said))
+        self.assertFalse(self.is_proved_itself("proofs/order/issue__same/Answers.antt:3:1: error: wrong", said))
+
+    def test_a_closure_of_it_is_not_proved(self):
+        self.assertFalse(self.is_proved_itself("fn one::order::fn::issue__same::closure: no proof: `search` did not prove `a`",
+                                               "fn one::order::issue__same: proved"))
+
+    def test_nothing_is_said_of_it(self):
+        self.assertFalse(self.is_proved_itself())
+
+
 class Parts(unittest.TestCase):
     """How the edits of a crate are parted."""
 

@@ -9,13 +9,13 @@ folder, what the prover says of each copy is kept there.
 
 Edits are written into one copy of the crate, those of one function each into a twin of it that stands beside it under
 a name of its own, where that can be; and the prover is asked for these functions alone, from nothing, in a folder of
-this run. Beside such twins stands one that nothing has changed: where it is not proved, the others tell nothing. An
-edit counts as refused only where a goal of its own function is not proved: a function is proved from the contracts of
-what it calls, whatever becomes of their bodies, and a copy in which a goal of an unedited function fails tells
-nothing. What is not refused so is tried again without those that were, and at last alone. A copy that does not compile
-is halved. An edit that is about more than the body of one function, as of a definition or of a constant that several
-read, is tried alone, and counts as refused too where its function is a law that rests on a lemma which is not proved
-any more; one with no line `function:` is tried alone as the toolchain tries it, over the whole crate.
+this run. Beside such twins stands one that nothing has changed: where a goal of its own is not proved, the others tell
+nothing. An edit counts as refused only where a goal of its own function is not proved: a function is proved from the
+contracts of what it calls, whatever becomes of their bodies, and a copy in which a goal of an unedited function fails
+tells nothing. What is not refused so is tried again without those that were, and at last alone. A copy that does not
+compile is halved. An edit that is about more than the body of one function, as of a definition or of a constant that
+several read, is tried alone, and counts as refused too where its function is a law that rests on a lemma which is not
+proved any more; one with no line `function:` is tried alone as the toolchain tries it, over the whole crate.
 
 The last line is 'N refused, M not'. The status is 0 where each was refused.
 """
@@ -36,7 +36,7 @@ import kit
 
 FOLDERS = ("edits", "must-fail")
 # So many edits are tried together at most.
-MOST = 30
+MOST = 60
 # What an edit that was read is answered with.
 REFUSED, PASSED, BAD, AGAIN = "refused", "NOT REFUSED", "BAD EDIT", "again"
 # The mark of a twin that is as the function stands.
@@ -44,6 +44,8 @@ SAME = "same"
 FUNCTION = re.compile(r"( *)(?:pub(?:\([a-z]+\))? )?(const )?(?:unsafe )?fn (\w+)")
 # An error in a proof file which says no more than that the edit took a name away.
 LOST_NAME = re.compile(r"has no field|is not in scope|has no `|was not admitted")
+# What is said of a function of whose own goals none is left.
+ONLY_CALLS = re.compile(r"no proof: it calls (?:`[^`]*`(?: and )?)+, which (?:is|are) not proved")
 # An error in any proof file.
 LEMMA = re.compile(r"(?m)^(?:\./)?proofs/\S+\.antt:\d+:\d+: error: (.*)$")
 printing = threading.Lock()
@@ -302,11 +304,18 @@ def goals_of(functions, said):
     return own
 
 
+def is_proved_itself(function, said):
+    """Whether nothing is left to be proved of the function itself: it is proved, or would be but for what it calls."""
+    lines = lines_of(function, said)
+    return function in lines and not goals_of(lines, said) and all(
+        line.startswith("proved") or ONLY_CALLS.fullmatch(line) for line in lines.values())
+
+
 def set_apart(said, batch):
     """Edits of functions that are not proved as a twin that nothing has changed: what is said of their twins tells
     nothing, and they are tried again in their own places."""
     for edit in batch:
-        if edit.twin and not re.search(r"(?m)^fn %s: proved" % re.escape(edit.same()), said):
+        if edit.twin and not is_proved_itself(edit.same(), said):
             for other in batch:
                 if other.function == edit.function:
                     other.how, other.is_lone = AGAIN, True
