@@ -154,7 +154,7 @@ def can_stand_twice(crate, path, head, name, is_constant):
         return False
     folders = [at for at, names, _ in os.walk(os.path.join(crate.folder, "proofs")) if os.path.basename(at) == name
                and names]
-    return not folders and "|" not in "".join(lines[it] for it in body_of(lines, head)).replace("||", "")
+    return not folders
 
 
 def cut_of(crate, path, new):
