@@ -123,7 +123,8 @@ class Edit:
         places = [place_of(crate, *cut) for cut in self.cuts]
         self.is_wide = not self.function or any(not it or it[2] != self.function.split("::")[-1] for it in places)
         self.touched = {self.function, *places}
-        self.place = places[0] if len(set(places)) == 1 and places[0] and can_stand_twice(crate, *places[0]) else None
+        is_one = len(set(places)) == 1 and places[0] and self.function
+        self.place = places[0] if is_one and can_stand_twice(crate, self.function, *places[0]) else None
 
     def clashes(self, other):
         """Whether the two cannot stand in one copy, each with a function of its own or a twin of the same one."""
@@ -145,15 +146,15 @@ class Edit:
         return self.function + ("__%d" % self.twin if self.twin else "")
 
 
-def can_stand_twice(crate, path, head, name, is_constant):
+def can_stand_twice(crate, function, path, head, name, is_constant):
     """Whether a function can have a twin beside it: a plain one, with no closure that has a proof of its own."""
     with open(os.path.join(crate.folder, path), encoding="utf-8") as file:
         lines = file.read().split("\n")
     found = FUNCTION.match(lines[head])
     if not found or found[3] != name or is_constant or is_in_trait(lines, head):
         return False
-    folders = [at for at, names, _ in os.walk(os.path.join(crate.folder, "proofs")) if os.path.basename(at) == name
-               and names]
+    folders = [at for at, names, _ in os.walk(os.path.join(crate.folder, "proofs"))
+               if names and is_proof_of(function, os.path.relpath(at, crate.folder))]
     return not folders
 
 
