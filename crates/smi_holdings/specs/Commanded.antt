@@ -1,7 +1,6 @@
 -- What a command does to the children of its domain, worked out before anything changes.
-use Rattle.std.specs.Prelude.{ℕ, ◌≡◌, ◌≤◌, ◌==◌, List, length, map, All, Option, option_map}
+use Rattle.std.specs.Prelude.{ℕ, ◌≡◌, ◌==◌, List, map, All, Option, option_map}
 use Rattle.std.specs.List.{find}
-use Rattle.smi_base.specs.declared.trees.TheConstants.{MOST_CHILDREN}
 use Rattle.smi_grant.specs.declared.Command.{Command}
 use Rattle.smi_tree.specs.Hierarchy.{Hierarchy}
 use Rattle.smi_tree.specs.Lookups.{children_of}
@@ -10,11 +9,6 @@ use Rattle.smi_protocol.specs.Children.{change_of}
 use Rattle.smi_holdings.specs.Children.{meant}
 use Rattle.smi_holdings.specs.declared.running.ChildChange.{ChildChange}
 use Rattle.smi_holdings.specs.declared.commanded.CommandedChild.{CommandedChild}
-
--- so many places, of which the first hold something
-pub record IsStored (places : List CommandedChild) (count : ℕ) : Type 0 where
-  pub all : length places ≡ MOST_CHILDREN
-  pub within : count ≤ MOST_CHILDREN
 
 -- a command of the domain does that to the child
 abbrev pub IsSo : Hierarchy → Grants → ℕ → Command → CommandedChild → Type 0

@@ -1,7 +1,7 @@
 use crate::commanded::CommandedChildren;
 use smi_grant::{Command, Link, Record};
 
-/// What a step changes of the grants. It owns nothing, and is made before anything is saved.
+/// What a step changes of the grants. It is made before anything is saved.
 #[derive(Debug, Drop)]
 pub enum Change {
     Nothing,

@@ -17,6 +17,7 @@ use smi_grant::{
 };
 use smi_rows::Mode;
 use smi_tree::Tree;
+use std::alloc::AllocError;
 
 /// A command that begins at a domain: the domain's record with it, the code that the domain has then gathered, and what
 /// the command does to its children.
@@ -219,7 +220,7 @@ fn started(standing: &Record, busy: bool, code: u16) -> Record
 }
 
 impl<'a> Kept<'a> {
-    ghost use Rattle.std.specs.Prelude.{◌≡◌, ◌≤◌, false, IfNone, IfSome};
+    ghost use Rattle.std.specs.Prelude.{◌≡◌, ◌≤◌, false, true, IfNone, IfOk, IfSome, OnErr};
     ghost use Rattle.smi_grant.specs.Holder.{is_free};
     ghost use Rattle.smi_grant.specs.Record.{last_number};
     ghost use Rattle.smi_tree.specs.Lookups.{domain_count};
@@ -231,19 +232,23 @@ impl<'a> Kept<'a> {
     ghost use Rattle.smi_holdings.specs.Kept.{grants_of};
 
     /// What a command of a domain comes to, by one look at each of its children.
-    fn reached_by(&self, domain: u16, command: Command) -> Reached
+    ///
+    /// Its error is that memory was refused.
+    fn reached_by(&self, domain: u16, command: Command) -> Result<Reached, AllocError>
         requires least { 1 ≤ domain }
         requires most { domain ≤ domain_count self.now.tree }
-        ensures busy { result.is_busy
-            ≡ waits_for_children self.now.tree (commanded self.now.tree (grants_of self.now) domain command) domain }
-        ensures code { result.code ≡ own_code self.now.tree (grants_of self.now) domain command }
-        ensures children { AreSo self.now.tree (grants_of self.now) domain command result.children }
+        ensures busy { IfOk result (λ reached. reached.is_busy
+            ≡ waits_for_children self.now.tree (commanded self.now.tree (grants_of self.now) domain command) domain) }
+        ensures code { IfOk result (λ reached. reached.code
+            ≡ own_code self.now.tree (grants_of self.now) domain command) }
+        ensures children { IfOk result (λ reached. AreSo self.now.tree (grants_of self.now) domain command
+            reached.children) }
     {
         let tree = self.tree();
         let mut is_busy = false;
         let mut code = code_at_domain(tree, domain, command);
-        let mut known = CommandedChildren::new();
         let children = tree.children(domain);
+        let mut known = Vec::with_capacity(self.alloc(), children.len())?;
         for child in children {
             let link = self.link(Holder::Domain(domain), *child);
             let change = child_change(tree, domain, command, *child, &link, self.mode(*child));
@@ -252,16 +257,18 @@ impl<'a> Kept<'a> {
             known.push(CommandedChild {
                 child: *child,
                 change,
-            });
+            })?;
         }
-        Reached {
+        Ok(Reached {
             is_busy,
             code,
-            children: known,
-        }
+            children: CommandedChildren::of_list(known),
+        })
     }
 
     /// A command comes. Where the domain's record admits it, it begins; else nothing comes of it.
+    ///
+    /// Its error is that memory was refused for a command that the record admits.
     pub fn run_comes(
         &self,
         domain: u16,
@@ -269,24 +276,27 @@ impl<'a> Kept<'a> {
         epoch: u64,
         number: u32,
         command: Command,
-    ) -> Option<BegunCommand>
+    ) -> Result<Option<BegunCommand>, AllocError>
         requires least { 1 ≤ domain }
         requires most { domain ≤ domain_count self.now.tree }
         requires party { is_free holder ≡ false }
         requires number { number ≤ last_number }
-        ensures begins { IfSome result (Begins self.now.tree (grants_of self.now) domain holder epoch number command) }
-        ensures refused { IfNone result
-            (keeper.admits ((grants_of self.now).records domain) holder epoch number ≡ false) }
+        ensures begins { IfOk result (λ begun. IfSome begun (Begins self.now.tree (grants_of self.now) domain holder
+            epoch number command)) }
+        ensures refused { IfOk result (λ begun. IfNone begun
+            (keeper.admits ((grants_of self.now).records domain) holder epoch number ≡ false)) }
+        ensures memory { OnErr result
+            (keeper.admits ((grants_of self.now).records domain) holder epoch number ≡ true) }
     {
         let standing = self.record(domain);
         if !admit(&standing, holder, epoch, number) {
-            return None;
+            return Ok(None);
         }
-        let reached = self.reached_by(domain, command);
-        Some(BegunCommand {
+        let reached = self.reached_by(domain, command)?;
+        Ok(Some(BegunCommand {
             standing: started(&standing, reached.is_busy, reached.code),
             code: gathered_at_first(reached.is_busy, reached.code),
             children: reached.children,
-        })
+        }))
     }
 }

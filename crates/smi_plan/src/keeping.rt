@@ -1,7 +1,8 @@
 //! What a keeper makes of those who ask, take, drop and command: what it plans, whom it tells, what its links to its
 //! children are due, and what its save leaves in a trace.
 
-ghost use Rattle.std.specs.Prelude.{◌≡◌, ◌≤◌, ◌++◌, ◌∷◌, [], false, true, ℕ, All, IfSome, map};
+ghost use Rattle.std.specs.Prelude.{◌≡◌, ◌≤◌, ◌++◌, ◌∷◌, [], false, true, ℕ, All, IfOk, IfSome, OnErr, OnOk, is_some};
+ghost use Rattle.std.specs.Prelude.{map};
 ghost use Rattle.std.specs.List.{flat_map};
 ghost use Rattle.smi_grant.specs.Holder as holder_spec;
 ghost use Rattle.smi_grant.specs.Holder.{is_free};
@@ -38,6 +39,7 @@ use smi_holdings::{After, Change, ChildChange, CommandedChildren, Kept};
 use smi_out::{Entries, Out, request, tell};
 use smi_protocol::Entry;
 use smi_tree::Tree;
+use std::alloc::AllocError;
 
 // ---- who asks, takes or drops
 
@@ -164,6 +166,8 @@ fn freed(domain: u16, change: &Change) -> Entries
 
 /// A command comes: who sent it is told how the domain stands after it, and where it runs, the children's links
 /// that it has changed are asked for what they are due.
+///
+/// Its error is that memory was refused for a command that runs; then nothing is handed out.
 pub fn run(
     out: &mut Out,
     kept: &Kept<'_>,
@@ -173,21 +177,26 @@ pub fn run(
     epoch: u64,
     number: u32,
     command: Command,
-) -> Change
+) -> Result<Change, AllocError>
     requires sound { IsSound kept.now.tree (grants_of kept.now) }
     requires from { IsBetween 1 (station_count kept.now.tree) from }
     requires domain { IsBetween 1 (domain_count kept.now.tree) domain }
     requires party { is_free holder ≡ false }
     requires number { number ≤ last_number }
     requires command { IsCommand kept.now.tree command }
-    ensures plan { Plans kept.now.tree kept.now.number (grants_of kept.now)
+    ensures plan { IfOk result (Plans kept.now.tree kept.now.number (grants_of kept.now)
         (keeping.run_comes kept.now.tree kept.now.number (grants_of kept.now) from domain holder epoch number
-        command) result }
-    ensures sent { out.new ≡ with_step out.old
-        (keeping.run_comes kept.now.tree kept.now.number (grants_of kept.now) from domain holder epoch number command) }
+        command)) }
+    ensures sent { OnOk result (out.new ≡ with_step out.old
+        (keeping.run_comes kept.now.tree kept.now.number (grants_of kept.now) from domain holder epoch number
+        command)) }
+    ensures memory { OnErr result (is_some
+        (keeping.run_comes kept.now.tree kept.now.number (grants_of kept.now) from domain holder epoch number
+        command).row ≡ true) }
+    ensures unchanged { OnErr result (out.new ≡ out.old) }
 {
     let _tree = kept.tree();
-    match kept.run_comes(domain, holder, epoch, number, command) {
+    match kept.run_comes(domain, holder, epoch, number, command)? {
         Some(begun) => {
             out.keep(ran(
                 &begun.children,
@@ -199,11 +208,11 @@ pub fn run(
             ));
             send_record(out, kept, from, domain, begun.standing);
             send_to_children(out, kept, domain, &begun.children);
-            Change::Ran(domain, command, begun.standing, begun.code, begun.children)
+            Ok(Change::Ran(domain, command, begun.standing, begun.code, begun.children))
         }
         None => {
             ask(out, kept, from, domain);
-            Change::Nothing
+            Ok(Change::Nothing)
         }
     }
 }

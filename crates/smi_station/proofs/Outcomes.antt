@@ -4,7 +4,8 @@ use Rattle.std.proofs.Common.{Some, None, refl, sym, ap, subst, ◌∙◌, appen
 use Rattle.std.specs.Prelude.{◌==◌, ◌&&◌, if◌then◌else◌, nat_lt, not}
 use Rattle.std.specs.Option.{option_or}
 use Rattle.std.specs.List.{flat_map}
-use Rattle.smi_grant.specs.Keeper.{admits, take_after}
+use Rattle.std.specs.Prelude.{Result, Ok, Err, OnErr, OnOk}
+use Rattle.smi_grant.specs.Keeper.{admits, drop_after, take_after}
 use Rattle.smi_grant.specs.declared.Holder.{Holder}
 use Rattle.smi_grant.specs.declared.Verdict.{Verdict}
 use Rattle.smi_grant.specs.declared.Verdict.TheVariants.{New, Same}
@@ -24,11 +25,11 @@ use Rattle.smi_protocol.specs.Display.{Display, Station}
 use Rattle.smi_protocol.specs.Grants.{Grants}
 use Rattle.smi_protocol.specs.GrantStep.{GrantStep, waits_for_children}
 use Rattle.smi_protocol.specs.Children.{own_code}
-use Rattle.smi_protocol.specs.Keeping.{answered, commanded, decided, ran, run_comes, take_comes}
+use Rattle.smi_protocol.specs.Keeping.{answered, commanded, decided, drop_comes, ran, run_comes, take_comes}
 use Rattle.smi_protocol.specs.declared.entry.Entry.{Entry}
 use Rattle.smi_protocol.specs.Showing.{Member, domain_of_body, followed, is_spent, members_of, moved_by_body}
 use Rattle.smi_protocol.specs.Showing.{moved_by_command, same_members, shown_to_all}
-use Rattle.smi_protocol.specs.Step.{body_noticed, conditions_by, nothing_out, put_together}
+use Rattle.smi_protocol.specs.Step.{Out, body_noticed, conditions_by, nothing_out, put_together}
 use Rattle.smi_protocol.specs.Watching.{Notice, is_watched, noticed, showed_if, told_state, unnoticed}
 use Rattle.smi_view.specs.Accepting.{acceptance}
 use Rattle.smi_protocol.specs.declared.order.Answer.{Answer}
@@ -254,6 +255,10 @@ module _ (h : Hierarchy) (number : ℕ) (g : Grants) (from d : ℕ) where
       → length (with_step nothing_out (take_comes h number g from d who seen)).answers ≤ 8
   take_answers who seen = decided_answers _ (take_after (g.records d) who seen)
 
+  pub drop_answers : (who : Holder) (e : ℕ)
+      → length (with_step nothing_out (drop_comes h number g from d who e)).answers ≤ 8
+  drop_answers who e = decided_answers _ (drop_after (g.records d) who e)
+
   pub run_answers : (who : Holder) (e n : ℕ) (c : Command)
       → length (with_step nothing_out (run_comes h number g from d who e n c)).answers ≤ 8
   run_answers who e n c = by (admits (g.records d) who e n)
@@ -263,3 +268,9 @@ module _ (h : Hierarchy) (number : ℕ) (g : Grants) (from d : ℕ) where
           (waits_for_children h (commanded h g d c) d) (own_code h g d c) else answered h number g from d)).answers ≤ 8
       by true = omega arith
       by false = omega arith
+
+-- few answers, whether a plan was made or not
+pub few_by : {X Y : Type 0} (r : Result X Y) (a b o : Out) → OnOk r (o ≡ a) → OnErr r (o ≡ b) → length a.answers ≤ 8
+    → length b.answers ≤ 8 → length o.answers ≤ 8
+few_by (Ok x) a b o is left made none = subst (λ (z : Out). length z.answers ≤ 8) (sym is) made
+few_by (Err x) a b o is left made none = subst (λ (z : Out). length z.answers ≤ 8) (sym left) none

@@ -1,5 +1,5 @@
 -- Whether a step saves a row.
-use Rattle.std.proofs.Common.{ℕ, ◌≡◌, false, Option, Some, None, refl, sym, ap, ◌∙◌, subst}
+use Rattle.std.proofs.Common.{ℕ, ◌≡◌, false, true, Option, Some, None, refl, sym, ap, ◌∙◌, subst}
 use Rattle.std.specs.Prelude.{is_some, option_map}
 use Rattle.smi_tree.specs.Hierarchy.{Hierarchy}
 use Rattle.smi_holdings.specs.Change.{touched}
@@ -38,3 +38,17 @@ module _ (h : Hierarchy) (number : ℕ) (s : Station) (what : Happening) where
               (option_map (saved_row h number (grant_step h number s.grants what).grants) o)
           each None = refl
           each (Some x) = refl
+
+  -- and so where it asks for a row that memory was refused for
+  pub wanted_saves : (g : Grants) → s.grants ≡ g → refusal_of h number g what ≡ None
+      → is_some (grant_step h number g what).row ≡ true → true ≡ is_some (after h number s what).saved
+  wanted_saves g same is wanted =
+      subst (λ o. true ≡ is_some (answered_or h number s what o).saved)
+      (sym (ap (λ z. refusal_of h number z what) same ∙ is))
+      (sym (subst (λ z. is_some (grant_step h number z what).row ≡ true) (sym same) wanted)
+      ∙ each (grant_step h number s.grants what).row)
+    where
+      each : (o : Option _) → is_some o ≡ is_some
+          (option_map (saved_row h number (grant_step h number s.grants what).grants) o)
+      each None = refl
+      each (Some x) = refl

@@ -200,7 +200,9 @@ fn hear<S: Stable>(
     ensures cleared { OnErr result (out.new ≡ nothing_out) }
 {
     let (_tree, _from) = (kept.tree(), datagram.from);
-    let change = plan(out, kept, datagram);
+    let Ok(change) = plan(out, kept, datagram) else {
+        return Err(StepFault::Memory);
+    };
     let found = look_before(display, kept, datagram);
     match make(kept, store, out, &change) {
         Ok(heard) => {
@@ -214,32 +216,44 @@ fn hear<S: Stable>(
 
 /// The change of the grants that a datagram asks for, and what is sent and answered for it. A watch, an unwatch and
 /// a state ask for none.
-pub(crate) fn plan(out: &mut Out, kept: &Kept<'_>, datagram: &Datagram) -> Change
+///
+/// Its error is that memory was refused for a change that saves a row; then nothing is handed out.
+pub(crate) fn plan(
+    out: &mut Out,
+    kept: &Kept<'_>,
+    datagram: &Datagram,
+) -> Result<Change, AllocError>
     requires sound { IsSound kept.now.tree (grants_of kept.now) }
     requires accepted { refusal_of_message kept.now.tree kept.now.number datagram.now ≡ None }
     requires empty { out.old ≡ nothing_out }
-    ensures plan { Plans kept.now.tree kept.now.number (grants_of kept.now)
-        (datagram_comes kept.now.tree kept.now.number (grants_of kept.now) datagram.now.from datagram.now.body) result }
-    ensures sent { out.new ≡ with_step nothing_out
-        (datagram_comes kept.now.tree kept.now.number (grants_of kept.now) datagram.now.from datagram.now.body) }
+    ensures plan { IfOk result (Plans kept.now.tree kept.now.number (grants_of kept.now)
+        (datagram_comes kept.now.tree kept.now.number (grants_of kept.now) datagram.now.from datagram.now.body)) }
+    ensures sent { OnOk result (out.new ≡ with_step nothing_out
+        (datagram_comes kept.now.tree kept.now.number (grants_of kept.now) datagram.now.from datagram.now.body)) }
     ensures few { length out.new.answers ≤ 8 }
+    ensures memory { OnErr result (is_some
+        (datagram_comes kept.now.tree kept.now.number (grants_of kept.now) datagram.now.from datagram.now.body).row
+        ≡ true) }
+    ensures unchanged { OnErr result (out.new ≡ nothing_out) }
 {
     let _tree = kept.tree();
     let from = datagram.from;
     match datagram.body {
         Body::Ask(domain) => {
             ask(out, kept, from, domain);
-            Change::Nothing
+            Ok(Change::Nothing)
         }
-        Body::Take(domain, holder, seen) => take(out, kept, from, domain, holder, seen),
-        Body::Drop(domain, holder, epoch) => drop_grant(out, kept, from, domain, holder, epoch),
+        Body::Take(domain, holder, seen) => Ok(take(out, kept, from, domain, holder, seen)),
+        Body::Drop(domain, holder, epoch) => {
+            Ok(drop_grant(out, kept, from, domain, holder, epoch))
+        }
         Body::Run(domain, holder, epoch, number, command) => run(
             out, kept, from, domain, holder, epoch, number, command,
         ),
-        Body::Tell(domain, news) => tell(out, kept, domain, &news),
-        Body::Watch(_, _) => Change::Nothing,
-        Body::State(_, _, _, _) => Change::Nothing,
-        Body::Unwatch(_, _) => Change::Nothing,
+        Body::Tell(domain, news) => Ok(tell(out, kept, domain, &news)),
+        Body::Watch(_, _) => Ok(Change::Nothing),
+        Body::State(_, _, _, _) => Ok(Change::Nothing),
+        Body::Unwatch(_, _) => Ok(Change::Nothing),
     }
 }
 

@@ -68,7 +68,11 @@ fn is_saved_for_datagram(kept: &Kept<'_>, scratch: &mut Out, datagram: &Datagram
 {
     match refusal_of_message(kept.tree(), kept.number(), datagram) {
         Some(_) => false,
-        None => has_row(&plan(scratch, kept, datagram)),
+        None => match plan(scratch, kept, datagram) {
+            Ok(change) => has_row(&change),
+            // Memory is refused for what saves a row, and for nothing else.
+            Err(_) => true,
+        },
     }
 }
 

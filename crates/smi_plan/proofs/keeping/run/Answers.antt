@@ -23,7 +23,7 @@ send_record-requires-clause-told c =
     told_after k.tree k.number g _ (Ran c.args.domain c.args.command b.standing b.code b.children) c.args.domain
     b.standing
     (begun_planned k.tree k.number g c.args.from c.args.domain c.args.holder c.args.epoch c.args.number c.args.command
-    b c.requires.domain c.in-Some.ensures.begins)
+    b c.requires.domain (rw c.in-Some.is at c.in_ok-begun.ensures.begins))
     (run_comes_sound k.tree k.number g c.requires.sound c.args.from c.args.domain c.args.holder c.args.epoch
     c.args.number c.args.command c.requires.party c.requires.number c.requires.command.range c.requires.command.known)
     (sym (put_here g.records c.args.domain b.standing))
@@ -34,24 +34,24 @@ send_to_children-requires-clause-asked c =
     let g = grants_of k in
     let tree : IsTree k.tree = c.tree-tree.ensures.kept.tree in
     may_be_asked k.tree tree g c.requires.sound c.args.domain
-    (settled_there g c.args.domain c.args.holder c.args.epoch c.args.number c.in-Some.ensures.begins.0)
-    c.args.command c.requires.command c.in-Some.begun.children c.in-Some.ensures.begins.1.children
+    (settled_there g c.args.domain c.args.holder c.args.epoch c.args.number (rw c.in-Some.is at c.in_ok-begun.ensures.begins).0)
+    c.args.command c.requires.command c.in-Some.begun.children (rw c.in-Some.is at c.in_ok-begun.ensures.begins).1.children
 
 pub returns-in-Some-clause-plan : goal.returns-in-Some-clause-plan
 returns-in-Some-clause-plan c =
     let k = c.args.kept.now in
     begun_planned k.tree k.number (grants_of k) c.args.from c.args.domain c.args.holder c.args.epoch c.args.number
-    c.args.command c.in-Some.begun c.requires.domain c.in-Some.ensures.begins
+    c.args.command c.in-Some.begun c.requires.domain (rw c.in-Some.is at c.in_ok-begun.ensures.begins)
 
 pub returns-in-Some-clause-sent : goal.returns-in-Some-clause-sent
 returns-in-Some-clause-sent c =
     let k = c.args.kept.now in
     let g = grants_of k in
     let b = c.in-Some.begun in
-    let runs = c.in-Some.ensures.begins.0 in
-    let so = c.in-Some.ensures.begins.1.children in
+    let runs = (rw c.in-Some.is at c.in_ok-begun.ensures.begins).0 in
+    let so = (rw c.in-Some.is at c.in_ok-begun.ensures.begins).1.children in
     let plans = begun_planned k.tree k.number g c.args.from c.args.domain c.args.holder c.args.epoch c.args.number
-    c.args.command b c.requires.domain c.in-Some.ensures.begins in
+    c.args.command b c.requires.domain (rw c.in-Some.is at c.in_ok-begun.ensures.begins) in
     let is = sym (put_here g.records c.args.domain b.standing) in
     c.send_to_children.ensures
     ∙ ap (λ (ms : List Message). record c.send_record.new.out {

@@ -20,71 +20,71 @@ pub move_and_follow-requires-clause-room : goal.move_and_follow-requires-clause-
 move_and_follow-requires-clause-room g c = noticed_room c.args.display.now c.update_display.new.display
     c.args.datagram.now c.update_display.ensures.display c.requires.room
 
-pub returns-in-Ok-clause-station : goal.returns-in-Ok-clause-station
-returns-in-Ok-clause-station g c =
+pub returns-in-Ok-make-clause-station : goal.returns-in-Ok-make-clause-station
+returns-in-Ok-make-clause-station g c =
     let k = c.args.kept.now in
     let m = c.args.datagram.now in
     heard_station k c.make.new.kept c.args.display.now c.update_display.new.display c.move_and_follow.new.display m
     c.look_before-found.result.domain c.look_before-found.result.action c.look_before-found.result.before
-    c.requires.halves (c.in-Ok.ensures.grants (datagram_comes k.tree k.number (grants_of k) m.from m.body)
-    c.plan-change.ensures.plan) c.update_display.ensures.display c.update_display.ensures.rest
+    c.requires.halves (c.in-Ok-make.ensures.grants (datagram_comes k.tree k.number (grants_of k) m.from m.body)
+    c.in-Ok.ensures.plan) c.update_display.ensures.display c.update_display.ensures.rest
     c.look_before-found.ensures.domain c.look_before-found.ensures.before c.look_before-found.ensures.action
     c.move_and_follow.ensures.display
     c.move_and_follow.result c.move_and_follow.ensures.spent
 
-pub returns-in-Ok-clause-heard : goal.returns-in-Ok-clause-heard
-returns-in-Ok-clause-heard g c =
+pub returns-in-Ok-make-clause-heard : goal.returns-in-Ok-make-clause-heard
+returns-in-Ok-make-clause-heard g c =
     let k = c.args.kept.now in
     let m = c.args.datagram.now in
-    c.in-Ok.ensures.heard (datagram_comes k.tree k.number (grants_of k) m.from m.body) c.plan-change.ensures.plan
+    c.in-Ok-make.ensures.heard (datagram_comes k.tree k.number (grants_of k) m.from m.body) c.in-Ok.ensures.plan
 
-pub returns-in-Ok-clause-out : goal.returns-in-Ok-clause-out
-returns-in-Ok-clause-out g c =
+pub returns-in-Ok-make-clause-out : goal.returns-in-Ok-make-clause-out
+returns-in-Ok-make-clause-out g c =
     let k = c.args.kept.now in
     let d = c.args.display.now in
     let m = c.args.datagram.now in
     heard_out k c.make.new.kept d c.update_display.new.display c.move_and_follow.new.display m
     c.look_before-found.result.domain c.look_before-found.result.action c.look_before-found.result.before
-    c.requires.halves (c.in-Ok.ensures.grants (datagram_comes k.tree k.number (grants_of k) m.from m.body)
-    c.plan-change.ensures.plan) c.update_display.ensures.display c.update_display.ensures.rest
+    c.requires.halves (c.in-Ok-make.ensures.grants (datagram_comes k.tree k.number (grants_of k) m.from m.body)
+    c.in-Ok.ensures.plan) c.update_display.ensures.display c.update_display.ensures.rest
     c.look_before-found.ensures.domain c.look_before-found.ensures.before c.look_before-found.ensures.action
     c.move_and_follow.ensures.display
     c.update_display.new.out c.move_and_follow.new.out
     (c.update_display.ensures.sent
     ∙ ap (λ (o : Out). with_notice o (body_noticed d.tree d.number d.published.boot (display_of d) m.from m.body))
-    (c.in-Ok.ensures.out ∙ c.plan-change.ensures.sent))
+    (c.in-Ok-make.ensures.out ∙ c.in-Ok.ensures.sent))
     c.move_and_follow.ensures.sent
 
-pub returns-in-Ok-clause-store : goal.returns-in-Ok-clause-store
-returns-in-Ok-clause-store g c =
+pub returns-in-Ok-make-clause-store : goal.returns-in-Ok-make-clause-store
+returns-in-Ok-make-clause-store g c =
     let k = c.args.kept.now in
     let m = c.args.datagram.now in
-    rw (← c.in-Ok.is) (c.make.ensures.store (datagram_comes k.tree k.number (grants_of k) m.from m.body)
-    c.plan-change.ensures.plan)
+    rw (← c.in-Ok-make.is) (c.make.ensures.store (datagram_comes k.tree k.number (grants_of k) m.from m.body)
+    c.in-Ok.ensures.plan)
 
-pub returns-in-Ok-clause-halves : goal.returns-in-Ok-clause-halves
-returns-in-Ok-clause-halves g c =
+pub returns-in-Ok-make-clause-halves : goal.returns-in-Ok-make-clause-halves
+returns-in-Ok-make-clause-halves g c =
     let k = c.args.kept.now in
     let m = c.args.datagram.now in
     let step = datagram_comes k.tree k.number (grants_of k) m.from m.body in
     still_halves k c.make.new.kept c.args.display.now c.move_and_follow.new.display step.grants c.requires.halves
-    c.in-Ok.ensures.same
+    c.in-Ok-make.ensures.same
     (rest_twice c.args.display.now c.update_display.new.display c.move_and_follow.new.display
     c.update_display.ensures.rest c.move_and_follow.ensures.rest)
-    (c.in-Ok.ensures.grants step c.plan-change.ensures.plan)
+    (c.in-Ok-make.ensures.grants step c.in-Ok.ensures.plan)
     (stays_sound k.tree k.number (grants_of k) (Comes m) c.tree-tree.ensures.kept.tree c.requires.halves.sound
     (subst (λ (m : Message). is_body m.body ≡ true) c.datagram.view_is c.datagram.invariant.body) c.requires.accepted)
 
-pub returns-in-Err-clause-store : goal.returns-in-Err-clause-store
-returns-in-Err-clause-store g c =
+pub returns-clause-store : goal.returns-clause-store
+returns-clause-store g c =
     let k = c.args.kept.now in
     let m = c.args.datagram.now in
     rw (← c.in-Err.is) (c.make.ensures.store (datagram_comes k.tree k.number (grants_of k) m.from m.body)
-    c.plan-change.ensures.plan)
+    c.in-Ok.ensures.plan)
 
-pub returns-in-Err-clause-memory : goal.returns-in-Err-clause-memory
-returns-in-Err-clause-memory g c =
+pub returns-clause-memory : goal.returns-clause-memory
+returns-clause-memory g c =
     let k = c.args.kept.now in
     let step = datagram_comes k.tree k.number (grants_of k) c.args.datagram.now.from c.args.datagram.now.body in
     subst (λ (r : Result Heard StepFault). IfMemory r (is_some (row_of k.tree k.number step) ≡ true)) c.in-Err.is
-    (c.make.ensures.memory step c.plan-change.ensures.plan)
+    (c.make.ensures.memory step c.in-Ok.ensures.plan)

@@ -1,4 +1,4 @@
-use Rattle.std.proofs.Common.{◌≡◌, ◌≤◌, ◌∙◌, None, length, sym, ap, subst}
+use Rattle.std.proofs.Common.{◌≡◌, ◌≤◌, ◌∙◌, None, length, sym, ap, subst, arith}
 use Rattle.smi_message.specs.Message.{Message}
 use Rattle.smi_holdings.specs.Kept.{grants_of}
 use Rattle.smi_protocol.specs.Refusals.{refusal_of_message}
@@ -7,7 +7,7 @@ use Rattle.smi_protocol.specs.Hearing.{tell_comes}
 use Rattle.smi_protocol.specs.Step.{Out}
 use Rattle.smi_plan.specs.Handing.{with_step}
 use Rattle.smi_station.proofs.Accepted.{asked_there, dropped_there, run_there, taken_there, told_there}
-use Rattle.smi_station.proofs.Outcomes.{run_answers, take_answers}
+use Rattle.smi_station.proofs.Outcomes.{drop_answers, few_by, run_answers, take_answers}
 use Rattle.smi_station.proofs.hearing.plan.Goals as goal
 
 pub ask-requires-clause-domain : goal.ask-requires-clause-domain
@@ -80,25 +80,31 @@ returns-in-Drop-clause-sent c =
     ∙ ap (λ (o : Out). with_step o (drop_comes k.tree k.number (grants_of k) c.datagram.inside.from
     c.in-Drop.domain c.in-Drop.holder c.in-Drop.epoch)) c.requires.empty)
 
+pub returns-in-Drop-clause-few : goal.returns-in-Drop-clause-few
+returns-in-Drop-clause-few c =
+    let k = c.args.kept.now in
+    subst (λ (o : Out). length o.answers ≤ 8) (sym
+    (c.drop_grant.ensures.sent
+    ∙ ap (λ (o : Out). with_step o (drop_comes k.tree k.number (grants_of k) c.datagram.inside.from
+    c.in-Drop.domain c.in-Drop.holder c.in-Drop.epoch)) c.requires.empty))
+    (drop_answers k.tree k.number (grants_of k) c.datagram.inside.from c.in-Drop.domain c.in-Drop.holder
+    c.in-Drop.epoch)
+
 pub returns-in-Run-clause-plan : goal.returns-in-Run-clause-plan
 returns-in-Run-clause-plan c = rw (← c.datagram.view_is, c.in-Run.is) c.run.ensures.plan
 
 pub returns-in-Run-clause-sent : goal.returns-in-Run-clause-sent
-returns-in-Run-clause-sent c =
-    let k = c.args.kept.now in
-    rw (← c.datagram.view_is, c.in-Run.is) (c.run.ensures.sent
-    ∙ ap (λ (o : Out). with_step o (run_comes k.tree k.number (grants_of k) c.datagram.inside.from c.in-Run.domain
-    c.in-Run.holder c.in-Run.epoch c.in-Run.number c.in-Run.command)) c.requires.empty)
+returns-in-Run-clause-sent c = rw (← c.datagram.view_is, c.in-Run.is) (rw c.requires.empty at c.run.ensures.sent)
 
 pub returns-in-Run-clause-few : goal.returns-in-Run-clause-few
 returns-in-Run-clause-few c =
     let k = c.args.kept.now in
-    subst (λ (o : Out). length o.answers ≤ 8) (sym
-    (c.run.ensures.sent
-    ∙ ap (λ (o : Out). with_step o (run_comes k.tree k.number (grants_of k) c.datagram.inside.from c.in-Run.domain
-    c.in-Run.holder c.in-Run.epoch c.in-Run.number c.in-Run.command)) c.requires.empty))
+    few_by c.run.result _ _ c.run.new.out (rw c.requires.empty at c.run.ensures.sent) (rw c.requires.empty at c.run.ensures.unchanged)
     (run_answers k.tree k.number (grants_of k) c.datagram.inside.from c.in-Run.domain c.in-Run.holder
-    c.in-Run.epoch c.in-Run.number c.in-Run.command)
+    c.in-Run.epoch c.in-Run.number c.in-Run.command) (omega arith)
+
+pub returns-in-Run-clause-memory : goal.returns-in-Run-clause-memory
+returns-in-Run-clause-memory c = rw (← c.datagram.view_is, c.in-Run.is) c.run.ensures.memory
 
 pub returns-in-Tell-clause-plan : goal.returns-in-Tell-clause-plan
 returns-in-Tell-clause-plan c = rw (← c.datagram.view_is, c.in-Tell.is) c.tell.ensures.plan

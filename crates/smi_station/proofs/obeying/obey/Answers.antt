@@ -77,15 +77,15 @@ returns-in-Ok-clause-room g c =
     (c.in-Ok.ensures.grants (order_comes k.tree k.number (grants_of k) c.args.operator c.args.what.now)
     c.order-change.ensures.plan) c.order_comes.ensures.display c.requires.room
 
-pub returns-in-Err-clause-store : goal.returns-in-Err-clause-store
-returns-in-Err-clause-store g c =
+pub returns-clause-store : goal.returns-clause-store
+returns-clause-store g c =
     let k = c.args.kept.now in
     rw (← c.in-Err.is)
     (c.make.ensures.store (order_comes k.tree k.number (grants_of k) c.args.operator c.args.what.now)
     c.order-change.ensures.plan)
 
-pub returns-in-Err-clause-memory : goal.returns-in-Err-clause-memory
-returns-in-Err-clause-memory g c =
+pub returns-clause-memory : goal.returns-clause-memory
+returns-clause-memory g c =
     let k = c.args.kept.now in
     let step = order_comes k.tree k.number (grants_of k) c.args.operator c.args.what.now in
     subst (λ (r : Result Heard StepFault). IfMemory r (is_some (row_of k.tree k.number step) ≡ true)) c.in-Err.is

@@ -12,22 +12,11 @@ use Rattle.smi_tree.specs.Lawful.{IsTree}
 use Rattle.smi_tree.specs.Lookups.{children_of}
 use Rattle.smi_protocol.specs.Children as spec
 use Rattle.smi_holdings.specs.declared.commanded.CommandedChild.{CommandedChild}
-use Rattle.smi_holdings.specs.Commanded.{IsSo}
+use Rattle.smi_holdings.specs.Commanded.{AreSo, IsSo}
 use Rattle.smi_holdings.specs.Kept.{grants_of}
 use Rattle.smi_holdings.proofs.KnownChildren.{answer_known, any_more, largest_more}
 use Rattle.smi_holdings.proofs.Listing.{few_children}
 use Rattle.smi_holdings.proofs.kept.Kept.reached_by.Goals as goal
-
-pub push-requires : goal.push-requires
-push-requires c =
-    let tree : IsTree c.tree-tree.result.now = rw c.tree-tree.ensures.value c.tree-tree.ensures.kept.tree in
-    omega (
-      arith,
-      few_children c.tree-tree.result.now c.args.domain tree,
-      ap length c.children-children.ensures,
-      c.loop-child.invariant.all,
-      c.loop-child-test.true,
-    )
 
 pub loop-child-preserved : goal.loop-child-preserved
 loop-child-preserved c =
@@ -45,13 +34,13 @@ loop-child-preserved c =
     c.child_change-change.ensures in
     record {
       children =
-          ap (map (λ (y : CommandedChild). y.child)) c.push.ensures
-          ∙ map-append (λ (y : CommandedChild). y.child) c.loop-child.known (x ∷ [])
+          ap (map (λ (y : CommandedChild). y.child)) c.in_ok-push.ensures.items
+          ∙ map-append (λ (y : CommandedChild). y.child) c.loop-child.known.items (x ∷ [])
           ∙ ap (λ (ys : List ℕ). ys ++ get_or xs i 0 ∷ []) inv.children
           ∙ sym (take_more xs i 0 c.loop-child-test.true);
-      each = subst (All (IsSo h g d c.args.command)) (sym c.push.ensures)
-          (All-push (IsSo h g d c.args.command) c.loop-child.known x inv.each so);
-      all = ap length c.push.ensures ∙ length-append c.loop-child.known (x ∷ []) ∙ ap (λ n. n + 1) inv.all;
+      each = subst (All (IsSo h g d c.args.command)) (sym c.in_ok-push.ensures.items)
+          (All-push (IsSo h g d c.args.command) c.loop-child.known.items x inv.each so);
+      all = ap length c.in_ok-push.ensures.items ∙ length-append c.loop-child.known.items (x ∷ []) ∙ ap (λ n. n + 1) inv.all;
       busy =
           ap (λ b. (c.loop-child.is_busy || b) || list_any p (drop (i + 1) xs))
           (c.is_unsettled-is_busy.ensures
@@ -101,8 +90,8 @@ returns c =
           ∙ ap (λ (ys : List ℕ). max c.loop-child.code (spec.largest (map f ys))) none
           ∙ inv.own
           ∙ ap (λ (ys : List ℕ). max (spec.code_at_domain h d c.args.command) (spec.largest (map f ys))) listed;
-      children = record {
+      children = subst (AreSo h g d c.args.command) (sym c.of_list.ensures) (record {
         children = inv.children ∙ take_all i xs c.loop-child-test.false ∙ listed;
         each = inv.each;
-      };
+      });
     }

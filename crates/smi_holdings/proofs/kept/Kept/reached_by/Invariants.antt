@@ -13,9 +13,9 @@ use Rattle.smi_holdings.proofs.kept.Kept.reached_by.Given as goal
 -- those of all with what the children that are left come to.
 abbrev pub invariant-loop-child : goal.invariant-loop-child
 invariant-loop-child l = record {
-  children : map (λ (x : CommandedChild). x.child) l.known ≡ take l.child-index l.children;
-  each : All (IsSo l.self.tree (grants_of l.self) l.domain l.command) l.known;
-  all : length l.known ≡ l.child-index;
+  children : map (λ (x : CommandedChild). x.child) l.known.items ≡ take l.child-index l.children;
+  each : All (IsSo l.self.tree (grants_of l.self) l.domain l.command) l.known.items;
+  all : length l.known.items ≡ l.child-index;
   busy : (l.is_busy || list_any (λ x. is_unsettled (link_after
       (change_of l.self.tree (grants_of l.self) l.domain l.command x) ((grants_of l.self).links (Domain l.domain) x)))
       (drop l.child-index l.children))

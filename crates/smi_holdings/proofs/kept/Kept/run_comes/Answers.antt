@@ -5,7 +5,7 @@ use Rattle.smi_holdings.proofs.kept.Kept.run_comes.Goals as goal
 
 pub returns-clause-begins : goal.returns-clause-begins
 returns-clause-begins c =
-    let e = c.reached_by-reached.ensures in (
+    let e = c.in_ok-reached.ensures in (
       ap (λ (r : Standing). admits r c.args.holder c.args.epoch c.args.number) (sym c.record-standing.ensures)
           ∙ sym c.admit.ensures ∙ c.if-not-admit.false,
       record {
