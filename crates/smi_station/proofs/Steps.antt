@@ -5,7 +5,7 @@ use Rattle.std.specs.Prelude.{IfOk, OnOk, OnErr}
 use Rattle.smi_tree.specs.Hierarchy.{Hierarchy}
 use Rattle.smi_message.specs.Message.{Message}
 use Rattle.smi_message.specs.declared.Body.TheVariants as body
-use Rattle.smi_rows.specs.Store.{IsSame, Rows, Saved}
+use Rattle.smi_rows.specs.Store.{Rows, IsSame}
 use Rattle.smi_protocol.specs.Display.{Display, Station}
 use Rattle.smi_protocol.specs.GrantStep.{unchanged}
 use Rattle.smi_protocol.specs.Happening.{Happening, Comes, Reports, Ticks}
@@ -175,26 +175,6 @@ rests is_honest is_open rows may_find saves failures doubts finds store (Err Mem
 }
 rests is_honest is_open rows may_find saves failures doubts finds store (Err NotStored) rest = absurd cc
 rests is_honest is_open rows may_find saves failures doubts finds store (Err Stopped) rest = absurd cc
-
--- and where memory was refused before a row was saved
-pub unsaved : {T X : Type 0} (is_honest is_open : T → Type 0) (rows : T → Rows) (may_find : T → Rows → Type 0)
-    (saves failures doubts : T → ℕ)
-    → ((store : T) → is_honest store → is_open store → (x : Rows) → may_find store x → IsSame x (rows store))
-    → (store : T) (row : Option Saved) → Leaves {X = X} is_honest is_open rows may_find saves failures doubts store store
-    (Err Memory) row
-unsaved is_honest is_open rows may_find saves failures doubts finds store row = record {
-  saved = λ honest opened. tt;
-  kept = λ honest opened. (opened, λ k. refl);
-  unsure = λ honest opened. tt;
-  crash = λ honest opened x may. inl (finds store honest opened x may);
-  honest = λ honest. honest;
-  one_save = omega arith;
-  failures_rise = omega arith;
-  cause = tt;
-  calm = refl;
-  doubt = tt;
-  sure = refl;
-}
 
 -- Watches.
 

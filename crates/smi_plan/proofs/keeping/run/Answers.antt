@@ -34,8 +34,10 @@ send_to_children-requires-clause-asked c =
     let g = grants_of k in
     let tree : IsTree k.tree = c.tree-tree.ensures.kept.tree in
     may_be_asked k.tree tree g c.requires.sound c.args.domain
-    (settled_there g c.args.domain c.args.holder c.args.epoch c.args.number (rw c.in-Some.is at c.in_ok-begun.ensures.begins).0)
-    c.args.command c.requires.command c.in-Some.begun.children (rw c.in-Some.is at c.in_ok-begun.ensures.begins).1.children
+    (settled_there g c.args.domain c.args.holder c.args.epoch c.args.number
+    (rw c.in-Some.is at c.in_ok-begun.ensures.begins).0)
+    c.args.command c.requires.command c.in-Some.begun.children
+    (rw c.in-Some.is at c.in_ok-begun.ensures.begins).1.children
 
 pub returns-in-Some-clause-plan : goal.returns-in-Some-clause-plan
 returns-in-Some-clause-plan c =

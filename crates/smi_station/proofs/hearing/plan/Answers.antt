@@ -99,7 +99,8 @@ returns-in-Run-clause-sent c = rw (← c.datagram.view_is, c.in-Run.is) (rw c.re
 pub returns-in-Run-clause-few : goal.returns-in-Run-clause-few
 returns-in-Run-clause-few c =
     let k = c.args.kept.now in
-    few_by c.run.result _ _ c.run.new.out (rw c.requires.empty at c.run.ensures.sent) (rw c.requires.empty at c.run.ensures.unchanged)
+    few_by c.run.result _ _ c.run.new.out (rw c.requires.empty at c.run.ensures.sent)
+    (rw c.requires.empty at c.run.ensures.unchanged)
     (run_answers k.tree k.number (grants_of k) c.datagram.inside.from c.in-Run.domain c.in-Run.holder
     c.in-Run.epoch c.in-Run.number c.in-Run.command) (omega arith)
 

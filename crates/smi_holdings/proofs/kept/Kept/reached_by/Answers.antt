@@ -40,7 +40,10 @@ loop-child-preserved c =
           ∙ sym (take_more xs i 0 c.loop-child-test.true);
       each = subst (All (IsSo h g d c.args.command)) (sym c.in_ok-push.ensures.items)
           (All-push (IsSo h g d c.args.command) c.loop-child.known.items x inv.each so);
-      all = ap length c.in_ok-push.ensures.items ∙ length-append c.loop-child.known.items (x ∷ []) ∙ ap (λ n. n + 1) inv.all;
+      all =
+          ap length c.in_ok-push.ensures.items
+          ∙ length-append c.loop-child.known.items (x ∷ [])
+          ∙ ap (λ n. n + 1) inv.all;
       busy =
           ap (λ b. (c.loop-child.is_busy || b) || list_any p (drop (i + 1) xs))
           (c.is_unsettled-is_busy.ensures
