@@ -170,14 +170,25 @@ fn put_holder(row: &mut Vec<u8>, schema: u8, standing: &Record) -> Result<(), Al
     row.extend_from_slice(&standing.epoch.to_be_bytes())
 }
 
-// How far its commands have come.
+// How far its commands have come. In one piece, since each looks anew at the room that is left.
 fn put_work(row: &mut Vec<u8>, standing: &Record, gathered: u16) -> Result<(), AllocError>
     ensures { OnOk result (row.new.items ≡ row.old.items ++ spec.work_bytes standing.now gathered) }
 {
-    row.extend_from_slice(&standing.last.to_be_bytes())?;
-    row.extend_from_slice(&[standing.phase.number(), 0])?;
-    row.extend_from_slice(&standing.outcome.to_be_bytes())?;
-    row.extend_from_slice(&gathered.to_be_bytes())
+    let [first, second, third, fourth] = standing.last.to_be_bytes();
+    let [high, low] = standing.outcome.to_be_bytes();
+    let [upper, lower] = gathered.to_be_bytes();
+    row.extend_from_slice(&[
+        first,
+        second,
+        third,
+        fourth,
+        standing.phase.number(),
+        0,
+        high,
+        low,
+        upper,
+        lower,
+    ])
 }
 
 fn put_links(row: &mut Vec<u8>, links: &[StoredLink]) -> Result<(), AllocError>
@@ -259,8 +270,8 @@ fn put_fixed(
 ) -> Result<(), AllocError>
     ensures { OnOk result (row.new.items ≡ row.old.items ++ spec.front_bytes domain form mode epoch number) }
 {
-    row.extend_from_slice(&domain.to_be_bytes())?;
-    row.extend_from_slice(&[form, mode.number()])?;
+    let [high, low] = domain.to_be_bytes();
+    row.extend_from_slice(&[high, low, form, mode.number()])?;
     row.extend_from_slice(&epoch.to_be_bytes())?;
     row.extend_from_slice(&number.to_be_bytes())
 }
