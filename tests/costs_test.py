@@ -105,9 +105,9 @@ class Landings(unittest.TestCase):
 
 
     def test_edits_in_parts(self):
-        # no edit, one edit that takes long, two and three of ten minutes each, and many that are quick
-        for count, seconds, wanted in [(0, 0, 0), (1, 4000, 1), (2, 1200, 2), (3, 1801, 3), (90, 600, 1), (90, 601, 2),
-                                       (7, 0, 1)]:
+        # no edit, one edit that takes long, two and three of twenty minutes each, and many that are quick
+        for count, seconds, wanted in [(0, 0, 0), (1, 8000, 1), (2, 2400, 2), (3, 3601, 3), (90, 1200, 1),
+                                       (90, 1201, 2), (7, 0, 1)]:
             self.assertEqual(landings.part_count(count, seconds), wanted, (count, seconds))
 
 

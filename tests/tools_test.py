@@ -276,7 +276,7 @@ class Parts(unittest.TestCase):
             for name in ("a", "b", "c"):
                 with open(os.path.join(folder, "edits", name + ".edit"), "w", encoding="utf-8") as file:
                     file.write("function: %s\n" % name)
-            with mock.patch.object(kit, "costs", lambda: {"one": kit.Cost(1, None, 3, 1201)}), \
+            with mock.patch.object(kit, "costs", lambda: {"one": kit.Cost(1, None, 3, 2401)}), \
                     mock.patch.object(edits, "Edit", lambda _crate, path: self.edit(path, path, True)):
                 made = parts.folders_of(crate, [os.path.join(folder, "edits")], room)
             found = [edits.paths_of([at]) for at in made]

@@ -14,7 +14,7 @@ import kit
 Task = collections.namedtuple("Task", "seconds after")
 UNKNOWN = kit.Cost()
 # The edits of a crate are tried in parts where they take longer than so many processor seconds (tools/parts.py).
-LONG = 600
+LONG = 1200
 
 
 def count_of(crate):
