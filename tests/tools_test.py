@@ -236,6 +236,12 @@ class Twins(unittest.TestCase):
         self.assertFalse(self.is_proved_itself("note: src/order.rt:7:5: it is not proved here", said))
         self.assertFalse(self.is_proved_itself("proofs/order/issue__same/Answers.antt:3:1: error: wrong", said))
 
+    def test_its_goals_wait_for_what_it_calls(self):
+        said = "fn one::order::issue__same: no proof: it calls `one::a`, which is not proved"
+        for name, wanted in [("issue__same", False), ("issue__same_way", True), ("issue", True)]:
+            waits = "note: `search` has not tried the goals of `one::order::%s`, which wait for a callee's proof" % name
+            self.assertEqual(self.is_proved_itself(waits, said), wanted)
+
     def test_a_closure_of_it_is_not_proved(self):
         self.assertFalse(self.is_proved_itself("fn one::order::fn::issue__same::closure: no proof: `search` did not prove `a`",
                                                "fn one::order::issue__same: proved"))

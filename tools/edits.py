@@ -306,9 +306,11 @@ def goals_of(functions, said):
 
 
 def is_proved_itself(function, said):
-    """Whether nothing is left to be proved of the function itself: it is proved, or would be but for what it calls."""
+    """Whether nothing is left to be proved of the function itself: it is proved, or would be but for what it calls.
+    Where its goals wait for the proof of what it calls, nobody knows."""
     lines = lines_of(function, said)
-    return function in lines and not goals_of(lines, said) and all(
+    waits = any("`search` has not tried the goals of `%s`," % it in said for it in lines)
+    return function in lines and not waits and not goals_of(lines, said) and all(
         line.startswith("proved") or ONLY_CALLS.fullmatch(line) for line in lines.values())
 
 
