@@ -2,7 +2,7 @@ use Rattle.std.proofs.Common.{◌≡◌, ◌≤◌, ◌∙◌, None, length, sym
 use Rattle.smi_message.specs.Message.{Message}
 use Rattle.smi_holdings.specs.Kept.{grants_of}
 use Rattle.smi_protocol.specs.Refusals.{refusal_of_message}
-use Rattle.smi_protocol.specs.Keeping.{drop_comes, run_comes, take_comes}
+use Rattle.smi_protocol.specs.Keeping.{drop_comes, take_comes}
 use Rattle.smi_protocol.specs.Hearing.{tell_comes}
 use Rattle.smi_protocol.specs.Step.{Out}
 use Rattle.smi_plan.specs.Handing.{with_step}

@@ -8,14 +8,12 @@ use Rattle.smi_grant.specs.declared.Holder.TheVariants.{Domain}
 use Rattle.smi_grant.specs.declared.Link.{Link}
 use Rattle.smi_grant.specs.Link.{is_unsettled}
 use Rattle.smi_tree.specs.Hierarchy.{Hierarchy}
-use Rattle.smi_tree.specs.Lawful.{IsTree}
 use Rattle.smi_tree.specs.Lookups.{children_of}
 use Rattle.smi_protocol.specs.Children as spec
 use Rattle.smi_holdings.specs.declared.commanded.CommandedChild.{CommandedChild}
 use Rattle.smi_holdings.specs.Commanded.{AreSo, IsSo}
 use Rattle.smi_holdings.specs.Kept.{grants_of}
 use Rattle.smi_holdings.proofs.KnownChildren.{answer_known, any_more, largest_more}
-use Rattle.smi_holdings.proofs.Listing.{few_children}
 use Rattle.smi_holdings.proofs.kept.Kept.reached_by.Goals as goal
 
 pub loop-child-preserved : goal.loop-child-preserved
