@@ -53,9 +53,8 @@ def try_all(crates, *names, since=None):
     for crate in edits.ready(crates, since):
         for number, folder in enumerate(folders_of(crate, of[crate.name], room)):
             call = lambda _given, _jobs, it=crate, at=folder: edits.try_crate(it, [at], room)
-            # a copy is asked for some functions alone: of all that were seen none of a large crate took half as much
             tasks[crate.name, "edits", number] = ([], len(os.listdir(folder)) * crate.count(rb"\n"),
-                                                  kit.rt.need(crate) // 2, call)
+                                                  kit.rt.need(crate), call)
     given = kit.rt.in_lanes(tasks)
     shutil.rmtree(room)
     tried = {crate.name: None for crate in crates}
