@@ -350,9 +350,24 @@ class Libraries(unittest.TestCase):
         with mock.patch.object(kit, "costs", lambda: {name: kit.Cost(it) for name, it in seconds.items()}):
             return libraries.Pace(crates, lanes)
 
-    def test_heights(self):
-        found = libraries.heights(self.crates())
-        self.assertEqual([found[it.name] for it in self.crates()], [2, 1, 0, 0, 0])
+    def begun(self, free, **chains):
+        """By how many jobs each library is begun, where these have such chains and the longest takes a hundred."""
+        found = libraries.begun([Crate(name) for name in chains], free, chains, 100)
+        return {crate.name: jobs for crate, jobs in found.items()}
+
+    def test_what_the_run_waits_for_has_two_jobs(self):
+        self.assertEqual(self.begun(4, short=10, long=100, middle=50, other=20), {"long": 2, "middle": 1, "other": 1})
+        self.assertEqual(self.begun(4, one=100, nearly=96, middle=50, other=20), {"one": 2, "nearly": 1, "middle": 1})
+        # the run waits for one that is under way already
+        self.assertEqual(self.begun(3, one=50, two=40, three=30, four=20), {"one": 1, "two": 1, "three": 1})
+        # there two would keep all others waiting
+        self.assertEqual(self.begun(2, long=100, short=10), {"long": 1, "short": 1})
+
+    def test_as_many_jobs_as_processors(self):
+        for free in range(9):
+            for count in range(1, 9):
+                jobs = self.begun(free, **{"it%d" % it: 100 - it for it in range(count)})
+                self.assertEqual(sum(jobs.values()), free, (free, count))
 
     def test_estimate(self):
         seconds = {"one": 60, "two": 120, "three": 60, "four": 240, "five": 60}
@@ -395,6 +410,22 @@ class Libraries(unittest.TestCase):
 
     def test_long_chains_first(self):
         self.assertEqual(self.built(1)[0][:2], ["one", "two"])
+
+    def test_no_more_jobs_than_processors(self):
+        at_work, most, lock = {}, [], threading.Lock()
+
+        def build(crate, jobs):
+            with lock:
+                at_work[crate.name] = jobs
+                most.append(sum(at_work.values()))
+            time.sleep(0.02)
+            with lock:
+                del at_work[crate.name]
+            return True, "", 1
+
+        with mock.patch.object(libraries, "build", build), mock.patch.object(kit, "costs", dict):
+            printed(libraries.build_all, self.crates(), 4)
+        self.assertEqual(max(most), 4)
 
     def jobs(self, crates, lanes):
         """By how many processes each library is proved."""

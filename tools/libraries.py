@@ -6,10 +6,11 @@ usage: libraries.py [--lanes N] CRATE.. | libraries.py --program CRATE | librari
 `rt lib` would do the same one library after the other, since it keeps others out of all crates below the one that it
 builds. Here each library is built by a process of its own (--one), and only once all below it stand still.
 
-A library that is begun while few others are gets the lanes that nobody has as jobs of its own: what stands at the end
-of the chain is proved by all processors. The toolchain gives such a crate one, since it reckons with several times the
-memory that the check takes; where no lane is free it chooses. --program proves and builds a program once its
-libraries are there, and runs it as `rt run` does; its standard input is empty.
+The library that the longest chain begins with, by the seconds of the record, is begun first, and with two jobs: that
+chain is what the whole run waits for. Lanes that nobody has are jobs too, so what stands at the end is proved by all
+processors. The toolchain gives such a crate one job, since it reckons with several times the memory that the check
+takes. --program proves and builds a program once its libraries are there, and runs it as `rt run` does; its standard
+input is empty.
 
 What was built and has not changed is left as it is. A line tells of each library that is proved, with the processor
 seconds that it took, from nothing where nothing was kept, and how long the rest will take, by the record of costs.txt
@@ -19,7 +20,6 @@ next one goes on from there. --estimate says what the libraries that are missing
 """
 
 import argparse
-import collections
 import concurrent.futures
 import math
 import os
@@ -33,6 +33,8 @@ import kit
 ARGUMENTS = {"smi": ("answer",)}
 # What a library is taken to cost, in processor seconds, that the record does not have.
 UNKNOWN = 60
+# The run waits for a library whose chain is no shorter than this share of the longest.
+NEARLY = 0.95
 
 
 class Pace:
@@ -93,28 +95,32 @@ def build(crate, jobs):
         return child.returncode == 0, said.read(), use.ru_utime + use.ru_stime
 
 
-def heights(crates):
-    """Of each crate how many stand in the longest chain of those above it: such a crate is begun first."""
-    found = collections.defaultdict(int)
-    for crate in reversed(crates):
-        for dep in crate.deps:
-            found[dep.name] = max(found[dep.name], found[crate.name] + 1)
-    return found
+def begun(ready, free, chains, longest):
+    """Which of these libraries are begun on the processors that are free, and by how many jobs each: the longest chain
+    first, with two where the whole run waits for it and another can still stand beside it, and with all that are free
+    where nobody else has a use for them."""
+    jobs, left = {}, sorted(ready, key=lambda it: -chains[it.name])
+    while free and left:
+        wanted = 2 if free > 2 and chains[left[0].name] >= NEARLY * longest else 1
+        jobs[left[0]] = min(free, max(wanted, free // len(left)))
+        free -= jobs[left.pop(0)]
+    return jobs
 
 
 def build_all(crates, lanes):
-    """Builds the libraries, so many side by side, and returns whether all are there."""
-    above, waiting, running, ended, well, pace = heights(crates), list(crates), {}, 0, True, Pace(crates, lanes)
+    """Builds the libraries, on so many processors, and returns whether all are there."""
+    waiting, running, ended, well, pace = list(crates), {}, 0, True, Pace(crates, lanes)
     with concurrent.futures.ThreadPoolExecutor(lanes) as pool:
         while running or well and waiting:
-            missing = {it.name for it in [*waiting, *running.values()]}
+            left = [*waiting, *(crate for crate, _ in running.values())]
+            missing = {it.name for it in left}
             ready = [it for it in waiting if missing.isdisjoint(dep.name for dep in it.deps)] if well else []
-            free = lanes - len(running)
-            for crate in sorted(ready, key=lambda it: -above[it.name])[:free]:
+            free = lanes - sum(jobs for _, jobs in running.values())
+            for crate, jobs in begun(ready, free, pace.behind, max(pace.behind[it.name] for it in left)).items():
                 waiting.remove(crate)
-                running[pool.submit(build, crate, max(1, free // len(ready)))] = crate
+                running[pool.submit(build, crate, jobs)] = crate, jobs
             for done in concurrent.futures.wait(running, return_when=concurrent.futures.FIRST_COMPLETED).done:
-                crate, (is_built, said, seconds) = running.pop(done), done.result()
+                (crate, _), (is_built, said, seconds) = running.pop(done), done.result()
                 well, ended = well and is_built, ended + 1
                 pace.done(crate, seconds)
                 print("%s: %s, %.0f seconds (%d of %d%s)" % (crate.name,

@@ -31,8 +31,8 @@
 //! - `Played`: what is seen of each item of a worked example.
 //!
 //! Each worked example is a list of items. Its law says that the trace is that one, line by line (`Makes`): entries,
-//! datagrams, answers and rows are computed by the checker. Wrong definitions (edits of files under `specs/` in
-//! `must-fail/`) are refused by these laws.
+//! datagrams, answers and rows are computed by the checker. Wrong definitions (edits of files under `specs/`, in
+//! `edits/`) are refused by these laws.
 //!
 //! ## Soundness, of one station
 //!
