@@ -33,6 +33,8 @@ PATIENCE = 30
 SOON, LATER = 15, 60
 # How many turns a node serves in a case that looks only at how it begins, and in one that talks to it.
 FEW, SOME = 20, 3000
+# How many lines are typed at one console.
+MANY = 200_000
 
 
 # Ports below those that the system gives to sockets that ask for any, so that none of these takes one.
@@ -261,8 +263,9 @@ def shown_case(program, folder):
         seen, shown = seen + [answer], shown + [wanted]
     yield verdict.case("a board of another station's objects", seen, shown)
     keeper.kill()
-    keeper = Node(program, [tree, "B", os.path.join(folder, "B"), "--turns", SOME])
+    # before it can be shown anything newer
     answers = [other.ask("show TPC")]
+    keeper = Node(program, [tree, "B", os.path.join(folder, "B"), "--turns", SOME])
     until = time.monotonic() + PATIENCE
     while answers[-1] != "board TPC 2.0 OFF" and time.monotonic() < until:
         time.sleep(0.02)
@@ -439,6 +442,16 @@ def console_cases(program, folder):
     yield verdict.case("an input that never ends", end(stdin=read, stdout=subprocess.DEVNULL), ([], 0))
     os.close(read)
     os.close(write)
+
+
+def many_lines_case(program, folder):
+    """However many lines a console was given, it takes the next one, and has counted them all."""
+    tree = write_tree(folder, free_ports(2))
+    node = Node(program, [tree, "A", os.path.join(folder, "store"), "--endless"])
+    node.say("#\n" * (MANY - 1) + "#")
+    yield verdict.case("a line after %d others" % MANY, node.ask("show DCS", LATER), "board DCS none")
+    yield verdict.case("they are counted", node.ask("show dcs", LATER), "line %d fault 3" % (MANY + 2))
+    node.kill()
 
 
 def hostile_case(program, folder):
@@ -719,7 +732,7 @@ def growth_cases(program, folder):
 
 # These run side by side, and those after them.
 CASES = [three_case, killed_case, line_cases, shown_case, store_cases, page_cases, second_case, row_cases,
-         address_cases, console_cases, hostile_case, growth_cases, tag_case, many_tags_case]
+         address_cases, console_cases, many_lines_case, hostile_case, growth_cases, tag_case, many_tags_case]
 ALONE = [rest_case, count_cases, endless_case, flooded_case]
 
 
