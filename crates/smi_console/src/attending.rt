@@ -113,7 +113,7 @@ fn print<G: Showing + Drop, R: Wait, F: Write>(
     attendant: &mut Attendant<G>,
     faults: &mut F,
 ) -> Result<(), Unwritten> {
-    let plain = &mut attendant.hall.plain;
+    let plain = attendant.hall.plain();
     if !plain.faults().is_empty() {
         let _ = write_whole(faults, plain.faults());
         plain.faults_told();

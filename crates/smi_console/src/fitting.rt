@@ -222,10 +222,17 @@ fn manned<
     Ok(service_of(rt, setup, station, side, chime, news)?)
 }
 
+/// The one that stands at the front, of these glances.
+fn only<G: Drop>(glances: Vec<G>) -> Result<G, Halt> {
+    let mut glances = glances;
+    glances.pop().ok_or(Halt::Memory)
+}
+
 /// What a station is served with by a node.
 pub(crate) type Fitted<'a, H> = Service<Chimed<UdpLink<&'a H>>, Herald<H>>;
 
-/// What an open station is served with by a node: its seats, its link, and the threads of its consoles, in this order.
+/// What an open station is served with by a node that has this glance: its seats, its link, and the threads of its
+/// consoles, in this order.
 pub(crate) fn fitted<
     'a,
     G: Showing + Drop + Send + 'static,
@@ -238,8 +245,9 @@ pub(crate) fn fitted<
     rt: &'a H,
     setup: &NodeSetup,
     station: &T,
-    glance: G,
+    glances: Vec<G>,
     console: Console<I, O, E>,
 ) -> Result<Fitted<'a, H>, Halt> {
+    let glance = only(glances)?;
     manned(rt, setup, station, glance, &UdpLinking { rt }, console)
 }

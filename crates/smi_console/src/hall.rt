@@ -147,6 +147,11 @@ impl Hall {
         Ok((Hall::over(alloc, poll, entrances)?, waker))
     }
 
+    /// Who types at the standard input.
+    pub(crate) fn plain(&mut self) -> &mut Caller {
+        &mut self.plain
+    }
+
     /// Whether nobody else than the standard input can talk to the node.
     pub(crate) fn has_no_door(&self) -> bool {
         self.entrances.is_empty()

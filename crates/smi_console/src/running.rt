@@ -17,7 +17,7 @@ use smi_node::{ServeFault, Witness};
 use smi_rows::Stable;
 use smi_station::{Station, migrate};
 use smi_tree::Tree;
-use smi_view::{Board, BoardId, Glance, NewBoard, open_board};
+use smi_view::{Board, BoardId, NewBoard, open_board};
 use std::alloc::Global;
 use std::fs::Files;
 use std::io::{Read, Write};
@@ -59,12 +59,6 @@ fn crewed<S: Stable, L: DatagramLink + Drop, V: Witness + Drop, J: BoardId, R: W
     }
 }
 
-/// The one glance of a board.
-fn only<J: BoardId>(glances: Vec<Glance<J>>) -> Result<Glance<J>, Halt> {
-    let mut glances = glances;
-    glances.pop().ok_or(Halt::Memory)
-}
-
 /// Serves a station that is open.
 fn over_board<J, S, H, I, O, E>(
     rt: &H,
@@ -85,13 +79,8 @@ where
         station.old station.new result }
 {
     let (mut board, glances) = open_board::<J, H>(rt, rt.alloc(), blank, 1)?;
-    let served = match only(glances) {
-        Ok(glance) => {
-            let fitted = fitted(rt, setup, station, glance, console);
-            crewed(rt, setup, station, &mut board, fitted)
-        }
-        Err(halt) => Err(halt),
-    };
+    let fitted = fitted(rt, setup, station, glances, console);
+    let served = crewed(rt, setup, station, &mut board, fitted);
     let _ = board.close(rt);
     served
 }
