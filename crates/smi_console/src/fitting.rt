@@ -222,7 +222,7 @@ fn manned<
     Ok(service_of(rt, setup, station, side, chime, news)?)
 }
 
-/// The one that stands at the front, of these glances.
+/// The only one of these glances.
 fn only<G: Drop>(glances: Vec<G>) -> Result<G, Halt> {
     let mut glances = glances;
     glances.pop().ok_or(Halt::Memory)
@@ -231,8 +231,8 @@ fn only<G: Drop>(glances: Vec<G>) -> Result<G, Halt> {
 /// What a station is served with by a node.
 pub(crate) type Fitted<'a, H> = Service<Chimed<UdpLink<&'a H>>, Herald<H>>;
 
-/// What an open station is served with by a node that has this glance: its seats, its link, and the threads of its
-/// consoles, in this order.
+/// What an open station is served with by a node whose front has the only one of these glances: its seats, its link,
+/// and the threads of its consoles, in this order.
 pub(crate) fn fitted<
     'a,
     G: Showing + Drop + Send + 'static,
