@@ -5,7 +5,7 @@ SOURCES := crates.txt $(shell find crates -path '*/out' -prune -o -type f \( -na
 # So many crates are proved side by side: one for each processor, and 4 GB for each.
 LANES := $(shell awk -v most=$$(nproc) '/^MemAvailable/ { fit = int($$2 / 4000000); print fit < 1 ? 1 : fit < most ? fit : most }' /proc/meminfo)
 
-.PHONY: smi run try test gate record check cases nodes marks full consoles soak crowd shift screen browser bridge demo tools documents pictures edits edits-test tools-test costs costs-table bench
+.PHONY: smi run try test gate record check cases nodes marks full consoles soak crowd shift screen browser bridge demo tools documents pictures edits edits-test tools-test bench
 .PHONY: install deb package
 
 # The program, proved and built, at bin/smi.
@@ -61,25 +61,25 @@ run:
 # The same answers from the program as it is written: NOTHING of it is proved before it runs.
 try:
 	cd crates/smi && python3 ../../tools/show.py ../../examples/one-domain.datagrams rt try -- answer
-	@echo 'Nothing of this was proved before it ran. make smi proves the program and builds bin/smi.'
-	@python3 tools/libraries.py --estimate smi
+	@echo 'Nothing of this was proved before it ran. make smi proves the program and builds bin/smi, in about an hour.'
 
-# What each change has to pass: every proof and test from nothing, the command lines, and the edits of each crate
-# whose sum is not in edits.ok. The last line is 'N passed, M failed'.
+# What each change has to pass: every proof and test from nothing, the scripts of tests, and mutants of crates over changed
+# ones. Mutants of changed crates have to be recorded before (make record). The last line is 'N passed, M failed'.
 test:
 	@python3 tools/gate.py
 
-# The same with the edits of every crate, which it then writes into edits.ok.
+# The same with the mutants of every crate, which it then writes into edits.ok.
 gate:
 	@python3 tools/gate.py --all
 
-# The edits of some crates, which stand in edits.ok then where all are refused: make record CRATE='smi_grant smi_tree'.
+# Tries the mutants that edits.ok has no valid line for, or those of some crates, and writes the lines; or takes the lines
+# that a gate has printed: make record, make record CRATE='smi_grant smi_tree', make record LOG=gate.log
 record:
-	@python3 tools/gate.py --record $(CRATE)
+	@python3 tools/refusals.py $(if $(LOG),--adopt '$(LOG)',$(CRATE))
 
 # One crate, over what earlier checks kept: make check CRATE=smi_grant
 check:
-	cd crates/$(CRATE) && rt check
+	@python3 tools/libraries.py --check $(CRATE) --lanes $(LANES)
 
 # The command lines alone, or those whose name has a text: make cases ONLY='a take'. The last line is 'N passed, M failed'.
 cases: bin/smi bin/smi_trial
@@ -143,26 +143,19 @@ documents: bin/smi
 pictures: bin/smi
 	@python3 tests/pictures.py bin/smi --write
 
-# The edits that the prover must refuse, of all crates or of some: make edits CRATE='smi_grant smi_tree' ONLY=take JOBS=2.
+# The mutants that the prover must refuse, of all crates or of some: make edits CRATE='smi_grant smi_tree' ONLY=take JOBS=2.
 # The last line is 'N refused, M not'.
 edits:
 	@python3 tools/edits.py --jobs $(or $(JOBS),1) $(if $(ONLY),--only '$(ONLY)') $(CRATE)
 
-# Whether that tells an edit that is refused from one that is not.
+# Whether that tells a mutant that is refused from one that is not.
 edits-test:
 	@python3 tests/edits_test.py
 
-# The tools that say whether a change is sound, or the tests whose name has a text: make tools-test ONLY=Soak.
+# The gate itself and the judges of the tests, or the tests whose name has a text: make tools-test ONLY=Soak.
 tools-test:
-	@python3 tests/tools_test.py $(if $(ONLY),'$(ONLY)')
-
-# What crates cost the gate: make costs CRATE='smi_grant smi_tree'
-costs:
-	@python3 tools/costs.py $(CRATE)
-
-# The tables of docs/GATE.md and README.md that follow of costs.txt and the crates, made anew.
-costs-table:
-	@python3 tools/costs.py --write
+	@python3 tests/gate_test.py $(ONLY)
+	@python3 tests/tools_test.py $(ONLY)
 
 bench: bin/smi bin/smi_trial
 	python3 tests/bench.py bin/smi bin/smi_trial

@@ -124,9 +124,7 @@ def is_function(crate, name):
 
 
 def is_edit(crate, name):
-    folders = ("edits", "must-fail", "below")
-    paths = [os.path.join(ROOT, "crates", crate, folder, name + ".edit") for folder in folders]
-    return any(map(os.path.isfile, paths))
+    return os.path.isfile(os.path.join(ROOT, "crates", crate, "edits", name + ".edit"))
 
 
 def named(cell):
@@ -223,20 +221,16 @@ def crate_cases():
 
 
 def weaker_cases():
-    """docs/GATE.md names edits of the crates beside them, and functions, clauses and edits that are there."""
-    text = read("docs", "GATE.md")
-    count = 0
-    for of, edits in tables(section(text, "Weaker edits")):
-        crates = re.findall(r"`(\w+)`", of)
+    """docs/TESTING.md names mutants of the crates beside them, and functions, clauses and mutants that are there."""
+    text = read("docs", "TESTING.md")
+    parts = section(text, "Weaker mutants"), section(text, "What was searched")
+    for of, edits in tables(parts[0]):
         for name in re.findall(r"`(\w+)`", edits):
-            count += 1
-            yield "GATE.md: %s has %s" % (of, name), any(
-                is_edit(it, name) or in_code(name, it, "") for it in crates)
-    yield verdict.case("GATE.md names weaker edits", count, 20, ">")
+            yield "TESTING.md: %s has %s" % (of, name), any(is_edit(it, name) for it in re.findall(r"`(\w+)`", of))
     there = names_there(places.found_by("crates/*"))
-    edits = {os.path.basename(it)[:-len(".edit")] for it in places.found_by("crates/*/*/*.edit")}
-    for name in long_names(section(text, "Weaker edits") + section(text, "What was searched")):
-        yield "GATE.md: there is %s" % name, name in there | edits
+    edits = {os.path.basename(it)[:-len(".edit")] for it in places.found_by("crates/*/edits/*.edit")}
+    for name in long_names("".join(parts)):
+        yield "TESTING.md: there is %s" % name, name in there | edits
 
 
 def long_names(text):

@@ -23,6 +23,7 @@ sys.path.insert(0, os.path.join(ROOT, "tools"))
 import deb  # noqa: E402 (these stand in tools/)
 import firewall  # noqa: E402
 import hierarchy  # noqa: E402
+import kit  # noqa: E402
 import lines  # noqa: E402
 
 # What is installed, from the folder of the installation, without the documents.
@@ -89,12 +90,15 @@ def page_cases():
     yield verdict.case("the page has the ends of orders", listed, [it for it in orders if it != "32"])
     for row in documents.tables(documents.section(numbers, "Lines on standard error")):
         yield verdict.case("the page has %s" % row[0], row[0].strip("`"), page, "in")
-    kit = re.search(r"proved with `(.*?)`", documents.read("README.md"))[1]
-    yield verdict.case(
-        "the page has the version and its toolchain", "Version %s, proved with %s." % (deb.version(), kit), page, "in")
+    logic = re.search(r"proved with the logic `(.*?)`", documents.read("README.md"))[1]
+    yield verdict.case("README.md has the logic of this toolchain", logic, kit.logic())
+    wanted = "Version %s, proved with the toolchain's logic %s." % (deb.version(), logic)
+    yield verdict.case("the page has the version and the logic", wanted, page, "in")
+    yield verdict.case("PROOF.md has the logic", "the logic `%s`" % logic, documents.read("docs", "PROOF.md"), "in")
     yield verdict.case("the page is of that version", 'Lunskaf %s' % deb.version(), page.splitlines()[1], "in")
     log = documents.section(documents.read("CHANGELOG.md"), deb.version())
-    yield verdict.case("CHANGELOG.md has the version and its toolchain", "Proved with `%s`." % kit, log, "in")
+    yield verdict.case(
+        "CHANGELOG.md has the version and the logic", "Proved with the toolchain's logic `%s`." % logic, log, "in")
     yield verdict.case(
         "README.md has the version", "Version %s, proved with" % deb.version(), documents.read("README.md"), "in")
 

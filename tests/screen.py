@@ -299,6 +299,10 @@ class FakeConsole:
         self.place, self.line, self.rest = "127.0.0.1:%d" % self.door.getsockname()[1], None, b""
 
     def meet(self):
+        if self.door is None:
+            name, _, port = self.place.partition(":")
+            self.door = socket.create_server((name, int(port)))
+            self.door.settimeout(nodes.PATIENCE)
         self.line, self.rest = self.door.accept()[0], b""
         self.line.settimeout(nodes.PATIENCE)
 
@@ -326,6 +330,9 @@ class FakeConsole:
         self.line.sendall((text + "\n").encode())
 
     def leave(self):
+        """Closes the door too: behind an open one the system takes a connection that nobody has met."""
+        self.door.close()
+        self.door = None
         self.line.close()
 
     def end(self):

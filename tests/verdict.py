@@ -4,9 +4,12 @@ A case is a name, and whether it held; one that `case` makes has beside these wh
 (tests/tools_test.py).
 """
 
+import contextlib
+import io
 import operator
 import sys
 import time
+import unittest
 
 # How what came may be measured by what was wanted.
 HOW = {"==": operator.eq, "!=": operator.ne, "<": operator.lt, "<=": operator.le, ">": operator.gt, ">=": operator.ge,
@@ -84,3 +87,28 @@ def end(done, only=""):
     """Tells which of these cases failed, as they come, those alone whose name has a text; and ends so."""
     held = [counted(found) for found in done if only in found[0]]
     end_of(sum(held), len(held) - sum(held))
+
+
+def printed(call, *given):
+    """Returns what a call prints, and its result, or the status if it ends the program."""
+    said = io.StringIO()
+    with contextlib.redirect_stdout(said):
+        try:
+            came = call(*given)
+        except SystemExit as end:
+            came = end.code
+    return said.getvalue(), came
+
+
+def run_tests(module):
+    """Runs the unit tests of a module, or those whose name has the first word of the command line, and ends so."""
+    only, found = (sys.argv[1:] or [""])[0], unittest.TestSuite()
+    tests = [unittest.defaultTestLoader.loadTestsFromModule(module)]
+    while tests:
+        it = tests.pop(0)
+        tests[:0] = it if isinstance(it, unittest.TestSuite) else []
+        if isinstance(it, unittest.TestCase) and only in it.id():
+            found.addTest(it)
+    ran = unittest.TextTestRunner(stream=sys.stdout, verbosity=0).run(found)
+    failed = len({test.id().split(" ")[0] for test, _ in ran.failures + ran.errors})
+    end_of(ran.testsRun - failed, failed)

@@ -1,6 +1,6 @@
-"""What the tools take from the toolchain and from this repository: its crates, their commands and their sums."""
+"""What the tools take from the toolchain and from this repository: its crates, its command, and sums of what is there."""
 
-import collections
+import functools
 import hashlib
 import importlib.machinery
 import importlib.util
@@ -11,25 +11,46 @@ import subprocess
 import sys
 
 ROOT = os.path.dirname(os.path.dirname(os.path.abspath(__file__)))
-# The folders of a crate that the prover reads, and those on which the verdicts on its edits rest.
-PROVED = ("src", "specs", "proofs")
-OWN = (*PROVED, "edits")
-TOOLS = ("tools/kit.py", "tools/edits.py")
-# In a library as it is built: a trait, or a function that stands in no trait and only its own module sees.
-TRAIT_OR_PRIVATE = re.compile(r"^((?:# \[.*\] )*(?:pub (?:\( \w+ \) )?)?trait .*\n(?:[^}].*\n)*\}\n)"
-                              r"|^(?:# \[.*\] )*fn .*\n(?: .*\n)*", re.MULTILINE)
-# What crates cost, in processor seconds: their proof, their tests, how many edits they have and what these take.
-COSTS = os.path.join(ROOT, "costs.txt")
-Cost = collections.namedtuple("Cost", "proof tests edits tried", defaults=(None, None, None, None))
+# The folders of a crate that the prover reads, and the one of its mutants.
+PROVED, MUTANTS = ("src", "specs", "proofs"), "edits"
+# Raised by hand when less counts as a refusal than before (tools/edits.py): no older line of the record holds then.
+RULES = "1"
+# In a library as it is built: a trait or an implementation of one, or else a function that no other crate can call.
+TRAIT_OR_PRIVATE = re.compile(
+    r"^((?:# \[.*\] )*(?:(?:pub (?:\( \w+ \) )?)?trait|(?:unsafe )?impl .* for) .*\n(?:[^}].*\n)*\}\n)"
+    r"|^(?:# \[.*\] )*(?:pub \( (?:crate|super) \) )?(?:const )?(?:unsafe )?fn .*\n(?: .*\n)*", re.MULTILINE)
+# In a library as it is built: a proof of a function, which no crate above can cite.
+OF_A_FUNCTION = re.compile("antt/proofs/.*/")
 # How a line of comment begins, by the kind of file.
 COMMENTS = {".rt": b"//", ".antt": b"--"}
 
 
+def sum_each_once(kind):
+    """Makes the crates of this class compute each sum once in a call. Some toolchains do so once for each way that
+    leads down to a crate, of which there are thousands from the top."""
+    within, known, plain = [], {}, kind.stamp
+
+    def stamp(crate):
+        if not within:
+            known.clear()
+        within.append(crate)
+        try:
+            if crate.name not in known:
+                known[crate.name] = plain(crate)
+            return known[crate.name]
+        finally:
+            within.pop()
+
+    kind.stamp = stamp
+
+
 def load():
-    """The toolchain's own command, as a module: how it reads an edit and calls its prover is not written twice."""
+    """Loads the toolchain's own command as a module, so that how it reads a mutant and calls its prover is not written
+    twice."""
     loader = importlib.machinery.SourceFileLoader("rt", os.path.realpath(shutil.which("rt")))
     made = importlib.util.module_from_spec(importlib.util.spec_from_loader("rt", loader))
     loader.exec_module(made)
+    sum_each_once(made.rtlib.Crate)
     return made
 
 
@@ -38,7 +59,7 @@ rtlib = rt.rtlib
 
 
 def crates(names=()):
-    """The crates of crates.txt, or those of them with these names, lowest first."""
+    """Returns the crates of crates.txt, or those of them with these names, lowest first."""
     found = rtlib.crates_below(ROOT)
     unknown = set(names) - {crate.name for crate in found}
     if unknown:
@@ -46,94 +67,73 @@ def crates(names=()):
     return [crate for crate in found if not names or crate.name in names]
 
 
-def costs():
-    """The record of what crates cost, by name; a figure that was not measured is none."""
-    if not os.path.isfile(COSTS):
-        return {}
-    with open(COSTS, encoding="ascii") as file:
-        rows = [line.split() for line in file if line.strip() and not line.startswith("#")]
-    return {name: Cost(*(None if it == "-" else int(it) for it in figures)) for name, *figures in rows}
+def logic():
+    """Returns the sum of the toolchain's logic, which all its builds of the same logic print."""
+    said = subprocess.run(["rt", "version"], capture_output=True, text=True, check=True).stdout
+    return said.strip().rpartition(" logic ")[2]
 
 
-def write_costs(found):
-    """Writes the record, a line a crate in the order of crates.txt."""
-    with open(COSTS, "w", encoding="ascii") as file:
-        file.write("# What crates cost from nothing, in processor seconds: proof, tests, edits (how many, and seconds)."
-                   "\n# Written by make costs (tools/costs.py).\n")
-        for crate in crates():
-            if crate.name in found:
-                file.write("%s %s\n" % (crate.name, " ".join("-" if it is None else str(round(it))
-                                                             for it in found[crate.name])))
+def paths_below(folder):
+    """Returns the paths of all files below the folder, in order."""
+    return sorted(os.path.join(at, name) for at, _, names in os.walk(folder) for name in names)
 
 
-def version():
-    """The toolchain's line about itself."""
-    return subprocess.run(["rt", "version"], capture_output=True, text=True, check=True).stdout.strip()
-
-
-def files(crate, parts):
-    """The paths of the crate's files in these folders, as they stand in the repository."""
-    found = []
-    for part in parts:
-        for at, folders, names in os.walk(os.path.join(crate.folder, part)):
-            folders.sort()
-            found += [os.path.relpath(os.path.join(at, name), ROOT) for name in sorted(names)]
-    return found
+@functools.cache
+def judges():
+    """Returns a sum of what judges a mutant: the toolchain's logic, and what its own libraries state. Toolchains that
+    have both refuse the same mutants, whatever they are called."""
+    whole, at = hashlib.sha256(logic().encode()), os.path.join(rtlib.KIT, "rlibs")
+    for library in sorted(os.listdir(at)):
+        for part in ("src", os.path.join("antt", "specs")):
+            for path in paths_below(os.path.join(at, library, "lang", part)):
+                with open(path, "rb") as file:
+                    whole.update(repr((os.path.relpath(path, at), hashlib.sha256(file.read()).digest())).encode())
+    return whole.hexdigest()
 
 
 def without_comments(path, data):
-    """What the file has beside lines that are comments alone, on which no verdict rests."""
+    """Returns the file without the lines that are comments alone: no verdict rests on these."""
     mark = COMMENTS.get(os.path.splitext(path)[1])
     return b"\n".join(line for line in data.split(b"\n") if not mark or not line.lstrip().startswith(mark))
 
 
 def public(text):
-    """A file of a built library without the functions that nobody else can call."""
+    """Returns a file of a built library without the functions that no other crate can call."""
     return TRAIT_OR_PRIVATE.sub(lambda found: found[1] or "", text)
 
 
 def stated(crate):
-    """What a crate above this one can be proved from, by the library as it was built: file by file its items, with the
-    clauses of functions and without their bodies, its definitions, and the lemmas that stand beside no function."""
-    lang, found = os.path.join(crate.rlib, "lang"), []
-    for part in ("src", "antt"):
-        for at, folders, names in os.walk(os.path.join(lang, part)):
-            if os.path.relpath(at, lang) == "antt/proofs":
-                folders.clear()
-            folders.sort()
-            names = [it for it in sorted(names) if it.endswith(tuple(COMMENTS))]
-            found += [os.path.relpath(os.path.join(at, it), lang) for it in names]
+    """Yields what a crate above this one is proved from, file by file, from the library as it was built: its items with
+    the clauses of functions and without their bodies, its definitions, and the lemmas that belong to no function."""
+    lang = os.path.join(crate.rlib, "lang")
+    found = [path for part in ("src", "antt") for path in paths_below(os.path.join(lang, part))
+             if path.endswith(tuple(COMMENTS)) and not OF_A_FUNCTION.match(os.path.relpath(path, lang))]
     if not found:
         sys.exit("%s is not built" % crate.name)
     for path in found:
-        with open(os.path.join(lang, path), "rb") as file:
+        with open(path, "rb") as file:
             text = without_comments(path, file.read()).decode()
-        yield crate.name, path, public(text) if path.startswith("src") else text
+        inside = os.path.relpath(path, lang)
+        yield crate.name, inside, public(text) if inside.startswith("src") else text
 
 
 def own_sum(crate):
-    """A sum of the crate's own files, but for lines of comments. Neither the time nor the place of a file is part of
-    it."""
-    whole = hashlib.sha256()
-    for path in files(crate, OWN):
-        with open(os.path.join(ROOT, path), "rb") as file:
-            whole.update(repr((path, without_comments(path, file.read()))).encode())
+    """Returns a sum of the crate's own side of its mutants' verdicts: what judges them, the crate's line, sources,
+    specifications and proofs without comments, and the mutants. It needs no library."""
+    line = (crate.name, sorted(crate.of_kit), sorted(dep.name for dep in crate.deps))
+    whole = hashlib.sha256(repr((judges(), RULES, line)).encode())
+    for path in (path for part in (*PROVED, MUTANTS) for path in paths_below(os.path.join(crate.folder, part))):
+        with open(path, "rb") as file:
+            told = os.path.relpath(path, crate.folder), without_comments(path, file.read())
+            whole.update(repr(told).encode())
     return whole.hexdigest()
 
 
-def sum_of(crate):
-    """A sum of all that the refusal of the crate's edits rests on, once the libraries below it are built: the
-    toolchain, the tools, the crate's own files, and what those libraries say to crates above them. The bodies of their
-    functions are no part of it, since a function is proved from the contracts of what it calls."""
-    whole = hashlib.sha256(version().encode())
-    below = sorted(crate.below(), key=lambda it: it.name)
-    for it in [crate, *below]:
-        whole.update(repr((it.name, sorted(it.of_kit), sorted(dep.name for dep in it.deps))).encode())
-    for path in TOOLS:
-        with open(os.path.join(ROOT, path), "rb") as file:
-            whole.update(repr((path, file.read())).encode())
-    whole.update(own_sum(crate).encode())
-    for it in below:
-        for told in stated(it):
+def below_sum(crate):
+    """Returns a sum of what the crates below state, once their libraries are built. Bodies are no part of it, because a
+    function is proved from the contracts of what it calls."""
+    whole = hashlib.sha256()
+    for it in sorted(crate.below(), key=lambda it: it.name):
+        for told in [(it.name, sorted(it.of_kit), sorted(dep.name for dep in it.deps)), *stated(it)]:
             whole.update(repr(told).encode())
     return whole.hexdigest()

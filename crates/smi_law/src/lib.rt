@@ -95,8 +95,8 @@
 //! - *What is told.* One item leaves of an operator's orders what the link has not heard (`Answering`, `Telling`,
 //!   `Answers`). This holds of every list of ticks and deliveries, wherever it begins.
 //!
-//! What would get something stuck is seen in `below/`: five turned definitions of `smi_protocol` (docs/GATE.md,
-//! "Edits"). Each is refused by a lemma on the way. What a link is due is owed (`due_owed`). A tick leaves what it
+//! Five mutants of definitions of `smi_protocol` show what would get something stuck (docs/TESTING.md, "Mutants").
+//! Each is refused by a lemma on the way. What a link is due is owed (`due_owed`). A tick leaves what it
 //! does not settle (`tick_keeps`). A drop is decided and answered (`drop_decides`). A record which is told is heard
 //! (`heard_one`).
 #![tactic(auto)]
