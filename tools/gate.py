@@ -1,11 +1,11 @@
 """Runs all that a change has to pass: every proof and test from nothing, the program as crews use it, and the mutants.
 
-usage: gate.py [--all]
+usage: gate.py [--all | --recorded]
 
 If a crate's own files have changed since its mutants were recorded (tools/refusals.py), the gate ends at once and
 prints the command that records them. Mutants of crates over changed ones are tried here, those with the oldest lines
 first, for at most BUDGET processor seconds; the rest is counted as not tried again. --all reads no record, tries the
-mutants of every crate, and writes the record.
+mutants of every crate, and writes the record. --recorded only looks whether the gate would end at once.
 
 A script of tests that fails is run once more, and its line says so. The last line is 'N passed, M failed'.
 """
@@ -119,14 +119,15 @@ class Gate:
 
 def main():
     is_whole = sys.argv[1:] == ["--all"]
-    if sys.argv[1:] and not is_whole:
+    if sys.argv[1:] not in ([], ["--all"], ["--recorded"]):
         sys.exit(__doc__.split("\n\n")[1])
     os.chdir(kit.ROOT)
     names = [] if is_whole else [crate.name for crate in refusals.changed()]
     if names:
         print("mutants to record before this can be merged: make record CRATE='%s'\n0 passed, %d failed"
               % (" ".join(names), len(names)))
-        sys.exit(1)
+    if names or sys.argv[1:] == ["--recorded"]:
+        sys.exit(1 if names else 0)
     since, gate = time.time(), Gate()
     print("%.1f GB free on the disk, %.1f in memory, load %.1f" % (
         shutil.disk_usage(kit.ROOT).free / 1e9, kit.rt.free() / 1e9, os.getloadavg()[0]), flush=True)

@@ -1,23 +1,19 @@
 -- A start keeps what is known of the states that are shown.
-use Rattle.std.proofs.Common.{ℕ, zero, suc, ◌≡◌, ◌≤◌, ◌<◌, ◌+◌, ◌-◌, Bool, true, false, List, [], ◌∷◌, ◌⊎◌, inl, inr}
+use Rattle.std.proofs.Common.{ℕ, zero, suc, ◌≡◌, ◌≤◌, ◌+◌, ◌-◌, true, false, List, [], ◌∷◌, ◌⊎◌, inl, inr}
 use Rattle.std.proofs.Common.{refl, sym, ap, ◌∙◌, subst, arith}
-use Rattle.std.specs.Prelude.{◌==◌, nat_le, Option, Some, None, option_map, option_and_then, map, replicate}
-use Rattle.std.specs.Prelude.{slice_get, unwrap_or, if◌then◌else◌}
-use Rattle.std.specs.Option.{option_map_or}
+use Rattle.std.specs.Prelude.{◌==◌, Option, Some, None, option_map, map, replicate}
+use Rattle.std.specs.Prelude.{slice_get, unwrap_or}
 use Rattle.std.specs.List.{range_with_len}
-use Rattle.std.proofs.lemmas.Bool.{eqb-true, leb-true}
+use Rattle.std.proofs.lemmas.Bool.{eqb-true}
 use Rattle.std.proofs.lemmas.Bool.Decides.{nat_tests}
 use Rattle.smi_grant.specs.declared.Shown.{Shown}
 use Rattle.smi_grant.specs.declared.Version.{Version}
 use Rattle.smi_message.specs.declared.Body.TheVariants as body
 use Rattle.smi_message.specs.Message.{Message}
-use Rattle.smi_tree.specs.declared.row.Domain.{Domain as DomainRow}
-use Rattle.smi_tree.specs.declared.row.Device.{Device as DeviceRow}
-use Rattle.smi_tree.specs.Hierarchy.{Hierarchy, entry}
+use Rattle.smi_tree.specs.Hierarchy.{Hierarchy}
 use Rattle.smi_tree.specs.Lawful.{IsTree}
-use Rattle.smi_tree.specs.Lookups.{domain_count, device_count, station_of, first_state}
 use Rattle.smi_publish.specs.declared.condition.Condition.{Condition}
-use Rattle.smi_publish.specs.Published.{condition, shown, shown_at}
+use Rattle.smi_publish.specs.Published.{shown, shown_at}
 use Rattle.smi_roles.specs.Roles.{is_kept_by}
 use Rattle.smi_publish.specs.Publishing.{first_condition}
 use Rattle.smi_grant.proofs.Holders.{either}
@@ -34,7 +30,6 @@ use Rattle.smi_law.specs.Safe.{IsNewer, NotOlderThanShown, NewerThanShown}
 use Rattle.smi_protocol.specs.Schedule.{World}
 use Rattle.smi_law.specs.Trace.{Stands}
 use Rattle.smi_law.specs.World.{Among as IsSent, with_station, noted}
-use Rattle.smi_law.proofs.Conditions.{row_within}
 use Rattle.smi_law.proofs.Stations.{at_stations}
 use Rattle.smi_law.proofs.Lists.{In, in_mapped, in_chosen, from_chosen, in_range, Apart, apart_range, apart_chosen}
 use Rattle.smi_law.proofs.Lists.{stands_noted, stands_new}

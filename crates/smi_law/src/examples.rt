@@ -3,8 +3,8 @@
 ghost use Rattle.std.specs.Prelude.{◌≡◌, [], ◌∷◌, false};
 ghost use Rattle.smi_protocol.specs.examples.WorkedTree.{worked_tree, ANN, DCS};
 ghost use Rattle.smi_law.specs.Answered.{entries_left, told_about};
-ghost use Rattle.smi_law.specs.Example.{asked_again, lost_take, taken};
-ghost use Rattle.smi_law.specs.Rest.{Each, led};
+ghost use Rattle.smi_law.specs.Example.{asked_again, busy_alone, lost_take, stopped_alone, taken};
+ghost use Rattle.smi_law.specs.Rest.{Each, IsAtRest, led};
 ghost use Rattle.smi_law.specs.UnderWay.{under_way};
 
 /// A take is lost. A tick sends it again, it comes, and so does its answer: nothing is under way any more, and the
@@ -14,4 +14,12 @@ pub fn lost_take_is_made_good()
     ensures allowed { Each false worked_tree lost_take asked_again }
     ensures rests { under_way worked_tree (led worked_tree lost_take asked_again) ≡ 0 }
     ensures told { told_about ANN DCS (entries_left worked_tree lost_take asked_again) ≡ taken ∷ [] }
+{}
+
+/// Tells which worlds are not at rest: one with a take under way, one with a domain at work though no holder waits for
+/// it, and one with a station that has stopped.
+pub fn these_are_not_at_rest()
+    ensures waiting { IsAtRest worked_tree lost_take → ⊥ }
+    ensures working { IsAtRest worked_tree busy_alone → ⊥ }
+    ensures stopped { IsAtRest worked_tree stopped_alone → ⊥ }
 {}

@@ -98,7 +98,7 @@
 //! Five mutants of definitions of `smi_protocol` show what would get something stuck (docs/TESTING.md, "Mutants").
 //! Each is refused by a lemma on the way. What a link is due is owed (`due_owed`). A tick leaves what it
 //! does not settle (`tick_keeps`). A drop is decided and answered (`drop_decides`). A record which is told is heard
-//! (`heard_one`).
+//! (`heard_one`). A sixth, of `smi_grant`, has a domain released while it is at work: its runs are not safe.
 #![tactic(auto)]
 
 pub mod examples;

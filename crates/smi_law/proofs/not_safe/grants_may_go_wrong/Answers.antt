@@ -1,4 +1,4 @@
-use Rattle.std.proofs.Common.{ℕ, ◌≡◌, inl, inr, refl, arith}
+use Rattle.std.proofs.Common.{ℕ, ◌≡◌, inl, inr, true, false, refl, arith}
 use Rattle.smi_law.specs.Safe.{directly}
 use Rattle.smi_law.specs.Trace.{epoch_at, holder_at, has_learned}
 use Rattle.smi_law.proofs.not_safe.grants_may_go_wrong.Goals as goal
@@ -6,6 +6,13 @@ use Rattle.smi_law.proofs.not_safe.grants_may_go_wrong.Goals as goal
 pub returns-clause-granted_twice : goal.returns-clause-granted_twice
 unfolding epoch_at
 returns-clause-granted_twice c = λ safe. let next : ◌≡◌ {A = ℕ} 1 2 = safe.grants.0.0 in omega (arith, next)
+
+pub returns-clause-even_epoch : goal.returns-clause-even_epoch
+returns-clause-even_epoch c = λ safe. let odd : ◌≡◌ {A = ℕ} 0 1 = safe.grants.0.1 in omega (arith, odd)
+
+pub returns-clause-not_held : goal.returns-clause-not_held
+unfolding epoch_at has_learned
+returns-clause-not_held c = λ safe. let held : false ≡ true = safe.grants.0.1 in cc
 
 pub returns-clause-freed_before_let_go : goal.returns-clause-freed_before_let_go
 unfolding epoch_at holder_at

@@ -5,6 +5,9 @@ use Rattle.smi_law.proofs.not_safe.states_may_go_wrong.Goals as goal
 pub returns-clause-not_passed : goal.returns-clause-not_passed
 returns-clause-not_passed c = λ safe. safe.states.0.0
 
+pub returns-clause-twice : goal.returns-clause-twice
+returns-clause-twice c = λ safe. let newer : false ≡ true = safe.states.0.2.0 refl refl in cc
+
 pub returns-clause-older : goal.returns-clause-older
 returns-clause-older c = λ safe. let newer : false ≡ true = safe.states.0.2.0 refl refl in cc
 
