@@ -1,9 +1,7 @@
-"""Tests of the gate: what it reads off a command, what sums rest on, the record, how mutants are told apart, and the order
-in which libraries are built. Nothing is proved and no node runs.
+"""Tests of the gate: what it reads off a command, what sums rest on, the record, and the order in which libraries are
+built. Nothing is proved.
 
-usage: gate_test.py [TEXT]
-
-With a TEXT only the tests are run whose name has it. The last line is 'N passed, M failed'.
+usage: gate_test.py [TEXT]: only the tests whose name has it. The last line is 'N passed, M failed'.
 """
 
 import collections

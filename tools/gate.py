@@ -99,17 +99,13 @@ class Gate:
     def __init__(self):
         self.lines, self.passed, self.failed = [], 0, 0
 
-    @staticmethod
-    def worked():
-        return os.times().children_user + os.times().children_system
-
     def part(self, name, call, *given):
         """Runs a part, and notes how much of it passed and failed."""
-        begun, before = time.time(), self.worked()
+        begun, before = time.time(), sum(os.times()[2:4])
         passed, failed, more = (*call(*given), "")[:3]
         self.passed, self.failed = self.passed + passed, self.failed + failed
         self.lines.append("%s: %d passed, %d failed%s (%.1f minutes, %.1f of processor time)" % (
-            name, passed, failed, more, (time.time() - begun) / 60, (self.worked() - before) / 60))
+            name, passed, failed, more, (time.time() - begun) / 60, (sum(os.times()[2:4]) - before) / 60))
 
     def end(self):
         """Prints what came of all, and ends with the status."""
@@ -129,8 +125,9 @@ def main():
     if names or sys.argv[1:] == ["--recorded"]:
         sys.exit(1 if names else 0)
     since, gate = time.time(), Gate()
-    print("%.1f GB free on the disk, %.1f in memory, load %.1f" % (
-        shutil.disk_usage(kit.ROOT).free / 1e9, kit.rt.free() / 1e9, os.getloadavg()[0]), flush=True)
+    with open("/proc/meminfo", encoding="ascii") as file:
+        print("%.1f GB free on the disk, %s, load %.1f" % (
+            shutil.disk_usage(kit.ROOT).free / 1e9, file.read().split("\n")[2], os.getloadavg()[0]), flush=True)
     gate.part("proofs and tests", run, ["rt", "ci"])
     if not gate.failed:
         take_program(since)

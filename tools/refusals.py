@@ -116,8 +116,8 @@ def is_untouched(crate, line):
         copy = os.path.join(room, "incremental")
         shutil.copytree(os.path.join(kept, "incremental"), copy, copy_function=os.link)
         words = [kit.rtlib.RATTLE, "check", *crate.words(["--jobs", "1"], keeps=False), "--incremental", copy]
-        ran = subprocess.run([*kit.rtlib.guarded(), *words], cwd=crate.folder, capture_output=True, text=True,
-                             check=False)
+        ran = subprocess.run([*kit.rtlib.guarded(), *words], cwd=crate.folder, stdout=subprocess.PIPE,
+                             stderr=subprocess.STDOUT, text=True, check=False)
     return ran.returncode == 0 and bool(re.search(r"(?m)^crate %s: .* checked=0$" % crate.name, ran.stdout))
 
 
