@@ -86,7 +86,8 @@ run_of_what_is_not_handed_on =
     ∷ Ran 1 1 1 (Do 3) ∷ Ran 2 1 1 (Do 3) ∷ []
 
 abbrev pub run_after_letting_go : List Entry
-run_after_letting_go = Granted 1 1 ann ∷ Learned ann 1 1 ∷ Ordered 1 1 1 1 (Do 1) ∷ LetGo ann 1 1 ∷ Ran 1 1 1 (Do 1) ∷ []
+run_after_letting_go = Granted 1 1 ann ∷ Learned ann 1 1 ∷ Ordered 1 1 1 1 (Do 1) ∷ LetGo ann 1 1
+    ∷ Ran 1 1 1 (Do 1) ∷ []
 
 abbrev pub out_of_order : List Entry
 out_of_order = Granted 1 1 ann ∷ Learned ann 1 1 ∷ Ordered 1 1 1 2 (Do 1) ∷ Ran 1 1 2 (Do 1) ∷ []

@@ -4,9 +4,9 @@
 ghost use Rattle.smi_law.specs.NotSafe as trace;
 ghost use Rattle.smi_law.specs.NotSafe.{IsNotSafe};
 
-/// Tells which grants are wrong: granted while it is held, granted at an even epoch, freed while its holder has not let
-/// go, let go of by who does not hold it, learned of twice, granted to a domain that is not the parent or to an operator
-/// that the tree does not have, and held by two.
+/// Tells which grants are wrong: granted while it is held, granted at an even epoch, freed while its holder has not
+/// let go, let go of without being held, learned of twice, granted to a domain that is not the parent or to an
+/// operator that the tree does not have, and held by two.
 pub fn grants_may_go_wrong()
     ensures granted_twice { IsNotSafe trace.granted_twice }
     ensures even_epoch { IsNotSafe trace.granted_at_an_even_epoch }
