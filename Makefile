@@ -157,9 +157,13 @@ tools-test:
 	@python3 tests/gate_test.py $(ONLY)
 	@python3 tests/tools_test.py $(ONLY)
 
-bench: bin/smi bin/smi_trial
-	python3 tests/bench.py bin/smi bin/smi_trial
+bench: bin/smi bin/smi_bench
+	python3 tests/bench.py bin/smi bin/smi_bench
 	python3 tests/bench_nodes.py bin/smi
+
+# The program of the measures, which no other target needs.
+bin/smi_bench: bin/smi $(shell find bench -type f)
+	@python3 bench/build.py
 
 bin/smi_trial: $(SOURCES)
 	@python3 tools/libraries.py --lanes $(LANES) smi_trial

@@ -7,7 +7,7 @@ in fifteen rounds beside the same saves by SQLite's C library, over pages as lon
 the rounds' ratios. Of steps in memory each figure is the best of five rounds, of trees the best of twenty, of the
 program and of the plain measure alike.
 
-usage: bench.py SMI SMI_TRIAL
+usage: bench.py SMI SMI_BENCH
 """
 
 import os
@@ -159,13 +159,13 @@ def write_tree(path, size):
         file.write(text)
 
 
-def trees(trial, folder):
+def trees(measures, folder):
     """How long a long and a short tree file take to read, beside a plain loop over the same bytes."""
     reading = []
     for size, times in [(256 * 1024, 25), (64 * 1024, 100)]:
         path = os.path.join(folder, "tree")
         write_tree(path, size)
-        runs = [subprocess.run([trial, "bench", path, str(times)], stdout=subprocess.PIPE,
+        runs = [subprocess.run([measures, "tree", path, str(times)], stdout=subprocess.PIPE,
                                stderr=subprocess.DEVNULL, check=True).stdout.split()
                 for _ in range(TREE_ROUNDS)]
         read, plain = min(int(words[3]) for words in runs), min(int(words[7]) for words in runs)
@@ -221,10 +221,10 @@ def saved_by_c(folder, kept):
     return SAVES * 1e6 / int(told[2])
 
 
-def saves_over(trial, folder, kept):
+def saves_over(measures, folder, kept):
     """So many saves to a store with so many rows: saves a second, those by C, plain writes, and syncs a save."""
     store, syncs = os.path.join(folder, "store"), os.path.join(folder, "syncs")
-    command = [trial, "bench", store, os.path.join(folder, "plain"), str(SAVES), str(kept)]
+    command = [measures, "saves", store, os.path.join(folder, "plain"), str(SAVES), str(kept)]
     settings = dict(os.environ, LD_PRELOAD=counting(folder), SYNCS=syncs)
     words = subprocess.run(command, stdout=subprocess.PIPE, check=True, env=settings).stdout.split()
     check_store(store, kept)
@@ -235,11 +235,11 @@ def saves_over(trial, folder, kept):
     return saved, saved_by_c(folder, kept), written, count / (kept + SAVES)
 
 
-def stored_steps(trial, folder, tree):
+def stored_steps(measures, folder, tree):
     """Steps of a station that take a domain and drop it, each of which saves its row: steps a second, and the saves of
     as many rows by C."""
     store = os.path.join(folder, "store")
-    words = subprocess.run([trial, "bench", "stored", tree, store, str(SAVES)], stdout=subprocess.PIPE,
+    words = subprocess.run([measures, "stored", tree, store, str(SAVES)], stdout=subprocess.PIPE,
                            check=True).stdout.decode().replace(",", "").split()
     assert int(words[0]) == int(words[4]) == SAVES, words
     with sqlite3.connect(store) as file:
@@ -251,7 +251,7 @@ def stored_steps(trial, folder, tree):
     return SAVES * 1e6 / int(words[2]), saved_by_c(folder, 1)
 
 
-def on_disk(trial, measure):
+def on_disk(measures, measure):
     """The figures of each round of a measure, one list for each figure.
 
     Each round has files of its own, on the disk that the repository is on, as a folder for temporary files may be in
@@ -259,7 +259,7 @@ def on_disk(trial, measure):
     """
     runs = []
     for _ in range(1 + SAVE_TURNS):
-        with tempfile.TemporaryDirectory(dir=os.path.dirname(trial)) as folder:
+        with tempfile.TemporaryDirectory(dir=os.path.dirname(measures)) as folder:
             runs.append(measure(folder))
     return list(zip(*runs[1:]))
 
@@ -274,17 +274,17 @@ def beside_c(what, ours, by_c):
         statistics.median(by_c), min(by_c), statistics.median(ratios), min(ratios), max(ratios))
 
 
-def saves(trial, folder):
+def saves(measures, folder):
     """Saves of stable rows and steps over a store in a file, beside the same saves by C; and beside the same bytes
     written one row after the other and handed to the device."""
     full = os.path.join(folder, "full.tree")
     with open(full, "w", encoding="ascii") as file:
         file.write(tree_files.full())
     for name, tree in [("worked", os.path.join(HERE, "..", "examples", "worked.tree")), ("full", full)]:
-        ours, by_c = on_disk(trial, lambda place, tree=tree: stored_steps(trial, place, tree))
+        ours, by_c = on_disk(measures, lambda place, tree=tree: stored_steps(measures, place, tree))
         print(beside_c("steps: take over the %s tree, each saved in a file" % name, ours, by_c))
     for kept in KEPT:
-        ours, by_c, written, syncs = on_disk(trial, lambda place, kept=kept: saves_over(trial, place, kept))
+        ours, by_c, written, syncs = on_disk(measures, lambda place, kept=kept: saves_over(measures, place, kept))
         print(beside_c("stable rows: %d saves to %d rows" % (SAVES, kept), ours, by_c))
         print("stable rows: plain writes %.0f a second; ratio %.2f; %.2f syncs a save"
               % (statistics.median(written), statistics.median(map(lambda a, b: a / b, ours, written)), max(syncs)))
@@ -293,10 +293,10 @@ def saves(trial, folder):
 LAYERS = [["board", "1", "2000000"], ["board", "3", "2000000"], ["link", "20000"], ["watchers", "20"]]
 
 
-def layers(trial):
+def layers(measures):
     """How fast the board, two links over UDP and the watcher lists are: every run."""
     for words in LAYERS:
-        lines = [subprocess.run([trial] + words, stdout=subprocess.PIPE, stderr=subprocess.DEVNULL,
+        lines = [subprocess.run([measures] + words, stdout=subprocess.PIPE, stderr=subprocess.DEVNULL,
                                 check=True).stdout.decode().strip()
                  for _ in range(ROUNDS)]
         print("\n".join(lines))
@@ -339,7 +339,7 @@ def best_of(command):
     return min(runs, key=lambda words: int(words[2]))
 
 
-def steps(trial, folder):
+def steps(measures, folder):
     """How many steps a station makes in a second, and how many items a world, without text."""
     paths = {name: os.path.join(folder, name + ".tree") for name in ("full", "levels")}
     paths["worked"], paths["detector"] = (os.path.join(HERE, "..", "examples", name + ".tree")
@@ -348,7 +348,7 @@ def steps(trial, folder):
         with open(paths[name], "w", encoding="ascii") as file:
             file.write(text)
     for kind, name, count in STEPS:
-        words = best_of([trial, "bench", "steps", paths[name], kind, str(count)])
+        words = best_of([measures, "steps", paths[name], kind, str(count)])
         made, took, good, sent, changes = (int(words[place]) for place in (0, 2, 4, 6, 8))
         # Nothing was refused, and each told state has changed the unit.
         assert good == made and (kind != "state" or changes == count), words
@@ -358,7 +358,7 @@ def steps(trial, folder):
     for what, told in [("act", "drawn items"), ("steady", "drawn items that start no station again")]:
         rates = {}
         for name in ("worked", "detector"):
-            words = best_of([trial, "bench", what, paths[name], str(ITEMS)])
+            words = best_of([measures, what, paths[name], str(ITEMS)])
             assert what == "steady" or int(words[0]) == ITEMS, words
             rates[name] = int(words[0]) * 1e6 / int(words[2])
         print("act: %s without text, %.0f a second over the worked tree, %.0f over the detector's; %.2f times as long"
@@ -366,14 +366,14 @@ def steps(trial, folder):
 
 
 def main():
-    program, trial = map(os.path.abspath, sys.argv[1:])
+    program, measures = map(os.path.abspath, sys.argv[1:])
     with tempfile.TemporaryDirectory() as folder:
         answers(program, folder)
         schedules(program)
-        steps(trial, folder)
-        trees(trial, folder)
-        layers(trial)
-        saves(trial, folder)
+        steps(measures, folder)
+        trees(measures, folder)
+        layers(measures)
+        saves(measures, folder)
 
 
 if __name__ == "__main__":

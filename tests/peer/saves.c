@@ -1,4 +1,4 @@
-/* Saves of stable rows by SQLite's C library, as `smi_trial bench` makes them: pages of 512 bytes, a log that is written ahead,
+/* Saves of stable rows by SQLite's C library, as `smi_bench saves` makes them: pages of 512 bytes, a log that is written ahead,
    each save the same statement, handed to the device before it returns. Prints the microseconds of so many saves to a
    new store that has so many rows, each there before.
 
