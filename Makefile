@@ -82,8 +82,8 @@ check:
 	@python3 tools/libraries.py --check $(CRATE) --lanes $(LANES)
 
 # The command lines alone, or those whose name has a text: make cases ONLY='a take'. The last line is 'N passed, M failed'.
-cases: bin/smi bin/smi_trial
-	@python3 tests/command_lines.py bin/smi bin/smi_trial $(if $(ONLY),'$(ONLY)')
+cases: bin/smi
+	@python3 tests/command_lines.py bin/smi $(if $(ONLY),'$(ONLY)')
 
 # Nodes as processes, three of them over UDP among them, or the cases whose name has a text: make nodes ONLY=store.
 nodes: bin/smi
@@ -164,9 +164,3 @@ bench: bin/smi bin/smi_bench
 # The program of the measures, which no other target needs.
 bin/smi_bench: bin/smi $(shell find bench -type f)
 	@python3 bench/build.py
-
-bin/smi_trial: $(SOURCES)
-	@python3 tools/libraries.py --lanes $(LANES) smi_trial
-	@python3 tools/libraries.py --lanes $(LANES) --program smi_trial
-	mkdir -p bin
-	cp crates/smi_trial/out/smi_trial bin/smi_trial

@@ -1,6 +1,6 @@
 """Runs the program on each case of command-lines.txt and compares standard output, standard error and status.
 
-usage: command_lines.py SMI SMI_TRIAL [TEXT]
+usage: command_lines.py SMI [TEXT]
 
 A case begins with `case NAME`. `args` are the words of the command line, `in` and `out` bytes in
 hexadecimal, in which `N*BB` is N times a byte; several lines of one kind follow one another. `from
@@ -10,12 +10,11 @@ for the path of the worked tree file and for a path where there is none.
 
 After the table, a take is tried with other values in its fields, at the ends of their ranges and beyond, and in other
 lengths, against the layout in layout.py, each tree file of trees.py is checked, each store of stores.py listed, a
-store that SMI_TRIAL saved is read by others, and each growth of some runs, and of the layers' objects in SMI_TRIAL, is
-refused in turn (growths.py). Words that are no text and stores that may only be read are tried (paths.py), wrong lines
-at a terminal (terminals.py), reads that are interrupted (interrupts.py), and each layer at its limits (limits.py).
-Watcher lists answer random calls as plain lists do (random_calls.py), schedules leave what is said of them
-(schedules.py), and stations over each store do the same (plays.py). With a TEXT only the cases are run whose name has
-it; the growths of a run or a layer go together, under its name. The last line is 'N passed, M failed'.
+store that a node saved is read by others, and each growth of some runs is refused in turn (growths.py). Words that are
+no text and stores that may only be read are tried (paths.py), wrong lines at a terminal (terminals.py), reads that are
+interrupted (interrupts.py), and long inputs and a full tree (limits.py). Schedules leave what is said of them
+(schedules.py), and use no memory wrongly (leaks.py). With a TEXT only the cases are run whose name has it; the growths
+of a run go together, under its name. The last line is 'N passed, M failed'.
 """
 
 import os
@@ -26,10 +25,9 @@ import tempfile
 import growths
 import interrupts
 import layout
+import leaks
 import limits
 import paths
-import plays
-import random_calls
 import schedules
 import settling
 import stores
@@ -164,30 +162,28 @@ def room(folder, name):
 
 
 def main():
-    program, trial = map(os.path.abspath, sys.argv[1:3])
-    only = sys.argv[3] if len(sys.argv) > 3 else ""
+    program, only = os.path.abspath(sys.argv[1]), sys.argv[2] if len(sys.argv) > 2 else ""
     table = read_cases(os.path.join(HERE, "command-lines.txt"))
     table += [variant_case(name, data) for name, data in variants(table[0]["in"])]
     with tempfile.TemporaryDirectory() as folder:
         table += tree_cases(folder)
         table += store_cases(folder)
         done = [ran(program, case) for case in table if only in case["name"]]
-        others = [case for case in stores.ours(program, trial, folder) if only in case[0]]
+        others = [case for case in stores.ours(program, PATHS["TREE"], folder) if only in case[0]]
         others += growths.refused_cases(program, folder, only)
         others += growths.store_cases(program, folder, only)
-        others += growths.layer_cases(trial, folder, only)
+        others += growths.node_cases(program, room(folder, "of nodes"), only)
         others += [case for case in paths.cases(program, room(folder, "of paths")) if only in case[0]]
         at_terminals = terminals.cases(program, room(folder, "at terminals"), PATHS["TREE"], PATHS["NOWHERE"])
         others += [case for case in at_terminals if only in case[0]]
         others += [case for case in interrupts.cases(program, room(folder, "of interrupts")) if only in case[0]]
         at_limits = room(folder, "at limits")
-        others += limits.layer_cases(trial, at_limits, only)
         others += limits.answer_case(program, at_limits, table[0]["in"], table[0]["out"], only)
         others += limits.rows_case(program, at_limits, only)
-        others += random_calls.cases(trial, only)
+        others += limits.full_case(program, at_limits, only)
+        others += leaks.cases(program, only)
         others += schedules.cases(program, room(folder, "of schedules"), only)
         others += settling.cases(program, only)
-        others += plays.cases(trial, room(folder, "of plays"), only)
     verdict.end(done + others)
 
 

@@ -49,7 +49,7 @@ UNSEEN = 8
 # A part of a document, as others name it.
 QUOTED = re.compile(r"(docs/[\w-]+\.md|README\.md), \"([^\"]+)\"")
 # How the names of crates end that are no part of the program: tests, and trials.
-OF_TESTS = ("_tests", "_samples")
+OF_TESTS = ("_tests", "_testkit")
 # Where a page has its screen.
 SCREEN = "127.0.0.1:8080"
 # How often a page is played in one folder.
@@ -180,7 +180,7 @@ def worked_cases():
     lines = read("examples", "worked.tree").splitlines()
     told = section_of_lines(read("crates", "smi_protocol", "specs", "examples", "WorkedTree.antt"))
     yield verdict.case("the worked tree of the laws is examples/worked.tree", told, lines)
-    shared = re.search(r'WORKED: &\[u8\] =\s*b"([^"]*)"', read("crates", "smi_samples", "src", "trees.rt"))
+    shared = re.search(r'WORKED: &\[u8\] =\s*b"([^"]*)"', read("crates", "smi_testkit", "src", "trees.rt"))
     yield "the worked tree of the tests is examples/worked.tree", shared and shared[1].split("\\n") == [*lines, ""]
 
 
@@ -197,8 +197,7 @@ def crate_cases():
     rows = tables(section(architecture, "The crates"))
     yield verdict.case(
         "ARCHITECTURE.md has the crates, in the order of crates.txt", [it[0].strip("`") for it in rows], list(crates))
-    # the second picture stands above the first
-    layers = "".join(reversed(re.findall(r"^```\n(the (?:program|trials) .*?)^```$", architecture, flags=re.M | re.S)))
+    layers = "".join(re.findall(r"^```\n(the program .*?)^```$", architecture, flags=re.M | re.S))
     heights = {name: -place for place, line in enumerate(layers.splitlines())
                for name in re.findall(r"\bsmi\w*", line[18:])}
     beside = {name for name in crates if name.endswith(OF_TESTS)}

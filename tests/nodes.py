@@ -20,7 +20,6 @@ import tempfile
 import threading
 import time
 
-import growths
 import pages
 import stores
 import trees
@@ -697,42 +696,9 @@ def rest_case(program, folder):
     yield verdict.case("an order to a node at rest", sorted(took)[len(took) // 2], 0.005, "<")
 
 
-def is_without_memory(ran, whole):
-    """Whether a node to which one allocation was refused did all the same, or told its order so, or said so and ended,
-    or its console did."""
-    out, err, status = ran
-    return ran == whole or ran == (whole[0].replace(b"DCS 0", b"DCS 33"), b"", 0) or whole[0].startswith(out) \
-        and err == b"no memory\n" and status in (0, 4)
-
-
-def growth_cases(program, folder):
-    """Growths of a node refused, one in each run: it says so, or its reading thread does, or the order is told so, or
-    it does without. Every eighth growth is tried."""
-    refusing = growths.library(folder)
-    tree, given = write_tree(folder, free_ports(2)), os.path.join(folder, "given")
-    with open(given, "w", encoding="ascii") as file:
-        file.write("order ANN take DCS\nshow TPC\n")
-
-    def words(place, turns=12):
-        return ["node", tree, "A", os.path.join(folder, "store%d-%d" % (place, turns)), "--turns", str(turns)]
-
-    count, whole = growths.counted(program, words(0, 200), given, refusing, folder)
-    yield verdict.case("growths of a node: all %d" % count, whole, (b"told ANN take DCS 0\nboard TPC none\n", b"", 0))
-    told = 0
-    for growth in range(1, count + 1, 8):
-        # on a machine that is busy a node may have served its few turns before its console has printed
-        for turns in (12, 200):
-            ran = growths.run(program, words(growth, turns), given, {"LD_PRELOAD": refusing, "REFUSE": str(growth)})
-            if is_without_memory(ran, whole):
-                break
-        told += ran != whole
-        yield verdict.case("growths of a node: %d" % growth, whole if is_without_memory(ran, whole) else ran, whole)
-    yield verdict.case("growths of a node: %d of them needed" % told, told, 0, ">")
-
-
 # These run side by side, and those after them.
 CASES = [three_case, killed_case, line_cases, shown_case, store_cases, page_cases, second_case, row_cases,
-         address_cases, console_cases, many_lines_case, hostile_case, growth_cases, tag_case, many_tags_case]
+         address_cases, console_cases, many_lines_case, hostile_case, tag_case, many_tags_case]
 ALONE = [rest_case, count_cases, endless_case, flooded_case]
 
 

@@ -41,19 +41,29 @@ def rows_in(path):
     return [(row[:3], row[3].hex()) for row in rows]
 
 
-def ours(program, trial, folder):
-    """A store that our own code saved and closed: what was done, and whether others read the rows there."""
+# What a node of station 2 has saved in its first boot, whose operator 2 has taken its domain 2 at epoch 1.
+OURS = [
+    ((2, 0, 0), "0200000000000001"),
+    ((2, 0, 2), "030000010002020000000000000000010000000000000000"),
+    ((2, 2, 0), "020100020000000000000001000000000000000000000000"),
+]
+
+
+def ours(program, tree, folder):
+    """A store that a node over the worked tree saved: whether that was told, and whether others read the rows there."""
     path = os.path.join(folder, "ours")
-    subprocess.run([trial, "store", path], check=True)
+    done = subprocess.run([program, "node", tree, "B", path, "--turns", "100"], input=b"order BOB take TPC\n",
+                          stdout=subprocess.PIPE, check=False)
+    yield verdict.case("our store: saved", (done.stdout, done.returncode), (b"told BOB take TPC 0\n", 0))
     listed = subprocess.run([program, "rows", path], stdout=subprocess.PIPE, check=False).stdout.decode()
-    yield verdict.case("our store: listed", listed, listing(ROWS))
-    yield verdict.case("our store: read by Python's sqlite3", rows_in(path), ROWS)
+    yield verdict.case("our store: listed", listed, listing(OURS))
+    yield verdict.case("our store: read by Python's sqlite3", rows_in(path), OURS)
     line = shutil.which("sqlite3")
     if line:
         query = "SELECT station, domain, operator, lower(hex(bytes)) FROM stable_rows ORDER BY 1, 2, 3"
         read = subprocess.run([line, "-separator", " ", path, query], stdout=subprocess.PIPE,
                               check=False).stdout.decode()
-        yield verdict.case("our store: read by the command line of sqlite3", read, listing(ROWS))
+        yield verdict.case("our store: read by the command line of sqlite3", read, listing(OURS))
 
 
 def all_stores(folder):

@@ -204,7 +204,7 @@ def doubtful():
 
 
 def full():
-    """A tree at every limit but those of a domain alone, and domain 1 at these; crates/smi_memory knows it."""
+    """A tree at every limit but those of a domain alone, and domain 1 at these; tests/limits.py knows it."""
     lines = ["tree 17"] + numbered("state S%d", 1, 64) + numbered("action A%d", 1, 64)
     lines += ["station W%d 10.0.0.%d:%d" % (n, n, 9000 + n) for n in range(1, 129)]
     lines += ["operator O%d W%d" % (n, (n + 7) // 8) for n in range(1, 33)]

@@ -9,6 +9,8 @@ use std::marker::Brand;
 use std::sync::Wait;
 use std::test::Fail;
 
+mod told;
+
 fn shown(object: u16, boot: u32, sequence: u32, state: u16) -> Shown
     ensures { result.object ≡ object }
 {
@@ -133,5 +135,64 @@ fn what_was_put_is_read_once_it_is_published(rt: HostRuntime) -> Result<(), Fail
     ];
     assert!(rt; found == wanted);
     assert_eq!(rt; closed, Err(NoReading));
+    Ok(())
+}
+
+/// As many objects as a tree may have, and as many glances as a station has operators.
+const OBJECTS: u16 = 640;
+
+const GLANCES: usize = 8;
+
+/// Puts a row of each object and publishes them, and returns how many readings of all glances are of these rows.
+fn readings_of_all<J: BoardId, R: Wait>(
+    rt: &R,
+    board: &mut Board<J>,
+    glances: &mut [Glance<J>],
+    sequence: u32,
+) -> Result<usize, AllocError> {
+    for object in 0..OBJECTS {
+        board.put(shown(object + 1, 4_000_000_000, sequence, 64))?;
+    }
+    board.publish(rt)?;
+    let mut count: usize = 0;
+    for glance in glances.iter_mut() {
+        for object in 0..OBJECTS {
+            let row = shown(object + 1, 4_000_000_000, sequence, 64);
+            count = count.wrapping_add(usize::from(glance.read(object + 1) == Ok(Some(row))));
+        }
+    }
+    Ok(count)
+}
+
+/// How many readings of all glances are of what was published last, up to the last sequence.
+fn readings_in_turn<J: BoardId, R: Wait>(
+    rt: &R,
+    board: &mut Board<J>,
+    glances: &mut [Glance<J>],
+) -> Result<[usize; 3], AllocError> {
+    Ok([
+        readings_of_all(rt, board, glances, 1)?,
+        readings_of_all(rt, board, glances, 65_536)?,
+        readings_of_all(rt, board, glances, 4_000_000_000)?,
+    ])
+}
+
+fn over_full_board<J: BoardId, R: Wait>(
+    rt: &R,
+    alloc: Global,
+    blank: NewBoard,
+) -> Result<[usize; 3], Fail>
+    requires { blank.seen.book ≡ J.book }
+{
+    let (mut board, mut glances) = open_board::<J, R>(rt, alloc, blank, GLANCES)?;
+    let counts = readings_in_turn(rt, &mut board, glances.as_mut_slice());
+    let _ = board.close(rt);
+    Ok(counts?)
+}
+
+#[test]
+fn eight_glances_read_all_objects(rt: HostRuntime) -> Result<(), Fail> {
+    let counts = over_full_board::<Brand, _>(&rt, rt.alloc(), NewBoard::new())?;
+    assert_eq!(rt; counts, [8 * 640; 3]);
     Ok(())
 }

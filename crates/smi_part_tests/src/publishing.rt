@@ -6,7 +6,7 @@ ghost use Rattle.smi_publish.specs.Published.{HasRoom, conditions_of};
 
 use smi_grant::{Shown, Version};
 use smi_publish::{Changes, Publisher};
-use smi_samples::WORKED;
+use smi_testkit::WORKED;
 use smi_tree::{Tree, TreeFault};
 use std::alloc::Global;
 use std::process::Abort;

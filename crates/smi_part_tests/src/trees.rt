@@ -1,6 +1,6 @@
 //! What a file declares, and each of its faults, by files that were written by hand.
 
-use smi_samples::WORKED;
+use smi_testkit::WORKED;
 use smi_tree::{Address, Device, Domain, Tree, TreeFault};
 use std::alloc::Global;
 use std::process::Abort;

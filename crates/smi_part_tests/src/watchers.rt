@@ -9,6 +9,8 @@ use std::sync::Wait;
 use std::test::Fail;
 use std::thread::{self, Threads};
 
+mod random;
+
 /// A call of lists and what it has to answer.
 #[derive(Clone, Copy)]
 enum Call {
@@ -34,6 +36,24 @@ const FULL: [Call; 9] = [
     Call::Nth(1, 63, 65),
     Call::Nth(1, 64, 0),
     Call::Count(1, 64),
+];
+
+/// Calls at the lists of 640 objects, each of which stations 1 to 64 watch.
+const ALL: [Call; 14] = [
+    Call::Watch(640, 65, 1, Err(WatchFault::Full)),
+    Call::Watch(640, 64, 1, Ok(WatchAnswer::Present)),
+    Call::Nth(640, 63, 64),
+    Call::Nth(640, 64, 0),
+    Call::Renew(640, 65, 2, Err(WatchFault::Full)),
+    Call::Renew(1, 64, 2, Ok(WatchAnswer::Added)),
+    Call::Nth(1, 63, 64),
+    Call::Count(640, 63),
+    Call::Leave(64, 1),
+    Call::Leave(63, 640),
+    Call::Count(1, 62),
+    Call::Watch(640, 65, 1, Ok(WatchAnswer::Added)),
+    Call::Nth(640, 62, 65),
+    Call::Count(640, 63),
 ];
 
 const ECHOES: [Call; 10] = [
@@ -180,9 +200,16 @@ fn left_in_a_thread<R: Runtime<A = Global> + Wait + Threads>(rt: &R) -> Result<u
     Ok(child.join(rt))
 }
 
+/// Full lists of three objects are only dropped.
 #[test]
-fn a_full_watcher_list(rt: HostRuntime) -> Result<(), Fail> {
-    assert_eq!(rt; tried_on_full(rt.alloc(), 1, &FULL)?, (64, 9));
+fn full_watcher_lists(rt: HostRuntime) -> Result<(), Fail> {
+    for (objects, calls, wanted) in [
+        (1, FULL.as_slice(), (64, 9)),
+        (3, &[], (192, 0)),
+        (640, &ALL, (40_960, 14)),
+    ] {
+        assert_eq!(rt; tried_on_full(rt.alloc(), objects, calls)?, wanted);
+    }
     Ok(())
 }
 
@@ -204,12 +231,6 @@ fn newer_and_older_echoes(rt: HostRuntime) -> Result<(), Fail> {
 #[test]
 fn a_station_leaves(rt: HostRuntime) -> Result<(), Fail> {
     assert_eq!(rt; tried(rt.alloc(), 640, &LEAVING)?, 13);
-    Ok(())
-}
-
-#[test]
-fn full_lists_of_three_objects_are_dropped(rt: HostRuntime) -> Result<(), Fail> {
-    assert_eq!(rt; tried_on_full(rt.alloc(), 3, &[])?, (192, 0));
     Ok(())
 }
 

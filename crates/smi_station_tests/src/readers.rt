@@ -1,7 +1,7 @@
 //! Lines that are cut from a reader.
 
-use smi_samples::Trickle;
 use smi_schedule::{Cut, Lines};
+use smi_testkit::Trickle;
 use std::alloc::{AllocError, Global};
 use std::io::{self, ErrorKind, Read};
 use std::test::Fail;

@@ -2,8 +2,8 @@
 
 use smi_protocol::{Deed, Item, Moment, Order};
 use smi_rows::Plan;
-use smi_samples::WORKED;
 use smi_schedule::{Drawer, ScheduleFault, draw_schedule, item_of, read_item, read_schedule};
+use smi_testkit::WORKED;
 use smi_tree::{Fault, Tree};
 use std::alloc::{AllocError, Global};
 use std::process::Abort;

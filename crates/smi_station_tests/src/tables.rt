@@ -7,8 +7,8 @@ use crate::{bytes, migrations, plays, refusals, starts};
 use smi_out::Out;
 use smi_protocol::{Event, Heard, StepFault};
 use smi_rows::{MemoryStable, PlannedStable, SavedRow, Stable, StoreFault};
-use smi_samples::WORKED;
 use smi_station::Station;
+use smi_testkit::WORKED;
 use smi_tree::Tree;
 use std::alloc::Global;
 

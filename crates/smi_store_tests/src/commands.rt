@@ -2,7 +2,7 @@ use smi_commands::answer::{Answered, answer};
 use smi_commands::check::check;
 use smi_commands::rows::{Listed, rows};
 use smi_rows::{MemoryStable, Stable, StoreFault};
-use smi_samples::{Narrow, Trickle, key};
+use smi_testkit::{Narrow, Trickle, key};
 use std::alloc::{AllocError, Global};
 use std::cmp::min;
 use std::io::{self, ErrorKind, Read};

@@ -1,10 +1,9 @@
 //! The rows of a store as `smi rows` prints them, whatever the order in which they were saved.
 
+use crate::stable::disks::{FusedFiles, OnDisks, opened};
 use smi_commands::rows::{Listed, rows};
-use smi_samples::{BOOT, HELD, TAKEN, key};
-use smi_stable::{Key, MemoryStable, PlannedStable, SqliteStable, Stable, StoreFault};
-use sqlite::{Connection, FileStore, Files, Options};
-use sqlite_disk::Memory;
+use smi_stable::{Key, MemoryStable, PlannedStable, Stable, StoreFault};
+use smi_testkit::{BOOT, HELD, TAKEN, key};
 use std::alloc::Global;
 use std::test::Fail;
 
@@ -64,37 +63,23 @@ fn rows_with_nothing_planned_are_printed(rt: HostRuntime) -> Result<(), Fail> {
     Ok(())
 }
 
-/// A store over SQL whose disk is in memory.
-fn opened(alloc: Global) -> Result<SqliteStable<FileStore<Memory>>, Fail> {
-    let files = Files {
-        log: Memory::new(alloc),
-        db: Memory::new(alloc),
-    };
-    match Connection::open_files(alloc, files, Options::new(1)) {
-        Ok(conn) => adopted(conn),
-        Err(_) => Err("the files are not opened")?,
-    }
-}
-
-fn adopted(conn: Connection<FileStore<Memory>>) -> Result<SqliteStable<FileStore<Memory>>, Fail> {
-    match SqliteStable::adopt(conn) {
-        Ok(store) => Ok(store),
-        Err(_) => Err("the connection is not taken over")?,
-    }
-}
-
 // One function owns the store, and has one way out of it.
-fn is_printed_over_sql(alloc: Global, order: [usize; 3]) -> Result<bool, Fail> {
-    let mut store = opened(alloc)?;
+fn is_printed_on_disks<S: OnDisks<Disks = FusedFiles>>(
+    alloc: Global,
+    order: [usize; 3],
+) -> Result<bool, Fail> {
+    let mut store = opened::<S>(alloc)?;
     let printed = is_printed(alloc, &mut store, order);
-    drop(store.release().into_store().close());
+    drop(store.close());
     printed
 }
 
-#[test]
-fn rows_over_sql_are_printed(rt: HostRuntime) -> Result<(), Fail> {
+/// Whether the rows of a store on disks are printed, whatever the order in which they were saved.
+pub(crate) fn are_printed<S: OnDisks<Disks = FusedFiles>>(alloc: Global) -> Result<bool, Fail> {
     for order in ORDERS {
-        assert!(rt; is_printed_over_sql(rt.alloc(), order)?, "{order:?}");
+        if !is_printed_on_disks::<S>(alloc, order)? {
+            return Ok(false);
+        }
     }
-    Ok(())
+    Ok(true)
 }

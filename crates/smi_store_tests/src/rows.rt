@@ -1,7 +1,7 @@
 //! Rows and stores, by values from docs/FORMATS.md.
 
 use smi_rows::{Key, Row, RowFault, write_boot};
-use smi_samples::{BOOT, HELD, PAIR, PENDING, TAKEN, WORKING, key};
+use smi_testkit::{BOOT, HELD, PAIR, PENDING, TAKEN, WORKING, key};
 use smi_tree::Tree;
 use std::alloc::Global;
 use std::test::Fail;

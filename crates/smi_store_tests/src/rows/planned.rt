@@ -2,7 +2,7 @@
 
 use smi_rows::law::saved_is_loaded;
 use smi_rows::{MemoryStable, Plan, PlannedStable, Stable, StoreFault};
-use smi_samples::{BOOT, PENDING, key};
+use smi_testkit::{BOOT, PENDING, key};
 
 fn loaded(store: &mut PlannedStable<MemoryStable>) -> usize {
     match saved_is_loaded(store, key(1, 0, 0), BOOT) {

@@ -2,7 +2,7 @@
 
 use super::{examples, fault, with_byte};
 use smi_rows::{Key, RowKind};
-use smi_samples::{BOOT, HELD, TAKEN, key};
+use smi_testkit::{BOOT, HELD, TAKEN, key};
 use smi_tree::Tree;
 use std::alloc::Global;
 use std::test::Fail;

@@ -3,7 +3,7 @@
 use super::{EVEN, examples, fault, rewritten, with_byte};
 use smi_grant::{Command, Holder, Link, Pending, Phase, Record};
 use smi_rows::{DomainRow, Key, Mode, Row, StoredLink};
-use smi_samples::{BOOT, HELD, OLDEST, PENDING, TAKEN, WORKING, key};
+use smi_testkit::{BOOT, HELD, OLDEST, PENDING, TAKEN, WORKING, key};
 use smi_tree::Tree;
 use std::alloc::Global;
 use std::test::Fail;

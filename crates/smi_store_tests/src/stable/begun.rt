@@ -1,12 +1,11 @@
 //! New files get short pages, and any other file is left alone.
 
-use super::disks::{FusedFiles, FusedStore, back, close, disk, found, open};
-use smi_samples::{BOOT, key};
+use super::disks::{FusedFiles, OnDisks, back, disk, found};
 use smi_stable::{PAGE_BYTES, SavedRow, Stable, StoreFault, begin};
+use smi_testkit::{BOOT, key};
 use sqlite::Files;
 use std::alloc::Global;
 use std::io;
-use std::process::Abort;
 use std::test::Fail;
 
 /// What stands at some places of a file that was begun, by SQLite's "Database File Format": the header's string, the
@@ -109,7 +108,7 @@ fn is_row(row: Option<&SavedRow>) -> bool {
     row.is_some_and(|row| row.key == key(1, 0, 0) && row.bytes.as_slice() == BOOT)
 }
 
-fn save_times(store: &mut FusedStore, saves: u8) -> Result<(), StoreFault> {
+fn save_times<S: Stable>(store: &mut S, saves: u8) -> Result<(), StoreFault> {
     for _ in 0..saves {
         store.save(key(1, 0, 0), BOOT)?;
     }
@@ -123,15 +122,20 @@ fn written(log: &[u8]) -> usize {
         .map_or(0, |last| last + 1)
 }
 
-/// Saves a row so many times in files that were begun; how many bytes of the log are then written, and whether the row
-/// is found again.
-fn keeps_a_row(alloc: Global, files: FusedFiles, saves: u8) -> Result<(usize, bool), Fail> {
-    match open(alloc, files) {
-        Ok(mut store) => {
+/// Saves a row this many times in files that were begun. Returns how many bytes of the log are then written, and
+/// whether the row is found again.
+fn keeps_a_row<S: OnDisks<Disks = FusedFiles>>(
+    alloc: Global,
+    files: FusedFiles,
+    saves: u8,
+) -> Result<(usize, bool), Fail> {
+    match S::open(alloc, files) {
+        Ok(store) => {
+            let mut store = store;
             let saved = save_times(&mut store, saves);
-            let files = close(store);
+            let files = store.close();
             let length = written(files.log.inner().bytes());
-            let list = found(alloc, files)?;
+            let list = found::<S>(alloc, back(files))?;
             saved?;
             Ok((length, list.len() == 1 && is_row(list.first())))
         }
@@ -139,49 +143,56 @@ fn keeps_a_row(alloc: Global, files: FusedFiles, saves: u8) -> Result<(usize, bo
     }
 }
 
-/// How many bytes of the log are written after so many saves of a row in a file that was begun.
-fn log_after(rt: &impl Abort, alloc: Global, saves: u8) -> Result<usize, Fail> {
+/// How many bytes of the log are written after this many saves of a row in a file that was begun, if it is found again.
+fn log_after<S: OnDisks<Disks = FusedFiles>>(
+    alloc: Global,
+    saves: u8,
+) -> Result<Option<usize>, Fail> {
     let mut files = files(alloc, &[], &[], u64::MAX)?;
-    assert!(rt; begun(&mut files)?);
-    let (length, is_there) = keeps_a_row(alloc, files, saves)?;
-    assert!(rt; is_there);
-    Ok(length)
+    if !begun(&mut files)? {
+        return Ok(None);
+    }
+    let (length, is_there) = keeps_a_row::<S>(alloc, files, saves)?;
+    Ok(if is_there { Some(length) } else { None })
 }
 
-#[test]
-fn a_save_adds_one_short_page(rt: HostRuntime) -> Result<(), Fail> {
-    let once = log_after(&rt, rt.alloc(), 1)?;
-    let twice = log_after(&rt, rt.alloc(), 2)?;
-    // The page of the rows, after the 24 bytes of its frame.
-    assert_eq!(rt; twice.checked_sub(once), Some(24 + 512));
-    Ok(())
+/// Whether a second save adds the page of the rows to the log, after the 24 bytes of its frame.
+pub(super) fn adds_one_short_page<S: OnDisks<Disks = FusedFiles>>(
+    alloc: Global,
+) -> Result<bool, Fail> {
+    match (log_after::<S>(alloc, 1)?, log_after::<S>(alloc, 2)?) {
+        (Some(once), Some(twice)) => Ok(twice.checked_sub(once) == Some(24 + 512)),
+        _ => Ok(false),
+    }
 }
 
-/// A file is begun that stops after so many calls, and once more after the machine is back. Whether the first try was
-/// refused, and whether the store then keeps a row.
-fn begun_again(alloc: Global, calls: u64) -> Result<(bool, bool), Fail> {
+/// A file is begun that stops after this many calls, and once more after the machine is back. Returns whether the first
+/// try was refused, and whether the store then keeps a row.
+fn begun_again<S: OnDisks<Disks = FusedFiles>>(
+    alloc: Global,
+    calls: u64,
+) -> Result<(bool, bool), Fail> {
     let mut files = files(alloc, &[], &[], calls)?;
     let is_refused = begun(&mut files).is_err();
     let mut files = back(files);
     let is_whole = begun(&mut files)? && is_begun(files.db.inner().bytes());
-    let (_, is_there) = keeps_a_row(alloc, files, 1)?;
+    let (_, is_there) = keeps_a_row::<S>(alloc, files, 1)?;
     Ok((is_refused, is_whole && is_there))
 }
 
-/// How many tries were refused, of a file that stops after each call in turn.
-fn refused_tries(rt: &impl Abort, alloc: Global) -> Result<Option<u64>, Fail> {
-    for calls in 0..100 {
-        let (is_refused, is_there) = begun_again(alloc, calls)?;
-        assert!(rt; is_there, "after {calls}");
+/// Whether a file that stops after each call in turn keeps a row once it is begun again, and more than two tries were
+/// refused.
+pub(super) fn is_begun_after_a_stop<S: OnDisks<Disks = FusedFiles>>(
+    alloc: Global,
+) -> Result<bool, Fail> {
+    for calls in 0..100u64 {
+        let (is_refused, is_there) = begun_again::<S>(alloc, calls)?;
+        if !is_there {
+            return Ok(false);
+        }
         if !is_refused {
-            return Ok(Some(calls));
+            return Ok(calls > 2);
         }
     }
-    Ok(None)
-}
-
-#[test]
-fn a_stop_leaves_a_new_file(rt: HostRuntime) -> Result<(), Fail> {
-    assert!(rt; refused_tries(&rt, rt.alloc())?.is_some_and(|refused| refused > 2));
-    Ok(())
+    Ok(false)
 }

@@ -1,76 +1,133 @@
-//! Stores over SQL on disks in memory.
+//! Stores over SQL on disks in memory that stop after so many calls.
+//!
+//! A store over SQL has to be given up by a call, and each function that names one is expensive to prove. So the tests
+//! are over any store, by [`OnDisks`], and one line names [`OverSql`].
+
+ghost use Rattle.std.specs.Prelude.{◌≡◌};
 
 use smi_stable::{SavedRow, SqliteStable, Stable};
-use sqlite::{Connection, FileStore, Files, Options};
+use sqlite::{Alter, Connection, FileStore, Files, Options};
 use sqlite_disk::{Crash, Disk, Fuse, Memory};
 use std::alloc::Global;
 use std::test::Fail;
 
 /// The two files of a store.
-pub(super) type FusedFiles = Files<Fuse<Memory>>;
+pub(crate) type FusedFiles = Files<Fuse<Memory>>;
 
-pub(super) type FusedStore = SqliteStable<FileStore<Fuse<Memory>>>;
+pub(crate) type OverSql = SqliteStable<FileStore<Fuse<Memory>>>;
 
-/// A disk with these bytes that passes so many calls on.
-pub(super) fn disk(alloc: Global, bytes: &[u8], calls: u64) -> Result<Fuse<Memory>, Fail> {
+/// A store that lies on disks, and has to be given up by a call.
+pub(crate) trait OnDisks: Stable + Sized {
+    /// What it lies on.
+    type Disks: Drop;
+
+    /// Opens a store on the disks, or gives them back if one of them failed or memory was refused.
+    fn open(alloc: Global, disks: Self::Disks) -> Result<Self, Self::Disks>;
+
+    /// Gives the store up, and its disks back.
+    fn close(self) -> Self::Disks;
+}
+
+/// A database on disks.
+pub(crate) trait Database: Alter + Drop + Sized {
+    /// What it lies on.
+    type Disks: Drop;
+
+    /// Connects to the database on the disks, or gives them back.
+    fn connect(alloc: Global, disks: Self::Disks) -> Result<Connection<Self>, Self::Disks>;
+
+    /// Gives its disks back.
+    fn into_disks(self) -> Self::Disks;
+}
+
+impl<D: Disk + Drop> Database for FileStore<D> {
+    type Disks = Files<D>;
+
+    fn connect(alloc: Global, disks: Files<D>) -> Result<Connection<FileStore<D>>, Files<D>> {
+        if !disks.may_be_used() {
+            return Err(disks);
+        }
+        match Connection::open_files(alloc, disks, Options::new(1)) {
+            Ok(connection) => Ok(connection),
+            Err((_, left)) => Err(left.into_files()),
+        }
+    }
+
+    fn into_disks(self) -> Files<D> {
+        self.close()
+    }
+}
+
+impl<S: Database> OnDisks for SqliteStable<S> {
+    type Disks = S::Disks;
+
+    fn open(alloc: Global, disks: S::Disks) -> Result<SqliteStable<S>, S::Disks> {
+        match SqliteStable::adopt(S::connect(alloc, disks)?) {
+            Ok(store) => Ok(store),
+            Err((_, connection)) => Err(connection.into_store().into_disks()),
+        }
+    }
+
+    fn close(self) -> S::Disks {
+        self.release().into_store().into_disks()
+    }
+}
+
+/// Returns a disk with these bytes that passes this many calls on.
+pub(crate) fn disk(alloc: Global, bytes: &[u8], calls: u64) -> Result<Fuse<Memory>, Fail> {
     let mut memory = Memory::new(alloc);
     memory.write_at(0, bytes)?;
     memory.sync()?;
     Ok(Fuse::new(memory, calls))
 }
 
-fn adopted(conn: Connection<FileStore<Fuse<Memory>>>) -> Result<FusedStore, FusedFiles> {
-    match SqliteStable::adopt(conn) {
-        Ok(store) => Ok(store),
-        Err((_, conn)) => Err(conn.into_store().close()),
-    }
-}
-
-/// A store over the files, or the files.
-pub(super) fn open(alloc: Global, files: FusedFiles) -> Result<FusedStore, FusedFiles> {
-    if !files.may_be_used() {
-        return Err(files);
-    }
-    match Connection::open_files(alloc, files, Options::new(1)) {
-        Ok(conn) => adopted(conn),
-        Err((_, left)) => Err(left.into_files()),
-    }
-}
-
-pub(super) fn close(store: FusedStore) -> FusedFiles {
-    store.release().into_store().close()
-}
-
-/// Empty files that never stop.
-fn blank(alloc: Global) -> FusedFiles {
+/// Returns empty files that never stop.
+pub(crate) fn blank(alloc: Global) -> FusedFiles {
     Files {
         log: Fuse::new(Memory::new(alloc), u64::MAX),
         db: Fuse::new(Memory::new(alloc), u64::MAX),
     }
 }
 
-/// A store over such files.
-pub(super) fn opened(alloc: Global) -> Result<FusedStore, Fail> {
-    match open(alloc, blank(alloc)) {
+/// Opens a store on such files.
+pub(crate) fn opened<S: OnDisks<Disks = FusedFiles>>(alloc: Global) -> Result<S, Fail> {
+    match S::open(alloc, blank(alloc)) {
         Ok(store) => Ok(store),
         Err(_) => Err("the files are not opened")?,
     }
 }
 
-/// The files once the machine is back.
-pub(super) fn back(files: FusedFiles) -> FusedFiles {
+/// Copies the files into some that pass this many calls on.
+pub(crate) fn copied(
+    alloc: Global,
+    files: &FusedFiles,
+    log: u64,
+    db: u64,
+) -> Result<FusedFiles, Fail> {
+    Ok(Files {
+        log: disk(alloc, files.log.inner().bytes(), log)?,
+        db: disk(alloc, files.db.inner().bytes(), db)?,
+    })
+}
+
+/// Returns the files as they are once the machine is back.
+pub(crate) fn back<D: Crash>(files: Files<D>) -> Files<D> {
     let mut files = files;
     files.log.crash();
     files.db.crash();
     files
 }
 
-/// The rows that the next open finds, once the machine is back.
-pub(super) fn found(alloc: Global, files: FusedFiles) -> Result<Vec<SavedRow>, Fail> {
-    match open(alloc, back(files)) {
-        Ok(mut store) => {
+/// Returns the rows that the next open finds.
+pub(crate) fn found<S: OnDisks<Disks = FusedFiles>>(
+    alloc: Global,
+    files: FusedFiles,
+) -> Result<Vec<SavedRow>, Fail> {
+    match S::open(alloc, files) {
+        Ok(store) => {
+            let mut store = store;
             let list = store.load();
-            drop(close(store));
+            drop(store.close());
             Ok(list?)
         }
         Err(_) => Err("the files are not opened again")?,

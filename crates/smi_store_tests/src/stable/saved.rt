@@ -1,9 +1,9 @@
 //! What was saved is loaded, by rising key, from each store.
 
-use super::disks::{FusedStore, close, open, opened};
-use smi_samples::{BOOT, HELD, TAKEN, key};
+use super::disks::{FusedFiles, OnDisks, found, opened};
 use smi_stable::{Key, MemoryStable, PlannedStable, SavedRow, Stable, StoreFault};
-use std::alloc::Global;
+use smi_testkit::{BOOT, HELD, TAKEN, are_same, key};
+use std::alloc::{AllocError, Global};
 use std::test::Fail;
 
 /// Boot 2 of station 1, a domain that operator 2 took, and what that operator holds.
@@ -75,25 +75,65 @@ fn with_nothing_planned(rt: HostRuntime) {
     }
 }
 
-/// The rows of the files that a store over SQL gave up, taken over again.
-fn found_again(alloc: Global, store: FusedStore) -> Result<bool, Fail> {
-    match open(alloc, close(store)) {
-        Ok(mut again) => {
-            let list = again.load();
-            drop(close(again));
-            Ok(are_rows(&list?))
+/// Whether the rows are found again on the files that the store gives up.
+fn is_found_again<S: OnDisks<Disks = FusedFiles>>(
+    alloc: Global,
+    order: [usize; 3],
+) -> Result<bool, Fail> {
+    let mut store = opened::<S>(alloc)?;
+    let loaded = loads_what_was_saved(&mut store, order);
+    let list = found::<S>(alloc, store.close())?;
+    Ok(loaded == Ok(true) && are_rows(&list))
+}
+
+pub(super) fn are_found_again<S: OnDisks<Disks = FusedFiles>>(alloc: Global) -> Result<bool, Fail> {
+    for order in ORDERS {
+        if !is_found_again::<S>(alloc, order)? {
+            return Ok(false);
         }
-        Err(_) => Err("the files are not opened again")?,
     }
+    Ok(true)
+}
+
+/// As many rows as the stations of a tree at every limit have, and more.
+const MANY: u16 = 1_000;
+
+/// Rows by rising keys, each a byte longer than the one before.
+fn many(alloc: Global) -> Result<Vec<SavedRow>, AllocError> {
+    let mut rows = Vec::new(alloc);
+    for more in 0..MANY {
+        let bytes = std::vec![in alloc; 7u8; usize::from(more)]?;
+        rows.push(SavedRow {
+            key: key(more / 128 + 1, more % 128 + 1, 0),
+            bytes,
+        })?;
+    }
+    Ok(rows)
+}
+
+/// Saves all rows twice, and returns true if they are loaded then.
+fn keeps<S: Stable>(store: &mut S, rows: &[SavedRow]) -> Result<bool, StoreFault> {
+    for _ in 0..2u8 {
+        for row in rows {
+            store.save(row.key, row.bytes.as_slice())?;
+        }
+    }
+    let loaded = store.load()?;
+    Ok(are_same(loaded.as_slice(), rows))
+}
+
+pub(super) fn are_many_kept<S: OnDisks<Disks = FusedFiles>>(alloc: Global) -> Result<bool, Fail> {
+    let rows = many(alloc)?;
+    let mut store = opened::<S>(alloc)?;
+    let kept = keeps(&mut store, rows.as_slice());
+    drop(store.close());
+    Ok(kept == Ok(true))
 }
 
 #[test]
-fn over_sql(rt: HostRuntime) -> Result<(), Fail> {
-    for order in ORDERS {
-        let mut store = opened(rt.alloc())?;
-        let loaded = loads_what_was_saved(&mut store, order);
-        assert_eq!(rt; found_again(rt.alloc(), store)?, true);
-        assert_eq!(rt; loaded, Ok(true));
-    }
+fn many_rows(rt: HostRuntime) -> Result<(), Fail> {
+    let rows = many(rt.alloc())?;
+    let mut store = PlannedStable::new(MemoryStable::new(rt.alloc()));
+    assert_eq!(rt; keeps(&mut store, rows.as_slice()), Ok(true));
     Ok(())
 }
