@@ -1,8 +1,8 @@
 //! Schedules played on stations over two stores side by side, one in memory and another, and beside the world of
 //! `smi_world`.
 //!
-//! After each item the stations over both stores have heard, handed out and saved the same, byte for byte. The world has
-//! left what they have handed out, and each of them tells of itself what the entries say.
+//! After each item the stations over both stores have heard, handed out and saved the same, byte for byte. The world
+//! has left what they have handed out, and each of them tells of itself what the entries say.
 
 use crate::stable::disks::{FusedFiles, OnDisks};
 use smi_protocol::Item;
