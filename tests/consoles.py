@@ -386,6 +386,78 @@ def said_until_lost(console, text):
         pass
 
 
+# The head of what a browser sends for a page elsewhere that posts these bytes, as Chromium writes it.
+POSTED = "POST / HTTP/1.1\r\nHost: %s\r\nConnection: keep-alive\r\nContent-Length: %d\r\nContent-Type: text/plain\r\n" \
+    "Origin: http://elsewhere.example\r\nAccept: */*\r\n\r\n%s"
+# And what it is told: the fault of its first line, and nothing of any other.
+TURNED_AWAY = ["line 1 fault 1: a word that no line has there"]
+
+
+def posted(where, body):
+    return POSTED % (where, len(body), body)
+
+
+def told_by_parts(where, parts):
+    """What a connection is told that says its text in parts, up to its end; the node may end it before all is said."""
+    console, told = Console(where), []
+    if console.socket.family == socket.AF_INET:
+        console.socket.setsockopt(socket.IPPROTO_TCP, socket.TCP_NODELAY, 1)
+    for part in parts:
+        said_once(console, part)
+    line = console.line()
+    while line:
+        told.append(line)
+        line = console.line()
+    console.close()
+    return told
+
+
+def pages_case(program, folder):
+    """A page elsewhere has a browser send orders behind the head of a request: none of its lines is attended to."""
+    where = "127.0.0.1:%d" % free_tcp_port()
+    place = Place(program, folder, [os.path.join(folder, "console"), where])
+    steady = Console(place.where)
+    state = "told ANN ask LEFT free 0 0 settled 0"
+    body = "\norder ANN take LEFT\n@1 order BOB take RIGHT\n"
+    request = posted(where, body)
+    yield verdict.case("a request that posts orders is told its first fault, and ends", told_by_parts(where, [request]),
+                       TURNED_AWAY)
+    yield verdict.case("and so are two in one connection", told_by_parts(where, [request * 2]), TURNED_AWAY)
+    well = True
+    for cut in range(1, len(request)):
+        well = well and told_by_parts(where, [request[:cut], request[cut:]]) == TURNED_AWAY
+    yield "wherever it is cut in two", well
+    yield verdict.case("or cut into bytes", told_by_parts(where, list(request)), TURNED_AWAY)
+    for method in ["GET", "OPTIONS", "PUT", "HEAD"]:
+        yield verdict.case("nor does a request by " + method, told_by_parts(where, [method + request[4:]]), TURNED_AWAY)
+    # A page whose own host was given this address may choose its method, which may be a word that a line begins with.
+    for method, fault in [("help", 2), ("order", 1), ("show", 2), ("follow", 5), ("report", 3), ("actions", 5)]:
+        told = told_by_parts(where, [method + request[4:]])
+        yield verdict.case(
+            "nor one whose method is " + method, [line.split(":")[0] for line in told],
+            ["line 1 fault %d" % fault, "line 2 fault 1"])
+    yield verdict.case("nor at a path of the machine", told_by_parts(place.where, [request]), TURNED_AWAY)
+    yield verdict.case(
+        "and nobody has ordered anything",
+        [steady.ask("order ANN ask LEFT"), steady.ask("order BOB ask RIGHT"), steady.ask("under way")],
+        [state, state.replace("ANN", "BOB").replace("LEFT", "RIGHT"), "under way 0"])
+    typed = Console(where)
+    told = [typed.ask(line) for line in ["show L", "shwo L", "GET / HTTP/1.1", "show L"]]
+    fault = "line %d fault 1: a word that no line has there"
+    yield verdict.case(
+        "who has asked something may mistype a word", told, ["board L none", fault % 2, fault % 3, "board L none"])
+    for first, answer in [("order ANN take", "line 1 fault 2"), ("show NOTHING", "line 1 fault 5"),
+                          ("@1 POST / HTTP/1.1", "@1 fault 1"), ("# a comment\n\nshow L", "board L none")]:
+        begun = Console(where)
+        told = [begun.ask(first).split(":")[0], begun.ask("show L")]
+        yield verdict.case("a first line may be " + first.split("\n")[0], told, [answer, "board L none"])
+        begun.close()
+    input_told = nodes.ran(program, [place.tree, "AWAY", os.path.join(folder, "away"), "--turns", 60],
+                           "POST / HTTP/1.1\nshow F\n")
+    yield verdict.case("standard input is no connection", input_told, (["board F none"], ["line 1 fault 1"], 0))
+    place.node.kill()
+
+
 def comers_case(program, folder):
     """Ten thousand connections one after the other take no more memory than the first."""
     place = Place(program, folder)
@@ -934,7 +1006,7 @@ def cut_case(program, folder):
     typed.communicate()
 
 
-CASES = [waiting_case, partitions_case, many_case, rude_case, comers_case, lines_case, doors_case, actions_case,
+CASES = [waiting_case, partitions_case, many_case, rude_case, pages_case, comers_case, lines_case, doors_case, actions_case,
          missed_case, unread_case, client_case, supply_case, shift_case, people_case, nobody_case, lost_case,
          cut_case]
 

@@ -200,6 +200,23 @@ impl ConsoleGuest {
         }
     }
 
+    /// Drops what else a refused guest has sent, because a connection that is closed with bytes unread is reset, and then
+    /// the guest might not see what it is told.
+    fn drop_unread(&mut self) {
+        let mut block = [0u8; AT_ONCE];
+        for _ in 0..READS {
+            match self.stream.read(&mut block) {
+                Ok(0) | Err(_) => return,
+                Ok(_) => {}
+            }
+        }
+    }
+
+    /// Returns true if a refused guest was told its fault.
+    fn is_turned_away(&self) -> bool {
+        self.caller.is_refused() && self.caller.said().is_empty()
+    }
+
     /// Whether all that it typed is answered, or nobody is there to be answered.
     fn is_done<G: Showing + Drop>(&self, front: &Front<G>) -> bool {
         self.is_over
@@ -219,8 +236,14 @@ impl ConsoleGuest {
         if self.talk(front, tree, now).is_err() {
             self.leaves = true;
         }
+        if self.caller.is_refused() {
+            self.drop_unread();
+        }
         self.write(now);
-        self.leaves = self.leaves || self.is_done(front) || self.is_stuck(now);
+        self.leaves = self.leaves
+            || self.is_turned_away()
+            || self.is_done(front)
+            || self.is_stuck(now);
     }
 
     /// Whether it can go on without waiting.

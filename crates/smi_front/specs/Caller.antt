@@ -5,6 +5,8 @@ use Rattle.std.specs.List.{list_any}
 use Rattle.smi_front.specs.Tag.{tag_text}
 use Rattle.smi_front.specs.declared.tag.Tag.{Tag}
 use Rattle.smi_front.specs.declared.caller.Held.{Held}
+use Rattle.smi_front.specs.declared.caller.Admission.{Admission}
+use Rattle.smi_front.specs.declared.caller.Admission.TheVariants.{New, Accepted, Refused}
 use Rattle.smi_front.specs.declared.caller.Manners.{Manners}
 
 -- a line and its number
@@ -17,11 +19,12 @@ pub record Wished : Type 0 where
   pub tag : Option Tag
   pub objects : Option (List ℕ)
 
--- a caller: its lines that wait, whether an order of a line without a tag is under way, an order that its seat had no
--- room for, what it wants to be told of, and what it is to be told, of faults apart
+-- a caller: what its lines have shown of it, its lines that wait, whether an order of a line without a tag is under way,
+-- an order that its seat had no room for, what it wants to be told of, and what it is to be told, of faults apart
 pub record Called : Type 0 where
   pub number : ℕ
   pub manners : Manners
+  pub admission : Admission
   pub lines : ℕ
   pub waiting : List LineAt
   pub is_busy : Bool
@@ -36,6 +39,7 @@ abbrev pub called : ℕ → Manners → Called
 called number manners = record {
   number = number;
   manners = manners;
+  admission = New;
   lines = 0;
   waiting = [];
   is_busy = false;
@@ -46,9 +50,16 @@ called number manners = record {
   faults = [];
 }
 
--- a further line is taken where no order is held, fewer than 64 lines wait and at most 16 KiB are untold
+-- no line of it is attended to any more
+abbrev pub is_refused : Admission → Bool
+is_refused New = false
+is_refused Accepted = false
+is_refused Refused = true
+
+-- a further line is taken if it is not refused, no order is held, fewer than 64 lines wait and at most 16 KiB are untold
 abbrev pub has_room : Called → Bool
-has_room c = is_none c.held && nat_lt (length c.waiting) 64 && nat_le (length c.said) 16384
+has_room c =
+    not (is_refused c.admission) && is_none c.held && nat_lt (length c.waiting) 64 && nat_le (length c.said) 16384
 
 abbrev pub are_no_lines : List LineAt → Bool
 are_no_lines [] = true
@@ -60,7 +71,7 @@ is_idle c = not c.is_busy && is_none c.held && are_no_lines c.waiting
 
 -- its first line that waits may be attended to
 abbrev pub may_go_on : Called → Bool
-may_go_on c = not c.is_busy && is_none c.held && not (are_no_lines c.waiting)
+may_go_on c = not (is_refused c.admission) && not c.is_busy && is_none c.held && not (are_no_lines c.waiting)
 
 -- the number of its next line, from 1
 abbrev pub next_line : Called → ℕ

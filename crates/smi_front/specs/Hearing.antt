@@ -1,5 +1,5 @@
 -- What a line that is heard does: to the wickets, and to its caller.
-use Rattle.std.specs.Prelude.{ℕ, zero, suc, ◌≡◌, ◌⊎◌, nat_lt, true, false, List, [], ◌∷◌, length, Option, Some}
+use Rattle.std.specs.Prelude.{ℕ, zero, suc, ◌≡◌, ◌⊎◌, nat_lt, Bool, true, false, List, [], ◌∷◌, length, Option, Some}
 use Rattle.std.specs.Prelude.{None, is_some, Result, Ok, Err, if◌then◌else◌}
 use Rattle.std.specs.declared.time.Instant.{Instant}
 use Rattle.smi_grant.specs.declared.state.Shown.{Shown}
@@ -9,9 +9,10 @@ use Rattle.smi_tree.specs.Hierarchy.{Hierarchy}
 use Rattle.smi_tree.specs.declared.fault.Fault.{Fault}
 use Rattle.smi_schedule.specs.Node.{board_text}
 use Rattle.smi_view.specs.Rows.{last_row}
+use Rattle.smi_front.specs.Admitting.{admitting, judged}
 use Rattle.smi_front.specs.Asked.{asked_in, behind_first, objects_in}
 use Rattle.smi_front.specs.Caller.{Called, LineAt, OnlySays, Wished, beginning, counted, may_go_on, next_line, saying}
-use Rattle.smi_front.specs.Caller.{waits}
+use Rattle.smi_front.specs.Caller.{is_refused, waits}
 use Rattle.smi_front.specs.FaultLine.{Faulted}
 use Rattle.smi_front.specs.Front.{Fronted}
 use Rattle.smi_front.specs.Office.{Gives, GivesHeld}
@@ -61,10 +62,11 @@ Refuses tag number fault a c b d = Faulted tag number fault c d × (b ≡ a)
 
 abbrev pub AttendsSo : Hierarchy → Option Instant → Option Tag → ℕ → List ℕ → Result Asked Fault → Fronted → Called
     → Fronted → Called → Type 0
-AttendsSo h now tag number text (Ok asked) a c b d = Does h now tag text asked a c b d
-AttendsSo h now tag number text (Err fault) a c b d = Refuses tag number fault a c b d
+AttendsSo h now tag number text (Ok asked) a c b d = Does h now tag text asked a (admitting asked c) b d
+AttendsSo h now tag number text (Err fault) a c b d =
+    Refuses tag number fault a (judged (is_some tag) (words text) c) b d
 
--- a line is attended to: what it asks is done, or its fault told
+-- a line is attended to: what it asks is done, or its fault told; and what it shows of its caller is noted
 abbrev pub Attends : Hierarchy → Option Instant → Option Tag → ℕ → List ℕ → Fronted → Called → Fronted → Called
     → Type 0
 Attends h now tag number text a c b d =
@@ -110,9 +112,17 @@ abbrev pub HearsSo : Hierarchy → Option Instant → Option (List ℕ) → List
 HearsSo h now (Some spelled) line a c b d = HearsTagged h now spelled line a c b d
 HearsSo h now None line a c b d = GoesOn h now a (waits (next_line c) line (counted c)) b d
 
--- a line is heard: one with a tag is attended to at once, any other waits behind those before it
+-- one with a tag is attended to at once, any other waits behind those before it
+abbrev pub HearsLine : Hierarchy → Option Instant → List ℕ → Fronted → Called → Fronted → Called → Type 0
+HearsLine h now line a c b d = HearsSo h now (tag_in_line line) line a c b d
+
+abbrev pub HearsUnless : Bool → Hierarchy → Option Instant → List ℕ → Fronted → Called → Fronted → Called → Type 0
+HearsUnless false h now line a c b d = HearsLine h now line a c b d
+HearsUnless true h now line a c b d = (b ≡ a) × (d ≡ c)
+
+-- a line is heard; with one of a caller that is refused nothing is done
 abbrev pub Hears : Hierarchy → Option Instant → List ℕ → Fronted → Called → Fronted → Called → Type 0
-Hears h now line a c b d = HearsSo h now (tag_in_line line) line a c b d
+Hears h now line a c b d = HearsUnless (is_refused c.admission) h now line a c b d
 
 -- memory was refused: no order was given, or those of the lines before
 abbrev pub HearsShort : Hierarchy → Option Instant → List ℕ → Fronted → Called → Fronted → Type 0

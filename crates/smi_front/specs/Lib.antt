@@ -1,3 +1,4 @@
+pub mod Admitting
 pub mod Asked
 pub mod Caller
 pub mod Cut

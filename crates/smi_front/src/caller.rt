@@ -2,6 +2,8 @@
 
 ghost use Rattle.std.specs.Prelude.{◌≡◌};
 
+use crate::admitting::is_strange;
+use crate::asked::Asked;
 use crate::tag::Tag;
 use crate::wicket::Given;
 use std::alloc::{AllocError, Global};
@@ -24,6 +26,17 @@ pub enum Manners {
     Terse,
     /// Any line may ask of the whole node, and a fault is told in words, among the answers.
     Wordy,
+}
+
+/// What the lines of a caller have shown of it.
+#[derive(Clone, Copy)]
+pub enum Admission {
+    /// No line of it has asked anything yet.
+    New,
+    /// A line of it has asked something.
+    Accepted,
+    /// The first thing that it said on a connection was no line of a node, so none of its lines is attended to any more.
+    Refused,
 }
 
 /// A line that has come, with its number.
@@ -85,13 +98,14 @@ pub struct Held {
 
 /// Whoever types lines.
 ///
-/// Contracts see all that it has: its number, how it is spoken with, how many lines have come, those that wait,
-/// whether an order of a line without a tag is under way, an order that is held, its wishes, and what it is to be
-/// told.
+/// Contracts see all that it has: its number, how it is spoken with, what its lines have shown of it, how many have
+/// come, those that wait, whether an order of a line without a tag is under way, an order that is held, its wishes, and
+/// what it is to be told.
 #[derive(Drop)]
 pub struct Caller {
     number: u64,
     manners: Manners,
+    admission: Admission,
     lines: u64,
     /// The lines without a tag that wait for the answer of the one before.
     waiting: VecDeque<Numbered>,
@@ -112,6 +126,7 @@ impl Model for Caller {
     ghost view = { λ c. record {
       number = c.number;
       manners = c.manners;
+      admission = c.admission;
       lines = c.lines;
       waiting = c.waiting.items;
       is_busy = c.is_busy;
@@ -127,7 +142,9 @@ impl Caller {
     ghost use Rattle.std.specs.Prelude.{◌≡◌, ◌++◌, ◌∷◌, ◌||◌, ◌&&◌, [], None, Some, true, false, drop, is_some};
     ghost use Rattle.std.specs.Prelude.{is_none, option_map, IfOk, OnOk, OnErr, MatchOption};
     ghost use Rattle.smi_front.specs.Caller.{OnlySays, beginning, called, complaining, counted, ending, has_room};
-    ghost use Rattle.smi_front.specs.Caller.{is_idle, may_go_on, next_line, saying, waits, wished};
+    ghost use Rattle.smi_front.specs.Caller.{is_idle, is_refused, may_go_on, next_line, saying, waits, wished};
+    ghost use Rattle.smi_front.specs.Admitting.{admitting, judged};
+    ghost use Rattle.smi_tree.specs.Text.{words};
 
     /// A caller of this number, which no other has, who has typed nothing.
     ///
@@ -138,6 +155,7 @@ impl Caller {
         Ok(Caller {
             number,
             manners,
+            admission: Admission::New,
             lines: 0,
             waiting: VecDeque::new(alloc),
             is_busy: false,
@@ -163,11 +181,48 @@ impl Caller {
         self.manners
     }
 
+    /// Returns true if none of its lines is attended to any more.
+    pub fn is_refused(&self) -> bool
+        ensures { result ≡ is_refused self.now.admission }
+    {
+        match self.admission {
+            Admission::New | Admission::Accepted => false,
+            Admission::Refused => true,
+        }
+    }
+
+    /// Notes that a line of it asks this: from the first one that asks anything it is accepted.
+    pub(crate) fn admit(&mut self, asked: Asked)
+        ensures { self.new ≡ admitting asked self.old }
+    {
+        match asked {
+            Asked::Nothing => {}
+            Asked::Seat(..) | Asked::Board(_) | Asked::Node(_) => self.admission =
+                Admission::Accepted,
+        }
+    }
+
+    /// Notes that a line of it has a fault. On a connection that asked nothing before, a line that no node has is the
+    /// end, because a browser sends a page's text behind such a line: the head of its request.
+    pub(crate) fn judge(&mut self, has_tag: bool, text: &[u8])
+        ensures { self.new ≡ judged has_tag (words text.now) self.old }
+    {
+        match self.admission {
+            Admission::New if is_strange(self.manners, has_tag, text) => {
+                self.admission = Admission::Refused;
+            }
+            Admission::New | Admission::Accepted | Admission::Refused => {}
+        }
+    }
+
     /// Whether a further line of it may be taken.
     pub fn has_room(&self) -> bool
         ensures { result ≡ has_room self.now }
     {
-        self.held.is_none() && self.waiting.len() < MOST_WAITING && self.said.len() <= MANY_UNSENT
+        !self.is_refused()
+            && self.held.is_none()
+            && self.waiting.len() < MOST_WAITING
+            && self.said.len() <= MANY_UNSENT
     }
 
     /// Whether none of its lines waits, and no order of a line without a tag is under way.
@@ -236,13 +291,13 @@ impl Caller {
         }
     }
 
-    /// The first line that waits, where it may be attended to: no order of a line without a tag is under way, and
-    /// none is held. It waits no longer.
+    /// The first line that waits, where it may be attended to: its caller is not refused, no order of a line without a
+    /// tag is under way, and none is held. It waits no longer.
     pub(crate) fn next_waiting(&mut self) -> Option<Numbered>
         ensures { MatchOption result ((self.new ≡ self.old) × (may_go_on self.old ≡ false))
             (λ line. (may_go_on self.old ≡ true) × (self.old ≡ record self.new { waiting = line ∷ self.new.waiting })) }
     {
-        if self.is_busy || self.held.is_some() {
+        if self.is_refused() || self.is_busy || self.held.is_some() {
             None
         } else {
             self.waiting.pop_front()

@@ -80,9 +80,10 @@ fn tell_of(
 impl<G: Showing + Drop> Front<G> {
     ghost use Rattle.std.specs.Prelude.{◌≡◌, ◌≢◌, [], true, false, length, Ok, IfOk, IfSome, IfNone, OnOk, OnErr};
     ghost use Rattle.smi_front.specs.Asked.{asked_in};
+    ghost use Rattle.smi_front.specs.declared.caller.Admission.TheVariants as Admission;
     ghost use Rattle.smi_front.specs.Caller.{ending, may_go_on, saying};
     ghost use Rattle.smi_front.specs.Front.{fronted, is_new, noted_news, told_text};
-    ghost use Rattle.smi_front.specs.Hearing.{Attends, BreaksOff, Does, GoesOn, Hears, HearsShort, Refuses};
+    ghost use Rattle.smi_front.specs.Hearing.{Attends, BreaksOff, Does, GoesOn, Hears, HearsLine, HearsShort, Refuses};
     ghost use Rattle.smi_front.specs.Hearing.{Takes, TakesAll, TakesSome};
     ghost use Rattle.smi_front.specs.News.{heard_all};
     ghost use Rattle.smi_front.specs.Office.{ChangesAt, TakesAnswer, TakesNoAnswer, is_at_rest, owes};
@@ -212,7 +213,7 @@ impl<G: Showing + Drop> Front<G> {
         )
     }
 
-    /// A line of a caller is attended to: it is obeyed, or its fault told.
+    /// A line of a caller is attended to: it is obeyed, or its fault told. What it shows of its caller is noted.
     ///
     /// Its error is that memory was refused to what the caller is to be told. No order was given then.
     fn attend(
@@ -228,8 +229,14 @@ impl<G: Showing + Drop> Front<G> {
         ensures err { OnErr result (self.new.office ≡ self.old.office) }
     {
         match self.asked(tree, caller, tag.is_some(), text) {
-            Ok(asked) => self.do_asked(tree, now, caller, tag, text, asked),
-            Err(fault) => self.refuse(tree, caller, tag, number, text, fault),
+            Ok(asked) => {
+                caller.admit(asked);
+                self.do_asked(tree, now, caller, tag, text, asked)
+            }
+            Err(fault) => {
+                caller.judge(tag.is_some(), text);
+                self.refuse(tree, caller, tag, number, text, fault)
+            }
         }
     }
 
@@ -295,7 +302,32 @@ impl<G: Showing + Drop> Front<G> {
         self.attend_waiting(tree, now, caller)
     }
 
-    /// A line of a caller has come: one with a tag is attended to at once, and any other in its turn.
+    /// A line of a caller is attended to at once if it has a tag, and else in its turn.
+    ///
+    /// Its error is that memory was refused to what the caller is to be told, or to its lines that wait. Orders were
+    /// given of the lines before alone.
+    fn hear_line(
+        &mut self,
+        tree: &Tree,
+        now: Option<Instant>,
+        caller: &mut Caller,
+        line: Vec<u8>,
+    ) -> Result<(), AllocError>
+        ensures ok { OnOk result (HearsLine tree.now now line.items self.old caller.old self.new caller.new) }
+        ensures err { OnErr result (HearsShort tree.now now line.items self.old caller.old self.new) }
+    {
+        let number = caller.count_line();
+        if line.len() <= MOST_BYTES_OF_A_LINE {
+            if let Some((tag, text)) = tagged(line.as_slice()) {
+                return self.attend(tree, now, caller, Some(tag), number, text);
+            }
+        }
+        caller.wait(number, line)?;
+        self.go_on(tree, now, caller)
+    }
+
+    /// A line of a caller has come: one with a tag is attended to at once, and any other in its turn. Nothing is done
+    /// with a line of a caller that is refused.
     ///
     /// Its error is that memory was refused to what the caller is to be told, or to its lines that wait. Orders were
     /// given of the lines before alone.
@@ -308,15 +340,13 @@ impl<G: Showing + Drop> Front<G> {
     ) -> Result<(), AllocError>
         ensures ok { OnOk result (Hears tree.now now line.items self.old caller.old self.new caller.new) }
         ensures err { OnErr result (HearsShort tree.now now line.items self.old caller.old self.new) }
+        ensures refused { caller.old.admission ≡ Admission.Refused → (self.new ≡ self.old) × (caller.new ≡ caller.old) }
     {
-        let number = caller.count_line();
-        if line.len() <= MOST_BYTES_OF_A_LINE {
-            if let Some((tag, text)) = tagged(line.as_slice()) {
-                return self.attend(tree, now, caller, Some(tag), number, text);
-            }
+        if caller.is_refused() {
+            Ok(())
+        } else {
+            self.hear_line(tree, now, caller, line)
         }
-        caller.wait(number, line)?;
-        self.go_on(tree, now, caller)
     }
 
     /// The next answer at a seat, by its place.

@@ -9,6 +9,9 @@
 //! A line without a tag waits for the answer of its caller's line before it. One with a tag waits for nothing.
 //! Neither waits for another caller, but where the seat of their operator has no room.
 //!
+//! A connection that begins with a line that no node has is no client's: a web page can have a browser send such lines,
+//! behind the head of a request. That line is refused, and no later one is attended to ([`Caller::is_refused`]).
+//!
 //! What a line may ask, and what is said, stands in docs/FORMATS.md, "A node's lines". Sockets, threads and clocks
 //! are the caller's own: see `smi_console`.
 //!
@@ -23,6 +26,9 @@
 //! What hearing it does is `Hears` (`specs/Hearing`), between the front desk and the caller before and after. A line
 //! with a tag is attended to at once. Any other waits behind those before it, and `GoesOn` takes the waiting ones one
 //! after the other, until one holds up the others or 64 were.
+//!
+//! What its lines show of a caller is its `Admission` (`specs/Admitting`): `hear` does nothing with a line of one that is
+//! refused, and none of its lines that wait is taken.
 //!
 //! `Gives` (`specs/Office`) says what an order comes to. It is submitted once, behind those before it, at the wicket
 //! of its operator, where it stands with its caller's number and its tag; all other wickets stay unchanged. Or it is
@@ -57,6 +63,7 @@
 //!   them with the state after the step, and counts those for which there is no room, is tested.
 #![tactic(auto)]
 
+mod admitting;
 mod asked;
 mod boxes;
 mod caller;
@@ -76,7 +83,7 @@ mod wicket;
 
 pub use asked::{Asked, asked_in};
 pub use boxes::boxed;
-pub use caller::{Caller, Held, MOST_UNSENT, Manners, Numbered, Wish};
+pub use caller::{Admission, Caller, Held, MOST_UNSENT, Manners, Numbered, Wish};
 pub use cutter::Cutter;
 pub use done::{Done, done_by};
 pub use front::Front;

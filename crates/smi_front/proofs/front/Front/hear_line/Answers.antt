@@ -5,7 +5,7 @@ use Rattle.std.specs.Prelude.{nat_lt}
 use Rattle.smi_base.specs.declared.trees.TheConstants.{MOST_BYTES_OF_A_LINE}
 use Rattle.smi_front.specs.Hearing.{tag_in_line}
 use Rattle.smi_front.specs.Tag.{tag_text}
-use Rattle.smi_front.proofs.front.Front.hear.Goals as goal
+use Rattle.smi_front.proofs.front.Front.hear_line.Goals as goal
 
 -- the tag of the line is the one that was found
 pub returns-in-Some-clause-ok : goal.returns-in-Some-clause-ok
