@@ -33,8 +33,8 @@ _smi()
     esac
     case ${COMP_WORDS[1]} in
         sim) options='--seed --settle --steps' ;;
-        node) options='--console --endless --turns' ;;
-        screen) options='--endless --host --http --open --orders --turns' ;;
+        node) options='--accept-older --console --endless --turns' ;;
+        screen) options='--accept-older --endless --host --http --open --orders --turns' ;;
     esac
     if [[ $word == -* ]]; then
         mapfile -t COMPREPLY < <(compgen -W "$options" -- "$word")

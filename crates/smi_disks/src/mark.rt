@@ -1,4 +1,4 @@
-//! The mark of a tree, as it stands beside a store.
+//! The mark of a tree, which the label of a store begins with.
 
 ghost use Rattle.std.specs.Prelude.{◌≡◌};
 ghost use Rattle.smi_disks.specs.Mark.{kin};
@@ -28,7 +28,7 @@ impl TreeMark {
     ghost use Rattle.std.specs.Prelude.{◌≡◌, ◌≢◌, length, IfSome, None};
     ghost use Rattle.smi_disks.specs.Mark.{mark_bytes};
 
-    /// The bytes of the mark (docs/FORMATS.md, "The mark of a store").
+    /// The bytes of the mark (docs/FORMATS.md, "The label of a store").
     pub fn bytes(&self) -> [u8; MARK_BYTES]
         ensures { result ≡ mark_bytes self.now }
     {

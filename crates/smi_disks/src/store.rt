@@ -1,13 +1,28 @@
 //! Stores by their paths.
 
+use crate::file::beside;
+use crate::label::StoreLabel;
+use crate::label_file::{LabelFound, label_beside};
 use crate::listing::list;
-use crate::mark::{Kinship, TreeMark};
-use crate::marking::kinship;
-use crate::watched::{StoreFile, Watched};
+use crate::mark::{Kinship, TreeMark, compare};
+use crate::watched::{StoreFiles, Watched};
 use smi_commands::rows::Listed;
 use smi_stable::{SqliteStable, Stable, StoreFault};
 use sqlite::{Alter, Connection, Error, ErrorCode, File, FileStore};
 use std::io::{self, ErrorKind, Write};
+
+/// What follows the path of a store in that of its log.
+const LOG: &[u8] = b"-wal";
+
+/// A store that was opened, and what its label says.
+#[derive(Drop)]
+pub struct OpenStore<S> {
+    pub stable: S,
+    /// How the tree that it is opened for compares with the one that it was made for.
+    pub kinship: Kinship,
+    /// The boot that its label notes of the station that it is opened for.
+    pub noted: Option<u32>,
+}
 
 /// What opens and lists stores by their paths.
 pub trait Stores {
@@ -17,20 +32,26 @@ pub trait Stores {
     /// Writes the rows of a store, a line each.
     fn list<W: Write>(&self, path: &[u8], writer: &mut W) -> Listed;
 
-    /// Opens a store, or makes it, for one who writes it alone: while it is open, nobody else can open it so. Where its
-    /// file is taken away meanwhile, the next save is unsure.
-    fn open(&self, path: &[u8]) -> Result<Self::Open, StoreFault>;
+    /// Opens a store for a station of this tree, or makes it, for one who writes it alone: while it is open, nobody else
+    /// can open it so. If its files are taken away meanwhile, the next save is unsure. A boot row that is saved is noted in
+    /// its label, which names the tree that it named before, or else this one.
+    fn open(
+        &self,
+        path: &[u8],
+        tree: &TreeMark,
+        station: u16,
+    ) -> Result<OpenStore<Self::Open>, StoreFault>;
 
-    /// How a tree compares with the one that the store of a path was made for. A store that has no mark gets that of
-    /// this tree, so this is asked while the store is open.
-    fn kinship(&self, path: &[u8], own: &TreeMark) -> io::Result<Kinship>;
-
-    /// Closes a store: its log is copied into its file, as far as that can be done.
+    /// Closes a store: its log is copied into its file, as far as that can be done. One whose files are gone is given up
+    /// as it is.
     fn close(&self, stable: Self::Open);
+
+    /// Gives a store up as it is: nothing is written.
+    fn give_up(&self, stable: Self::Open);
 }
 
 impl Stores for HostRuntime {
-    type Open = Watched<SqliteStable<FileStore<File>>, StoreFile<HostRuntime>>;
+    type Open = Watched<SqliteStable<FileStore<File>>, StoreFiles<HostRuntime>>;
 
     fn list<W: Write>(&self, path: &[u8], writer: &mut W) -> Listed {
         list(self, path, writer)
@@ -39,55 +60,121 @@ impl Stores for HostRuntime {
     fn open(
         &self,
         path: &[u8],
-    ) -> Result<Watched<SqliteStable<FileStore<File>>, StoreFile<HostRuntime>>, StoreFault> {
+        tree: &TreeMark,
+        station: u16,
+    ) -> Result<
+        OpenStore<Watched<SqliteStable<FileStore<File>>, StoreFiles<HostRuntime>>>,
+        StoreFault,
+    > {
         match str::from_utf8(path) {
-            Ok(path) => watched(smi_stable::open(self, path), self, path),
+            Ok(path) => watched(smi_stable::open(self, path), self, path, tree, station),
             Err(_) => Err(StoreFault::Device),
         }
     }
 
-    fn kinship(&self, path: &[u8], own: &TreeMark) -> io::Result<Kinship> {
-        kinship(self, path, own)
+    fn close(&self, stable: Watched<SqliteStable<FileStore<File>>, StoreFiles<HostRuntime>>) {
+        if stable.may_be_closed() {
+            closed(stable.into_inner());
+        } else {
+            given_up(stable.into_inner());
+        }
     }
 
-    fn close(&self, stable: Watched<SqliteStable<FileStore<File>>, StoreFile<HostRuntime>>) {
-        closed(stable.into_inner());
+    fn give_up(&self, stable: Watched<SqliteStable<FileStore<File>>, StoreFiles<HostRuntime>>) {
+        given_up(stable.into_inner());
     }
 }
 
-/// The file that stands at the path of a store that is open.
-fn placed(host: &HostRuntime, path: &str) -> io::Result<StoreFile<HostRuntime>> {
-    StoreFile::of(host.clone()?, String::from_str(host.alloc(), path)?)
+/// What a label says to one who opens its store.
+#[derive(Clone, Copy)]
+struct LabelSays {
+    kinship: Kinship,
+    /// The tree that it names, or that of the one who opens the store, if it names none.
+    tree: TreeMark,
+    noted: Option<u32>,
 }
 
-/// A store with the file that it is in, or what it means that there is none, or that the file could not be looked at.
+impl LabelSays {
+    /// Returns what is said by a label, or by the lack of one, to a station of a tree.
+    fn of(found: LabelFound, own: &TreeMark, station: u16) -> LabelSays {
+        match found {
+            LabelFound::Nothing => LabelSays {
+                kinship: Kinship::Same,
+                tree: *own,
+                noted: None,
+            },
+            LabelFound::Label(label) => LabelSays {
+                kinship: compare(own, &label.tree),
+                tree: label.tree,
+                noted: label.noted(station),
+            },
+            LabelFound::Foreign => LabelSays {
+                kinship: Kinship::Other,
+                tree: *own,
+                noted: None,
+            },
+        }
+    }
+}
+
+/// The files of a store that is open, by its path.
+fn files_at(host: &HostRuntime, path: &str, tree: TreeMark) -> io::Result<StoreFiles<HostRuntime>> {
+    let log = beside(host.alloc(), path.as_bytes(), LOG)?;
+    let log = String::from_utf8_lossy(host.alloc(), log.as_slice())?;
+    let path = String::from_str(host.alloc(), path)?;
+    StoreFiles::of(host.clone()?, path, log, tree)
+}
+
+/// The files of a store that is open, and what its label says to a station of a tree.
+fn surroundings_of(
+    host: &HostRuntime,
+    path: &str,
+    tree: &TreeMark,
+    station: u16,
+) -> io::Result<(StoreFiles<HostRuntime>, LabelSays)> {
+    let found = label_beside(host, path.as_bytes())?;
+    let says = LabelSays::of(found, tree, station);
+    let files = files_at(host, path, says.tree)?;
+    Ok((files, says))
+}
+
+/// A store with its files, or what it means that it could not be opened, or that they could not be looked at.
 fn watched<S: Alter>(
     opened: Result<Connection<S>, Error>,
     host: &HostRuntime,
     path: &str,
-) -> Result<Watched<SqliteStable<S>, StoreFile<HostRuntime>>, StoreFault>
+    tree: &TreeMark,
+    station: u16,
+) -> Result<OpenStore<Watched<SqliteStable<S>, StoreFiles<HostRuntime>>>, StoreFault>
 where
-    Connection<S>: GivesUp,
+    Connection<S>: Ends,
 {
     match opened {
-        Ok(connection) => beside_its_place(adopted(connection)?, placed(host, path)),
+        Ok(connection) => {
+            let found = surroundings_of(host, path, tree, station);
+            beside_its_files(adopted(connection)?, found)
+        }
         Err(Error::SqliteFailure(ErrorCode::OutOfMemory)) => Err(StoreFault::Memory),
         Err(_) => Err(StoreFault::Device),
     }
 }
 
-/// A store with the file that it is in, or what it means that this could not be looked at.
-fn beside_its_place<S: Alter, P>(
+/// A store with its files, or what it means that these could not be looked at: then it is given up as it is.
+fn beside_its_files<S: Alter, P>(
     stable: SqliteStable<S>,
-    place: io::Result<P>,
-) -> Result<Watched<SqliteStable<S>, P>, StoreFault>
+    found: io::Result<(P, LabelSays)>,
+) -> Result<OpenStore<Watched<SqliteStable<S>, P>>, StoreFault>
 where
-    Connection<S>: GivesUp,
+    Connection<S>: Ends,
 {
-    match place {
-        Ok(place) => Ok(Watched::new(stable, place)),
+    match found {
+        Ok((files, says)) => Ok(OpenStore {
+            stable: Watched::new(stable, files),
+            kinship: says.kinship,
+            noted: says.noted,
+        }),
         Err(e) => {
-            closed(stable);
+            given_up(stable);
             if e.kind() == ErrorKind::OutOfMemory {
                 Err(StoreFault::Memory)
             } else {
@@ -97,21 +184,29 @@ where
     }
 }
 
-/// A connection that is given up: it is closed, as far as that can be done.
-trait GivesUp {
+/// How a connection ends.
+trait Ends {
+    /// It is closed, as far as that can be done: its log is copied into its file.
     fn end(self);
+
+    /// Its files are closed as they are.
+    fn abandon(self);
 }
 
-impl GivesUp for Connection<FileStore<File>> {
+impl Ends for Connection<FileStore<File>> {
     fn end(self) {
         let _ = self.close();
     }
+
+    fn abandon(self) {
+        drop(self.into_store().close());
+    }
 }
 
-// All three over any store, since each function that names the store of SQLite is dear to prove.
+// All three over any store, since each function that names the store of SQLite is expensive to prove.
 fn adopted<S: Alter>(connection: Connection<S>) -> Result<SqliteStable<S>, StoreFault>
 where
-    Connection<S>: GivesUp,
+    Connection<S>: Ends,
 {
     match SqliteStable::adopt(connection) {
         Ok(stable) => Ok(stable),
@@ -124,7 +219,14 @@ where
 
 fn closed<S: Alter>(stable: SqliteStable<S>)
 where
-    Connection<S>: GivesUp,
+    Connection<S>: Ends,
 {
     stable.release().end();
+}
+
+fn given_up<S: Alter>(stable: SqliteStable<S>)
+where
+    Connection<S>: Ends,
+{
+    stable.release().abandon();
 }

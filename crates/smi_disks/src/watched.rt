@@ -1,73 +1,131 @@
-//! A store whose file may be taken away while it is open.
+//! A store whose files may be taken away while it is open.
 
-ghost use Rattle.std.specs.Prelude.{◌+◌};
+ghost use Rattle.std.specs.Prelude.{◌+◌, ◌≡◌};
+ghost use Rattle.smi_disks.specs.Label.{start_in};
 
-use smi_base::Tally;
-use smi_rows::{Key, SavedRow, Stable, StoreFault};
+use crate::label::Start;
+use crate::label_file::put_label;
+use crate::mark::TreeMark;
+use smi_base::{Tally, u32_at};
+use smi_rows::{Key, RowKind, SavedRow, Stable, StoreFault};
 use std::os::unix::fs::MetadataExt;
 use std::rt::Files;
 use std::{fs, io};
 
-/// Tells whether the file of a store is still where it was.
-pub trait Presence {
-    /// Whether it is, as far as the system tells it.
-    fn is_there(&self) -> bool;
+/// How many bytes a boot row has.
+const BOOT_BYTES: usize = 8;
+
+/// What is beside a store that is open: its files at their paths, and its label.
+pub trait Surroundings {
+    /// Returns true if the files of the store are where they were, as far as the system tells it.
+    fn are_in_place(&self) -> bool;
+
+    /// Notes in the label that a station has started. Returns false if that could not be written.
+    fn note(&self, start: Start) -> bool;
 }
 
-/// The file by the path of a store: the one that stood there when the store was opened.
-#[derive(Drop)]
-pub struct StoreFile<H> {
-    host: H,
-    path: String,
-    file: u64,
+/// Which file of the system a file is.
+#[derive(Clone, Copy, PartialEq, Eq)]
+struct FileId {
+    device: u64,
+    number: u64,
 }
 
-impl<H: Files + Drop> StoreFile<H> {
-    /// The file that stands at a path now.
-    pub fn of(host: H, path: String) -> io::Result<StoreFile<H>> {
-        let file = fs::metadata(&host, path.as_str())?.ino();
-        Ok(StoreFile { host, path, file })
+impl FileId {
+    /// Returns which file is at a path now.
+    fn of<H: Files>(host: &H, path: &str) -> io::Result<FileId> {
+        let found = fs::metadata(host, path)?;
+        Ok(FileId {
+            device: found.dev(),
+            number: found.ino(),
+        })
     }
-}
 
-impl<H: Files + Drop> Presence for StoreFile<H> {
-    /// Not where no file or another one stands there. Where the system does not tell, it counts as there.
-    fn is_there(&self) -> bool {
-        match fs::metadata(&self.host, self.path.as_str()) {
-            Ok(found) => found.ino() == self.file,
+    /// Returns true if this file is at a path. If the system does not tell, it counts as there.
+    fn is_at<H: Files>(self, host: &H, path: &str) -> bool {
+        match FileId::of(host, path) {
+            Ok(found) => found.device == self.device && found.number == self.number,
             Err(e) => e.kind() != io::ErrorKind::NotFound,
         }
     }
 }
 
-/// A store that saves only while its file is where it was. Where it is not, a save is answered `Unsure` and nothing is
-/// written, so that the station stops: rows in a file that nobody can open again would be lost at its next start.
+/// The files of a store, which were at its paths when it was opened, and the tree that its label names.
+#[derive(Drop)]
+pub struct StoreFiles<H> {
+    host: H,
+    path: String,
+    log_path: String,
+    file: FileId,
+    log: FileId,
+    tree: TreeMark,
+}
+
+impl<H: Files + Drop> StoreFiles<H> {
+    /// Returns the files that are at these paths now: that of a store, and that of its log.
+    pub fn of(
+        host: H,
+        path: String,
+        log_path: String,
+        tree: TreeMark,
+    ) -> io::Result<StoreFiles<H>> {
+        let file = FileId::of(&host, path.as_str())?;
+        let log = FileId::of(&host, log_path.as_str())?;
+        Ok(StoreFiles {
+            host,
+            path,
+            log_path,
+            file,
+            log,
+            tree,
+        })
+    }
+}
+
+impl<H: Files + AllocGlobal + Drop> Surroundings for StoreFiles<H> {
+    fn are_in_place(&self) -> bool {
+        self.file.is_at(&self.host, self.path.as_str())
+            && self.log.is_at(&self.host, self.log_path.as_str())
+    }
+
+    fn note(&self, start: Start) -> bool {
+        put_label(&self.host, self.path.as_str(), &self.tree, start).is_ok()
+    }
+}
+
+/// A store that saves only while its files are where they were, and notes each start in its label. If a file is gone, a
+/// save is answered `Unsure` and nothing is written, so that the station stops: rows in a file that nobody can open again
+/// would be lost at its next start. If a start could not be noted, its boot row is saved, and `Unsure` is answered too.
 #[derive(Drop)]
 pub struct Watched<S, P> {
     pub store: S,
-    pub presence: P,
+    pub surroundings: P,
     pub saves: Tally,
-    /// How many saves found the file gone.
+    /// How many saves found a file gone, or could not be noted.
     pub missed: Tally,
+    /// Whether a save found a file gone.
+    pub is_lost: bool,
 }
 
 impl<S, P> Watched<S, P> {
-    ghost use Rattle.std.specs.Prelude.{◌≡◌};
+    ghost use Rattle.std.specs.Prelude.{◌≡◌, false};
 
-    /// A store that is open, and its file.
-    pub fn new(store: S, presence: P) -> Watched<S, P>
+    /// Watches over a store that is open.
+    pub fn new(store: S, surroundings: P) -> Watched<S, P>
         ensures store { result.store ≡ store }
         ensures missed { result.missed.count ≡ 0 }
+        ensures lost { result.is_lost ≡ false }
     {
         Watched {
             store,
-            presence,
+            surroundings,
             saves: Tally::zero(),
             missed: Tally::zero(),
+            is_lost: false,
         }
     }
 
-    /// The store.
+    /// Returns the store.
     pub fn into_inner(self) -> S
     where
         P: Drop,
@@ -75,15 +133,57 @@ impl<S, P> Watched<S, P> {
     {
         let Watched {
             store,
-            presence: _,
+            surroundings: _,
             saves: _,
             missed: _,
+            is_lost: _,
         } = self;
         store
     }
 }
 
-impl<S: Stable, P: Presence> Stable for Watched<S, P> {
+impl<S, P: Surroundings> Watched<S, P> {
+    ghost use Rattle.std.specs.Prelude.{◌≡◌, ◌+◌, true, false, IfErr, OnErr, OnOk};
+
+    /// Returns true if its log may be copied into its file: no save found a file gone, and none is gone now. What is
+    /// copied into a file without a name is lost, and the log with it.
+    pub fn may_be_closed(&self) -> bool
+        ensures { self.now.is_lost ≡ true → result ≡ false }
+    {
+        !self.is_lost && self.surroundings.are_in_place()
+    }
+
+    /// Notes the start that a saved row is of, if it is a boot row. Its error is that the label could not be written.
+    fn note(&mut self, key: Key, bytes: &[u8]) -> Result<(), StoreFault>
+        ensures store { self.new.store ≡ self.old.store }
+        ensures saves { self.new.saves ≡ self.old.saves }
+        ensures unsure { IfErr result (λ fault. fault ≡ StoreFault.Unsure) }
+        ensures missed { OnErr result (self.new.missed.count ≡ self.old.missed.count + 1) }
+        ensures kept { OnOk result (self.new.missed ≡ self.old.missed) }
+    {
+        match start_in(key, bytes) {
+            Some(start) if !self.surroundings.note(start) => {}
+            _ => return Ok(()),
+        }
+        self.missed.raise();
+        Err(StoreFault::Unsure)
+    }
+}
+
+/// Returns the start that a row is of, if it is a boot row.
+fn start_in(key: Key, bytes: &[u8]) -> Option<Start>
+    ensures { result ≡ start_in key bytes.now }
+{
+    match key.kind() {
+        Some(RowKind::Boot) if bytes.len() >= BOOT_BYTES => Some(Start {
+            station: key.station,
+            boot: u32_at(bytes, 4),
+        }),
+        _ => None,
+    }
+}
+
+impl<S: Stable, P: Surroundings> Stable for Watched<S, P> {
     ghost rows = { λ w. S.rows w.store };
 
     ghost may_find = { λ w. S.may_find w.store };
@@ -102,12 +202,13 @@ impl<S: Stable, P: Presence> Stable for Watched<S, P> {
 
     fn save(&mut self, key: Key, bytes: &[u8]) -> Result<(), StoreFault> {
         self.saves.raise();
-        if self.presence.is_there() {
-            self.store.save(key, bytes)
-        } else {
+        if !self.surroundings.are_in_place() {
+            self.is_lost = true;
             self.missed.raise();
-            Err(StoreFault::Unsure)
+            return Err(StoreFault::Unsure);
         }
+        self.store.save(key, bytes)?;
+        self.note(key, bytes)
     }
 
     fn load(&mut self) -> Result<Vec<SavedRow>, StoreFault> {

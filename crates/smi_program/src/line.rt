@@ -60,6 +60,8 @@ pub struct NodeLine<'a> {
     /// Where it listens for consoles, each an address or the path of a socket; the second only beside a first.
     pub console: Option<&'a str>,
     pub second_console: Option<&'a str>,
+    /// Whether it starts on a store that is older than its label.
+    pub accepts_older: bool,
 }
 
 /// A screen: the path of its tree, the name of its station, the path of its store, where its guests come, by what name
@@ -75,6 +77,8 @@ pub struct ScreenLine<'a> {
     pub orders: Option<&'a str>,
     /// How many turns it looks, none where it looks without end.
     pub turns: Option<u32>,
+    /// Whether it starts on a store that is older than its label.
+    pub accepts_older: bool,
 }
 
 /// What the words of a command line ask for, the program's own name first.
@@ -199,6 +203,7 @@ fn station_command<'a>(alloc: Global, name: &'a str) -> Result<Command<'a>, Erro
     let form = with_word(alloc, form, "STORE")?;
     let form = form.arg(Arg::new(alloc, "T").long("turns"))?;
     let form = form.arg(flag(alloc, "endless"))?;
+    let form = form.arg(flag(alloc, "accept-older"))?;
     let console = Arg::new(alloc, "C").long("console");
     Ok(form.arg(console.action(ArgAction::Append))?)
 }
@@ -240,6 +245,7 @@ fn screen_line<'a>(given: &ArgMatches<'a>) -> Option<ScreenLine<'a>> {
         name,
         orders: given.get_str("PLACE"),
         turns: turns_of(given.get_str("T"), given.get_flag("endless"))?,
+        accepts_older: given.get_flag("accept-older"),
     })
 }
 
@@ -252,6 +258,7 @@ fn node_line<'a>(given: &ArgMatches<'a>) -> Option<NodeLine<'a>> {
         turns: turns_of(given.get_str("T"), given.get_flag("endless"))?,
         console,
         second_console,
+        accepts_older: given.get_flag("accept-older"),
     })
 }
 

@@ -5,11 +5,11 @@ use crate::tree::read_marked;
 use crate::words::{Words, bytes_of};
 use smi_commands::status::{Status, no_memory, store_fault, wrong_line};
 use smi_console::{Console, ListenAddress, NodeSetup, Turns, run};
-use smi_disks::{Kinship, Stores, TreeMark};
-use smi_rows::StoreFault;
+use smi_disks::{Kinship, OpenStore, StoreAge, Stores, TreeMark, age};
+use smi_rows::{Key, Row, Stable, StoreFault};
 use smi_tree::Tree;
 use std::alloc::{AllocError, Global};
-use std::io::{ErrorKind, Read, Write};
+use std::io::{Read, Write};
 use std::net::{Net, SocketAddr, SocketAddrV4};
 use std::rt::Files;
 use std::sync::{Arc, Wait};
@@ -93,49 +93,113 @@ fn setup_of<H: Files + AllocGlobal, F: Write>(
     }
 }
 
-/// Whether the tree of this mark may go on with the store of a path; what is amiss is told.
-///
-/// A tree of another number may not, since its operators are others. One whose file says something else may, and then
-/// it is for the rows to tell whether they fit.
-fn may_go_on<H: Stores, F: Write>(
-    host: &H,
-    path: &[u8],
-    mark: &TreeMark,
-    faults: &mut F,
-) -> Result<(), Status> {
-    match host.kinship(path, mark) {
-        Ok(Kinship::Same) => Ok(()),
-        Ok(Kinship::Changed) => {
-            let _ = writeln!(faults, "store of a changed tree");
-            Ok(())
-        }
-        Ok(Kinship::Other) => {
-            let _ = writeln!(faults, "store of another tree");
-            Err(Status::Refused)
-        }
-        Err(e) if e.kind() == ErrorKind::OutOfMemory => Err(no_memory(faults)),
-        Err(_) => Err(store_fault(faults)),
+/// Who opens a store: a station of a tree, and whether it takes a store that is older than its label.
+#[derive(Clone, Copy)]
+pub(crate) struct Opening<'a> {
+    pub(crate) tree: &'a Tree,
+    pub(crate) mark: &'a TreeMark,
+    pub(crate) station: u16,
+    pub(crate) accepts_older: bool,
+}
+
+/// Tells why a store is not gone on with.
+fn refused<F: Write>(what: &str, faults: &mut F) -> Result<(), Status> {
+    let _ = writeln!(faults, "{what}");
+    Err(Status::Refused)
+}
+
+/// Tells what it means that a store could not be opened, or not be read.
+fn told_fault<F: Write>(fault: StoreFault, faults: &mut F) -> Status {
+    match fault {
+        StoreFault::Memory => no_memory(faults),
+        StoreFault::Device | StoreFault::Unsure => store_fault(faults),
     }
 }
 
-/// The store of a path that is a store of the tree of this mark, or what is told of it. Nothing is saved.
-pub(crate) fn opened<H: Stores, F: Write>(
+/// Whether a store of this kinship may be gone on with; what is amiss is told.
+///
+/// A tree of another number may not, since its operators are others. One whose file says something else may, and then
+/// it is for the rows to tell whether they fit.
+fn has_kin<F: Write>(kinship: Kinship, faults: &mut F) -> Result<(), Status> {
+    match kinship {
+        Kinship::Same => Ok(()),
+        Kinship::Changed => {
+            let _ = writeln!(faults, "store of a changed tree");
+            Ok(())
+        }
+        Kinship::Other => refused("store of another tree", faults),
+    }
+}
+
+/// The boot that a store has of a station. A row that can't be read counts as none of an older start, since the opening
+/// of the station tells its fault.
+fn boot_in<S: Stable>(
+    alloc: Global,
+    stable: &mut S,
+    opening: Opening<'_>,
+) -> Result<Option<u32>, StoreFault> {
+    let key = Key {
+        station: opening.station,
+        domain: 0,
+        operator: 0,
+    };
+    for row in stable.load()?.iter() {
+        if row.key == key {
+            return match Row::read(alloc, opening.tree, key, row.bytes.as_slice()) {
+                Ok(Row::Boot(boot)) => Ok(Some(boot)),
+                _ => Ok(Some(u32::MAX)),
+            };
+        }
+    }
+    Ok(None)
+}
+
+/// Whether a store is no older than its label; what is amiss is told. One that is has lost what others were told since,
+/// so that its station would give away what somebody holds.
+fn has_age<F: Write>(age: StoreAge, accepts_older: bool, faults: &mut F) -> Result<(), Status> {
+    match age {
+        StoreAge::Current => Ok(()),
+        StoreAge::Empty => refused("store is empty beside its label", faults),
+        StoreAge::Older if accepts_older => Ok(()),
+        StoreAge::Older => refused("store is older than its label", faults),
+    }
+}
+
+/// Whether a store that is open may be gone on with; what is amiss is told.
+fn may_go_on<S: Stable, F: Write>(
+    alloc: Global,
+    store: &mut OpenStore<S>,
+    opening: Opening<'_>,
+    faults: &mut F,
+) -> Result<(), Status> {
+    has_kin(store.kinship, faults)?;
+    match boot_in(alloc, &mut store.stable, opening) {
+        Ok(stored) => has_age(age(store.noted, stored), opening.accepts_older, faults),
+        Err(fault) => Err(told_fault(fault, faults)),
+    }
+}
+
+/// The store of a path, with its log copied into its file, or what is told of it. Nothing is saved, and one that may not
+/// be gone on with is left as it is.
+pub(crate) fn opened<H: Stores + AllocGlobal, F: Write>(
     host: &H,
     path: &[u8],
-    mark: &TreeMark,
+    opening: Opening<'_>,
     faults: &mut F,
 ) -> Result<H::Open, Status> {
-    let stable = match host.open(path) {
-        Ok(stable) => stable,
-        Err(StoreFault::Memory) => return Err(no_memory(faults)),
-        Err(_) => return Err(store_fault(faults)),
+    let mut store = match host.open(path, opening.mark, opening.station) {
+        Ok(store) => store,
+        Err(fault) => return Err(told_fault(fault, faults)),
     };
-    match may_go_on(host, path, mark, faults) {
-        Ok(()) => Ok(stable),
-        Err(status) => {
-            host.close(stable);
-            Err(status)
-        }
+    if let Err(status) = may_go_on(host.alloc(), &mut store, opening, faults) {
+        host.give_up(store.stable);
+        return Err(status);
+    }
+    // What is closed has its log copied into its file, and what is in the file is safe from the loss of the log.
+    host.close(store.stable);
+    match host.open(path, opening.mark, opening.station) {
+        Ok(store) => Ok(store.stable),
+        Err(fault) => Err(told_fault(fault, faults)),
     }
 }
 
@@ -157,7 +221,13 @@ pub fn run_node<
         Ok(found) => found,
         Err(status) => return status,
     };
-    match opened(host, bytes_of(words, line.store), &mark, faults) {
+    let opening = Opening {
+        tree: &setup.tree,
+        mark: &mark,
+        station: setup.station,
+        accepts_older: line.accepts_older,
+    };
+    match opened(host, bytes_of(words, line.store), opening, faults) {
         Ok(stable) => {
             let (status, stable) = run(host, &setup, stable, console, faults);
             host.close(stable);

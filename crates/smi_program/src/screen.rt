@@ -1,7 +1,7 @@
 //! A screen: its tree file is read, its station found, its store opened, and then it looks.
 
 use crate::line::ScreenLine;
-use crate::node::{address_in, opened};
+use crate::node::{Opening, address_in, opened};
 use crate::tree::{read_marked, read_tree};
 use crate::with_orders::{page_bytes, page_with_orders};
 use crate::words::{Words, bytes_of};
@@ -160,7 +160,13 @@ fn looked<
             return status;
         }
     }
-    match opened(host, bytes_of(words, line.store), mark, faults) {
+    let opening = Opening {
+        tree,
+        mark,
+        station: setup.station,
+        accepts_older: line.accepts_older,
+    };
+    match opened(host, bytes_of(words, line.store), opening, faults) {
         Ok(stable) => {
             let (how, stable) = run(host, tree, keys, setup, stable);
             host.close(stable);

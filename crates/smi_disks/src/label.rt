@@ -1,0 +1,122 @@
+//! The label of a store: what is in the file beside it.
+
+ghost use Rattle.std.specs.Prelude.{◌≡◌, IfOk};
+ghost use Rattle.smi_disks.specs.Label as spec;
+
+use crate::mark::{MARK_BYTES, TreeMark};
+use std::alloc::{AllocError, Global};
+
+/// How many bytes say which start was the last one.
+const START_BYTES: usize = 6;
+
+/// How many bytes a label has that names the last start. One that names none has those of a mark.
+pub const LABEL_BYTES: usize = MARK_BYTES + START_BYTES;
+
+/// A start of a station.
+#[derive(Clone, Copy, Debug, PartialEq, Eq)]
+pub struct Start {
+    pub station: u16,
+    pub boot: u32,
+}
+
+/// The tree that a store was made for, and the last start on it, unless the label is older than such notes.
+#[derive(Clone, Copy, Debug, PartialEq, Eq)]
+pub struct StoreLabel {
+    pub tree: TreeMark,
+    pub last: Option<Start>,
+}
+
+/// How old the rows of a store are by its label.
+#[derive(Clone, Copy, Debug, PartialEq, Eq)]
+pub enum StoreAge {
+    /// They are of the start that the label names, or of a later one, or it names none.
+    Current,
+    /// The label names a start, and no row is of any.
+    Empty,
+    /// They are of a start before the one that the label names.
+    Older,
+}
+
+impl Start {
+    ghost use Rattle.std.specs.Prelude.{◌≡◌};
+    ghost use Rattle.smi_disks.specs.Label.{start_bytes};
+
+    /// Returns the bytes of a start: its station, and its boot.
+    fn bytes(self) -> [u8; START_BYTES]
+        ensures { result ≡ start_bytes self }
+    {
+        let mut bytes = [0; START_BYTES];
+        bytes[..2].copy_from_slice(&self.station.to_be_bytes());
+        bytes[2..].copy_from_slice(&self.boot.to_be_bytes());
+        bytes
+    }
+
+    /// Returns the start that has these bytes.
+    fn of(bytes: [u8; START_BYTES]) -> Start
+        ensures { bytes ≡ start_bytes result }
+    {
+        let (station, boot) = bytes.split_at(2);
+        Start {
+            station: u16::from_be_bytes([station[0], station[1]]),
+            boot: u32::from_be_bytes([boot[0], boot[1], boot[2], boot[3]]),
+        }
+    }
+}
+
+/// Returns the bytes of a label that names the last start (docs/FORMATS.md, "The label of a store").
+///
+/// Its error is that memory was refused.
+pub fn label_bytes(alloc: Global, tree: &TreeMark, last: Start) -> Result<Vec<u8>, AllocError>
+    ensures { IfOk result (λ bytes. bytes.items ≡ spec.with_start tree.now last) }
+{
+    let mut bytes = Vec::from_slice(alloc, &tree.bytes())?;
+    bytes.extend_from_slice(&last.bytes())?;
+    Ok(bytes)
+}
+
+/// Returns how old rows are by a label: by the boot that it notes of their station and the one that their boot row has,
+/// if any.
+pub fn age(noted: Option<u32>, stored: Option<u32>) -> StoreAge
+    ensures { result ≡ spec.age noted stored }
+{
+    match (noted, stored) {
+        (None, _) => StoreAge::Current,
+        (Some(_), None) => StoreAge::Empty,
+        (Some(noted), Some(stored)) if stored < noted => StoreAge::Older,
+        (Some(_), Some(_)) => StoreAge::Current,
+    }
+}
+
+impl StoreLabel {
+    ghost use Rattle.std.specs.Prelude.{◌≡◌, ◌≢◌, length, IfSome, None};
+    ghost use Rattle.smi_disks.specs.Label.{noted, spelled};
+
+    /// Returns the label of these bytes. None if they are as many as no label has.
+    pub fn of(bytes: &[u8]) -> Option<StoreLabel>
+        ensures found { IfSome result (λ label. bytes.now ≡ spelled label) }
+        ensures none { result ≡ None → (length bytes.now ≢ MARK_BYTES) × (length bytes.now ≢ LABEL_BYTES) }
+    {
+        if bytes.len() != LABEL_BYTES {
+            let tree = TreeMark::of(bytes)?;
+            return Some(StoreLabel { tree, last: None });
+        }
+        let (tree, start) = bytes.split_at(MARK_BYTES);
+        let tree = TreeMark::of(tree)?;
+        let mut last = [0; START_BYTES];
+        last.copy_from_slice(start);
+        Some(StoreLabel {
+            tree,
+            last: Some(Start::of(last)),
+        })
+    }
+
+    /// Returns the boot that it notes of a station, if any.
+    pub fn noted(&self, station: u16) -> Option<u32>
+        ensures { result ≡ noted self.now station }
+    {
+        match self.last {
+            Some(start) if start.station == station => Some(start.boot),
+            _ => None,
+        }
+    }
+}
