@@ -33,7 +33,7 @@ _smi()
     esac
     case ${COMP_WORDS[1]} in
         sim) options='--seed --settle --steps' ;;
-        node) options='--accept-older --console --endless --turns' ;;
+        node) options='--accept-older --console --endless --open --turns' ;;
         screen) options='--accept-older --endless --host --http --open --orders --turns' ;;
     esac
     if [[ $word == -* ]]; then

@@ -565,6 +565,37 @@ def doors_case(program, folder):
     yield verdict.case("three consoles are no form", nodes.ran(program, words + three), ([], ["wrong line"], 2))
 
 
+def open_case(program, folder):
+    """A console that other machines reach wants --open, and what reads as a host and a port is no path."""
+    port = free_tcp_port()
+    tree = nodes.write_tree(folder, None, (TREE % tuple(nodes.free_ports(2))).splitlines())
+    words = [tree, "HERE", os.path.join(folder, "here"), "--turns", nodes.FEW]
+    wrong = ([], ["wrong line"], 2)
+    for host in ["0.0.0.0", "192.0.2.1"]:
+        told = nodes.ran(program, words + ["--console", "%s:%d" % (host, port)])
+        yield verdict.case("no console at %s without --open" % host, told, wrong)
+    path = os.path.join(folder, "console")
+    told = nodes.ran(program, words + ["--console", path, "--console", "0.0.0.0:%d" % port])
+    yield verdict.case("nor beside one of this machine", told, wrong)
+    yield "where nothing is made", not os.path.exists(words[2]) and not os.path.exists(path)
+    for more in [["--console", "0.0.0.0:%d" % port, "--open"], ["--open", "--console", "127.0.0.1:%d" % port],
+                 ["--console", "127.1.2.3:%d" % port]]:
+        yield verdict.case("a console by " + " ".join(more).replace(str(port), "PORT"), nodes.ran(program, words + more),
+                           ([], [], 0))
+    for word in ["localhost:7001", "[::1]:7001", "127.0.0.1:99999", "127.0.0.1.5:7001", ":7001", "detector.example:1"]:
+        told = nodes.ran(program, words + ["--console", word], cwd=folder)
+        yield verdict.case("no file of a console by the name " + word, [told, os.path.exists(os.path.join(folder, word))],
+                           [wrong, False])
+    for word in ["./localhost:7001", "localhost:", "console:7a"]:
+        told = nodes.ran(program, words + ["--console", word], cwd=folder)
+        yield verdict.case("but by " + word, [told, os.path.exists(os.path.join(folder, word))], [([], [], 0), True])
+    told = subprocess.run(
+        [program, "screen", *map(str, words), "--http", "127.0.0.1:%d" % port, "--orders", "localhost:7001"],
+        stdin=subprocess.DEVNULL, capture_output=True, text=True, timeout=PATIENCE, check=False)
+    yield verdict.case("nor are a screen's orders sent there", (told.stdout, told.stderr, told.returncode),
+                       ("", "wrong line\n", 2))
+
+
 def actions_case(program, folder):
     """Each action is told once at each device of its domain, moved or not, and nothing that was not done."""
     place = Place(program, folder)
@@ -1006,7 +1037,8 @@ def cut_case(program, folder):
     typed.communicate()
 
 
-CASES = [waiting_case, partitions_case, many_case, rude_case, pages_case, comers_case, lines_case, doors_case, actions_case,
+CASES = [waiting_case, partitions_case, many_case, rude_case, pages_case, comers_case, lines_case, doors_case, open_case,
+         actions_case,
          missed_case, unread_case, client_case, supply_case, shift_case, people_case, nobody_case, lost_case,
          cut_case]
 

@@ -166,7 +166,7 @@ COMPLETED = [
     (["smi", "node", "three.tree", ""], ["A", "B", "C"]),
     (["smi", "node", "--turns", "5", "three.tree", "B"], ["B"]),
     (["smi", "node", "nowhere", ""], []),
-    (["smi", "node", "-"], ["--accept-older", "--console", "--endless", "--turns"]),
+    (["smi", "node", "-"], ["--accept-older", "--console", "--endless", "--open", "--turns"]),
     (["smi", "screen", "-"], ["--accept-older", "--endless", "--host", "--http", "--open", "--orders", "--turns"]),
     (["smi", "screen", "--http", "127.0.0.1:80", "three.tree", "B"], ["B"]),
     (["smi", "sim", "--s"], ["--seed", "--settle", "--steps"]),

@@ -4,7 +4,7 @@ use clap::error::ErrorKind;
 use clap::{Arg, ArgAction, ArgMatches, Command, Error};
 use smi_tree::number_within;
 use std::alloc::Global;
-use std::net::SocketAddr;
+use std::net::{SocketAddr, SocketAddrV4};
 
 /// The most turns of a node, and how many it serves where none are given.
 const MOST_TURNS: u32 = 1_000_000;
@@ -48,6 +48,13 @@ pub enum Schedule<'a> {
     Drawn { seed: u64, steps: u64 },
 }
 
+/// Where a console is: at an address, or at a socket of this path.
+#[derive(Clone, Copy)]
+pub enum ConsolePlace<'a> {
+    Address(SocketAddr),
+    Path(&'a str),
+}
+
 /// A node: the path of its tree, the name of its station, the path of its store, how long it serves, and where it
 /// listens for consoles.
 #[derive(Clone, Copy)]
@@ -57,9 +64,9 @@ pub struct NodeLine<'a> {
     pub store: &'a str,
     /// How many turns it serves, none where it serves without end.
     pub turns: Option<u32>,
-    /// Where it listens for consoles, each an address or the path of a socket; the second only beside a first.
-    pub console: Option<&'a str>,
-    pub second_console: Option<&'a str>,
+    /// Where it listens for consoles; the second only beside a first.
+    pub console: Option<ConsolePlace<'a>>,
+    pub second_console: Option<ConsolePlace<'a>>,
     /// Whether it starts on a store that is older than its label.
     pub accepts_older: bool,
 }
@@ -73,8 +80,8 @@ pub struct ScreenLine<'a> {
     pub store: &'a str,
     pub http: SocketAddr,
     pub name: Option<&'a str>,
-    /// The console of the node whose operators may order from its page, an address or the path of a socket.
-    pub orders: Option<&'a str>,
+    /// The console of the node whose operators may order from its page.
+    pub orders: Option<ConsolePlace<'a>>,
     /// How many turns it looks, none where it looks without end.
     pub turns: Option<u32>,
     /// Whether it starts on a store that is older than its label.
@@ -204,6 +211,7 @@ fn station_command<'a>(alloc: Global, name: &'a str) -> Result<Command<'a>, Erro
     let form = form.arg(Arg::new(alloc, "T").long("turns"))?;
     let form = form.arg(flag(alloc, "endless"))?;
     let form = form.arg(flag(alloc, "accept-older"))?;
+    let form = form.arg(flag(alloc, "open"))?;
     let console = Arg::new(alloc, "C").long("console");
     Ok(form.arg(console.action(ArgAction::Append))?)
 }
@@ -216,8 +224,39 @@ fn screen_command<'a>(alloc: Global) -> Result<Command<'a>, Error> {
     let form = station_command(alloc, "screen")?;
     let form = form.arg(Arg::new(alloc, "ADDRESS").long("http").required(true))?;
     let form = form.arg(Arg::new(alloc, "NAME").long("host"))?;
-    let form = form.arg(Arg::new(alloc, "PLACE").long("orders"))?;
-    Ok(form.arg(flag(alloc, "open"))?)
+    Ok(form.arg(Arg::new(alloc, "PLACE").long("orders"))?)
+}
+
+/// Returns true if a word is digits alone, and at least one.
+fn is_digits(word: &str) -> bool {
+    !word.is_empty() && word.as_bytes().iter().all(u8::is_ascii_digit)
+}
+
+/// Returns true if a word reads as a host and a port, and as no path: it has no slash, and ends in a colon and digits.
+fn is_like_an_address(word: &str) -> bool {
+    match word.rsplit_once(':') {
+        Some((host, port)) => !host.contains('/') && is_digits(port),
+        None => false,
+    }
+}
+
+/// Returns the place of a console that a word names. None if it reads as a host and a port and is no address: nobody who
+/// types `localhost:7001` means a file of that name.
+fn console_place(word: &str) -> Option<ConsolePlace<'_>> {
+    match word.parse::<SocketAddrV4>() {
+        Ok(address) => Some(ConsolePlace::Address(SocketAddr::V4(address))),
+        Err(_) if is_like_an_address(word) => None,
+        Err(_) => Some(ConsolePlace::Path(word)),
+    }
+}
+
+/// Returns the place at which a node listens that a word names. None also if other machines reach it and the node is not
+/// open to them: who reaches a console may order, and nobody is asked who he is.
+fn listening_place(word: &str, is_open: bool) -> Option<ConsolePlace<'_>> {
+    match console_place(word)? {
+        ConsolePlace::Address(address) if !is_open && !address.ip().is_loopback() => None,
+        place => Some(place),
+    }
 }
 
 /// The address and the name of a screen. One that is open to other machines has a name, and no other has one.
@@ -237,20 +276,25 @@ fn place_of<'a>(
 fn screen_line<'a>(given: &ArgMatches<'a>) -> Option<ScreenLine<'a>> {
     let address = given.get_str("ADDRESS")?;
     let (http, name) = place_of(address, given.get_str("NAME"), given.get_flag("open"))?;
+    let orders = match given.get_str("PLACE") {
+        Some(word) => Some(console_place(word)?),
+        None => None,
+    };
     Some(ScreenLine {
         tree: given.get_str("TREE")?,
         station: given.get_str("STATION")?,
         store: given.get_str("STORE")?,
         http,
         name,
-        orders: given.get_str("PLACE"),
+        orders,
         turns: turns_of(given.get_str("T"), given.get_flag("endless"))?,
         accepts_older: given.get_flag("accept-older"),
     })
 }
 
 fn node_line<'a>(given: &ArgMatches<'a>) -> Option<NodeLine<'a>> {
-    let (console, second_console) = consoles_of(given.get_strs("C"))?;
+    let is_open = given.get_flag("open");
+    let (console, second_console) = consoles_of(given.get_strs("C"), is_open)?;
     Some(NodeLine {
         tree: given.get_str("TREE")?,
         station: given.get_str("STATION")?,
@@ -262,12 +306,18 @@ fn node_line<'a>(given: &ArgMatches<'a>) -> Option<NodeLine<'a>> {
     })
 }
 
+/// Two places at which a node may listen.
+type Places<'a> = (Option<ConsolePlace<'a>>, Option<ConsolePlace<'a>>);
+
 /// Where a node listens for consoles, at two places at most: more are no form.
-fn consoles_of<'a>(words: Option<&[&'a str]>) -> Option<(Option<&'a str>, Option<&'a str>)> {
+fn consoles_of<'a>(words: Option<&[&'a str]>, is_open: bool) -> Option<Places<'a>> {
     match words {
         None => Some((None, None)),
-        Some([one]) => Some((Some(*one), None)),
-        Some([one, other]) => Some((Some(*one), Some(*other))),
+        Some([one]) => Some((Some(listening_place(one, is_open)?), None)),
+        Some([one, other]) => Some((
+            Some(listening_place(one, is_open)?),
+            Some(listening_place(other, is_open)?),
+        )),
         Some(_) => None,
     }
 }

@@ -1,6 +1,6 @@
 //! A node: its tree file is read, its station found, its store opened, and then it is run.
 
-use crate::line::NodeLine;
+use crate::line::{ConsolePlace, NodeLine};
 use crate::tree::read_marked;
 use crate::words::{Words, bytes_of};
 use smi_commands::status::{Status, no_memory, store_fault, wrong_line};
@@ -10,7 +10,7 @@ use smi_rows::{Key, Row, Stable, StoreFault};
 use smi_tree::Tree;
 use std::alloc::{AllocError, Global};
 use std::io::{Read, Write};
-use std::net::{Net, SocketAddr, SocketAddrV4};
+use std::net::Net;
 use std::rt::Files;
 use std::sync::{Arc, Wait};
 use std::thread::Threads;
@@ -36,19 +36,11 @@ fn turns_of(turns: Option<u32>) -> Turns {
     }
 }
 
-/// The address that a word is by which a console is named; where it is none, it is the path of a socket.
-pub(crate) fn address_in(word: &str) -> Option<SocketAddr> {
-    match word.parse::<SocketAddrV4>() {
-        Ok(address) => Some(SocketAddr::V4(address)),
-        Err(_) => None,
-    }
-}
-
 /// Where a console is listened for.
-fn listen_address_of(alloc: Global, word: &str) -> Result<ListenAddress, AllocError> {
-    match address_in(word) {
-        Some(address) => Ok(ListenAddress::Address(address)),
-        None => Ok(ListenAddress::Path(String::from_str(alloc, word)?)),
+fn listen_address_of(alloc: Global, place: ConsolePlace<'_>) -> Result<ListenAddress, AllocError> {
+    match place {
+        ConsolePlace::Address(address) => Ok(ListenAddress::Address(address)),
+        ConsolePlace::Path(path) => Ok(ListenAddress::Path(String::from_str(alloc, path)?)),
     }
 }
 
@@ -58,11 +50,11 @@ fn listen_addresses_of(
     line: &NodeLine<'_>,
 ) -> Result<Vec<ListenAddress>, AllocError> {
     let mut places = Vec::new(alloc);
-    if let Some(word) = line.console {
-        places.push(listen_address_of(alloc, word)?)?;
+    if let Some(place) = line.console {
+        places.push(listen_address_of(alloc, place)?)?;
     }
-    if let Some(word) = line.second_console {
-        places.push(listen_address_of(alloc, word)?)?;
+    if let Some(place) = line.second_console {
+        places.push(listen_address_of(alloc, place)?)?;
     }
     Ok(places)
 }

@@ -1,7 +1,7 @@
 //! A screen: its tree file is read, its station found, its store opened, and then it looks.
 
-use crate::line::ScreenLine;
-use crate::node::{Opening, address_in, opened};
+use crate::line::{ConsolePlace, ScreenLine};
+use crate::node::{Opening, opened};
 use crate::tree::{read_marked, read_tree};
 use crate::with_orders::{page_bytes, page_with_orders};
 use crate::words::{Words, bytes_of};
@@ -54,10 +54,13 @@ fn kept(text: Vec<u8>) -> Result<Bytes, AllocError> {
 }
 
 /// Where a console is.
-fn console_address_of(alloc: Global, word: &str) -> Result<ConsoleAddress, AllocError> {
-    match address_in(word) {
-        Some(address) => Ok(ConsoleAddress::Address(address)),
-        None => Ok(ConsoleAddress::Path(String::from_str(alloc, word)?)),
+fn console_address_of(
+    alloc: Global,
+    place: ConsolePlace<'_>,
+) -> Result<ConsoleAddress, AllocError> {
+    match place {
+        ConsolePlace::Address(address) => Ok(ConsoleAddress::Address(address)),
+        ConsolePlace::Path(path) => Ok(ConsoleAddress::Path(String::from_str(alloc, path)?)),
     }
 }
 
@@ -69,14 +72,18 @@ struct Keyed {
     console: ConsoleAddress,
 }
 
-/// A page that may give orders by a key of these bytes, to the console of this word.
-fn page_with_key(alloc: Global, bytes: [u8; KEY], word: &str) -> Result<Keyed, AllocError> {
+/// A page that may give orders by a key of these bytes, to the console at this place.
+fn page_with_key(
+    alloc: Global,
+    bytes: [u8; KEY],
+    place: ConsolePlace<'_>,
+) -> Result<Keyed, AllocError> {
     let key = key_in(alloc, bytes)?;
     let page = page_with_orders(alloc, key.as_slice())?;
     Ok(Keyed {
         page: kept(page)?,
         key: kept(key)?,
-        console: console_address_of(alloc, word)?,
+        console: console_address_of(alloc, place)?,
     })
 }
 
@@ -96,18 +103,18 @@ fn random<H: RandomSource, F: Write>(host: &H, faults: &mut F) -> Result<[u8; KE
     }
 }
 
-/// The page of a screen may give orders from now on, to the console of this word.
+/// The page of a screen may give orders from now on, to the console at this place.
 fn with_orders<H: Files + RandomSource + AllocGlobal, F: Write>(
     host: &H,
     words: &Words,
     line: ScreenLine<'_>,
-    word: &str,
+    place: ConsolePlace<'_>,
     setup: &mut ScreenSetup,
     faults: &mut F,
 ) -> Result<(), Status> {
     let bytes = random(host, faults)?;
     let tree = read_tree(host, bytes_of(words, line.tree), faults)?;
-    match page_with_key(host.alloc(), bytes, word) {
+    match page_with_key(host.alloc(), bytes, place) {
         Ok(keyed) => {
             give(setup, keyed, tree);
             Ok(())
@@ -155,8 +162,8 @@ fn looked<
     line: ScreenLine<'_>,
     faults: &mut F,
 ) -> Status {
-    if let Some(word) = line.orders {
-        if let Err(status) = with_orders(host, words, line, word, setup, faults) {
+    if let Some(place) = line.orders {
+        if let Err(status) = with_orders(host, words, line, place, setup, faults) {
             return status;
         }
     }
