@@ -33,6 +33,7 @@ _smi()
     esac
     case ${COMP_WORDS[1]} in
         sim) options='--seed --settle --steps' ;;
+        check) options='--lint' ;;
         node) options='--accept-older --console --endless --open --turns' ;;
         screen) options='--accept-older --endless --host --http --open --orders --turns' ;;
     esac

@@ -138,13 +138,15 @@ def variant_case(name, data):
 
 
 def tree_cases(folder):
-    """What `smi check` says of each tree file."""
+    """What `smi check` says of each tree file, and with `--lint`. A lawful one is told in its line alone without it."""
     for place, (name, data, out, err, status) in enumerate(trees.all_trees()):
         path = os.path.join(folder, str(place))
         with open(path, "wb") as file:
             file.write(data)
-        yield {"name": "tree: " + name, "args": ["check", path], "in": b"", "out": out.encode(), "err": err,
-               "status": status}
+        alone = err if status else ""
+        for form, words, told in [("tree: ", [path], alone), ("linted tree: ", [path, "--lint"], err)]:
+            yield {"name": form + name, "args": ["check", *words], "in": b"", "out": out.encode(), "err": told,
+                   "status": status}
 
 
 def store_cases(folder):

@@ -168,6 +168,7 @@ COMPLETED = [
     (["smi", "node", "nowhere", ""], []),
     (["smi", "node", "-"], ["--accept-older", "--console", "--endless", "--open", "--turns"]),
     (["smi", "screen", "-"], ["--accept-older", "--endless", "--host", "--http", "--open", "--orders", "--turns"]),
+    (["smi", "check", "--"], ["--lint"]),
     (["smi", "screen", "--http", "127.0.0.1:80", "three.tree", "B"], ["B"]),
     (["smi", "sim", "--s"], ["--seed", "--settle", "--steps"]),
     (["smi", "sim", "--seed", ""], []), (["smi", "rows", "-"], []),

@@ -9,25 +9,45 @@ use smi_tree::{Tree, TreeFault};
 use std::alloc::Global;
 use std::io::Write;
 
+/// What is told of a lawful tree file.
+#[derive(Clone, Copy)]
+enum Wanted {
+    /// What it declares.
+    Counts,
+    /// And then what is surely not meant.
+    Lints,
+}
+
 /// Tells how many stations, operators, domains and devices a tree file has, or the line of its first
-/// fault and the fault's number on `faults`, and answers the exit status. Of a lawful file it also tells
-/// on `faults` what is surely not meant (docs/FORMATS.md, "Doubts"), which does not change the status.
+/// fault and the fault's number on `faults`, and answers the exit status.
 ///
-/// It is 0 where the file is one and the line is written, 1 where the file is refused, 3 where the
-/// line could not be written, and 4 where memory ran out. (docs/FORMATS.md, "The tree file".)
+/// It is 0 if the file is one and the line is written, 1 if the file is refused, 3 if the line could not be written, and
+/// 4 if memory ran out. (docs/FORMATS.md, "The tree file".)
 pub fn check<W: Write, F: Write>(alloc: Global, bytes: &[u8], writer: &mut W, faults: &mut F) -> u8
     ensures accepted { result ≡ 0 → IsOk (tree_of bytes.now) }
     ensures refused { result ≡ 1 → IsErr (tree_of bytes.now) }
     ensures unwritten { result ≡ 3 → IsOk (tree_of bytes.now) }
     ensures other { (result ≡ 0) ⊎ (result ≡ 1) ⊎ (result ≡ 3) ⊎ (result ≡ 4) }
 {
-    checked(alloc, bytes, writer, faults).code()
+    checked(alloc, bytes, Wanted::Counts, writer, faults).code()
 }
 
-// It drops the tree in one place: each is dear to prove.
+/// Tells the same as [`check`], and of a lawful file also on `faults` what in it is surely not meant (docs/FORMATS.md,
+/// "Doubts"), which does not change the status.
+pub fn lint<W: Write, F: Write>(alloc: Global, bytes: &[u8], writer: &mut W, faults: &mut F) -> u8
+    ensures accepted { result ≡ 0 → IsOk (tree_of bytes.now) }
+    ensures refused { result ≡ 1 → IsErr (tree_of bytes.now) }
+    ensures unwritten { result ≡ 3 → IsOk (tree_of bytes.now) }
+    ensures other { (result ≡ 0) ⊎ (result ≡ 1) ⊎ (result ≡ 3) ⊎ (result ≡ 4) }
+{
+    checked(alloc, bytes, Wanted::Lints, writer, faults).code()
+}
+
+// It drops the tree in one place: each is expensive to prove.
 fn checked<W: Write, F: Write>(
     alloc: Global,
     bytes: &[u8],
+    wanted: Wanted,
     writer: &mut W,
     faults: &mut F,
 ) -> Status
@@ -37,7 +57,7 @@ fn checked<W: Write, F: Write>(
     ensures line { result ≢ Status.WrongLine }
 {
     match Tree::read(alloc, bytes) {
-        Ok(tree) => print_counts(&tree, writer, faults),
+        Ok(tree) => print_wanted(&tree, wanted, writer, faults),
         Err(TreeFault::Line(line, fault)) => {
             let _ = writeln!(faults, "tree line {line} fault {fault}");
             Status::Refused
@@ -46,8 +66,13 @@ fn checked<W: Write, F: Write>(
     }
 }
 
-/// Tells what the tree has, and then on `faults` what in it is surely not meant.
-fn print_counts<W: Write, F: Write>(tree: &Tree, writer: &mut W, faults: &mut F) -> Status
+/// Tells what the tree has, and then, if that is wanted, on `faults` what in it is surely not meant.
+fn print_wanted<W: Write, F: Write>(
+    tree: &Tree,
+    wanted: Wanted,
+    writer: &mut W,
+    faults: &mut F,
+) -> Status
     ensures refused { result ≢ Status.Refused }
     ensures line { result ≢ Status.WrongLine }
 {
@@ -63,6 +88,9 @@ fn print_counts<W: Write, F: Write>(tree: &Tree, writer: &mut W, faults: &mut F)
     if written.is_err() || writer.flush().is_err() {
         return write_fault(faults);
     }
-    tell(tree, faults);
+    match wanted {
+        Wanted::Counts => {}
+        Wanted::Lints => tell(tree, faults),
+    }
     Status::Done
 }

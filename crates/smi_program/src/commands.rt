@@ -1,13 +1,13 @@
 //! The commands, over any files, input and outputs.
 
-use crate::line::{CommandLine, line_of};
+use crate::line::{CheckLine, CommandLine, line_of};
 use crate::node::run_node;
 use crate::screen::run_screen;
 use crate::sim::simulate;
 use crate::tree::tree_bytes;
 use crate::words::{Words, bytes_of};
 use smi_commands::answer::{Answered, answer};
-use smi_commands::check::check;
+use smi_commands::check::{check, lint};
 use smi_commands::rows::Listed;
 use smi_commands::status::{Status, no_memory, read_fault, store_fault, write_fault, wrong_line};
 use smi_console::Console;
@@ -47,7 +47,7 @@ pub fn program<
             let (mut reader, mut writer) = (reader, writer);
             print_answered(answer(&mut reader, &mut writer), faults).code()
         }
-        CommandLine::Check(path) => check_file(host, bytes_of(words, path), writer, faults),
+        CommandLine::Check(line) => check_file(host, words, line, writer, faults),
         CommandLine::Rows(path) => list_rows(host, bytes_of(words, path), writer, faults).code(),
         CommandLine::Sim(line) => simulate(host, words, line, writer, faults),
         CommandLine::Node(line) => {
@@ -79,17 +79,19 @@ fn print_answered<F: Write>(answered: Answered, faults: &mut F) -> Status {
 
 fn check_file<H: Files + AllocGlobal, W: Write + Drop, F: Write>(
     host: &H,
-    path: &[u8],
+    words: &Words,
+    line: CheckLine<'_>,
     writer: W,
     faults: &mut F,
 ) -> u8 {
     let alloc = host.alloc();
-    let bytes = match tree_bytes(host, path) {
+    let bytes = match tree_bytes(host, bytes_of(words, line.tree)) {
         Ok(bytes) => bytes,
         Err(e) if e.kind() == ErrorKind::OutOfMemory => return no_memory(faults).code(),
         Err(_) => return read_fault(faults).code(),
     };
     match BufWriter::new(alloc, writer) {
+        Ok(mut writer) if line.lints => lint(alloc, bytes.as_slice(), &mut writer, faults),
         Ok(mut writer) => check(alloc, bytes.as_slice(), &mut writer, faults),
         Err(_) => no_memory(faults).code(),
     }

@@ -17,8 +17,8 @@ const MOST_STEPS: u64 = 1_000_000;
 pub enum CommandLine<'a> {
     /// Answer the datagrams of the standard input.
     Answer,
-    /// Check the tree file of this path.
-    Check(&'a str),
+    /// Check a tree file.
+    Check(CheckLine<'a>),
     /// List the rows of the store of this path.
     Rows(&'a str),
     /// Simulate a schedule.
@@ -31,6 +31,13 @@ pub enum CommandLine<'a> {
     Wrong,
     /// There was no memory to read the words.
     NoMemory,
+}
+
+/// A check: the path of its tree, and whether it tells what is lawful there and surely not meant.
+#[derive(Clone, Copy)]
+pub struct CheckLine<'a> {
+    pub tree: &'a str,
+    pub lints: bool,
 }
 
 /// A simulation: the path of its tree, its schedule, and whether it goes on until nothing is under way.
@@ -111,9 +118,7 @@ fn parsed<'a>(alloc: Global, words: &'a [String]) -> Result<CommandLine<'a>, Err
 fn line_in<'a>(matches: &ArgMatches<'a>) -> CommandLine<'a> {
     match matches.subcommand() {
         Some(("answer", _)) => CommandLine::Answer,
-        Some(("check", given)) => given
-            .get_str("TREE")
-            .map_or(CommandLine::Wrong, CommandLine::Check),
+        Some(("check", given)) => check_line(given).map_or(CommandLine::Wrong, CommandLine::Check),
         Some(("rows", given)) => given
             .get_str("STORE")
             .map_or(CommandLine::Wrong, CommandLine::Rows),
@@ -145,7 +150,15 @@ fn with_form<'a>(
 }
 
 fn check_command<'a>(alloc: Global) -> Result<Command<'a>, Error> {
-    with_word(alloc, Command::new(alloc, "check"), "TREE")
+    let form = with_word(alloc, Command::new(alloc, "check"), "TREE")?;
+    Ok(form.arg(flag(alloc, "lint"))?)
+}
+
+fn check_line<'a>(given: &ArgMatches<'a>) -> Option<CheckLine<'a>> {
+    Some(CheckLine {
+        tree: given.get_str("TREE")?,
+        lints: given.get_flag("lint"),
+    })
 }
 
 fn rows_command<'a>(alloc: Global) -> Result<Command<'a>, Error> {
