@@ -528,6 +528,23 @@ def counts_of(node):
     return dict(zip(words[2::2], map(int, words[3::2])))
 
 
+def drops_of(port):
+    """How many datagrams the system has dropped at a port of this machine, by its own table."""
+    with open("/proc/net/udp", encoding="ascii") as file:
+        lines = [line.split() for line in file][1:]
+    return sum(int(words[-1]) for words in lines if words[1] == "0100007F:%04X" % port)
+
+
+def drowned(node, port):
+    """How many datagrams are dropped while a node stands still and more are sent than there is room for."""
+    node.child.send_signal(signal.SIGSTOP)
+    with socket.socket(socket.AF_INET, socket.SOCK_DGRAM) as other:
+        for _ in range(20_000):
+            other.sendto(b"x", ("127.0.0.1", port))
+    node.child.send_signal(signal.SIGCONT)
+    return drops_of(port)
+
+
 def count_cases(program, folder):
     """What a node counts: each number rises by what was done to it."""
     ports = free_ports(2)
@@ -535,7 +552,7 @@ def count_cases(program, folder):
     first, begun = counts_of(node), time.monotonic()
     names = ["received", "sent", "unsent", "ticks", "faults", "saved", "unsaved", "unmade"]
     names += ["refused%d" % refusal for refusal in [*range(1, 10), *range(21, 27)]]
-    yield verdict.case("names of counts", list(first), names)
+    yield verdict.case("names of counts", list(first), names + ["dropped"])
     ask = bytes.fromhex("534d01010002000100010000" + "00" * 18 + "0011" + "00" * 12)
     refused = {1: b"x" * 43, 2: b"T" + ask[1:], 3: ask[:2] + b"\x03" + ask[3:], 4: ask[:3] + b"\x09" + ask[4:],
                5: ask[:9] + b"\x00" + ask[10:], 6: ask[:43] + b"\x01", 7: ask[:31] + b"\x12" + ask[32:],
@@ -569,6 +586,11 @@ def count_cases(program, folder):
     # and the TELL to B. Counts that are read one after the other may differ by one.
     went = risen["sent"] + risen["unsent"] - risen["ticks"] - more
     yield verdict.case("datagrams that went are counted", went, (4, 5, 6), "in")
+    yield verdict.case("none was dropped", [later["dropped"], drops_of(ports[0])], [0, 0])
+    flooded = drowned(node, ports[0])
+    yield "datagrams for which there is no room are dropped", flooded > 0
+    time.sleep(1.5)
+    yield verdict.case("and told as the system counts them", counts_of(node)["dropped"], drops_of(ports[0]))
     node.kill()
 
 

@@ -4,6 +4,7 @@ use crate::bell::Bell;
 use crate::hall::Hall;
 use crate::outlet::Outlet;
 use crate::reading::{Input, InputEnd};
+use crate::socket_drops::SocketDrops;
 use crossbeam_channel::Receiver;
 use smi_base::write_whole;
 use smi_commands::status::{no_memory, read_fault, write_fault};
@@ -34,6 +35,8 @@ pub(crate) struct Attendant<G: Showing + Drop> {
     pub(crate) news: Receiver<StationNews>,
     /// Whether the standard input is heard no more.
     pub(crate) is_plain_over: bool,
+    /// What the system drops of the datagrams to the node.
+    pub(crate) drops: SocketDrops,
 }
 
 impl<G: Showing + Drop> Attendant<G> {
@@ -61,6 +64,14 @@ impl<G: Showing + Drop> Attendant<G> {
                     None => break,
                 }
             }
+        }
+    }
+
+    /// Notes what the system has dropped, if it is time to look.
+    fn note_drops(&mut self, now: Option<Instant>) {
+        if self.drops.is_due(now) {
+            let drops = self.drops.read(now);
+            self.front.note_drops(drops);
         }
     }
 
@@ -180,6 +191,7 @@ fn round<G: Showing + Drop, R: Wait + Clock, F: Write>(
     faults: &mut F,
 ) -> bool {
     let now = Instant::now(rt).ok();
+    attendant.note_drops(now);
     let has_more_news = attendant.note_news(rt);
     attendant.tell_answers(tree);
     let has_more_lines = attend_plain(rt, tree, now, attendant, faults);

@@ -50,6 +50,7 @@ mod reading;
 mod running;
 mod service;
 mod side;
+mod socket_drops;
 mod starting;
 
 pub use doors::ListenAddress;

@@ -7,6 +7,7 @@ use crate::hall::Hall;
 use crate::outlet::{Outlet, open_outlet, write_all};
 use crate::reading::{Input, read_all};
 use crate::running::NodeSetup;
+use crate::socket_drops::SocketDrops;
 use crossbeam_channel::{Receiver, Sender, bounded};
 use smi_front::{Front, Showing, StationNews, boxed};
 use std::alloc::{AllocError, Global};
@@ -99,6 +100,7 @@ fn attendant_of<G: Showing + Drop>(
     outlet: Outlet,
     lines: Receiver<Input>,
     news: Receiver<StationNews>,
+    drops: SocketDrops,
 ) -> Result<Box<Attendant<G>>, AllocError> {
     let Lobby { front, hall, bell } = lobby;
     let attendant = Attendant {
@@ -109,6 +111,7 @@ fn attendant_of<G: Showing + Drop>(
         lines,
         news,
         is_plain_over: false,
+        drops,
     };
     boxed(alloc, attendant)
 }
@@ -127,7 +130,8 @@ fn begin_front<
     faults: E,
 ) -> Result<Sender<StationNews>, AllocError> {
     let (sender, news) = bounded(rt.alloc(), NEWS)?;
-    let attendant = attendant_of(rt.alloc(), lobby, outlet, lines, news)?;
+    let drops = SocketDrops::of(rt.alloc(), setup)?;
+    let attendant = attendant_of(rt.alloc(), lobby, outlet, lines, news, drops)?;
     begin_attending(rt, setup, attendant, faults)?;
     Ok(sender)
 }

@@ -35,6 +35,8 @@ pub struct Front<G: Showing + Drop> {
     glance: G,
     pub(crate) counts: Arc<Counts, Global>,
     pub(crate) picture: Picture,
+    /// How many datagrams to the node the system has dropped, as far as it tells.
+    pub(crate) drops: Option<u64>,
     /// What the station told since that was last forgotten.
     news: Vec<StationNews>,
     pub(crate) text: Vec<u8>,
@@ -105,11 +107,19 @@ impl<G: Showing + Drop> Front<G> {
             glance,
             counts,
             picture,
+            drops: None,
             news: Vec::new(alloc),
             text: Vec::new(alloc),
             alloc,
         };
         boxed(alloc, front)
+    }
+
+    /// Notes how many datagrams to the node the system has dropped, as far as it tells.
+    pub fn note_drops(&mut self, drops: Option<u64>)
+        ensures { self.new ≡ self.old }
+    {
+        self.drops = drops;
     }
 
     /// Whether an order was given since this was last asked: then the station is to look at its seats.

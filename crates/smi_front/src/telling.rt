@@ -106,6 +106,17 @@ fn tell_count(
     }
 }
 
+/// Puts what the system has dropped behind the numbers of the node, in their line.
+fn add_drops(text: &mut Vec<u8>, drops: Option<u64>) -> Result<(), AllocError> {
+    match drops {
+        Some(drops) => {
+            let _ = text.pop();
+            writeln!(text, " dropped {drops}").map_err(|_| AllocError)
+        }
+        None => Ok(()),
+    }
+}
+
 /// Lists the orders of a wicket that are under way, and answers how many they are. Reports are not listed.
 fn list_given(
     text: &mut Vec<u8>,
@@ -239,6 +250,7 @@ impl<G: Showing + Drop> Front<G> {
         match whole {
             Whole::Counts => {
                 self.counts.spell(text)?;
+                add_drops(text, self.drops)?;
                 caller.say(tag, text.as_slice())
             }
             Whole::UnderWay => {
