@@ -11,7 +11,7 @@ use std::io::Write;
 
 /// What is told of a lawful tree file.
 #[derive(Clone, Copy)]
-enum Wanted {
+enum CheckDetail {
     /// What it declares.
     Counts,
     /// And then what is surely not meant.
@@ -29,7 +29,7 @@ pub fn check<W: Write, F: Write>(alloc: Global, bytes: &[u8], writer: &mut W, fa
     ensures unwritten { result ≡ 3 → IsOk (tree_of bytes.now) }
     ensures other { (result ≡ 0) ⊎ (result ≡ 1) ⊎ (result ≡ 3) ⊎ (result ≡ 4) }
 {
-    checked(alloc, bytes, Wanted::Counts, writer, faults).code()
+    checked(alloc, bytes, CheckDetail::Counts, writer, faults).code()
 }
 
 /// Tells the same as [`check`], and of a lawful file also on `faults` what in it is surely not meant (docs/FORMATS.md,
@@ -40,14 +40,14 @@ pub fn lint<W: Write, F: Write>(alloc: Global, bytes: &[u8], writer: &mut W, fau
     ensures unwritten { result ≡ 3 → IsOk (tree_of bytes.now) }
     ensures other { (result ≡ 0) ⊎ (result ≡ 1) ⊎ (result ≡ 3) ⊎ (result ≡ 4) }
 {
-    checked(alloc, bytes, Wanted::Lints, writer, faults).code()
+    checked(alloc, bytes, CheckDetail::Lints, writer, faults).code()
 }
 
 // It drops the tree in one place: each is expensive to prove.
 fn checked<W: Write, F: Write>(
     alloc: Global,
     bytes: &[u8],
-    wanted: Wanted,
+    wanted: CheckDetail,
     writer: &mut W,
     faults: &mut F,
 ) -> Status
@@ -69,7 +69,7 @@ fn checked<W: Write, F: Write>(
 /// Tells what the tree has, and then, if that is wanted, on `faults` what in it is surely not meant.
 fn print_wanted<W: Write, F: Write>(
     tree: &Tree,
-    wanted: Wanted,
+    wanted: CheckDetail,
     writer: &mut W,
     faults: &mut F,
 ) -> Status
@@ -89,8 +89,8 @@ fn print_wanted<W: Write, F: Write>(
         return write_fault(faults);
     }
     match wanted {
-        Wanted::Counts => {}
-        Wanted::Lints => tell(tree, faults),
+        CheckDetail::Counts => {}
+        CheckDetail::Lints => tell(tree, faults),
     }
     Status::Done
 }

@@ -8,20 +8,20 @@ use Rattle.smi_rows.specs.declared.key.RowKind.{RowKind}
 use Rattle.smi_rows.specs.declared.key.RowKind.TheVariants.{Boot, Domain, Operator}
 use Rattle.smi_disks.specs.Mark.{mark_bytes}
 use Rattle.smi_disks.specs.declared.mark.TreeMark.{TreeMark}
-use Rattle.smi_disks.specs.declared.label.Start.{Start}
+use Rattle.smi_disks.specs.declared.label.LastStart.{LastStart}
 use Rattle.smi_disks.specs.declared.label.StoreLabel.{StoreLabel}
 use Rattle.smi_disks.specs.declared.label.StoreAge.{StoreAge}
 use Rattle.smi_disks.specs.declared.label.StoreAge.TheVariants.{Current, Empty, Older}
 
 -- the station and the boot, each with the most significant byte first
-abbrev pub start_bytes : Start → List ℕ
+abbrev pub start_bytes : LastStart → List ℕ
 start_bytes s = to_be_bytes w16 s.station ++ to_be_bytes w32 s.boot
 
 -- the mark of the tree, and behind it the last start
-abbrev pub with_start : TreeMark → Start → List ℕ
+abbrev pub with_start : TreeMark → LastStart → List ℕ
 with_start tree start = mark_bytes tree ++ start_bytes start
 
-abbrev pub spelled_so : TreeMark → Option Start → List ℕ
+abbrev pub spelled_so : TreeMark → Option LastStart → List ℕ
 spelled_so tree None = mark_bytes tree
 spelled_so tree (Some start) = with_start tree start
 
@@ -30,7 +30,7 @@ abbrev pub spelled : StoreLabel → List ℕ
 spelled label = spelled_so label.tree label.last
 
 -- the boot of a start of this station
-abbrev pub boot_of : ℕ → Option Start → Option ℕ
+abbrev pub boot_of : ℕ → Option LastStart → Option ℕ
 boot_of station None = None
 boot_of station (Some start) = if start.station == station then Some start.boot else None
 
@@ -43,7 +43,7 @@ age None stored = Current
 age (Some boot) None = Empty
 age (Some boot) (Some stored) = if nat_lt stored boot then Older else Current
 
-abbrev pub start_so : ℕ → Option RowKind → List ℕ → Option Start
+abbrev pub start_so : ℕ → Option RowKind → List ℕ → Option LastStart
 start_so station None row = None
 start_so station (Some Domain) row = None
 start_so station (Some Operator) row = None
@@ -51,5 +51,5 @@ start_so station (Some Boot) row =
     if nat_le 8 (length row) then Some (record { station = station; boot = u32_at row 4 }) else None
 
 -- the start that a row is of, which a boot row alone is
-abbrev pub start_in : Key → List ℕ → Option Start
+abbrev pub start_in : Key → List ℕ → Option LastStart
 start_in key row = start_so key.station (kind_of key) row

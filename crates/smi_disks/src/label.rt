@@ -12,9 +12,9 @@ const START_BYTES: usize = 6;
 /// How many bytes a label has that names the last start. One that names none has those of a mark.
 pub const LABEL_BYTES: usize = MARK_BYTES + START_BYTES;
 
-/// A start of a station.
+/// The last start on a store: its station, and the boot that this gave it.
 #[derive(Clone, Copy, Debug, PartialEq, Eq)]
-pub struct Start {
+pub struct LastStart {
     pub station: u16,
     pub boot: u32,
 }
@@ -23,7 +23,7 @@ pub struct Start {
 #[derive(Clone, Copy, Debug, PartialEq, Eq)]
 pub struct StoreLabel {
     pub tree: TreeMark,
-    pub last: Option<Start>,
+    pub last: Option<LastStart>,
 }
 
 /// How old the rows of a store are by its label.
@@ -37,7 +37,7 @@ pub enum StoreAge {
     Older,
 }
 
-impl Start {
+impl LastStart {
     ghost use Rattle.std.specs.Prelude.{◌≡◌};
     ghost use Rattle.smi_disks.specs.Label.{start_bytes};
 
@@ -52,11 +52,11 @@ impl Start {
     }
 
     /// Returns the start that has these bytes.
-    fn of(bytes: [u8; START_BYTES]) -> Start
+    fn of(bytes: [u8; START_BYTES]) -> LastStart
         ensures { bytes ≡ start_bytes result }
     {
         let (station, boot) = bytes.split_at(2);
-        Start {
+        LastStart {
             station: u16::from_be_bytes([station[0], station[1]]),
             boot: u32::from_be_bytes([boot[0], boot[1], boot[2], boot[3]]),
         }
@@ -66,7 +66,7 @@ impl Start {
 /// Returns the bytes of a label that names the last start (docs/FORMATS.md, "The label of a store").
 ///
 /// Its error is that memory was refused.
-pub fn label_bytes(alloc: Global, tree: &TreeMark, last: Start) -> Result<Vec<u8>, AllocError>
+pub fn label_bytes(alloc: Global, tree: &TreeMark, last: LastStart) -> Result<Vec<u8>, AllocError>
     ensures { IfOk result (λ bytes. bytes.items ≡ spec.with_start tree.now last) }
 {
     let mut bytes = Vec::from_slice(alloc, &tree.bytes())?;
@@ -106,7 +106,7 @@ impl StoreLabel {
         last.copy_from_slice(start);
         Some(StoreLabel {
             tree,
-            last: Some(Start::of(last)),
+            last: Some(LastStart::of(last)),
         })
     }
 

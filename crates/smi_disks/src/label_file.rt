@@ -1,7 +1,7 @@
 //! The file that has the label of a store.
 
 use crate::file::{beside, bytes_of};
-use crate::label::{Start, StoreLabel, label_bytes};
+use crate::label::{LastStart, StoreLabel, label_bytes};
 use crate::mark::TreeMark;
 use std::fs::{self, File, OpenFile};
 use std::io::{self, ErrorKind, Write};
@@ -47,7 +47,7 @@ pub(crate) fn put_label<H: Files + AllocGlobal>(
     host: &H,
     store: &str,
     tree: &TreeMark,
-    last: Start,
+    last: LastStart,
 ) -> io::Result<()> {
     let unfinished = beside(host.alloc(), store.as_bytes(), UNFINISHED)?;
     let finished = beside(host.alloc(), store.as_bytes(), LABEL)?;

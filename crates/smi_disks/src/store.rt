@@ -147,7 +147,7 @@ fn watched<S: Alter>(
     station: u16,
 ) -> Result<OpenStore<Watched<SqliteStable<S>, StoreFiles<HostRuntime>>>, StoreFault>
 where
-    Connection<S>: Ends,
+    Connection<S>: ConnectionEnd,
 {
     match opened {
         Ok(connection) => {
@@ -165,7 +165,7 @@ fn beside_its_files<S: Alter, P>(
     found: io::Result<(P, LabelSays)>,
 ) -> Result<OpenStore<Watched<SqliteStable<S>, P>>, StoreFault>
 where
-    Connection<S>: Ends,
+    Connection<S>: ConnectionEnd,
 {
     match found {
         Ok((files, says)) => Ok(OpenStore {
@@ -185,7 +185,7 @@ where
 }
 
 /// How a connection ends.
-trait Ends {
+trait ConnectionEnd {
     /// It is closed, as far as that can be done: its log is copied into its file.
     fn end(self);
 
@@ -193,7 +193,7 @@ trait Ends {
     fn abandon(self);
 }
 
-impl Ends for Connection<FileStore<File>> {
+impl ConnectionEnd for Connection<FileStore<File>> {
     fn end(self) {
         let _ = self.close();
     }
@@ -206,7 +206,7 @@ impl Ends for Connection<FileStore<File>> {
 // All three over any store, since each function that names the store of SQLite is expensive to prove.
 fn adopted<S: Alter>(connection: Connection<S>) -> Result<SqliteStable<S>, StoreFault>
 where
-    Connection<S>: Ends,
+    Connection<S>: ConnectionEnd,
 {
     match SqliteStable::adopt(connection) {
         Ok(stable) => Ok(stable),
@@ -219,14 +219,14 @@ where
 
 fn closed<S: Alter>(stable: SqliteStable<S>)
 where
-    Connection<S>: Ends,
+    Connection<S>: ConnectionEnd,
 {
     stable.release().end();
 }
 
 fn given_up<S: Alter>(stable: SqliteStable<S>)
 where
-    Connection<S>: Ends,
+    Connection<S>: ConnectionEnd,
 {
     stable.release().abandon();
 }

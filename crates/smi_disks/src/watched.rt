@@ -3,7 +3,7 @@
 ghost use Rattle.std.specs.Prelude.{◌+◌, ◌≡◌};
 ghost use Rattle.smi_disks.specs.Label.{start_in};
 
-use crate::label::Start;
+use crate::label::LastStart;
 use crate::label_file::put_label;
 use crate::mark::TreeMark;
 use smi_base::{Tally, u32_at};
@@ -21,7 +21,7 @@ pub trait Surroundings {
     fn are_in_place(&self) -> bool;
 
     /// Notes in the label that a station has started. Returns false if that could not be written.
-    fn note(&self, start: Start) -> bool;
+    fn note(&self, start: LastStart) -> bool;
 }
 
 /// Which file of the system a file is.
@@ -88,7 +88,7 @@ impl<H: Files + AllocGlobal + Drop> Surroundings for StoreFiles<H> {
             && self.log.is_at(&self.host, self.log_path.as_str())
     }
 
-    fn note(&self, start: Start) -> bool {
+    fn note(&self, start: LastStart) -> bool {
         put_label(&self.host, self.path.as_str(), &self.tree, start).is_ok()
     }
 }
@@ -171,11 +171,11 @@ impl<S, P: Surroundings> Watched<S, P> {
 }
 
 /// Returns the start that a row is of, if it is a boot row.
-fn start_in(key: Key, bytes: &[u8]) -> Option<Start>
+fn start_in(key: Key, bytes: &[u8]) -> Option<LastStart>
     ensures { result ≡ start_in key bytes.now }
 {
     match key.kind() {
-        Some(RowKind::Boot) if bytes.len() >= BOOT_BYTES => Some(Start {
+        Some(RowKind::Boot) if bytes.len() >= BOOT_BYTES => Some(LastStart {
             station: key.station,
             boot: u32_at(bytes, 4),
         }),

@@ -6,8 +6,8 @@ use Rattle.smi_front.specs.Said.{kind_of}
 use Rattle.smi_front.specs.Whole.{named_by}
 use Rattle.smi_front.specs.declared.asked.Asked.{Asked}
 use Rattle.smi_front.specs.declared.asked.Asked.TheVariants.{Seat, Board, Node, Nothing}
-use Rattle.smi_front.specs.declared.caller.Admission.{Admission}
-use Rattle.smi_front.specs.declared.caller.Admission.TheVariants.{New, Accepted, Refused}
+use Rattle.smi_front.specs.declared.caller.Trust.{Trust}
+use Rattle.smi_front.specs.declared.caller.Trust.TheVariants.{New, Accepted, Refused}
 use Rattle.smi_front.specs.declared.caller.Manners.{Manners}
 use Rattle.smi_front.specs.declared.caller.Manners.TheVariants.{Terse, Wordy}
 
@@ -27,16 +27,16 @@ is_strange Wordy has_tag text = not has_tag && is_foreign text
 
 -- a caller is accepted from its first line that asks anything
 abbrev pub admitting : Asked → Called → Called
-admitting (Seat operator order) c = record c { admission = Accepted }
-admitting (Board object) c = record c { admission = Accepted }
-admitting (Node whole) c = record c { admission = Accepted }
+admitting (Seat operator order) c = record c { trust = Accepted }
+admitting (Board object) c = record c { trust = Accepted }
+admitting (Node whole) c = record c { trust = Accepted }
 admitting Nothing c = c
 
 -- and refused for a strange line before that
-abbrev pub after_fault : Bool → Admission → Admission
+abbrev pub after_fault : Bool → Trust → Trust
 after_fault strange New = if strange then Refused else New
 after_fault strange Accepted = Accepted
 after_fault strange Refused = Refused
 
 abbrev pub judged : Bool → List (List ℕ) → Called → Called
-judged has_tag text c = record c { admission = after_fault (is_strange c.manners has_tag text) c.admission }
+judged has_tag text c = record c { trust = after_fault (is_strange c.manners has_tag text) c.trust }

@@ -5,8 +5,8 @@ use Rattle.std.specs.List.{list_any}
 use Rattle.smi_front.specs.Tag.{tag_text}
 use Rattle.smi_front.specs.declared.tag.Tag.{Tag}
 use Rattle.smi_front.specs.declared.caller.Held.{Held}
-use Rattle.smi_front.specs.declared.caller.Admission.{Admission}
-use Rattle.smi_front.specs.declared.caller.Admission.TheVariants.{New, Accepted, Refused}
+use Rattle.smi_front.specs.declared.caller.Trust.{Trust}
+use Rattle.smi_front.specs.declared.caller.Trust.TheVariants.{New, Accepted, Refused}
 use Rattle.smi_front.specs.declared.caller.Manners.{Manners}
 
 -- a line and its number
@@ -24,7 +24,7 @@ pub record Wished : Type 0 where
 pub record Called : Type 0 where
   pub number : ℕ
   pub manners : Manners
-  pub admission : Admission
+  pub trust : Trust
   pub lines : ℕ
   pub waiting : List LineAt
   pub is_busy : Bool
@@ -39,7 +39,7 @@ abbrev pub called : ℕ → Manners → Called
 called number manners = record {
   number = number;
   manners = manners;
-  admission = New;
+  trust = New;
   lines = 0;
   waiting = [];
   is_busy = false;
@@ -51,7 +51,7 @@ called number manners = record {
 }
 
 -- no line of it is attended to any more
-abbrev pub is_refused : Admission → Bool
+abbrev pub is_refused : Trust → Bool
 is_refused New = false
 is_refused Accepted = false
 is_refused Refused = true
@@ -59,7 +59,7 @@ is_refused Refused = true
 -- a further line is taken if it is not refused, no order is held, fewer than 64 lines wait and at most 16 KiB are untold
 abbrev pub has_room : Called → Bool
 has_room c =
-    not (is_refused c.admission) && is_none c.held && nat_lt (length c.waiting) 64 && nat_le (length c.said) 16384
+    not (is_refused c.trust) && is_none c.held && nat_lt (length c.waiting) 64 && nat_le (length c.said) 16384
 
 abbrev pub are_no_lines : List LineAt → Bool
 are_no_lines [] = true
@@ -71,7 +71,7 @@ is_idle c = not c.is_busy && is_none c.held && are_no_lines c.waiting
 
 -- its first line that waits may be attended to
 abbrev pub may_go_on : Called → Bool
-may_go_on c = not (is_refused c.admission) && not c.is_busy && is_none c.held && not (are_no_lines c.waiting)
+may_go_on c = not (is_refused c.trust) && not c.is_busy && is_none c.held && not (are_no_lines c.waiting)
 
 -- the number of its next line, from 1
 abbrev pub next_line : Called → ℕ

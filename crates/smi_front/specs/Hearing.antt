@@ -122,7 +122,7 @@ HearsUnless true h now line a c b d = (b ≡ a) × (d ≡ c)
 
 -- a line is heard; with one of a caller that is refused nothing is done
 abbrev pub Hears : Hierarchy → Option Instant → List ℕ → Fronted → Called → Fronted → Called → Type 0
-Hears h now line a c b d = HearsUnless (is_refused c.admission) h now line a c b d
+Hears h now line a c b d = HearsUnless (is_refused c.trust) h now line a c b d
 
 -- memory was refused: no order was given, or those of the lines before
 abbrev pub HearsShort : Hierarchy → Option Instant → List ℕ → Fronted → Called → Fronted → Type 0

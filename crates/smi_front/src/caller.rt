@@ -30,7 +30,7 @@ pub enum Manners {
 
 /// What the lines of a caller have shown of it.
 #[derive(Clone, Copy)]
-pub enum Admission {
+pub enum Trust {
     /// No line of it has asked anything yet.
     New,
     /// A line of it has asked something.
@@ -105,7 +105,7 @@ pub struct Held {
 pub struct Caller {
     number: u64,
     manners: Manners,
-    admission: Admission,
+    trust: Trust,
     lines: u64,
     /// The lines without a tag that wait for the answer of the one before.
     waiting: VecDeque<Numbered>,
@@ -126,7 +126,7 @@ impl Model for Caller {
     ghost view = { λ c. record {
       number = c.number;
       manners = c.manners;
-      admission = c.admission;
+      trust = c.trust;
       lines = c.lines;
       waiting = c.waiting.items;
       is_busy = c.is_busy;
@@ -155,7 +155,7 @@ impl Caller {
         Ok(Caller {
             number,
             manners,
-            admission: Admission::New,
+            trust: Trust::New,
             lines: 0,
             waiting: VecDeque::new(alloc),
             is_busy: false,
@@ -183,11 +183,11 @@ impl Caller {
 
     /// Returns true if none of its lines is attended to any more.
     pub fn is_refused(&self) -> bool
-        ensures { result ≡ is_refused self.now.admission }
+        ensures { result ≡ is_refused self.now.trust }
     {
-        match self.admission {
-            Admission::New | Admission::Accepted => false,
-            Admission::Refused => true,
+        match self.trust {
+            Trust::New | Trust::Accepted => false,
+            Trust::Refused => true,
         }
     }
 
@@ -197,8 +197,7 @@ impl Caller {
     {
         match asked {
             Asked::Nothing => {}
-            Asked::Seat(..) | Asked::Board(_) | Asked::Node(_) => self.admission =
-                Admission::Accepted,
+            Asked::Seat(..) | Asked::Board(_) | Asked::Node(_) => self.trust = Trust::Accepted,
         }
     }
 
@@ -207,11 +206,11 @@ impl Caller {
     pub(crate) fn judge(&mut self, has_tag: bool, text: &[u8])
         ensures { self.new ≡ judged has_tag (words text.now) self.old }
     {
-        match self.admission {
-            Admission::New if is_strange(self.manners, has_tag, text) => {
-                self.admission = Admission::Refused;
+        match self.trust {
+            Trust::New if is_strange(self.manners, has_tag, text) => {
+                self.trust = Trust::Refused;
             }
-            Admission::New | Admission::Accepted | Admission::Refused => {}
+            Trust::New | Trust::Accepted | Trust::Refused => {}
         }
     }
 

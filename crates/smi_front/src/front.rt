@@ -82,7 +82,7 @@ fn tell_of(
 impl<G: Showing + Drop> Front<G> {
     ghost use Rattle.std.specs.Prelude.{◌≡◌, ◌≢◌, [], true, false, length, Ok, IfOk, IfSome, IfNone, OnOk, OnErr};
     ghost use Rattle.smi_front.specs.Asked.{asked_in};
-    ghost use Rattle.smi_front.specs.declared.caller.Admission.TheVariants as Admission;
+    ghost use Rattle.smi_front.specs.declared.caller.Trust.TheVariants as Trust;
     ghost use Rattle.smi_front.specs.Caller.{ending, may_go_on, saying};
     ghost use Rattle.smi_front.specs.Front.{fronted, is_new, noted_news, told_text};
     ghost use Rattle.smi_front.specs.Hearing.{Attends, BreaksOff, Does, GoesOn, Hears, HearsLine, HearsShort, Refuses};
@@ -350,7 +350,7 @@ impl<G: Showing + Drop> Front<G> {
     ) -> Result<(), AllocError>
         ensures ok { OnOk result (Hears tree.now now line.items self.old caller.old self.new caller.new) }
         ensures err { OnErr result (HearsShort tree.now now line.items self.old caller.old self.new) }
-        ensures refused { caller.old.admission ≡ Admission.Refused → (self.new ≡ self.old) × (caller.new ≡ caller.old) }
+        ensures refused { caller.old.trust ≡ Trust.Refused → (self.new ≡ self.old) × (caller.new ≡ caller.old) }
     {
         if caller.is_refused() {
             Ok(())

@@ -27,7 +27,7 @@
 //! with a tag is attended to at once. Any other waits behind those before it, and `GoesOn` takes the waiting ones one
 //! after the other, until one holds up the others or 64 were.
 //!
-//! What its lines show of a caller is its `Admission` (`specs/Admitting`): `hear` does nothing with a line of one that is
+//! What its lines show of a caller is its `Trust` (`specs/Admitting`): `hear` does nothing with a line of one that is
 //! refused, and none of its lines that wait is taken.
 //!
 //! `Gives` (`specs/Office`) says what an order comes to. It is submitted once, behind those before it, at the wicket
@@ -83,7 +83,7 @@ mod wicket;
 
 pub use asked::{Asked, asked_in};
 pub use boxes::boxed;
-pub use caller::{Admission, Caller, Held, MOST_UNSENT, Manners, Numbered, Wish};
+pub use caller::{Caller, Held, MOST_UNSENT, Manners, Numbered, Trust, Wish};
 pub use cutter::Cutter;
 pub use done::{Done, done_by};
 pub use front::Front;
