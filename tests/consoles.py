@@ -580,12 +580,12 @@ def open_case(program, folder):
     yield "where nothing is made", not os.path.exists(words[2]) and not os.path.exists(path)
     for more in [["--console", "0.0.0.0:%d" % port, "--open"], ["--open", "--console", "127.0.0.1:%d" % port],
                  ["--console", "127.1.2.3:%d" % port]]:
-        yield verdict.case("a console by " + " ".join(more).replace(str(port), "PORT"), nodes.ran(program, words + more),
-                           ([], [], 0))
+        told = nodes.ran(program, words + more)
+        yield verdict.case("a console by " + " ".join(more).replace(str(port), "PORT"), told, ([], [], 0))
     for word in ["localhost:7001", "[::1]:7001", "127.0.0.1:99999", "127.0.0.1.5:7001", ":7001", "detector.example:1"]:
         told = nodes.ran(program, words + ["--console", word], cwd=folder)
-        yield verdict.case("no file of a console by the name " + word, [told, os.path.exists(os.path.join(folder, word))],
-                           [wrong, False])
+        is_there = os.path.exists(os.path.join(folder, word))
+        yield verdict.case("no file of a console by the name " + word, [told, is_there], [wrong, False])
     for word in ["./localhost:7001", "localhost:", "console:7a"]:
         told = nodes.ran(program, words + ["--console", word], cwd=folder)
         yield verdict.case("but by " + word, [told, os.path.exists(os.path.join(folder, word))], [([], [], 0), True])
@@ -1037,10 +1037,9 @@ def cut_case(program, folder):
     typed.communicate()
 
 
-CASES = [waiting_case, partitions_case, many_case, rude_case, pages_case, comers_case, lines_case, doors_case, open_case,
-         actions_case,
-         missed_case, unread_case, client_case, supply_case, shift_case, people_case, nobody_case, lost_case,
-         cut_case]
+CASES = [waiting_case, partitions_case, many_case, rude_case, pages_case, comers_case, lines_case, doors_case,
+         open_case, actions_case, missed_case, unread_case, client_case, supply_case, shift_case, people_case,
+         nobody_case, lost_case, cut_case]
 
 
 def main():

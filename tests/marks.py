@@ -3,8 +3,8 @@ away, put back or lost.
 
 usage: marks.py SMI [TEXT]
 
-The label is worked out a second time, by docs/FORMATS.md, "The label of a store". With a TEXT only the cases are run whose
-name has it. The last line is 'N passed, M failed'.
+The label is worked out a second time, by docs/FORMATS.md, "The label of a store". With a TEXT only the cases are run
+whose name has it. The last line is 'N passed, M failed'.
 """
 
 import hashlib
@@ -118,7 +118,8 @@ def made_cases(program, folder):
     yield verdict.case("its label", read(room.mark), label_of(room.lines, 1))
     yield "nothing unfinished is left", not os.path.exists(room.mark + "-new")
     moved = changed(room.lines, "127.0.0.1:%d" % room.ports[1], "127.4.5.6:9002")
-    for boot, name, lines in [(2, "the same tree", room.lines), (3, "the same laid out anew", laid_out_anew(room.lines)),
+    other_layout = laid_out_anew(room.lines)
+    for boot, name, lines in [(2, "the same tree", room.lines), (3, "the same in another layout", other_layout),
                               (4, "other addresses", moved)]:
         yield verdict.case(name, [room.begun(lines), read(room.mark)], [WELL, label_of(room.lines, boot)])
     os.remove(room.mark)
@@ -302,7 +303,7 @@ def tail_cases(program, folder):
 
 
 def copied_cases(program, folder):
-    """What was saved before a start is in the file alone once the node has started: the loss of the log is known then."""
+    """What was saved before a start is in the file once the node has started, and needs no log any more."""
     room = Room(program, folder, "copied")
     node = room.node()
     told = node.ask("order ANN take DCS")

@@ -21,8 +21,8 @@ enum CheckDetail {
 /// Tells how many stations, operators, domains and devices a tree file has, or the line of its first
 /// fault and the fault's number on `faults`, and answers the exit status.
 ///
-/// It is 0 if the file is one and the line is written, 1 if the file is refused, 3 if the line could not be written, and
-/// 4 if memory ran out. (docs/FORMATS.md, "The tree file".)
+/// It is 0 if the file is one and the line is written, 1 if the file is refused, 3 if the line could not be written,
+/// and 4 if memory ran out. (docs/FORMATS.md, "The tree file".)
 pub fn check<W: Write, F: Write>(alloc: Global, bytes: &[u8], writer: &mut W, faults: &mut F) -> u8
     ensures accepted { result ≡ 0 → IsOk (tree_of bytes.now) }
     ensures refused { result ≡ 1 → IsErr (tree_of bytes.now) }

@@ -1,9 +1,9 @@
 //! What the commands without stations do, over any reader, writer and store.
 //!
 //! [`answer::answer`] is the keeper of one domain over a reader and a writer: what is written is what the keeper's
-//! rules say of the datagrams read. [`check::check`] tells what a tree file declares, and [`check::lint`] also what in it
-//! is lawful and surely not meant. [`rows::rows`] lists the stable rows of a store. [`status`] has the exit statuses and the lines
-//! on standard error. The command line, the files and SQLite stand in crates above.
+//! rules say of the datagrams read. [`check::check`] tells what a tree file declares, and [`check::lint`] also what in
+//! it is lawful and surely not meant. [`rows::rows`] lists the stable rows of a store. [`status`] has the exit statuses
+//! and the lines on standard error. The command line, the files and SQLite stand in crates above.
 //!
 //! There are three kinds of doubts about a tree: a station with the address of another (`twin_addresses`), an action
 //! that a unit accepts and that moves no device (`idle_actions`), and a state that nothing leads to
@@ -15,8 +15,8 @@
 //!
 //! ## Checking a tree file
 //!
-//! `check` and `lint` answer status 0 or 3 only for a file that `tree_of` accepts, 1 only for one that it refuses, and nothing
-//! else but 4. The printed line and the fault's line are tested.
+//! `check` and `lint` answer status 0 or 3 only for a file that `tree_of` accepts, 1 only for one that it refuses, and
+//! nothing else but 4. The printed line and the fault's line are tested.
 //!
 //! ## Listing the rows of a store
 //!

@@ -1,10 +1,10 @@
 //! The label of a store: what is in the file beside it.
 
-ghost use Rattle.std.specs.Prelude.{◌≡◌, IfOk};
+ghost use Rattle.std.specs.Prelude.{◌≡◌, OnOk};
 ghost use Rattle.smi_disks.specs.Label as spec;
 
 use crate::mark::{MARK_BYTES, TreeMark};
-use std::alloc::{AllocError, Global};
+use std::alloc::AllocError;
 
 /// How many bytes say which start was the last one.
 const START_BYTES: usize = 6;
@@ -63,15 +63,16 @@ impl LastStart {
     }
 }
 
-/// Returns the bytes of a label that names the last start (docs/FORMATS.md, "The label of a store").
+/// Puts the bytes of a label that names the last start into a text, in place of what was there (docs/FORMATS.md, "The
+/// label of a store").
 ///
 /// Its error is that memory was refused.
-pub fn label_bytes(alloc: Global, tree: &TreeMark, last: LastStart) -> Result<Vec<u8>, AllocError>
-    ensures { IfOk result (λ bytes. bytes.items ≡ spec.with_start tree.now last) }
+pub fn spell_label(text: &mut Vec<u8>, tree: &TreeMark, last: LastStart) -> Result<(), AllocError>
+    ensures { OnOk result (text.new.items ≡ spec.with_start tree.now last) }
 {
-    let mut bytes = Vec::from_slice(alloc, &tree.bytes())?;
-    bytes.extend_from_slice(&last.bytes())?;
-    Ok(bytes)
+    text.clear();
+    text.extend_from_slice(&tree.bytes())?;
+    text.extend_from_slice(&last.bytes())
 }
 
 /// Returns how old rows are by a label: by the boot that it notes of their station and the one that their boot row has,

@@ -23,7 +23,7 @@ mod store;
 mod watched;
 
 pub use file::{beside, bytes_of, open, resolved};
-pub use label::{LABEL_BYTES, LastStart, StoreAge, StoreLabel, age, label_bytes};
+pub use label::{LABEL_BYTES, LastStart, StoreAge, StoreLabel, age, spell_label};
 pub use label_file::LabelFound;
 pub use listing::list;
 pub use mark::{Kinship, MARK_BYTES, TreeMark, compare};

@@ -32,9 +32,9 @@ pub trait Stores {
     /// Writes the rows of a store, a line each.
     fn list<W: Write>(&self, path: &[u8], writer: &mut W) -> Listed;
 
-    /// Opens a store for a station of this tree, or makes it, for one who writes it alone: while it is open, nobody else
-    /// can open it so. If its files are taken away meanwhile, the next save is unsure. A boot row that is saved is noted in
-    /// its label, which names the tree that it named before, or else this one.
+    /// Opens a store for a station of this tree, or makes it, for one who writes it alone: while it is open, nobody
+    /// else can open it so. If its files are taken away meanwhile, the next save is unsure. A boot row that is saved is
+    /// noted in its label, which names the tree that it named before, or else this one.
     fn open(
         &self,
         path: &[u8],
@@ -42,8 +42,8 @@ pub trait Stores {
         station: u16,
     ) -> Result<OpenStore<Self::Open>, StoreFault>;
 
-    /// Closes a store: its log is copied into its file, as far as that can be done. One whose files are gone is given up
-    /// as it is.
+    /// Closes a store: its log is copied into its file, as far as that can be done. One whose files are gone is given
+    /// up as it is.
     fn close(&self, stable: Self::Open);
 
     /// Gives a store up as it is: nothing is written.

@@ -4,7 +4,7 @@ ghost use Rattle.std.specs.Prelude.{◌+◌, ◌≡◌};
 ghost use Rattle.smi_disks.specs.Label.{start_in};
 
 use crate::label::LastStart;
-use crate::label_file::put_label;
+use crate::label_file::LabelFile;
 use crate::mark::TreeMark;
 use smi_base::{Tally, u32_at};
 use smi_rows::{Key, RowKind, SavedRow, Stable, StoreFault};
@@ -21,7 +21,7 @@ pub trait Surroundings {
     fn are_in_place(&self) -> bool;
 
     /// Notes in the label that a station has started. Returns false if that could not be written.
-    fn note(&self, start: LastStart) -> bool;
+    fn note(&mut self, start: LastStart) -> bool;
 }
 
 /// Which file of the system a file is.
@@ -58,10 +58,11 @@ pub struct StoreFiles<H> {
     log_path: String,
     file: FileId,
     log: FileId,
+    label: LabelFile,
     tree: TreeMark,
 }
 
-impl<H: Files + Drop> StoreFiles<H> {
+impl<H: Files + AllocGlobal + Drop> StoreFiles<H> {
     /// Returns the files that are at these paths now: that of a store, and that of its log.
     pub fn of(
         host: H,
@@ -71,31 +72,35 @@ impl<H: Files + Drop> StoreFiles<H> {
     ) -> io::Result<StoreFiles<H>> {
         let file = FileId::of(&host, path.as_str())?;
         let log = FileId::of(&host, log_path.as_str())?;
+        let label = LabelFile::of(host.alloc(), path.as_str())?;
         Ok(StoreFiles {
             host,
             path,
             log_path,
             file,
             log,
+            label,
             tree,
         })
     }
 }
 
-impl<H: Files + AllocGlobal + Drop> Surroundings for StoreFiles<H> {
+impl<H: Files + Drop> Surroundings for StoreFiles<H> {
     fn are_in_place(&self) -> bool {
         self.file.is_at(&self.host, self.path.as_str())
             && self.log.is_at(&self.host, self.log_path.as_str())
     }
 
-    fn note(&self, start: LastStart) -> bool {
-        put_label(&self.host, self.path.as_str(), &self.tree, start).is_ok()
+    fn note(&mut self, start: LastStart) -> bool {
+        let (host, path) = (&self.host, self.path.as_str());
+        self.label.put(host, path, &self.tree, start).is_ok()
     }
 }
 
 /// A store that saves only while its files are where they were, and notes each start in its label. If a file is gone, a
-/// save is answered `Unsure` and nothing is written, so that the station stops: rows in a file that nobody can open again
-/// would be lost at its next start. If a start could not be noted, its boot row is saved, and `Unsure` is answered too.
+/// save is answered `Unsure` and nothing is written, so that the station stops: rows in a file that nobody can open
+/// again would be lost at its next start. If a start could not be noted, its boot row is saved, and `Unsure` is answered
+/// too.
 #[derive(Drop)]
 pub struct Watched<S, P> {
     pub store: S,

@@ -253,8 +253,8 @@ fn is_like_an_address(word: &str) -> bool {
     }
 }
 
-/// Returns the place of a console that a word names. None if it reads as a host and a port and is no address: nobody who
-/// types `localhost:7001` means a file of that name.
+/// Returns the place of a console that a word names. None if it reads as a host and a port and is no address: nobody
+/// who types `localhost:7001` means a file of that name.
 fn console_place(word: &str) -> Option<ConsolePlace<'_>> {
     match word.parse::<SocketAddrV4>() {
         Ok(address) => Some(ConsolePlace::Address(SocketAddr::V4(address))),
@@ -263,8 +263,8 @@ fn console_place(word: &str) -> Option<ConsolePlace<'_>> {
     }
 }
 
-/// Returns the place at which a node listens that a word names. None also if other machines reach it and the node is not
-/// open to them: who reaches a console may order, and nobody is asked who he is.
+/// Returns the place at which a node listens that a word names. None also if other machines reach it and the node is
+/// not open to them: who reaches a console may order, and nobody is asked who he is.
 fn listening_place(word: &str, is_open: bool) -> Option<ConsolePlace<'_>> {
     match console_place(word)? {
         ConsolePlace::Address(address) if !is_open && !address.ip().is_loopback() => None,

@@ -171,8 +171,8 @@ fn may_go_on<S: Stable, F: Write>(
     }
 }
 
-/// The store of a path, with its log copied into its file, or what is told of it. Nothing is saved, and one that may not
-/// be gone on with is left as it is.
+/// The store of a path, with its log copied into its file, or what is told of it. Nothing is saved, and one that may
+/// not be gone on with is left as it is.
 pub(crate) fn opened<H: Stores + AllocGlobal, F: Write>(
     host: &H,
     path: &[u8],
