@@ -200,8 +200,8 @@ impl ConsoleGuest {
         }
     }
 
-    /// Drops what else a refused guest has sent, because a connection that is closed with bytes unread is reset, and then
-    /// the guest might not see what it is told.
+    /// Drops what else a refused guest has sent, because a connection that is closed with bytes unread is reset, and
+    /// then the guest might not see what it is told.
     fn drop_unread(&mut self) {
         let mut block = [0u8; AT_ONCE];
         for _ in 0..READS {

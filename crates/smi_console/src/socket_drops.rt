@@ -48,8 +48,8 @@ fn add_all(text: &mut Vec<u8>, file: i32) -> Result<(), AllocError> {
     Ok(())
 }
 
-/// Returns the system's table, or none if it can't be read. It is read by its descriptor, because the handle to files does
-/// not go to a thread.
+/// Returns the system's table, or none if it can't be read. It is read by its descriptor, because the handle to files
+/// does not go to a thread.
 fn table(alloc: Global) -> Option<String> {
     let file = os::open_read(TABLE);
     if file < 0 {
@@ -63,8 +63,8 @@ fn table(alloc: Global) -> Option<String> {
 }
 
 impl SocketDrops {
-    /// Returns the socket of a node. Its name in the table is its address and its port, in hexadecimal, the address as the
-    /// number that its bytes are in memory.
+    /// Returns the socket of a node. Its name in the table is its address and its port, in hexadecimal, the address
+    /// as the number that its bytes are in memory.
     pub(crate) fn of(alloc: Global, setup: &NodeSetup) -> Result<SocketDrops, AllocError> {
         let peers = addresses(alloc, &setup.tree)?;
         let place = usize::from(setup.station).saturating_sub(1);
@@ -82,8 +82,8 @@ impl SocketDrops {
         })
     }
 
-    /// Returns true if it is time to read the table again. The system tells of no change, so it is read once a second at
-    /// most, and only while there is something to be done.
+    /// Returns true if it is time to read the table again. The system tells of no change, so it is read once a second
+    /// at most, and only while there is something to be done.
     pub(crate) fn is_due(&self, now: Option<Instant>) -> bool {
         match (now, self.since) {
             (Some(now), Some(since)) => now.duration_since(since).as_secs() >= AGE,

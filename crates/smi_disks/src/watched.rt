@@ -99,8 +99,8 @@ impl<H: Files + Drop> Surroundings for StoreFiles<H> {
 
 /// A store that saves only while its files are where they were, and notes each start in its label. If a file is gone, a
 /// save is answered `Unsure` and nothing is written, so that the station stops: rows in a file that nobody can open
-/// again would be lost at its next start. If a start could not be noted, its boot row is saved, and `Unsure` is answered
-/// too.
+/// again would be lost at its next start. If a start could not be noted, its boot row is saved, and `Unsure` is
+/// answered too.
 #[derive(Drop)]
 pub struct Watched<S, P> {
     pub store: S,

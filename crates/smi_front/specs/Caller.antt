@@ -19,8 +19,8 @@ pub record Wished : Type 0 where
   pub tag : Option Tag
   pub objects : Option (List ℕ)
 
--- a caller: what its lines have shown of it, its lines that wait, whether an order of a line without a tag is under way,
--- an order that its seat had no room for, what it wants to be told of, and what it is to be told, of faults apart
+-- a caller: what its lines have shown of it, its lines that wait, whether an order of a line without a tag is under
+-- way, an order that its seat had no room for, what it wants to be told of, and what it is to be told, of faults apart
 pub record Called : Type 0 where
   pub number : ℕ
   pub manners : Manners
@@ -56,7 +56,8 @@ is_refused New = false
 is_refused Accepted = false
 is_refused Refused = true
 
--- a further line is taken if it is not refused, no order is held, fewer than 64 lines wait and at most 16 KiB are untold
+-- a further line is taken if it is not refused, no order is held, fewer than 64 lines wait and at most 16 KiB are
+-- untold
 abbrev pub has_room : Called → Bool
 has_room c =
     not (is_refused c.trust) && is_none c.held && nat_lt (length c.waiting) 64 && nat_le (length c.said) 16384

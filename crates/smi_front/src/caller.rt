@@ -35,7 +35,8 @@ pub enum Trust {
     New,
     /// A line of it has asked something.
     Accepted,
-    /// The first thing that it said on a connection was no line of a node, so none of its lines is attended to any more.
+    /// The first thing that it said on a connection was no line of a node, so none of its lines is attended to any
+    /// more.
     Refused,
 }
 
