@@ -73,9 +73,9 @@ def over_changed():
 
 
 def keep(crate, line):
-    """Keeps beside the crate what its proof rests on while the line is valid, if it is built so."""
+    """Keeps beside the crate what its proof rests on, if the line is valid and the crate is built so."""
     kept, made = (os.path.join(crate.folder, "out", name) for name in ("recorded", "incremental"))
-    if not crate.is_built() or not os.path.isdir(made):
+    if not crate.is_built() or not os.path.isdir(made) or line[:2] != line_of(crate)[:2]:
         return
     shutil.rmtree(kept, ignore_errors=True)
     # (a check replaces such files, and changes none)
@@ -133,22 +133,21 @@ def adopt(path):
 
 def record(names):
     """Tries the mutants of these crates, or of all that have no valid line, and writes what came of it."""
-    for crate in with_mutants():
+    for crate in kit.crates(names) if names else with_mutants():
         edits.build_below(crate)
-    wanted = kit.crates(names) if names else changed() + over_changed()
-    lines, tried_names = read(), {it.name for it in wanted}
-    for crate in with_mutants():
-        if crate.name not in tried_names:
-            keep(crate, lines[crate.name])
+    wanted, lines = kit.crates(names) if names else changed(), read()
     for crate in [] if names else over_changed():
         if is_untouched(crate, lines[crate.name]):
             lines[crate.name] = [*line_of(crate)[:2], lines[crate.name][2]]
             print("%s: nothing is checked again, so its line holds" % crate.name, flush=True)
-            wanted.remove(crate)
+        else:
+            wanted.append(crate)
     before = {crate.name: kit.own_sum(crate) for crate in wanted}
     tried = edits.try_all(sorted(wanted, key=lambda it: -len(edits.paths_of(it)) * it.count(rb"\n")))
     new = {name: line for name, line in lines_of(tried).items() if line[0] == before[name]}
     write({**lines, **new})
+    for crate in kit.crates(names):
+        keep(crate, read().get(crate.name, []))
     refused, others, _ = edits.summary(tried)
     print("%d refused, %d not" % (refused, others))
     return others == 0 and set(new) == {it.name for it in wanted}
