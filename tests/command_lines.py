@@ -174,7 +174,7 @@ def main():
         others = [case for case in stores.ours(program, PATHS["TREE"], folder) if only in case[0]]
         others += growths.refused_cases(program, folder, only)
         others += growths.store_cases(program, folder, only)
-        others += growths.node_cases(program, room(folder, "of nodes"), only)
+        others += growths.node_cases(program, room(folder, "nodes"), only)
         others += [case for case in paths.cases(program, room(folder, "of paths")) if only in case[0]]
         at_terminals = terminals.cases(program, room(folder, "at terminals"), PATHS["TREE"], PATHS["NOWHERE"])
         others += [case for case in at_terminals if only in case[0]]

@@ -245,6 +245,8 @@ class Nodes:
         ended = run(self.program, ["node", tree, "A", store, "--turns", str(turns)], given,
                     {"LD_PRELOAD": self.refusing, **settings} if settings else {})
         rows = sorted(stores.rows_in(store)) if os.path.exists(store) else []
+        if settings:
+            shutil.rmtree(room)
         return ended, rows
 
     def count(self, orders):
