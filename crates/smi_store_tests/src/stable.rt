@@ -23,7 +23,7 @@ enum Over {
 
 /// What is asked of a store over SQL.
 #[derive(Clone, Copy, Debug, PartialEq, Eq)]
-enum Case {
+enum StoreCase {
     /// Rows that are saved in any order are found again.
     Saved,
     /// They are listed by their keys.
@@ -44,48 +44,48 @@ enum Case {
     Streamed(Over),
 }
 
-fn cases() -> [Case; 15] {
+fn cases() -> [StoreCase; 15] {
     [
-        Case::Saved,
-        Case::Listed,
-        Case::Many,
-        Case::ShortPages,
-        Case::BegunAgain,
-        Case::Stops,
-        Case::Written,
-        Case::Drawn(Over::Worked, 1, 1500),
-        Case::Drawn(Over::Worked, 2, 500),
-        Case::Drawn(Over::Worked, 3, 500),
-        Case::Drawn(Over::Wide, 1, 1500),
-        Case::Drawn(Over::Wide, 2, 500),
-        Case::Drawn(Over::Wide, 3, 500),
-        Case::Streamed(Over::Worked),
-        Case::Streamed(Over::Wide),
+        StoreCase::Saved,
+        StoreCase::Listed,
+        StoreCase::Many,
+        StoreCase::ShortPages,
+        StoreCase::BegunAgain,
+        StoreCase::Stops,
+        StoreCase::Written,
+        StoreCase::Drawn(Over::Worked, 1, 1500),
+        StoreCase::Drawn(Over::Worked, 2, 500),
+        StoreCase::Drawn(Over::Worked, 3, 500),
+        StoreCase::Drawn(Over::Wide, 1, 1500),
+        StoreCase::Drawn(Over::Wide, 2, 500),
+        StoreCase::Drawn(Over::Wide, 3, 500),
+        StoreCase::Streamed(Over::Worked),
+        StoreCase::Streamed(Over::Wide),
     ]
 }
 
 fn over_tree<S: OnDisks<Disks = FusedFiles>>(
-    case: Case,
+    case: StoreCase,
     alloc: Global,
     tree: &Tree,
 ) -> Result<bool, Fail> {
     match case {
-        Case::Saved => saved::are_found_again::<S>(alloc),
-        Case::Listed => listing::are_printed::<S>(alloc),
-        Case::Many => saved::are_many_kept::<S>(alloc),
-        Case::ShortPages => begun::adds_one_short_page::<S>(alloc),
-        Case::BegunAgain => begun::is_begun_after_a_stop::<S>(alloc),
-        Case::Stops => stops::all_fit::<S>(alloc, tree),
-        Case::Written => is_written_played::<S>(alloc, tree),
-        Case::Drawn(_, seed, count) => are_drawn_played::<S>(alloc, tree, seed, count),
-        Case::Streamed(_) => Ok(is_streamed_as_run(alloc, tree)),
+        StoreCase::Saved => saved::are_found_again::<S>(alloc),
+        StoreCase::Listed => listing::are_printed::<S>(alloc),
+        StoreCase::Many => saved::are_many_kept::<S>(alloc),
+        StoreCase::ShortPages => begun::adds_one_short_page::<S>(alloc),
+        StoreCase::BegunAgain => begun::is_begun_after_a_stop::<S>(alloc),
+        StoreCase::Stops => stops::all_fit::<S>(alloc, tree),
+        StoreCase::Written => is_written_played::<S>(alloc, tree),
+        StoreCase::Drawn(_, seed, count) => are_drawn_played::<S>(alloc, tree, seed, count),
+        StoreCase::Streamed(_) => Ok(is_streamed_as_run(alloc, tree)),
     }
 }
 
 /// Returns the text of the tree that a case is over.
-fn text_of(case: Case, alloc: Global) -> Result<Vec<u8>, AllocError> {
+fn text_of(case: StoreCase, alloc: Global) -> Result<Vec<u8>, AllocError> {
     match case {
-        Case::Drawn(Over::Wide, _, _) | Case::Streamed(Over::Wide) => Vec::from_slice(
+        StoreCase::Drawn(Over::Wide, _, _) | StoreCase::Streamed(Over::Wide) => Vec::from_slice(
             alloc,
             wide::text(alloc)?.as_bytes(),
         ),
@@ -94,7 +94,7 @@ fn text_of(case: Case, alloc: Global) -> Result<Vec<u8>, AllocError> {
 }
 
 // One function owns the tree, because whatever owns one is expensive to prove.
-fn holds<S: OnDisks<Disks = FusedFiles>>(case: Case, alloc: Global) -> Result<bool, Fail> {
+fn holds<S: OnDisks<Disks = FusedFiles>>(case: StoreCase, alloc: Global) -> Result<bool, Fail> {
     let text = text_of(case, alloc)?;
     let tree = Tree::read(alloc, text.as_slice())?;
     over_tree::<S>(case, alloc, &tree)

@@ -24,7 +24,7 @@ struct TwoStores<'a, Q: Played + Drop> {
 
 /// What is used again for each item.
 #[derive(Drop)]
-struct Buffers {
+struct PlayBuffers {
     memory: Out,
     other: Out,
     left: Left,
@@ -94,7 +94,7 @@ fn make<Q: Played + Drop>(
     alloc: Global,
     two: Two<'_, '_, Q>,
     turn: &Turn<'_>,
-    buffers: &mut Buffers,
+    buffers: &mut PlayBuffers,
     before: usize,
 ) -> bool {
     let Two { memory, other } = two;
@@ -116,7 +116,7 @@ fn turns<Q: Played + Drop>(
     stations: &mut TwoStores<'_, Q>,
     sent: &[[u8; 44]],
     item: &Item,
-    buffers: &mut Buffers,
+    buffers: &mut PlayBuffers,
 ) -> bool {
     match turn_of(tree, sent, item) {
         Some(turn) => match stations_at(stations, turn.station) {
@@ -131,7 +131,7 @@ fn turns<Q: Played + Drop>(
 }
 
 /// Makes an item in the world, and notes the lines that it leaves.
-fn leaves(alloc: Global, world: &mut World<'_>, item: &Item, buffers: &mut Buffers) -> bool {
+fn leaves(alloc: Global, world: &mut World<'_>, item: &Item, buffers: &mut PlayBuffers) -> bool {
     buffers.lines.clear();
     world.act(alloc, item, &mut buffers.left).is_ok()
         && buffers
@@ -154,7 +154,7 @@ fn are_made<Q: Played + Drop>(
     world: &mut World<'_>,
     stations: &mut TwoStores<'_, Q>,
     items: &[Item],
-    buffers: &mut Buffers,
+    buffers: &mut PlayBuffers,
 ) -> Result<bool, AllocError> {
     let mut sent = Vec::new(alloc);
     for item in items {
@@ -185,7 +185,7 @@ fn with_stations<'a, Q: Played + Drop>(
     if !add_all(alloc, tree, stations) {
         return Err(AllocError);
     }
-    let mut buffers = Buffers {
+    let mut buffers = PlayBuffers {
         memory: Out::new(),
         other: Out::new(),
         left: Left::new(),
