@@ -135,22 +135,24 @@ def record(names):
     """Tries the mutants of these crates, or of all that have no valid line, and writes what came of it."""
     for crate in kit.crates(names) if names else with_mutants():
         edits.build_below(crate)
-    wanted, lines = kit.crates(names) if names else changed(), read()
+    wanted, new = kit.crates(names) if names else changed(), {}
     for crate in [] if names else over_changed():
-        if is_untouched(crate, lines[crate.name]):
-            lines[crate.name] = [*line_of(crate)[:2], lines[crate.name][2]]
+        line = read()[crate.name]
+        if is_untouched(crate, line):
+            new[crate.name] = [*line_of(crate)[:2], line[2]]
             print("%s: nothing is checked again, so its line holds" % crate.name, flush=True)
         else:
             wanted.append(crate)
     before = {crate.name: kit.own_sum(crate) for crate in wanted}
     tried = edits.try_all(sorted(wanted, key=lambda it: -len(edits.paths_of(it)) * it.count(rb"\n")))
-    new = {name: line for name, line in lines_of(tried).items() if line[0] == before[name]}
-    write({**lines, **new})
+    new |= {name: line for name, line in lines_of(tried).items() if line[0] == before[name]}
+    # (another run may have written lines meanwhile)
+    write({**read(), **new})
     for crate in kit.crates(names):
         keep(crate, read().get(crate.name, []))
     refused, others, _ = edits.summary(tried)
     print("%d refused, %d not" % (refused, others))
-    return others == 0 and set(new) == {it.name for it in wanted}
+    return others == 0 and {it.name for it in wanted} <= set(new)
 
 
 def main():
