@@ -3,9 +3,7 @@
 The mutants of tests/edits/ are tried on smi_grant, all together: one is wrong, and none of the others may be told as
 refused, though one of them is in a function that calls the refused one. The last line is 'N passed, M failed'.
 
-usage: edits_test.py [SINCE]
-
-The moment says that a gate has proved all crates from nothing since then.
+usage: edits_test.py [SINCE]: a gate has proved all crates from nothing since that moment.
 """
 
 import os
@@ -18,14 +16,8 @@ import edits  # noqa: E402 (these are in tools/)
 import kit  # noqa: E402
 import verdict  # noqa: E402
 
-WANTED = {
-    "refused_argument": edits.REFUSED,
-    "caller_of_a_refused_one": edits.PASSED,
-    "harmless": edits.PASSED,
-    "names_another_function": edits.PASSED,
-    "does_not_compile": edits.BAD,
-    "text_that_is_not_there": edits.BAD,
-}
+WANTED = {"refused_argument": edits.REFUSED, "caller_of_a_refused_one": edits.PASSED, "harmless": edits.PASSED,
+          "names_another_function": edits.PASSED, "does_not_compile": edits.BAD, "text_that_is_not_there": edits.BAD}
 
 
 def main():

@@ -68,10 +68,8 @@ class Runs(unittest.TestCase):
             self.assertEqual(self.run_of("print(%r)" % said), wanted, said)
 
     def test_status(self):
-        end = "print('3 passed, 0 failed'); raise SystemExit(1)"
-        self.assertEqual(self.run_of(end), (3, 1))
-        self.assertEqual(self.run_of(end.replace("0 failed", "2 failed")), (3, 2))
-        self.assertEqual(self.run_of("import os; print('3 passed, 0 failed', flush=True); os.abort()"), (3, 1))
+        for end, wanted in [("raise SystemExit(1)", (3, 1)), ("import os; os.abort()", (3, 1)), ("", (3, 0))]:
+            self.assertEqual(self.run_of("print('3 passed, 0 failed', flush=True); " + end), wanted, end)
 
 
 class Gates(Patched):
@@ -111,8 +109,7 @@ class Gates(Patched):
             self.assertIn("tests/soak.py bin/smi --seconds 40", ran)
 
     def test_if_the_proofs_fail_nothing_else_runs(self):
-        lines, status, ran = self.gate(["ci"])
-        self.assertEqual((ran, lines[-1], status), (["ci"], "1 passed, 1 failed", 1))
+        self.assertEqual(self.gate(["ci"])[1:], (1, ["ci"]))
 
     def test_mutants_that_are_not_recorded_end_it_at_once(self):
         lines, status, ran = self.gate([], changed=["one", "two"])
@@ -157,16 +154,13 @@ class Records(Patched):
         said, well = printed(refusals.record, list(names))
         return tried, well, said.splitlines()[-1]
 
-    def names(self, crates):
-        return [it.name for it in crates]
-
     def test_what_has_changed(self):
         self.assertEqual((refusals.changed(), refusals.over_changed()), ([], []))
         self.change("smi_b")
         self.below.update(dict.fromkeys(("smi_a", "smi_b", "smi_c"), "1" * 64))
-        self.assertEqual(self.names(refusals.changed()), ["smi_b"])
+        self.assertEqual([it.name for it in refusals.changed()], ["smi_b"])
         # the oldest line first
-        self.assertEqual(self.names(refusals.over_changed()), ["smi_c", "smi_a"])
+        self.assertEqual([it.name for it in refusals.over_changed()], ["smi_c", "smi_a"])
 
     def test_recording(self):
         self.change("smi_b")
@@ -194,9 +188,11 @@ class Records(Patched):
 
     def test_words(self):
         self.assertEqual(refusals.words_brought(kit.crates()[0]), {"second", "third"})
-        before, after = [["a", "x.rt", "fn one ( )\nfn two ( )"]], [["a", "x.rt", "fn one ( )\nfn three ( )"]]
-        self.assertEqual(refusals.words_changed(before, after), {"fn", "two", "three"})
-        self.assertEqual(refusals.words_changed(before, before), set())
+        text = "use other.{one}\npub fn one ( ) -> u16\n    ensures { result ≡ 1 } ;\nabbrev pub two : ℕ\npub enum Six { A }\n"
+        for old, new, names in [("≡ 1", "≡ 2", {"one"}), (" two", " three", {"two", "three"}), (".{one}", ".{two}", set()),
+                                ("A }", "A , B }", {"Six", "pub", "enum", "A", "B"}), ("", "", set())]:
+            told = [[["a", "x.rt", it]] for it in (text, text.replace(old, new, 1))]
+            self.assertEqual(refusals.names_changed(*told), names, (old, new))
 
 
 class Bodies(unittest.TestCase):
@@ -310,7 +306,7 @@ class Sums(Patched):
 
             def stamp(self):
                 self.asked.append(self.name)
-                return "%s(%s)" % (self.name, " ".join(dep.stamp() for dep in self.deps))
+                return self.name + "".join(dep.stamp() for dep in self.deps)
 
         low = Summed("low")
         high = Summed("high", (Summed("left", (low,)), Summed("right", (low,))))
@@ -318,8 +314,7 @@ class Sums(Patched):
         kit.sum_each_once(Summed)
         for _ in range(2):
             Summed.asked.clear()
-            self.assertEqual(high.stamp(), plain)
-            self.assertEqual(sorted(Summed.asked), ["high", "left", "low", "right"])
+            self.assertEqual((high.stamp(), sorted(Summed.asked)), (plain, ["high", "left", "low", "right"]))
 
 
 class Libraries(Patched):

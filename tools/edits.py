@@ -1,10 +1,10 @@
 """Tries the mutants of crates: wrong bodies, each of which the prover has to refuse.
 
-usage: edits.py [--jobs N] [--only TEXT] [--from FOLDER] [CRATE..]
+usage: edits.py [--jobs N] [--only TEXT] [CRATE..]
 
 A mutant is a file NAME.edit in crates/CRATE/edits/, in the toolchain's form (a line `file:`, and lines `old:` and
 `new:`), with a line `function:` that names the function whose contract it breaks. --only takes the mutants whose names
-have that text, and --from those in FOLDER instead of the crate's own.
+have that text.
 
 Mutants of different functions are written into one copy of the crate, and the prover is asked for these functions
 alone, from nothing. A mutant counts as refused only if a goal of its own function is not proved: a function is proved
@@ -40,12 +40,10 @@ FUNCTION = re.compile(r"( *)(?:pub(?:\([a-z]+\))? )?(const )?(?:unsafe )?fn (\w+
 LOST_NAME = re.compile(r"has no field|is not in scope|has no `|was not admitted")
 # An error in any proof file.
 LEMMA = re.compile(r"(?m)^(?:\./)?proofs/\S+\.antt:\d+:\d+: error: (.*)$")
-printing = threading.Lock()
 
 
 def say(text):
-    with printing:
-        print(text, flush=True)
+    print(text + "\n", end="", flush=True)
 
 
 def body_of(lines, head):
@@ -378,13 +376,11 @@ def main():
     words = argparse.ArgumentParser(usage=__doc__.split("usage: ")[1].split("\n")[0])
     words.add_argument("--jobs", type=int, default=1, help="how many parts of crates are tried side by side")
     words.add_argument("--only", default="")
-    words.add_argument("--from", dest="folder")
     words.add_argument("crates", nargs="*")
     said = words.parse_args()
     os.environ["RT_JOBS"] = str(said.jobs)
-    folder = said.folder and os.path.abspath(said.folder)
     os.chdir(kit.ROOT)
-    refused, others, _ = summary(try_all(kit.crates(said.crates), said.only, folder))
+    refused, others, _ = summary(try_all(kit.crates(said.crates), said.only))
     print("%d refused, %d not" % (refused, others))
     sys.exit(1 if others or not refused else 0)
 

@@ -4,9 +4,9 @@ usage: refusals.py [CRATE..] | refusals.py --adopt FILE
 
 A line has the crate, a sum of its own files, a sum of what the crates below it state, and the day. A crate that is
 named is tried; with no name, each one that has no valid line. If only what is below has changed, a crate keeps its line
-if the prover, over what it kept when the line was valid, checks nothing again, and no mutant brings in a word that
-changed below: then no verdict can be another. --adopt takes the lines that a gate has printed, for crates whose own
-files are still the same.
+if the prover, over what it kept when the line was valid, checks nothing again, and no mutant brings in a name that
+changed below: then no verdict can be another. --adopt takes the lines that a gate printed of crates whose files are the
+same.
 
 The last line is 'N refused, M not'. The status is 0 if each named crate has a valid line then.
 """
@@ -25,6 +25,10 @@ import kit
 
 RECORD = os.path.join(kit.ROOT, "edits.ok")
 HEAD = "# The crates whose mutants were all refused: sums of their own files and of what is below, and the day.\n"
+# A line that begins an item of a built library, and its name.
+DECLARED = re.compile(r"(?:# \[.*?\] )*(?:(?:pub|abbrev|unfoldable|opaque|const|unsafe|static|fn|trait|type|record|data|struct"
+                      r"|enum|impl) (?:\( \w+ \) )?)*([^\W\d][\w'-]*)")
+TYPE = re.compile(r"(?:# \[.*?\] )*(?:pub )?(?:\( \w+ \) )?(?:enum|struct|record|data)\b")
 PRINTED = re.compile(r"edits\.ok: (smi\w*) (\w{64}) (\w{64}) ([\d-]{10})")
 
 
@@ -72,22 +76,39 @@ def over_changed():
     return sorted(found, key=lambda it: known[it.name][2])
 
 
+def link(one, other):
+    """Gives a proved file a second name, because a check replaces such files and changes none; copies any other."""
+    (os.link if one.endswith(".oantt") else shutil.copy2)(one, other)
+
+
 def keep(crate, line):
     """Keeps beside the crate what its proof rests on, if the line is valid and the crate is built so."""
     kept, made = (os.path.join(crate.folder, "out", name) for name in ("recorded", "incremental"))
     if not crate.is_built() or not os.path.isdir(made) or line[:2] != line_of(crate)[:2]:
         return
     shutil.rmtree(kept, ignore_errors=True)
-    # (a check replaces such files, and changes none)
-    shutil.copytree(made, os.path.join(kept, "incremental"), copy_function=os.link)
+    shutil.copytree(made, os.path.join(kept, "incremental"), copy_function=link)
     with open(os.path.join(kept, "below.json"), "w", encoding="utf-8") as file:
         json.dump({"line": line, "stated": [told for it in crate.below() for told in kit.stated(it)]}, file)
 
 
-def words_changed(before, after):
-    """Returns the words of the lines that are in one of two lists of statements only."""
-    sides = [{(name, path, line) for name, path, text in told for line in text.split("\n")} for told in (before, after)]
-    return {word for _, _, line in sides[0] ^ sides[1] for word in re.findall(r"\w+", line)}
+def declared(told):
+    """Yields the lines of statements, but for imports, each with the name of the item that it is of."""
+    for crate, path, text in told:
+        name = ""
+        for line in text.split("\n"):
+            found = DECLARED.match(line)
+            name = found[1] if found else name
+            if line and not line.lstrip().startswith(("use ", "ghost use ", "pub use ")):
+                yield crate, path, name, line
+
+
+def names_changed(before, after):
+    """Returns the names of the items that are other ones in one of two lists of statements; of a type also all words,
+    among them its variants."""
+    found = set(declared(before)) ^ set(declared(after))
+    types = (re.findall(r"\w+", line) for *_, line in found if TYPE.match(line))
+    return {name for _, _, name, _ in found} | {word for of in types for word in of}
 
 
 def words_brought(crate):
@@ -110,11 +131,11 @@ def is_untouched(crate, line):
     with open(os.path.join(kept, "below.json"), encoding="utf-8") as file:
         was = json.load(file)
     now = [told for it in crate.below() for told in kit.stated(it)]
-    if was["line"] != line or words_changed(was["stated"], now) & words_brought(crate):
+    if was["line"] != line or names_changed(was["stated"], now) & words_brought(crate):
         return False
     with tempfile.TemporaryDirectory(prefix="kept-", dir=os.path.dirname(kept)) as room:
         copy = os.path.join(room, "incremental")
-        shutil.copytree(os.path.join(kept, "incremental"), copy, copy_function=os.link)
+        shutil.copytree(os.path.join(kept, "incremental"), copy, copy_function=link)
         words = [kit.rtlib.RATTLE, "check", *crate.words(["--jobs", "1"], keeps=False), "--incremental", copy]
         ran = subprocess.run([*kit.rtlib.guarded(), *words], cwd=crate.folder, stdout=subprocess.PIPE,
                              stderr=subprocess.STDOUT, text=True, check=False)
@@ -157,10 +178,7 @@ def record(names):
 
 def main():
     os.chdir(kit.ROOT)
-    if sys.argv[1:2] == ["--adopt"] and sys.argv[2:]:
-        adopt(sys.argv[2])
-    else:
-        sys.exit(0 if record(sys.argv[1:]) else 1)
+    sys.exit(adopt(sys.argv[2]) if sys.argv[1:2] == ["--adopt"] else 0 if record(sys.argv[1:]) else 1)
 
 
 if __name__ == "__main__":
