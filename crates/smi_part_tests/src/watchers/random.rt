@@ -172,7 +172,7 @@ fn count(kinds: &mut [bool; KINDS], call: &Call) {
     }
 }
 
-/// Returns which kinds of answers came, if each of so many calls is answered as by the plain lists.
+/// Returns which kinds of answers came, if each of this many calls is answered as by the plain lists.
 fn compared(watchers: &mut Watchers, plain: &mut PlainLists) -> Option<[bool; KINDS]>
     requires { length watchers.old.lists ≡ 640 }
     ensures { length watchers.new.lists ≡ 640 }

@@ -1,4 +1,4 @@
-//! Stores over SQL on disks in memory that stop after so many calls.
+//! Stores over SQL on disks in memory that stop after a number of calls.
 //!
 //! A store over SQL has to be given up by a call, and each function that names one is expensive to prove. So the tests
 //! are over any store, by [`OnDisks`], and one line names [`OverSql`].
