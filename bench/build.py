@@ -16,8 +16,8 @@ ROOT = os.path.dirname(os.path.dirname(os.path.abspath(__file__)))
 HERE = os.path.join(ROOT, "bench")
 NAME = "smi_bench"
 # Its line of crates.txt; in a file of that name here, rt would read it.
-LINE = ("smi_bench: smi_grant smi_message smi_tree smi_link smi_view smi_watchers smi_rows smi_stable smi_protocol smi_out"
-        " smi_station smi_schedule smi_world sqlite\n")
+LINE = ("smi_bench: smi_grant smi_message smi_tree smi_link smi_view smi_watchers smi_rows smi_stable smi_protocol"
+        " smi_station_output smi_station smi_schedule smi_world sqlite\n")
 # What is copied of a crate: what it is proved of, and its library as it was built.
 PARTS = ("src", "specs", "proofs", os.path.join("out", "rlib"))
 

@@ -308,11 +308,11 @@ def planted_cases():
                                   ("one that is not there", whole + ["crates/smi_base/src/none.rt"], False)]:
         yield verdict.case("a list of files: " + name, not places.faults_of("sources", orders, files), is_right)
     for path, is_right in [
-            ("crates/smi_holdings/proofs/kept/Kept/put_child/Answers.antt", True),
-            ("crates/smi_holdings/proofs/commit/Kept/put_child/Answers.antt", False),
-            ("crates/smi_plan/proofs/keeping/run/Answers.antt", True),
-            ("crates/smi_plan/proofs/ordering/run/Answers.antt", False),
-            ("crates/smi_plan/proofs/keeping/run/Lemmas.antt", False)]:
+            ("crates/smi_station_grants/proofs/grant_table/GrantTable/put_child/Answers.antt", True),
+            ("crates/smi_station_grants/proofs/commit/GrantTable/put_child/Answers.antt", False),
+            ("crates/smi_station_decide/proofs/run/decide_run/Answers.antt", True),
+            ("crates/smi_station_decide/proofs/order/decide_run/Answers.antt", False),
+            ("crates/smi_station_decide/proofs/run/decide_run/Lemmas.antt", False)]:
         yield verdict.case("a proof at %s" % path, places.stands_right(path), is_right)
 
 

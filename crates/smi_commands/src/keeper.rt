@@ -96,15 +96,29 @@ fn said_after(current: &Record, body: &Body) -> Result<Record, DatagramRefusal>
 {
     match *body {
         Body::Ask(DOMAIN) => Ok(*current),
-        Body::Take(DOMAIN, Holder::Operator(number), seen) => {
+        Body::Take {
+            domain: DOMAIN,
+            holder: Holder::Operator(number),
+            seen,
+        } => {
             let verdict = smi_grant::take(current, Holder::Operator(number), seen);
             Ok(after(verdict, current))
         }
-        Body::Drop(DOMAIN, Holder::Operator(number), epoch) => {
+        Body::Drop {
+            domain: DOMAIN,
+            holder: Holder::Operator(number),
+            epoch,
+        } => {
             let verdict = smi_grant::drop_grant(current, Holder::Operator(number), epoch);
             Ok(after(verdict, current))
         }
-        Body::Run(DOMAIN, Holder::Operator(operator), epoch, number, command) => {
+        Body::Run {
+            domain: DOMAIN,
+            holder: Holder::Operator(operator),
+            epoch,
+            number,
+            command,
+        } => {
             let holder = Holder::Operator(operator);
             Ok(run_after(current, holder, epoch, number, command))
         }

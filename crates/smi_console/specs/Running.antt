@@ -6,9 +6,9 @@ use Rattle.smi_rows.specs.Store.{IsSame, Rows}
 use Rattle.smi_protocol.specs.Loading.{IsStation, Opens}
 use Rattle.smi_protocol.specs.declared.fault.OpenFault.{OpenFault}
 use Rattle.smi_protocol.specs.declared.fault.OpenFault.TheVariants as open_fault
-use Rattle.smi_start.specs.Migrating.{Counts, IfRefused, IsPartly, Migrates, in_newest}
-use Rattle.smi_start.specs.Starting.{IfCertain, IfInDoubt, IfStoreFailed, IfStoreUnfailed, IfUnchanged}
-use Rattle.smi_start.specs.Starting.{IsToldAsMemory, after_start}
+use Rattle.smi_station_grants.specs.Migrating.{Counts, IfRefused, IsPartly, Migrates, in_newest}
+use Rattle.smi_station_grants.specs.Starting.{IfCertain, IfInDoubt, IfStoreFailed, IfStoreUnfailed, IfUnchanged}
+use Rattle.smi_station_grants.specs.Starting.{IsToldAsMemory, after_start}
 use Rattle.smi_station.specs.Core.{IsOf, IsStoredIn, begun}
 use Rattle.smi_station.specs.Readers.{Whole, core_in, store_in}
 use Rattle.smi_node.specs.declared.serving.ServeFault.{ServeFault}

@@ -4,10 +4,10 @@ use crate::dispatch::Dispatch;
 use smi_front::{Act, StationNews, done_by};
 use smi_grant::Shown;
 use smi_node::{Counter, Witness};
-use smi_out::Out;
 use smi_protocol::{Event, Heard, StepFault};
 use smi_rows::Stable;
 use smi_station::Station;
+use smi_station_output::Out;
 use smi_tree::Tree;
 use std::alloc::{AllocError, Global};
 use std::sync::{Arc, Wait};
@@ -147,7 +147,7 @@ impl<H: Wait + Drop> Witness for Herald<H> {
         if let Some(shown) = out.shown() {
             self.tell_or_owe(shown);
         }
-        for shown in out.passed().as_slice() {
+        for shown in out.transitions().as_slice() {
             self.tell_or_owe(*shown);
         }
         self.tell_done(station, event, made);

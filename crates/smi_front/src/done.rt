@@ -30,7 +30,11 @@ fn done_of<'a>(tree: &'a Tree, body: &Body) -> Option<Done<'a>>
     ensures { option_map (λ d. (d.action, d.devices.now)) result ≡ spec.done_of tree.now body.now }
 {
     match *body {
-        Body::Run(domain, _, _, _, command) if 1 <= domain && domain <= tree.domain_count() => {
+        Body::Run {
+            domain,
+            command,
+            ..
+        } if 1 <= domain && domain <= tree.domain_count() => {
             let action = action_of(tree, domain, command)?;
             Some(Done {
                 action,

@@ -1,6 +1,6 @@
 -- The test of a lawful record says what the record of facts says.
 use Rattle.std.proofs.Common.{◌≡◌, ℕ, ◌≤◌, true, arith}
-use Rattle.std.specs.Prelude.{◌%◌, ◌&&◌, ◌==◌, nat_le}
+use Rattle.std.specs.Prelude.{◌%◌, ◌==◌, nat_le}
 use Rattle.std.proofs.lemmas.Bool.{and_from, and_parts, eqb-true, eq-eqb}
 use Rattle.std.proofs.lemmas.Bool.Decides.{nat_tests}
 use Rattle.smi_grant.specs.Holder.{odd_of}

@@ -1,13 +1,6 @@
 pub mod Command
-pub mod Hearing
 pub mod Holder
 pub mod Keeper
-pub mod KnownGrant
-pub mod Link
-pub mod OneLink
-pub mod Order
 pub mod Outcome
-pub mod Pending
 pub mod Rank
 pub mod Record
-pub mod Settlements

@@ -1,5 +1,5 @@
 -- Which records a keeper may have.
-use Rattle.std.specs.Prelude.{ℕ, ◌≡◌, ◌≤◌, ◌^◌, ◌%◌, ◌&&◌, ◌||◌, ◌==◌, nat_le, Bool, true, false, if◌then◌else◌}
+use Rattle.std.specs.Prelude.{ℕ, ◌≡◌, ◌≤◌, ◌%◌, ◌&&◌, ◌||◌, ◌==◌, nat_le, Bool, true, false, if◌then◌else◌}
 use Rattle.std.specs.Prelude.{Option, Some, None}
 use Rattle.smi_grant.specs.declared.command.TheConstants.{LAST_NUMBER}
 use Rattle.smi_grant.specs.declared.record.TheConstants.{LAST_EPOCH}

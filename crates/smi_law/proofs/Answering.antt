@@ -9,15 +9,15 @@ use Rattle.smi_grant.specs.declared.Holder.TheVariants.{Operator}
 use Rattle.smi_grant.specs.Holder.{is_free, same_holder}
 use Rattle.smi_grant.specs.Record.{Standing, last_epoch}
 use Rattle.smi_message.specs.Message.{Message}
-use Rattle.smi_grant.specs.declared.Link.{Link}
-use Rattle.smi_grant.specs.declared.Link.TheVariants.{Out, Taking, Held, Dropping}
-use Rattle.smi_grant.specs.declared.LinkHeard.{LinkHeard}
-use Rattle.smi_grant.specs.declared.Settlement.{Settlement}
-use Rattle.smi_grant.specs.Hearing.{commands_settled, settled_count, settlement_in, settlements, told_heard}
-use Rattle.smi_grant.specs.Hearing.{told_held}
-use Rattle.smi_grant.specs.Hearing.{told_link}
-use Rattle.smi_grant.specs.Pending.{base_of}
-use Rattle.smi_grant.proofs.Heard.{choose}
+use Rattle.smi_command.specs.declared.Link.{Link}
+use Rattle.smi_command.specs.declared.Link.TheVariants.{Out, Taking, Held, Dropping}
+use Rattle.smi_command.specs.declared.LinkHeard.{LinkHeard}
+use Rattle.smi_command.specs.declared.Settlement.{Settlement}
+use Rattle.smi_command.specs.Hearing.{commands_settled, settled_count, settlement_in, settlements, told_heard}
+use Rattle.smi_command.specs.Hearing.{told_held}
+use Rattle.smi_command.specs.Hearing.{told_link}
+use Rattle.smi_command.specs.Pending.{base_of}
+use Rattle.smi_command.proofs.Heard.{choose}
 use Rattle.smi_protocol.proofs.Tables.{number_self}
 use Rattle.smi_protocol.specs.Happening.{answer, answer_command, order_of, told_entries}
 use Rattle.smi_protocol.specs.Hearing.{answers_of, commands_answered, settlements_in}

@@ -14,10 +14,10 @@ use Rattle.smi_message.specs.declared.Body.TheVariants as body
 use Rattle.smi_message.specs.Message.{Message}
 use Rattle.smi_tree.specs.Hierarchy.{Hierarchy}
 use Rattle.smi_tree.specs.Lookups.{station_count}
-use Rattle.smi_grant.specs.declared.Link.{Link}
-use Rattle.smi_grant.specs.declared.Link.TheVariants.{Out, Taking, Held, Dropping}
-use Rattle.smi_grant.specs.Hearing.{told_heard}
-use Rattle.smi_grant.specs.Link.{is_unsettled}
+use Rattle.smi_command.specs.declared.Link.{Link}
+use Rattle.smi_command.specs.declared.Link.TheVariants.{Out, Taking, Held, Dropping}
+use Rattle.smi_command.specs.Hearing.{told_heard}
+use Rattle.smi_command.specs.Link.{is_unsettled}
 use Rattle.smi_grant.proofs.Holders.{either}
 use Rattle.smi_protocol.proofs.Lists.{In}
 use Rattle.smi_protocol.proofs.SoundSteps.{found}

@@ -12,12 +12,12 @@ use Rattle.smi_grant.specs.Keeper.{admits, drop_after, started, take_after}
 use Rattle.smi_grant.specs.Record.{Standing}
 use Rattle.smi_message.specs.Message.{Message}
 use Rattle.smi_tree.specs.Hierarchy.{Hierarchy}
-use Rattle.smi_grant.specs.declared.Due.{Due}
-use Rattle.smi_grant.specs.declared.Due.TheVariants.{Take, Drop, Run}
-use Rattle.smi_grant.specs.OneLink.{asked_record, kept_after}
-use Rattle.smi_grant.proofs.Heard.{choose}
+use Rattle.smi_command.specs.declared.Due.{Due}
+use Rattle.smi_command.specs.declared.Due.TheVariants.{Take, Drop, Run}
+use Rattle.smi_command.specs.OneLink.{asked_record, kept_after}
+use Rattle.smi_command.proofs.Heard.{choose}
 use Rattle.smi_grant.proofs.Holders.{same_is}
-use Rattle.smi_roles.specs.Roles.{is_parent}
+use Rattle.smi_tree.specs.Roles.{is_parent}
 use Rattle.smi_protocol.proofs.Tables.{apart, put_here, put_there}
 use Rattle.smi_protocol.specs.Children.{change_of, link_after, own_code}
 use Rattle.smi_protocol.specs.Grants.{Grants}

@@ -16,14 +16,14 @@ use Rattle.smi_tree.specs.declared.row.Domain.{Domain as DomainRow}
 use Rattle.smi_tree.specs.Hierarchy.{Hierarchy}
 use Rattle.smi_tree.specs.Lawful.{IsTree, IsBetween}
 use Rattle.smi_tree.specs.Lookups.{domain_count, operator_station_of, station_count}
-use Rattle.smi_grant.specs.declared.Due.{Due}
-use Rattle.smi_grant.specs.declared.Due.TheVariants.{Take, Drop, Run}
-use Rattle.smi_grant.specs.declared.Link.{Link}
-use Rattle.smi_grant.specs.declared.Link.TheVariants.{Held}
-use Rattle.smi_grant.specs.Link.{due_of}
-use Rattle.smi_grant.specs.Pending.{most_pending}
-use Rattle.smi_grant.proofs.Waiting.{due_waits}
-use Rattle.smi_roles.specs.Roles.{has_domain, holder_station, is_command_of, is_holder_of, is_keeper, is_number}
+use Rattle.smi_command.specs.declared.Due.{Due}
+use Rattle.smi_command.specs.declared.Due.TheVariants.{Take, Drop, Run}
+use Rattle.smi_command.specs.declared.Link.{Link}
+use Rattle.smi_command.specs.declared.Link.TheVariants.{Held}
+use Rattle.smi_command.specs.Link.{due_of}
+use Rattle.smi_command.specs.Pending.{most_pending}
+use Rattle.smi_command.proofs.Waiting.{due_waits}
+use Rattle.smi_tree.specs.Roles.{has_domain, holder_station, is_command_of, is_holder_of, is_keeper, is_number}
 use Rattle.smi_protocol.proofs.Ranges.{between, home_there, is_within, kept_there, row_there}
 use Rattle.smi_protocol.proofs.Tables.{number_is, number_self}
 use Rattle.smi_protocol.specs.Display.{Station}

@@ -9,12 +9,12 @@ use Rattle.smi_grant.specs.Holder.{is_free}
 use Rattle.smi_grant.specs.Record.{Standing, is_settled}
 use Rattle.smi_tree.specs.Hierarchy.{Hierarchy}
 use Rattle.smi_tree.specs.Lookups.{parent_of}
-use Rattle.smi_grant.specs.declared.Link.{Link}
-use Rattle.smi_grant.specs.declared.Link.TheVariants.{Held}
-use Rattle.smi_grant.specs.KnownGrant.{InStep, Waits}
-use Rattle.smi_grant.specs.Pending.{base_of}
+use Rattle.smi_command.specs.declared.Link.{Link}
+use Rattle.smi_command.specs.declared.Link.TheVariants.{Held}
+use Rattle.smi_command.specs.KnownGrant.{InStep, Waits}
+use Rattle.smi_command.specs.Pending.{base_of}
 use Rattle.smi_grant.proofs.Holders.{either}
-use Rattle.smi_grant.specs.Link.{is_unsettled}
+use Rattle.smi_command.specs.Link.{is_unsettled}
 use Rattle.smi_protocol.specs.Children.{is_commanded}
 use Rattle.smi_protocol.specs.declared.Entry.{Entry}
 use Rattle.smi_law.specs.Known.{record_in, link_in}

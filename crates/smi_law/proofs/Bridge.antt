@@ -10,7 +10,7 @@ use Rattle.smi_base.specs.Between.{is_between}
 use Rattle.smi_tree.specs.Hierarchy.{Hierarchy}
 use Rattle.smi_tree.specs.Lawful.{IsTree}
 use Rattle.smi_tree.specs.Lookups.{domain_count, operator_station_of, station_count}
-use Rattle.smi_roles.specs.Roles.{keeper_of}
+use Rattle.smi_tree.specs.Roles.{keeper_of}
 use Rattle.smi_rows.specs.declared.Plan.{Plan}
 use Rattle.smi_rows.specs.declared.Plan.TheVariants as plan
 use Rattle.smi_protocol.specs.Display.{Station}

@@ -9,9 +9,9 @@ use Rattle.smi_grant.specs.Holder.{is_free, odd_of}
 use Rattle.smi_grant.specs.Keeper.{handed}
 use Rattle.smi_grant.specs.Record.{Standing}
 use Rattle.smi_tree.specs.Hierarchy.{Hierarchy}
-use Rattle.smi_grant.specs.declared.Link.{Link}
-use Rattle.smi_grant.specs.declared.Link.TheVariants.{Dropping}
-use Rattle.smi_grant.specs.Link.{known}
+use Rattle.smi_command.specs.declared.Link.{Link}
+use Rattle.smi_command.specs.declared.Link.TheVariants.{Dropping}
+use Rattle.smi_command.specs.Link.{known}
 use Rattle.smi_grant.proofs.Holders.{either, held_odd}
 use Rattle.smi_protocol.specs.declared.Entry.{Entry}
 use Rattle.smi_protocol.specs.declared.Entry.TheVariants.{Granted, Freed, Learned, LetGo}

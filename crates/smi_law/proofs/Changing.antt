@@ -13,17 +13,17 @@ use Rattle.smi_grant.specs.Keeper.{handed}
 use Rattle.smi_grant.specs.Record.{Standing, is_settled, last_epoch}
 use Rattle.smi_tree.specs.Hierarchy.{Hierarchy}
 use Rattle.smi_tree.specs.Lawful.{IsTree}
-use Rattle.smi_grant.specs.declared.Due.TheVariants.{Take, Drop}
-use Rattle.smi_grant.specs.declared.Link.{Link}
-use Rattle.smi_grant.specs.declared.Link.TheVariants.{Out, Taking, Held, Dropping}
-use Rattle.smi_grant.specs.Hearing.{settled_count, told_link}
-use Rattle.smi_grant.specs.Link.{due_of, is_unsettled}
-use Rattle.smi_grant.specs.OneLink.{asked_record, kept_after}
-use Rattle.smi_grant.proofs.Facts.{LinkOk}
-use Rattle.smi_grant.proofs.Heard.{by_row_dropping, by_row_held, by_row_taking, choose}
+use Rattle.smi_command.specs.declared.Due.TheVariants.{Take, Drop}
+use Rattle.smi_command.specs.declared.Link.{Link}
+use Rattle.smi_command.specs.declared.Link.TheVariants.{Out, Taking, Held, Dropping}
+use Rattle.smi_command.specs.Hearing.{settled_count, told_link}
+use Rattle.smi_command.specs.Link.{due_of, is_unsettled}
+use Rattle.smi_command.specs.OneLink.{asked_record, kept_after}
+use Rattle.smi_command.proofs.Facts.{LinkOk}
+use Rattle.smi_command.proofs.Heard.{by_row_dropping, by_row_held, by_row_taking, choose}
 use Rattle.smi_grant.proofs.Holders.{either, same_self}
 use Rattle.smi_tree.specs.Lookups.{parent_of}
-use Rattle.smi_roles.specs.Roles.{has_domain, is_holder_of, is_parent}
+use Rattle.smi_tree.specs.Roles.{has_domain, is_holder_of, is_parent}
 use Rattle.smi_protocol.proofs.Tables.{number_is}
 use Rattle.smi_protocol.specs.Schedule.{World}
 use Rattle.smi_law.specs.Known.{holder_home, link_in, record_in}

@@ -18,7 +18,7 @@ use Rattle.smi_tree.specs.Lawful.{IsTree}
 use Rattle.smi_tree.specs.Lookups.{domain_count, parent_of, station_of, devices_of, accepts, unit_state, moved}
 use Rattle.smi_publish.specs.declared.condition.Condition.{Condition}
 use Rattle.smi_publish.specs.Published.{condition}
-use Rattle.smi_roles.specs.Roles.{domain_of, is_kept_by, is_number, is_keeper}
+use Rattle.smi_tree.specs.Roles.{domain_of, is_kept_by, is_number, is_keeper}
 use Rattle.smi_publish.specs.Publishing.{come_to, reported, device_objects, is_among, acted}
 use Rattle.smi_grant.proofs.Holders.{either}
 use Rattle.smi_protocol.specs.Display.{Display, Station}

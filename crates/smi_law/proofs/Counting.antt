@@ -9,7 +9,7 @@ use Rattle.smi_tree.specs.Hierarchy.{Hierarchy}
 use Rattle.smi_tree.specs.Lawful.{IsTree}
 use Rattle.smi_tree.specs.Lookups.{children_of, domain_count, parent_of}
 use Rattle.smi_grant.proofs.Holders.{either}
-use Rattle.smi_roles.specs.Roles.{has_domain}
+use Rattle.smi_tree.specs.Roles.{has_domain}
 use Rattle.smi_protocol.proofs.Lists.{In, in_range}
 use Rattle.smi_protocol.proofs.Ranges.{between, child_there, is_within}
 use Rattle.smi_protocol.proofs.Tables.{child_of, number_self, parent_is}

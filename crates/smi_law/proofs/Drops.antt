@@ -9,22 +9,22 @@ use Rattle.smi_grant.specs.declared.Verdict.TheVariants.{New, Same}
 use Rattle.smi_grant.specs.Holder.{is_free, same_holder}
 use Rattle.smi_grant.specs.Keeper.{admits, handed, started}
 use Rattle.smi_grant.specs.Record.{Standing, is_settled, last_epoch}
-use Rattle.smi_grant.specs.declared.Due.{Due}
-use Rattle.smi_grant.specs.declared.Due.TheVariants.{Take, Drop, Run}
-use Rattle.smi_grant.specs.declared.Link.{Link}
-use Rattle.smi_grant.specs.declared.Link.TheVariants.{Out, Taking, Held, Dropping}
-use Rattle.smi_grant.specs.Hearing.{told_link}
-use Rattle.smi_grant.specs.Link.{due_of}
-use Rattle.smi_grant.specs.OneLink.{Pair, Event, OrderTake, OrderCommand, OrderDrop, SendDue, Deliver, Settle}
-use Rattle.smi_grant.specs.OneLink.{Stranger}
-use Rattle.smi_grant.specs.OneLink.{Ask, Datagram, Asks, Tells, after, asked, asked_record, kept_after, reached}
-use Rattle.smi_grant.specs.OneLink.{delivered}
-use Rattle.smi_grant.specs.OneLink.{commanded, relinked, sent_due, settled_record, is_stranger}
-use Rattle.smi_grant.specs.Order.{take_begun, command_issued, drop_begun}
-use Rattle.smi_grant.proofs.Facts.{LinkOk}
-use Rattle.smi_grant.proofs.Heard.{choose, by_row_taking, by_row_held, by_row_dropping}
-use Rattle.smi_grant.proofs.OneLinkKept.{Well, reached_well}
-use Rattle.smi_grant.proofs.Orders.{take_begins, drop_begins, command_issues}
+use Rattle.smi_command.specs.declared.Due.{Due}
+use Rattle.smi_command.specs.declared.Due.TheVariants.{Take, Drop, Run}
+use Rattle.smi_command.specs.declared.Link.{Link}
+use Rattle.smi_command.specs.declared.Link.TheVariants.{Out, Taking, Held, Dropping}
+use Rattle.smi_command.specs.Hearing.{told_link}
+use Rattle.smi_command.specs.Link.{due_of}
+use Rattle.smi_command.specs.OneLink.{Pair, Event, OrderTake, OrderCommand, OrderDrop, SendDue, Deliver, Settle}
+use Rattle.smi_command.specs.OneLink.{Stranger}
+use Rattle.smi_command.specs.OneLink.{Ask, Datagram, Asks, Tells, after, asked, asked_record, kept_after, reached}
+use Rattle.smi_command.specs.OneLink.{delivered}
+use Rattle.smi_command.specs.OneLink.{commanded, relinked, sent_due, settled_record, is_stranger}
+use Rattle.smi_command.specs.Order.{take_begun, command_issued, drop_begun}
+use Rattle.smi_command.proofs.Facts.{LinkOk}
+use Rattle.smi_command.proofs.Heard.{choose, by_row_taking, by_row_held, by_row_dropping}
+use Rattle.smi_command.proofs.OneLinkKept.{Well, reached_well}
+use Rattle.smi_command.proofs.Orders.{take_begins, drop_begins, command_issues}
 use Rattle.smi_tree.specs.Hierarchy.{Hierarchy}
 use Rattle.smi_protocol.specs.declared.Entry.{Entry}
 use Rattle.smi_protocol.specs.Schedule.{World}

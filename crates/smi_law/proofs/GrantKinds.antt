@@ -10,8 +10,8 @@ use Rattle.smi_grant.specs.Record.{Standing}
 use Rattle.smi_message.specs.declared.Body.TheVariants as body
 use Rattle.smi_message.specs.Message.{Message}
 use Rattle.smi_tree.specs.Hierarchy.{Hierarchy}
-use Rattle.smi_grant.specs.declared.Link.{Link}
-use Rattle.smi_grant.specs.declared.Link.TheVariants.{Taking, Held, Dropping}
+use Rattle.smi_command.specs.declared.Link.{Link}
+use Rattle.smi_command.specs.declared.Link.TheVariants.{Taking, Held, Dropping}
 use Rattle.smi_protocol.specs.Display.{Station}
 use Rattle.smi_protocol.specs.Grants.{Grants, put}
 use Rattle.smi_protocol.specs.Messages.{home}

@@ -9,7 +9,7 @@ use Rattle.smi_message.specs.declared.Body.TheVariants as body
 use Rattle.smi_message.specs.Message.{Message}
 use Rattle.smi_tree.specs.Hierarchy.{Hierarchy}
 use Rattle.smi_tree.specs.Lookups.{station_count}
-use Rattle.smi_grant.proofs.Waiting.{due_drop}
+use Rattle.smi_command.proofs.Waiting.{due_drop}
 use Rattle.smi_protocol.specs.Happening.{Happening}
 use Rattle.smi_protocol.specs.Opening.{opened, opening_entries, saved_only}
 use Rattle.smi_protocol.specs.Refusals.{refusal_of}

@@ -12,18 +12,18 @@ use Rattle.smi_grant.specs.Keeper.{settled}
 use Rattle.smi_grant.specs.Record.{Standing, last_epoch}
 use Rattle.smi_tree.specs.Hierarchy.{Hierarchy, entry}
 use Rattle.smi_tree.specs.Lookups.{numbers_from, operators_of, parent_of}
-use Rattle.smi_grant.specs.declared.Link.{Link}
-use Rattle.smi_grant.specs.declared.Link.TheVariants.{Out, Taking, Held, Dropping}
-use Rattle.smi_grant.specs.Hearing.{told_link}
-use Rattle.smi_grant.specs.Link.{known}
-use Rattle.smi_grant.proofs.Epochs.{known_told}
-use Rattle.smi_grant.proofs.Facts.{LinkOk}
-use Rattle.smi_grant.proofs.Heard.{by_row_taking, by_row_held, by_row_dropping}
+use Rattle.smi_command.specs.declared.Link.{Link}
+use Rattle.smi_command.specs.declared.Link.TheVariants.{Out, Taking, Held, Dropping}
+use Rattle.smi_command.specs.Hearing.{told_link}
+use Rattle.smi_command.specs.Link.{known}
+use Rattle.smi_command.proofs.Epochs.{known_told}
+use Rattle.smi_command.proofs.Facts.{LinkOk}
+use Rattle.smi_command.proofs.Heard.{by_row_taking, by_row_held, by_row_dropping}
 use Rattle.smi_grant.proofs.Holders.{either}
 use Rattle.smi_protocol.specs.Grants.{Grants, put_link}
 use Rattle.smi_protocol.specs.Hearing.{parent_here, listeners, hears, listener, learned, operator_told, parent_heard}
 use Rattle.smi_protocol.specs.Hearing.{ends, ended, ended_entries, told_to}
-use Rattle.smi_roles.specs.Roles.{is_keeper}
+use Rattle.smi_tree.specs.Roles.{is_keeper}
 use Rattle.smi_protocol.specs.declared.Entry.{Entry}
 use Rattle.smi_law.specs.Known.{holder_home, record_in, link_in}
 use Rattle.smi_protocol.specs.Schedule.{World}

@@ -12,11 +12,11 @@ use Rattle.smi_message.specs.Message.{Message}
 use Rattle.smi_tree.specs.Hierarchy.{Hierarchy}
 use Rattle.smi_tree.specs.Lawful.{IsTree, IsBetween}
 use Rattle.smi_tree.specs.Lookups.{domain_count, operator_station_of, operators_of, parent_of, station_of}
-use Rattle.smi_grant.specs.declared.Link.{Link}
-use Rattle.smi_grant.specs.Hearing.{told_heard, told_link}
-use Rattle.smi_grant.proofs.Facts.{LinkOk}
+use Rattle.smi_command.specs.declared.Link.{Link}
+use Rattle.smi_command.specs.Hearing.{told_heard, told_link}
+use Rattle.smi_command.proofs.Facts.{LinkOk}
 use Rattle.smi_grant.proofs.Holders.{either, told_apart}
-use Rattle.smi_roles.specs.Roles.{is_holder_of, is_keeper}
+use Rattle.smi_tree.specs.Roles.{is_holder_of, is_keeper}
 use Rattle.smi_protocol.proofs.Lists.{In, from_mapped, in_both}
 use Rattle.smi_protocol.proofs.Ranges.{home_there}
 use Rattle.smi_protocol.proofs.SoundSteps.{found, listening_parent}

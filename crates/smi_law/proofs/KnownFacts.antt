@@ -8,10 +8,10 @@ use Rattle.smi_grant.specs.Record.{IsRecord}
 use Rattle.smi_message.specs.declared.Body.TheVariants.{Run}
 use Rattle.smi_message.specs.Message.{Message}
 use Rattle.smi_tree.specs.Hierarchy.{Hierarchy}
-use Rattle.smi_grant.specs.declared.Link.TheVariants.{Held}
-use Rattle.smi_grant.specs.KnownGrant.{KnownGrant, InStep, IsSpent, Waits}
-use Rattle.smi_grant.specs.OneLink.{reached}
-use Rattle.smi_grant.proofs.OneLinkKept.{grant_known, grant_in_step, run_sent}
+use Rattle.smi_command.specs.declared.Link.TheVariants.{Held}
+use Rattle.smi_command.specs.KnownGrant.{KnownGrant, InStep, IsSpent, Waits}
+use Rattle.smi_command.specs.OneLink.{reached}
+use Rattle.smi_command.proofs.OneLinkKept.{grant_known, grant_in_step, run_sent}
 use Rattle.smi_law.specs.Known.{record_in, link_in}
 use Rattle.smi_protocol.specs.Schedule.{World}
 use Rattle.smi_law.specs.World.{Among as IsSent}

@@ -9,9 +9,9 @@ use Rattle.smi_grant.specs.declared.Holder.{Holder}
 use Rattle.smi_grant.specs.declared.Holder.TheVariants.{Free}
 use Rattle.smi_grant.specs.Holder.{is_free}
 use Rattle.smi_tree.specs.Hierarchy.{Hierarchy}
-use Rattle.smi_grant.specs.declared.Link.{Link}
-use Rattle.smi_grant.specs.declared.Link.TheVariants.{Taking, Held, Dropping}
-use Rattle.smi_grant.specs.Link.{known}
+use Rattle.smi_command.specs.declared.Link.{Link}
+use Rattle.smi_command.specs.declared.Link.TheVariants.{Taking, Held, Dropping}
+use Rattle.smi_command.specs.Link.{known}
 use Rattle.smi_grant.proofs.Holders.{either, told_apart, same_is, same_self}
 use Rattle.smi_protocol.specs.declared.Entry.{Entry}
 use Rattle.smi_protocol.specs.declared.Entry.TheVariants.{Booted, Granted, Freed, Ordered, Ran, Learned, LetGo}

@@ -16,14 +16,14 @@ use Rattle.smi_message.specs.declared.Body.TheVariants as body
 use Rattle.smi_message.specs.Message.{Message}
 use Rattle.smi_tree.specs.Hierarchy.{Hierarchy}
 use Rattle.smi_tree.specs.Lookups.{accepts, is_below}
-use Rattle.smi_grant.specs.declared.Link.{Link}
-use Rattle.smi_grant.specs.Hearing.{told_link}
-use Rattle.smi_grant.specs.Order.{take_begun, drop_begun, command_issued}
+use Rattle.smi_command.specs.declared.Link.{Link}
+use Rattle.smi_command.specs.Hearing.{told_link}
+use Rattle.smi_command.specs.Order.{take_begun, drop_begun, command_issued}
 use Rattle.smi_grant.proofs.Holders.{either, same_is}
 use Rattle.smi_rows.specs.declared.Mode.{Mode}
 use Rattle.smi_rows.specs.declared.Mode.TheVariants as mode
-use Rattle.smi_roles.specs.Roles.{is_parent}
-use Rattle.smi_grant.specs.Link.{is_held}
+use Rattle.smi_tree.specs.Roles.{is_parent}
+use Rattle.smi_command.specs.Link.{is_held}
 use Rattle.smi_protocol.specs.Grants.{Grants, put_link}
 use Rattle.smi_protocol.specs.Happening.{Happening, Comes, Orders, Reports, Ticks}
 use Rattle.smi_protocol.specs.Keeping.{decided, run_comes}

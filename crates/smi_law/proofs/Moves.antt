@@ -6,11 +6,11 @@ use Rattle.smi_grant.specs.declared.Holder.{Holder}
 use Rattle.smi_grant.specs.Record.{Standing}
 use Rattle.smi_message.specs.declared.Body.TheVariants as body
 use Rattle.smi_message.specs.Message.{Message}
-use Rattle.smi_grant.specs.declared.Link.{Link}
-use Rattle.smi_grant.specs.declared.Due.{Due}
-use Rattle.smi_grant.specs.Hearing.{told_link}
-use Rattle.smi_grant.specs.OneLink.{asked_record, settled_record}
-use Rattle.smi_grant.specs.Order.{take_begun, drop_begun, command_issued}
+use Rattle.smi_command.specs.declared.Link.{Link}
+use Rattle.smi_command.specs.declared.Due.{Due}
+use Rattle.smi_command.specs.Hearing.{told_link}
+use Rattle.smi_command.specs.OneLink.{asked_record, settled_record}
+use Rattle.smi_command.specs.Order.{take_begun, drop_begun, command_issued}
 pub use Rattle.smi_protocol.proofs.Tables.{apart, choice, number_self, at_put, at_put_link, put_link_here}
 use Rattle.smi_protocol.specs.Messages.{request}
 use Rattle.smi_law.specs.World.{Among}

@@ -9,10 +9,10 @@ use Rattle.smi_publish.specs.Published.{last_sequence}
 use Rattle.smi_tree.specs.Hierarchy.{Hierarchy}
 use Rattle.smi_tree.specs.Lawful.{IsTree}
 use Rattle.smi_tree.specs.Lookups.{domain_count, operator_count, parent_of}
-use Rattle.smi_grant.specs.declared.Link.{Link}
-use Rattle.smi_grant.specs.declared.Link.TheVariants.{Out, Taking, Held, Dropping}
-use Rattle.smi_grant.specs.Pending.{most_pending}
-use Rattle.smi_roles.specs.Roles.{has_domain}
+use Rattle.smi_command.specs.declared.Link.{Link}
+use Rattle.smi_command.specs.declared.Link.TheVariants.{Out, Taking, Held, Dropping}
+use Rattle.smi_command.specs.Pending.{most_pending}
+use Rattle.smi_tree.specs.Roles.{has_domain}
 use Rattle.smi_protocol.specs.Schedule.{World}
 use Rattle.smi_protocol.specs.Sound.{IsLink, most_handed_on}
 use Rattle.smi_protocol.specs.Ticking.{domains_of}

@@ -15,17 +15,17 @@ use Rattle.smi_grant.specs.Record.{Standing}
 use Rattle.smi_message.specs.declared.Body.{Body}
 use Rattle.smi_message.specs.declared.Body.TheVariants as body
 use Rattle.smi_tree.specs.Hierarchy.{Hierarchy}
-use Rattle.smi_grant.specs.declared.Link.{Link}
-use Rattle.smi_grant.specs.declared.Link.TheVariants.{Out, Taking, Held, Dropping}
-use Rattle.smi_grant.specs.Hearing.{told_link}
-use Rattle.smi_grant.specs.Link.{known}
-use Rattle.smi_grant.specs.OneLink.{Job, job, issued_under}
-use Rattle.smi_grant.specs.Order.{take_begun, drop_begun, command_issued}
-use Rattle.smi_grant.proofs.Epochs.{known_told, known_taken, known_dropped}
-use Rattle.smi_grant.proofs.Heard.{Quiet, quiet_same, quiet_taking, quiet_dropping, told_quiet}
+use Rattle.smi_command.specs.declared.Link.{Link}
+use Rattle.smi_command.specs.declared.Link.TheVariants.{Out, Taking, Held, Dropping}
+use Rattle.smi_command.specs.Hearing.{told_link}
+use Rattle.smi_command.specs.Link.{known}
+use Rattle.smi_command.specs.OneLink.{Job, job, issued_under}
+use Rattle.smi_command.specs.Order.{take_begun, drop_begun, command_issued}
+use Rattle.smi_command.proofs.Epochs.{known_told, known_taken, known_dropped}
+use Rattle.smi_command.proofs.Heard.{Quiet, quiet_same, quiet_taking, quiet_dropping, told_quiet}
 use Rattle.smi_grant.proofs.Holders.{either}
-use Rattle.smi_grant.proofs.Orders.{take_begins, drop_begins, command_issues}
-use Rattle.smi_roles.specs.Roles.{is_parent}
+use Rattle.smi_command.proofs.Orders.{take_begins, drop_begins, command_issues}
+use Rattle.smi_tree.specs.Roles.{is_parent}
 use Rattle.smi_protocol.specs.Children.{ChildChange, Stays, Relinked, ComesInto, change_of, own_code, links_after}
 use Rattle.smi_protocol.specs.Grants.{Grants, put_link, with_link}
 use Rattle.smi_protocol.specs.GrantStep.{waits_for_children}

@@ -6,10 +6,10 @@ use Rattle.std.proofs.lemmas.Bool.{and_parts, eqb-true}
 use Rattle.smi_grant.specs.declared.Holder.TheVariants.{Operator}
 use Rattle.smi_tree.specs.Hierarchy.{Hierarchy}
 use Rattle.smi_tree.specs.Lookups.{station_count}
-use Rattle.smi_grant.specs.declared.Link.TheVariants.{Out, Held}
-use Rattle.smi_grant.specs.OneLink.{job}
+use Rattle.smi_command.specs.declared.Link.TheVariants.{Out, Held}
+use Rattle.smi_command.specs.OneLink.{job}
 use Rattle.smi_grant.proofs.Holders.{either}
-use Rattle.smi_grant.proofs.Logs.{Logged, logged_first, logged_quiet, logged_issue}
+use Rattle.smi_command.proofs.Logs.{Logged, logged_first, logged_quiet, logged_issue}
 use Rattle.smi_protocol.specs.Display.{Station}
 use Rattle.smi_protocol.specs.Grants.{put}
 use Rattle.smi_protocol.specs.Happening.{Happening}

@@ -8,11 +8,11 @@ use Rattle.smi_grant.specs.declared.Holder.TheVariants.{Operator, Domain}
 use Rattle.smi_tree.specs.Hierarchy.{Hierarchy}
 use Rattle.smi_tree.specs.Lawful.{IsTree}
 use Rattle.smi_tree.specs.Lookups.{device_count, domain_count, operators_of, parent_of}
-use Rattle.smi_grant.specs.declared.Link.{Link}
-use Rattle.smi_grant.specs.declared.Link.TheVariants.{Out, Taking, Held, Dropping}
-use Rattle.smi_grant.specs.Link.{due_of, is_out}
-use Rattle.smi_grant.specs.Pending.{most_pending}
-use Rattle.smi_roles.specs.Roles.{is_keeper}
+use Rattle.smi_command.specs.declared.Link.{Link}
+use Rattle.smi_command.specs.declared.Link.TheVariants.{Out, Taking, Held, Dropping}
+use Rattle.smi_command.specs.Link.{due_of, is_out}
+use Rattle.smi_command.specs.Pending.{most_pending}
+use Rattle.smi_tree.specs.Roles.{is_keeper}
 use Rattle.smi_protocol.specs.Display.{Display}
 use Rattle.smi_protocol.specs.Grants.{Grants}
 use Rattle.smi_protocol.specs.Messages.{all_due, requests, watches}
@@ -21,7 +21,7 @@ use Rattle.smi_protocol.specs.Sound.{IsSound}
 use Rattle.smi_protocol.specs.Ticking.{all_owed, domains_of, number_of_due, owed, owed_question, owed_to_child}
 use Rattle.smi_protocol.specs.Ticking.{owed_to_domain, owed_watch}
 use Rattle.smi_protocol.specs.Watching.{is_watched}
-use Rattle.smi_protocol.specs.declared.Place.TheVariants as place
+use Rattle.smi_protocol.specs.declared.ResendCursor.TheVariants as place
 use Rattle.smi_law.specs.Bound.{most_operators, most_owed}
 use Rattle.smi_law.specs.Waiting.{waiting}
 use Rattle.smi_law.proofs.RestLists.{both_lengths, chosen_most, flat_most, mapped_most, numbers_counted, one_more}

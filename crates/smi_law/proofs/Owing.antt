@@ -11,13 +11,13 @@ use Rattle.smi_grant.specs.declared.Holder.{Holder}
 use Rattle.smi_grant.specs.declared.Holder.TheVariants.{Free, Operator, Domain}
 use Rattle.smi_tree.specs.Hierarchy.{Hierarchy}
 use Rattle.smi_tree.specs.Lookups.{device_count, domain_count, operator_station_of, operators_of, parent_of}
-use Rattle.smi_grant.specs.declared.Due.{Due}
-use Rattle.smi_grant.specs.declared.Due.TheVariants.{Take, Drop, Run}
-use Rattle.smi_grant.specs.declared.Link.{Link}
-use Rattle.smi_grant.specs.declared.Link.TheVariants.{Out, Taking, Held, Dropping}
-use Rattle.smi_grant.specs.Link.{due_of}
-use Rattle.smi_grant.specs.Pending.{base_of, most_pending}
-use Rattle.smi_roles.specs.Roles.{has_domain, is_holder_of, is_keeper}
+use Rattle.smi_command.specs.declared.Due.{Due}
+use Rattle.smi_command.specs.declared.Due.TheVariants.{Take, Drop, Run}
+use Rattle.smi_command.specs.declared.Link.{Link}
+use Rattle.smi_command.specs.declared.Link.TheVariants.{Out, Taking, Held, Dropping}
+use Rattle.smi_command.specs.Link.{due_of}
+use Rattle.smi_command.specs.Pending.{base_of, most_pending}
+use Rattle.smi_tree.specs.Roles.{has_domain, is_holder_of, is_keeper}
 use Rattle.smi_protocol.proofs.Lists.{In, in_both, from_flat, from_mapped, from_range, in_chosen, in_first, in_mapped}
 use Rattle.smi_protocol.proofs.Lists.{in_numbers, in_range, in_second}
 use Rattle.smi_protocol.proofs.Ranges.{is_within}
@@ -29,8 +29,8 @@ use Rattle.smi_protocol.specs.Sound.{IsLink, IsSound, most_handed_on}
 use Rattle.smi_protocol.specs.Ticking.{Owed, all_owed, domains_of, first_place, number_of_due, owed, owed_question}
 use Rattle.smi_protocol.specs.Ticking.{owed_to_child, owed_to_domain, owed_watch}
 use Rattle.smi_protocol.specs.Watching.{is_watched}
-use Rattle.smi_protocol.specs.declared.Place.{Place}
-use Rattle.smi_protocol.specs.declared.Place.TheVariants as place
+use Rattle.smi_protocol.specs.declared.ResendCursor.{ResendCursor}
+use Rattle.smi_protocol.specs.declared.ResendCursor.TheVariants as place
 use Rattle.smi_law.specs.Waiting.{waiting}
 use Rattle.smi_law.proofs.Ascending.{Ascends, Less, ascends_both, ascends_chosen, ascends_flat, ascends_mapped}
 use Rattle.smi_law.proofs.Ascending.{ascends_numbers, ascends_range}
@@ -108,7 +108,7 @@ one_waits h (Taking s) i = omega arith
 one_waits h (Held e n p) i = i.1.few
 one_waits h (Dropping e) i = omega arith
 
-at_places : (u v : Owed) (p q : Place) → u.place ≡ p → v.place ≡ q → Before p q → Earlier u v
+at_places : (u v : Owed) (p q : ResendCursor) → u.place ≡ p → v.place ≡ q → Before p q → Earlier u v
 at_places u v p q i j before = subst (λ z. Before z v.place) (sym i) (subst (Before p) (sym j) before)
 
 -- no thing stands before another
@@ -278,7 +278,7 @@ module _ (h : Hierarchy) (number : ℕ) (g : Grants) (s : Display) where
               at_places u v (place.Ask a.0) (place.Watch b.0) a.1 b.1 (inl (omega arith))
         ])
 
-  not_first : (u : Owed) (p : Place) → u.place ≡ p → NotBefore p first_place → NotBefore u.place first_place
+  not_first : (u : Owed) (p : ResendCursor) → u.place ≡ p → NotBefore p first_place → NotBefore u.place first_place
   not_first u p is n = subst (λ z. NotBefore z first_place) (sym is) n
 
   -- and nothing before the first place

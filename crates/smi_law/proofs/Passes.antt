@@ -11,15 +11,15 @@ use Rattle.smi_grant.specs.Record.{Standing, IsRecord}
 use Rattle.smi_tree.specs.Hierarchy.{Hierarchy}
 use Rattle.smi_tree.specs.Lawful.{IsTree}
 use Rattle.smi_tree.specs.Lookups.{operator_station_of, operators_of, parent_of}
-use Rattle.smi_grant.specs.declared.Due.{Due}
-use Rattle.smi_grant.specs.declared.Link.{Link}
-use Rattle.smi_grant.specs.declared.Link.TheVariants.{Out, Taking, Held, Dropping}
-use Rattle.smi_grant.specs.Hearing.{told_heard}
-use Rattle.smi_grant.specs.Link.{due_of, is_unsettled}
-use Rattle.smi_grant.specs.OneLink.{asked_record}
-use Rattle.smi_grant.proofs.Facts.{LinkOk}
+use Rattle.smi_command.specs.declared.Due.{Due}
+use Rattle.smi_command.specs.declared.Link.{Link}
+use Rattle.smi_command.specs.declared.Link.TheVariants.{Out, Taking, Held, Dropping}
+use Rattle.smi_command.specs.Hearing.{told_heard}
+use Rattle.smi_command.specs.Link.{due_of, is_unsettled}
+use Rattle.smi_command.specs.OneLink.{asked_record}
+use Rattle.smi_command.proofs.Facts.{LinkOk}
 use Rattle.smi_grant.proofs.Holders.{either, told_apart}
-use Rattle.smi_roles.specs.Roles.{has_domain, is_holder_of, is_keeper}
+use Rattle.smi_tree.specs.Roles.{has_domain, is_holder_of, is_keeper}
 use Rattle.smi_protocol.proofs.Lists.{In, in_first, in_mapped, in_second}
 use Rattle.smi_protocol.proofs.Tables.{apart, number_is}
 use Rattle.smi_protocol.specs.Hearing.{hears, is_ahead, is_heard, listeners, parent_here}

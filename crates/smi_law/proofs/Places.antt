@@ -5,29 +5,29 @@ use Rattle.std.proofs.lemmas.Bool.Decides.{nat_tests}
 use Rattle.smi_tree.specs.Hierarchy.{Hierarchy}
 use Rattle.smi_tree.specs.Lookups.{domain_count, device_count}
 use Rattle.smi_protocol.specs.Ticking.{first_place, is_before, next_place}
-use Rattle.smi_protocol.specs.declared.Place.{Place}
-use Rattle.smi_protocol.specs.declared.Place.TheVariants as place
+use Rattle.smi_protocol.specs.declared.ResendCursor.{ResendCursor}
+use Rattle.smi_protocol.specs.declared.ResendCursor.TheVariants as place
 
 -- the kind of a place, and its numbers
-abbrev pub kind : Place → ℕ
+abbrev pub kind : ResendCursor → ℕ
 kind (place.Child x) = 0
 kind (place.Link o d n) = 1
 kind (place.Ask o) = 2
 kind (place.Watch x) = 3
 
-abbrev pub major : Place → ℕ
+abbrev pub major : ResendCursor → ℕ
 major (place.Child x) = x
 major (place.Link o d n) = o
 major (place.Ask o) = o
 major (place.Watch x) = x
 
-abbrev pub middle : Place → ℕ
+abbrev pub middle : ResendCursor → ℕ
 middle (place.Child x) = 0
 middle (place.Link o d n) = d
 middle (place.Ask o) = 0
 middle (place.Watch x) = 0
 
-abbrev pub minor : Place → ℕ
+abbrev pub minor : ResendCursor → ℕ
 minor (place.Child x) = 0
 minor (place.Link o d n) = n
 minor (place.Ask o) = 0
@@ -37,7 +37,7 @@ abbrev pub Lower : ℕ → ℕ → ℕ → ℕ → ℕ → ℕ → ℕ → ℕ �
 Lower k a b c l d e f = (k < l) ⊎ ((k ≡ l) × ((a < d) ⊎ ((a ≡ d) × ((b < e) ⊎ ((b ≡ e) × (c < f))))))
 
 -- one place stands before another
-abbrev pub Before : Place → Place → Type 0
+abbrev pub Before : ResendCursor → ResendCursor → Type 0
 Before p q = Lower (kind p) (major p) (middle p) (minor p) (kind q) (major q) (middle q) (minor q)
 
 one_before : (x y : ℕ) → (nat_lt x y || (x == y && false)) ≡ true → x < y
@@ -55,7 +55,7 @@ three_true : (a b c d e f : ℕ) → (a < d) ⊎ ((a ≡ d) × ((b < e) ⊎ ((b 
     → (nat_lt a d || (a == d && (nat_lt b e || (b == e && (nat_lt c f || (c == f && false)))))) ≡ true
 three_true a b c d e f l = grind (arith, nat_tests)
 
-pub is_before_is : (p q : Place) → is_before p q ≡ true → Before p q
+pub is_before_is : (p q : ResendCursor) → is_before p q ≡ true → Before p q
 is_before_is (place.Child x) (place.Child y) t = inr (refl, inl (one_before x y t))
 is_before_is (place.Child x) (place.Link o d n) t = inl (omega arith)
 is_before_is (place.Child x) (place.Ask o) t = inl (omega arith)
@@ -76,7 +76,7 @@ is_before_is (place.Watch x) (place.Watch y) t = inr (refl, inl (one_before x y 
 only_major : (x y : ℕ) → Lower 0 x 0 0 0 y 0 0 → x < y
 only_major x y l = grind (arith, l)
 
-pub before_is_before : (p q : Place) → Before p q → is_before p q ≡ true
+pub before_is_before : (p q : ResendCursor) → Before p q → is_before p q ≡ true
 before_is_before (place.Child x) (place.Child y) l = one_true x y (grind (arith, l))
 before_is_before (place.Child x) (place.Link o d n) l = refl
 before_is_before (place.Child x) (place.Ask o) l = refl
@@ -98,13 +98,13 @@ before_is_before (place.Watch x) (place.Ask p) l = absurd (grind (arith, l))
 before_is_before (place.Watch x) (place.Watch y) l = one_true x y (grind (arith, l))
 
 -- the numbers of one are before those of the other, or the same, or behind
-abbrev pub NotBefore : Place → Place → Type 0
+abbrev pub NotBefore : ResendCursor → ResendCursor → Type 0
 NotBefore p q = Before p q → ⊥
 
 lower_on : (k a b c l d e f m g i j : ℕ) → Lower k a b c l d e f → Lower l d e f m g i j → Lower k a b c m g i j
 lower_on k a b c l d e f m g i j x y = grind arith
 
-pub before_on : (p q s : Place) → Before p q → Before q s → Before p s
+pub before_on : (p q s : ResendCursor) → Before p q → Before q s → Before p s
 before_on p q s x y = lower_on (kind p) (major p) (middle p) (minor p) (kind q) (major q) (middle q) (minor q) (kind s)
     (major s) (middle s) (minor s) x y
 
@@ -113,43 +113,43 @@ lower_around : (k a b c l d e f m g i j : ℕ) → Lower k a b c l d e f → (Lo
 lower_around k a b c l d e f m g i j x y = grind arith
 
 -- what is before a place is before all that is not before it
-pub before_around : (p q s : Place) → Before p q → NotBefore s q → Before p s
+pub before_around : (p q s : ResendCursor) → Before p q → NotBefore s q → Before p s
 before_around p q s x y = lower_around (kind p) (major p) (middle p) (minor p) (kind q) (major q) (middle q) (minor q)
     (kind s) (major s) (middle s) (minor s) x y
 
 -- The place after a place.
 
 -- it is the first one, or right behind
-pub record Follows (p q : Place) : Type 0 where
+pub record Follows (p q : ResendCursor) : Type 0 where
   pub behind : Before p q
-  pub next : (s : Place) → Before p s → NotBefore s q
+  pub next : (s : ResendCursor) → Before p s → NotBefore s q
 
-next_child : (x : ℕ) (s : Place) → Before (place.Child x) s → NotBefore s (place.Child (x + 1))
+next_child : (x : ℕ) (s : ResendCursor) → Before (place.Child x) s → NotBefore s (place.Child (x + 1))
 next_child x (place.Child y) a b = grind (arith, a, b)
 next_child x (place.Link o d n) a b = grind (arith, b)
 next_child x (place.Ask o) a b = grind (arith, b)
 next_child x (place.Watch y) a b = grind (arith, b)
 
-next_link : (o d n : ℕ) (s : Place) → Before (place.Link o d n) s → NotBefore s (place.Link o d (n + 1))
+next_link : (o d n : ℕ) (s : ResendCursor) → Before (place.Link o d n) s → NotBefore s (place.Link o d (n + 1))
 next_link o d n (place.Child y) a b = grind (arith, a)
 next_link o d n (place.Link p e m) a b = grind (arith, a, b)
 next_link o d n (place.Ask p) a b = grind (arith, b)
 next_link o d n (place.Watch y) a b = grind (arith, b)
 
-next_ask : (o : ℕ) (s : Place) → Before (place.Ask o) s → NotBefore s (place.Ask (o + 1))
+next_ask : (o : ℕ) (s : ResendCursor) → Before (place.Ask o) s → NotBefore s (place.Ask (o + 1))
 next_ask o (place.Child y) a b = grind (arith, a)
 next_ask o (place.Link p e m) a b = grind (arith, a)
 next_ask o (place.Ask p) a b = grind (arith, a, b)
 next_ask o (place.Watch y) a b = grind (arith, b)
 
-next_watch : (x : ℕ) (s : Place) → Before (place.Watch x) s → NotBefore s (place.Watch (x + 1))
+next_watch : (x : ℕ) (s : ResendCursor) → Before (place.Watch x) s → NotBefore s (place.Watch (x + 1))
 next_watch x (place.Child y) a b = grind (arith, a)
 next_watch x (place.Link o d n) a b = grind (arith, a)
 next_watch x (place.Ask o) a b = grind (arith, a)
 next_watch x (place.Watch y) a b = grind (arith, a, b)
 
 -- the place after a place is right behind it, but after a watch it may be the first
-pub next_or_first : (h : Hierarchy) (p : Place)
+pub next_or_first : (h : Hierarchy) (p : ResendCursor)
     → Follows p (next_place h p) ⊎ ((kind p ≡ 3) × (next_place h p ≡ first_place))
 next_or_first h (place.Child x) = inl (record { behind = inr (refl, inl (omega arith)); next = next_child x })
 next_or_first h (place.Link o d n) =

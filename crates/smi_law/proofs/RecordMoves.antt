@@ -14,10 +14,10 @@ use Rattle.smi_message.specs.declared.Body.{Body}
 use Rattle.smi_message.specs.declared.Body.TheVariants as body
 use Rattle.smi_message.specs.Message.{Message}
 use Rattle.smi_tree.specs.Hierarchy.{Hierarchy}
-use Rattle.smi_grant.specs.declared.Link.{Link}
-use Rattle.smi_grant.specs.declared.Due.TheVariants.{Take, Drop, Run}
-use Rattle.smi_grant.specs.Order.{take_begun, drop_begun, command_issued}
-use Rattle.smi_grant.specs.OneLink.{kept_after}
+use Rattle.smi_command.specs.declared.Link.{Link}
+use Rattle.smi_command.specs.declared.Due.TheVariants.{Take, Drop, Run}
+use Rattle.smi_command.specs.Order.{take_begun, drop_begun, command_issued}
+use Rattle.smi_command.specs.OneLink.{kept_after}
 use Rattle.smi_grant.proofs.Holders.{either}
 use Rattle.smi_protocol.specs.Grants.{Grants, put}
 use Rattle.smi_protocol.specs.Happening.{Happening, Comes, Orders, Reports, Ticks}

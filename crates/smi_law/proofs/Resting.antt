@@ -11,11 +11,11 @@ use Rattle.smi_grant.specs.declared.Holder.TheVariants.{Free, Operator, Domain}
 use Rattle.smi_tree.specs.Hierarchy.{Hierarchy}
 use Rattle.smi_tree.specs.Lawful.{IsTree}
 use Rattle.smi_tree.specs.Lookups.{domain_count, operator_count, operator_station_of, parent_of}
-use Rattle.smi_grant.specs.declared.Link.{Link}
-use Rattle.smi_grant.specs.declared.Link.TheVariants.{Out, Taking, Held, Dropping}
-use Rattle.smi_grant.specs.Link.{is_unsettled}
+use Rattle.smi_command.specs.declared.Link.{Link}
+use Rattle.smi_command.specs.declared.Link.TheVariants.{Out, Taking, Held, Dropping}
+use Rattle.smi_command.specs.Link.{is_unsettled}
 use Rattle.smi_grant.proofs.Holders.{either}
-use Rattle.smi_roles.specs.Roles.{has_domain, holder_station, is_holder_of, is_number}
+use Rattle.smi_tree.specs.Roles.{has_domain, holder_station, is_holder_of, is_number}
 use Rattle.smi_protocol.proofs.Lists.{In, in_first, in_mapped, in_range, in_second}
 use Rattle.smi_protocol.proofs.Ranges.{is_within, number_within}
 use Rattle.smi_protocol.proofs.Tables.{number_is}

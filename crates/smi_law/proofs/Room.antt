@@ -13,10 +13,10 @@ use Rattle.smi_publish.specs.declared.condition.Condition.{Condition}
 use Rattle.smi_publish.specs.Published.{change_at, changes_at, condition, differs, last_sequence, shown, shown_at}
 use Rattle.smi_publish.specs.Publishing.{acted, come_to, device_objects, evaluated, first_condition, is_among}
 use Rattle.smi_publish.specs.Publishing.{moved_by as device_moved, unit_moved}
-use Rattle.smi_roles.specs.Roles.{is_kept_by}
+use Rattle.smi_tree.specs.Roles.{is_kept_by}
 use Rattle.smi_tree.specs.Hierarchy.{Hierarchy}
 use Rattle.smi_tree.specs.Lookups.{accepts, first_state}
-use Rattle.smi_grant.proofs.Heard.{choose}
+use Rattle.smi_command.proofs.Heard.{choose}
 use Rattle.smi_protocol.proofs.Lists.{from_chosen}
 use Rattle.smi_protocol.specs.Display.{Display, Station}
 use Rattle.smi_protocol.specs.Grants.{Grants}

@@ -12,17 +12,17 @@ use Rattle.smi_grant.specs.Record.{Standing, is_settled}
 use Rattle.smi_tree.specs.Hierarchy.{Hierarchy}
 use Rattle.smi_tree.specs.Lawful.{IsTree}
 use Rattle.smi_tree.specs.Lookups.{children_of}
-use Rattle.smi_grant.specs.declared.Due.{Due}
-use Rattle.smi_grant.specs.declared.Due.TheVariants.{Run}
-use Rattle.smi_grant.specs.declared.Link.{Link}
-use Rattle.smi_grant.specs.declared.Link.TheVariants.{Out, Taking, Held, Dropping}
-use Rattle.smi_grant.specs.declared.LinkHeard.{LinkHeard}
-use Rattle.smi_grant.specs.Hearing.{newest_settled, settled_count, told_held, told_link}
-use Rattle.smi_grant.specs.Link.{due_of, is_unsettled}
-use Rattle.smi_grant.specs.OneLink.{asked_record}
-use Rattle.smi_grant.specs.Pending.{base_of}
-use Rattle.smi_grant.proofs.Facts.{LinkOk}
-use Rattle.smi_grant.proofs.Heard.{choose}
+use Rattle.smi_command.specs.declared.Due.{Due}
+use Rattle.smi_command.specs.declared.Due.TheVariants.{Run}
+use Rattle.smi_command.specs.declared.Link.{Link}
+use Rattle.smi_command.specs.declared.Link.TheVariants.{Out, Taking, Held, Dropping}
+use Rattle.smi_command.specs.declared.LinkHeard.{LinkHeard}
+use Rattle.smi_command.specs.Hearing.{newest_settled, settled_count, told_held, told_link}
+use Rattle.smi_command.specs.Link.{due_of, is_unsettled}
+use Rattle.smi_command.specs.OneLink.{asked_record}
+use Rattle.smi_command.specs.Pending.{base_of}
+use Rattle.smi_command.proofs.Facts.{LinkOk}
+use Rattle.smi_command.proofs.Heard.{choose}
 use Rattle.smi_grant.proofs.Holders.{either, same_self, told_apart}
 use Rattle.smi_protocol.proofs.Tables.{apart}
 use Rattle.smi_protocol.specs.Messages.{home}

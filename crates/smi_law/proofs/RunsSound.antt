@@ -13,11 +13,11 @@ use Rattle.smi_message.specs.declared.Body.TheVariants as body
 use Rattle.smi_message.specs.Message.{Message}
 use Rattle.smi_tree.specs.Hierarchy.{Hierarchy}
 use Rattle.smi_tree.specs.Lookups.{station_count, parent_of}
-use Rattle.smi_grant.specs.declared.Due.TheVariants as due
-use Rattle.smi_grant.specs.declared.Link.TheVariants.{Held}
-use Rattle.smi_grant.specs.KnownGrant.{Waits}
+use Rattle.smi_command.specs.declared.Due.TheVariants as due
+use Rattle.smi_command.specs.declared.Link.TheVariants.{Held}
+use Rattle.smi_command.specs.KnownGrant.{Waits}
 use Rattle.smi_grant.proofs.Holders.{either}
-use Rattle.smi_grant.specs.Link.{is_unsettled}
+use Rattle.smi_command.specs.Link.{is_unsettled}
 use Rattle.smi_protocol.specs.Children.{is_commanded}
 use Rattle.smi_protocol.specs.Display.{Station}
 use Rattle.smi_protocol.specs.Happening.{Happening, Comes, Orders, Reports, Ticks}

@@ -16,15 +16,15 @@ use Rattle.smi_message.specs.declared.Body.TheVariants as body
 use Rattle.smi_message.specs.Message.{Message}
 use Rattle.smi_tree.specs.Hierarchy.{Hierarchy}
 use Rattle.smi_tree.specs.Lookups.{children_of, operators_of, operator_station_of, parent_of, station_of}
-use Rattle.smi_grant.specs.declared.Due.{Due}
-use Rattle.smi_grant.specs.declared.Due.TheVariants.{Take, Drop, Run}
-use Rattle.smi_grant.specs.declared.Link.{Link}
-use Rattle.smi_grant.specs.Hearing.{told_link}
-use Rattle.smi_grant.specs.Link.{due_of}
-use Rattle.smi_grant.specs.Order.{take_begun, drop_begun, command_issued}
-use Rattle.smi_grant.specs.Pending.{most_pending}
+use Rattle.smi_command.specs.declared.Due.{Due}
+use Rattle.smi_command.specs.declared.Due.TheVariants.{Take, Drop, Run}
+use Rattle.smi_command.specs.declared.Link.{Link}
+use Rattle.smi_command.specs.Hearing.{told_link}
+use Rattle.smi_command.specs.Link.{due_of}
+use Rattle.smi_command.specs.Order.{take_begun, drop_begun, command_issued}
+use Rattle.smi_command.specs.Pending.{most_pending}
 use Rattle.smi_grant.proofs.Holders.{either}
-use Rattle.smi_roles.specs.Roles.{is_number, holder_station, is_keeper}
+use Rattle.smi_tree.specs.Roles.{is_number, holder_station, is_keeper}
 use Rattle.smi_rows.specs.Known.{pending_of}
 use Rattle.smi_protocol.specs.Children.{ChildChange, Stays, Relinked, ComesInto, change_of, link_after, own_code}
 use Rattle.smi_protocol.specs.Display.{Station}

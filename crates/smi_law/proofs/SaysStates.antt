@@ -15,7 +15,7 @@ use Rattle.smi_tree.specs.Lookups.{domain_count, device_count, operators_of, ope
 use Rattle.smi_tree.specs.Lookups.{station_of}
 use Rattle.smi_publish.specs.declared.condition.Condition.{Condition}
 use Rattle.smi_publish.specs.Published.{shown, shown_at, change_at, differs}
-use Rattle.smi_roles.specs.Roles.{is_kept_by, is_keeper, is_child_unit}
+use Rattle.smi_tree.specs.Roles.{is_kept_by, is_keeper, is_child_unit}
 use Rattle.smi_grant.proofs.Holders.{either}
 use Rattle.smi_view.specs.declared.Acceptance.{Acceptance}
 use Rattle.smi_view.specs.declared.Acceptance.TheVariants.{Accepted, OtherBoot, NotNewer}
@@ -35,7 +35,7 @@ use Rattle.smi_protocol.specs.Watching.{unnoticed, noticed, is_watched, lists_be
 use Rattle.smi_protocol.specs.Watching.{lists_after, watch_answer, watch_comes, showed_if, state_comes, order_noticed}
 use Rattle.smi_protocol.specs.declared.Order.{Order}
 use Rattle.smi_protocol.specs.declared.Order.TheVariants as order
-use Rattle.smi_protocol.specs.declared.Place.TheVariants as place
+use Rattle.smi_protocol.specs.declared.ResendCursor.TheVariants as place
 use Rattle.smi_law.proofs.Conditions.{objects_of}
 use Rattle.smi_law.proofs.GrantKinds.{put_here}
 use Rattle.smi_law.proofs.Lists.{In, in_both, from_mapped, from_chosen, from_flat, from_taken, from_kept, place_of}

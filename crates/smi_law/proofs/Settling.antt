@@ -9,11 +9,11 @@ use Rattle.smi_grant.specs.declared.Holder.TheVariants.{Domain}
 use Rattle.smi_tree.specs.Hierarchy.{Hierarchy}
 use Rattle.smi_tree.specs.Lawful.{IsTree}
 use Rattle.smi_tree.specs.Lookups.{children_of, domain_count}
-use Rattle.smi_grant.specs.declared.Link.{Link}
-use Rattle.smi_grant.specs.declared.Link.TheVariants.{Out, Taking, Held, Dropping}
-use Rattle.smi_grant.specs.Link.{is_unsettled}
+use Rattle.smi_command.specs.declared.Link.{Link}
+use Rattle.smi_command.specs.declared.Link.TheVariants.{Out, Taking, Held, Dropping}
+use Rattle.smi_command.specs.Link.{is_unsettled}
 use Rattle.smi_grant.proofs.Holders.{either}
-use Rattle.smi_roles.specs.Roles.{has_domain, is_holder_of, is_parent}
+use Rattle.smi_tree.specs.Roles.{has_domain, is_holder_of, is_parent}
 use Rattle.smi_protocol.proofs.Lists.{In}
 use Rattle.smi_protocol.proofs.Tables.{child_in, child_of}
 use Rattle.smi_protocol.specs.Schedule.{World}

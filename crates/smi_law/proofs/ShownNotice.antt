@@ -28,7 +28,7 @@ use Rattle.smi_protocol.specs.Refusals.{is_body_of, refusal_of_message, refusal_
 use Rattle.smi_protocol.specs.Showing.{domain_of_happening, passed_in}
 use Rattle.smi_protocol.specs.Step.{body_noticed, notice, conditions_after, answered_or}
 use Rattle.smi_protocol.specs.Watching.{Notice, unnoticed, is_watched, watch_comes, unwatch_comes}
-use Rattle.smi_roles.specs.Roles.{is_child_unit}
+use Rattle.smi_tree.specs.Roles.{is_child_unit}
 use Rattle.smi_protocol.specs.Watching.{told_state, showed_if, state_comes, order_noticed}
 use Rattle.smi_protocol.specs.declared.Entry.{Entry}
 use Rattle.smi_protocol.specs.declared.Entry.TheVariants.{Passed}

@@ -14,7 +14,7 @@ use Rattle.smi_tree.specs.Hierarchy.{Hierarchy}
 use Rattle.smi_tree.specs.Lawful.{IsTree}
 use Rattle.smi_publish.specs.declared.condition.Condition.{Condition}
 use Rattle.smi_publish.specs.Published.{shown, shown_at}
-use Rattle.smi_roles.specs.Roles.{is_kept_by}
+use Rattle.smi_tree.specs.Roles.{is_kept_by}
 use Rattle.smi_publish.specs.Publishing.{first_condition}
 use Rattle.smi_grant.proofs.Holders.{either}
 use Rattle.smi_view.specs.Accepting.{is_newer_than_last}

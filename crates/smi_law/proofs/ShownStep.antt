@@ -10,7 +10,7 @@ use Rattle.smi_message.specs.Message.{Message}
 use Rattle.smi_tree.specs.Hierarchy.{Hierarchy}
 use Rattle.smi_publish.specs.declared.condition.Condition.{Condition}
 use Rattle.smi_publish.specs.Published.{shown}
-use Rattle.smi_roles.specs.Roles.{keeper_of, is_kept_by}
+use Rattle.smi_tree.specs.Roles.{keeper_of, is_kept_by}
 use Rattle.smi_view.specs.Accepting.{is_newer_than_last}
 use Rattle.smi_watchers.specs.Watching.{watcher, listed}
 use Rattle.smi_protocol.specs.Display.{Station}

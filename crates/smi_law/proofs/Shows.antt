@@ -11,7 +11,7 @@ use Rattle.smi_message.specs.Message.{Message}
 use Rattle.smi_tree.specs.Hierarchy.{Hierarchy}
 use Rattle.smi_publish.specs.declared.condition.Condition.{Condition}
 use Rattle.smi_publish.specs.Published.{shown}
-use Rattle.smi_roles.specs.Roles.{is_kept_by}
+use Rattle.smi_tree.specs.Roles.{is_kept_by}
 use Rattle.smi_grant.proofs.Holders.{either}
 use Rattle.smi_view.specs.Accepting.{is_newer_than_last}
 use Rattle.smi_watchers.specs.Watching.{watcher, listed}

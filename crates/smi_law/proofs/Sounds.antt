@@ -11,13 +11,13 @@ use Rattle.smi_message.specs.Message.{Message, is_body}
 use Rattle.smi_tree.specs.Hierarchy.{Hierarchy}
 use Rattle.smi_tree.specs.Lawful.{IsTree}
 use Rattle.smi_tree.specs.Lookups.{domain_count}
-use Rattle.smi_grant.specs.declared.Due.{Due}
-use Rattle.smi_grant.specs.declared.Due.TheVariants.{Take, Drop, Run}
-use Rattle.smi_grant.specs.declared.Link.TheVariants.{Out}
-use Rattle.smi_grant.specs.Link.{due_of}
-use Rattle.smi_grant.specs.Pending.{most_pending}
+use Rattle.smi_command.specs.declared.Due.{Due}
+use Rattle.smi_command.specs.declared.Due.TheVariants.{Take, Drop, Run}
+use Rattle.smi_command.specs.declared.Link.TheVariants.{Out}
+use Rattle.smi_command.specs.Link.{due_of}
+use Rattle.smi_command.specs.Pending.{most_pending}
 use Rattle.smi_grant.proofs.Holders.{either}
-use Rattle.smi_roles.specs.Roles.{has_domain, is_holder_of}
+use Rattle.smi_tree.specs.Roles.{has_domain, is_holder_of}
 use Rattle.smi_protocol.specs.Display.{Station}
 use Rattle.smi_protocol.specs.Grants.{Grants}
 use Rattle.smi_protocol.specs.GrantsOf.{grant_step}

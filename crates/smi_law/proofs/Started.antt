@@ -12,10 +12,10 @@ use Rattle.smi_grant.specs.Record.{Standing, is_settled}
 use Rattle.smi_tree.specs.declared.row.Domain.{Domain as DomainRow}
 use Rattle.smi_tree.specs.Hierarchy.{Hierarchy, is_child_of}
 use Rattle.smi_tree.specs.Lookups.{numbers_from, parent_of}
-use Rattle.smi_grant.specs.declared.Link.TheVariants.{Held}
+use Rattle.smi_command.specs.declared.Link.TheVariants.{Held}
 use Rattle.smi_grant.proofs.Holders.{either}
 use Rattle.smi_rows.specs.declared.Mode.TheVariants as mode
-use Rattle.smi_grant.specs.Link.{is_held, is_unsettled}
+use Rattle.smi_command.specs.Link.{is_held, is_unsettled}
 use Rattle.smi_protocol.specs.Children.{is_commanded, change_of}
 use Rattle.smi_protocol.specs.Grants.{Grants, put}
 use Rattle.smi_protocol.specs.GrantStep.{waits_for_children}

@@ -15,7 +15,7 @@ use Rattle.smi_tree.specs.Lawful.{IsTree}
 use Rattle.smi_tree.specs.Lookups.{station_count, station_of}
 use Rattle.smi_publish.specs.declared.condition.Condition.{Condition}
 use Rattle.smi_publish.specs.Published.{shown}
-use Rattle.smi_roles.specs.Roles.{domain_of, is_kept_by}
+use Rattle.smi_tree.specs.Roles.{domain_of, is_kept_by}
 use Rattle.smi_grant.proofs.Holders.{either}
 use Rattle.smi_view.specs.Accepting.{is_newer_than_last}
 use Rattle.smi_watchers.specs.Watching.{watcher, listed}

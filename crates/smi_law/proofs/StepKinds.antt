@@ -17,12 +17,12 @@ use Rattle.smi_message.specs.Message.{Message}
 use Rattle.smi_base.specs.Between.{is_between}
 use Rattle.smi_tree.specs.Hierarchy.{Hierarchy}
 use Rattle.smi_tree.specs.Lookups.{station_count, operator_station_of, parent_of}
-use Rattle.smi_grant.specs.declared.Link.{Link}
-use Rattle.smi_grant.specs.declared.Due.TheVariants.{Take}
-use Rattle.smi_grant.specs.Order.{take_begun, drop_begun, command_issued}
+use Rattle.smi_command.specs.declared.Link.{Link}
+use Rattle.smi_command.specs.declared.Due.TheVariants.{Take}
+use Rattle.smi_command.specs.Order.{take_begun, drop_begun, command_issued}
 use Rattle.smi_grant.proofs.Holders.{either, same_is}
-use Rattle.smi_grant.proofs.Orders.{take_begins, drop_begins, command_issues}
-use Rattle.smi_roles.specs.Roles.{is_number, is_holder_of, holder_station, is_keeper}
+use Rattle.smi_command.proofs.Orders.{take_begins, drop_begins, command_issues}
+use Rattle.smi_tree.specs.Roles.{is_number, is_holder_of, holder_station, is_keeper}
 use Rattle.smi_protocol.specs.Grants.{Grants, put, with_link}
 use Rattle.smi_protocol.specs.Children.{own_code}
 use Rattle.smi_protocol.specs.GrantStep.{waits_for_children}

@@ -19,11 +19,11 @@ use Rattle.smi_tree.specs.Lookups.{operators_of}
 use Rattle.smi_view.specs.declared.Acceptance.{Acceptance}
 use Rattle.smi_view.specs.declared.Acceptance.TheVariants.{Accepted, NotNewer, OtherBoot}
 use Rattle.smi_view.specs.Accepting.{acceptance}
-use Rattle.smi_grant.specs.declared.Due.TheVariants.{Take, Drop, Run}
-use Rattle.smi_grant.specs.declared.Link.{Link}
-use Rattle.smi_grant.specs.declared.Link.TheVariants.{Out, Taking, Held, Dropping}
-use Rattle.smi_grant.specs.Hearing.{told_heard, told_link}
-use Rattle.smi_grant.proofs.Heard.{choose}
+use Rattle.smi_command.specs.declared.Due.TheVariants.{Take, Drop, Run}
+use Rattle.smi_command.specs.declared.Link.{Link}
+use Rattle.smi_command.specs.declared.Link.TheVariants.{Out, Taking, Held, Dropping}
+use Rattle.smi_command.specs.Hearing.{told_heard, told_link}
+use Rattle.smi_command.proofs.Heard.{choose}
 use Rattle.smi_grant.proofs.Holders.{either}
 use Rattle.smi_protocol.proofs.Tables.{at_put_link, put_link_here}
 use Rattle.smi_protocol.specs.Children.{own_code}

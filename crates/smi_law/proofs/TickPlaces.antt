@@ -5,12 +5,12 @@ use Rattle.std.proofs.Common.{sym, ap, ◌∙◌, subst, arith}
 use Rattle.std.proofs.lemmas.Bool.{ltb-false, ltb-true}
 use Rattle.std.proofs.lemmas.Bool.Decides.{nat_tests}
 use Rattle.std.specs.Prelude.{◌*◌, drop, nat_lt, ◌==◌, not, filter, take, length, if◌then◌else◌}
-use Rattle.smi_grant.proofs.Heard.{not_true}
+use Rattle.smi_command.proofs.Heard.{not_true}
 use Rattle.smi_grant.proofs.Holders.{either}
 use Rattle.smi_tree.specs.Hierarchy.{Hierarchy}
 use Rattle.smi_protocol.proofs.Lists.{In, from_kept, from_taken}
 use Rattle.smi_protocol.specs.Ticking.{Owed, first_place, is_before, most_sent, next_place, owed_from, place_behind}
-use Rattle.smi_protocol.specs.declared.Place.{Place}
+use Rattle.smi_protocol.specs.declared.ResendCursor.{ResendCursor}
 use Rattle.smi_law.proofs.Ascending.{Ascends}
 use Rattle.smi_law.proofs.RestLists.{in_kept, in_parts, kept_behind, kept_most, kept_twice, others_there, some_there}
 use Rattle.smi_law.proofs.Places.{kind, Before, NotBefore, Follows, before_around, before_is_before, before_on}
@@ -92,32 +92,32 @@ module _ (h : Hierarchy) where
 
   module _ (all : List Owed) (ascends : Ascends Earlier all)
       (begun : (x : Owed) → In x all → NotBefore x.place first_place) where
-    abbrev behind : Place → Owed → Bool
+    abbrev behind : ResendCursor → Owed → Bool
     behind p x = not (is_before x.place p)
 
-    abbrev rest : Place → List Owed
+    abbrev rest : ResendCursor → List Owed
     rest p = filter (behind p) all
 
-    abbrev pub next : Place → Place
+    abbrev pub next : ResendCursor → ResendCursor
     next p = place_behind h first_place most_sent (owed_from p all)
 
     -- so many ticks send it, the first from this place
-    abbrev pub SentWithin : Owed → ℕ → Place → Type 0
+    abbrev pub SentWithin : Owed → ℕ → ResendCursor → Type 0
     SentWithin y zero p = ⊥
     SentWithin y (suc n) p = In y (owed_from p all) ⊎ SentWithin y n (next p)
 
-    not_behind : (p : Place) (x : Owed) → behind p x ≡ true → NotBefore x.place p
+    not_behind : (p : ResendCursor) (x : Owed) → behind p x ≡ true → NotBefore x.place p
     not_behind p x t b = let wrong : true ≡ false = sym (before_is_before x.place p b)
         ∙ not_true (is_before x.place p) t in cc
 
-    is_behind : (p : Place) (x : Owed) → NotBefore x.place p → behind p x ≡ true
+    is_behind : (p : ResendCursor) (x : Owed) → NotBefore x.place p → behind p x ≡ true
     is_behind p x n = elim (either (is_before x.place p)) [
       | inl t ↦ absurd (n (is_before_is x.place p t))
       | inr f ↦ ap not f
     ]
 
     -- what is left behind a later place is less by all that was sent
-    fewer : (p q : Place) (z : Owed) → In z (rest p) → Before z.place q
+    fewer : (p q : ResendCursor) (z : Owed) → In z (rest p) → Before z.place q
         → ((u : Owed) → In u (take most_sent (rest p)) → (u ≡ z) ⊎ Before u.place z.place)
         → most_sent ≤ length (rest p)
         → length (rest q) + most_sent ≤ length (rest p)
@@ -135,13 +135,13 @@ module _ (h : Hierarchy) where
         omega (arith, a, b)
 
     -- A tick ends at the first place, or right after the last of all that it may send.
-    record Goes (p : Place) (x : Owed) (xs : List Owed) : Type 0 where
+    record Goes (p : ResendCursor) (x : Owed) (xs : List Owed) : Type 0 where
       last : Owed
       place : next p ≡ next_place h last.place
       less : Before last.place (next p) → length (rest (next p)) + most_sent ≤ length (rest p)
       left : (y : Owed) → In y (drop 63 xs) → Before last.place y.place
 
-    goes : (p : Place) (x : Owed) (xs : List Owed) → rest p ≡ x ∷ xs
+    goes : (p : ResendCursor) (x : Owed) (xs : List Owed) → rest p ≡ x ∷ xs
         → ((next p ≡ first_place) × (length xs < 63)) ⊎ Goes p x xs
     goes p x xs is = elim (either (nat_lt (length xs) 63)) [
       | inl t ↦ inl (
@@ -170,11 +170,11 @@ module _ (h : Hierarchy) where
         }
 
     -- A link's due that stands behind the place is sent, or the next tick begins behind the place and before it.
-    record Nears (p : Place) (y : Owed) : Type 0 where
+    record Nears (p : ResendCursor) (y : Owed) : Type 0 where
       less : length (rest (next p)) + most_sent ≤ length (rest p)
       still : In y (rest (next p))
 
-    nears : (p : Place) (y : Owed) → In y all → kind y.place ≤ 1 → (xs : List Owed) → rest p ≡ xs → In y xs
+    nears : (p : ResendCursor) (y : Owed) → In y all → kind y.place ≤ 1 → (xs : List Owed) → rest p ≡ xs → In y xs
         → In y (owed_from p all) ⊎ Nears p y
     nears p y there low [] is i = absurd i
     nears p y there low (x ∷ xs) is (inl same) = inl (subst (λ zs. In y (take most_sent zs)) (sym is) (inl same))
@@ -186,7 +186,7 @@ module _ (h : Hierarchy) where
       ]
     ]
       where
-        lower : (a b : Place) → Before a b → kind a ≤ kind b
+        lower : (a b : ResendCursor) → Before a b → kind a ≤ kind b
         lower a b l = grind (arith, l)
 
         kinds : (a b : ℕ) → a ≡ 3 → b ≤ 1 → a ≤ b → ⊥
@@ -203,7 +203,7 @@ module _ (h : Hierarchy) where
             (lower g.last.place y.place (g.left y left)))
 
     module _ (y : Owed) (there : In y all) (low : kind y.place ≤ 1) where
-      near_sent : (n : ℕ) (p : Place) → length (rest p) ≤ most_sent * n → In y (rest p) → SentWithin y n p
+      near_sent : (n : ℕ) (p : ResendCursor) → length (rest p) ≤ most_sent * n → In y (rest p) → SentWithin y n p
       near_sent zero p most i = let l = some_there y (rest p) i in absurd (omega (arith, l, most))
       near_sent (suc n) p most i = elim (nears p y there low (rest p) refl i) [
         | inl sent ↦ inl sent
@@ -215,14 +215,15 @@ module _ (h : Hierarchy) where
           near_sent n first_place (let l = kept_most (behind first_place) all in omega (arith, l, most))
           (in_kept (behind first_place) y all there (is_behind first_place y (begun y there)))
 
-      from_first : (n m : ℕ) (p : Place) → length all ≤ most_sent * m → next p ≡ first_place
+      from_first : (n m : ℕ) (p : ResendCursor) → length all ≤ most_sent * m → next p ≡ first_place
           → SentWithin y (suc (n + m)) p
       from_first n m p most is =
           inr (subst (SentWithin y (n + m)) (sym is) (at_first (n + m) (omega (arith, most))))
 
       -- a tick that finds nothing, or that ends at the last place, is followed by one from the first
-      ended : (n m : ℕ) (p : Place) → length all ≤ most_sent * m → (xs : List Owed) → rest p ≡ xs
-          → ((q : Place) → length (rest q) + most_sent ≤ length (rest p) → next p ≡ q → SentWithin y (n + m) (next p))
+      ended : (n m : ℕ) (p : ResendCursor) → length all ≤ most_sent * m → (xs : List Owed) → rest p ≡ xs
+          → ((q : ResendCursor) → length (rest q) + most_sent ≤ length (rest p) → next p ≡ q → SentWithin y (n
+          + m) (next p))
           → SentWithin y (suc (n + m)) p
       ended n m p most [] is on = from_first n m p most
           (subst (λ zs. place_behind h first_place most_sent (take most_sent zs) ≡ first_place) (sym is) refl)
@@ -236,7 +237,7 @@ module _ (h : Hierarchy) where
           by g (inr wraps) = from_first n m p most (g.place ∙ wraps.1)
           by g (inl f) = inr (on (next p) (g.less (subst (Before g.last.place) (sym g.place) f.behind)) refl)
 
-      far_sent : (n m : ℕ) (p : Place) → length (rest p) ≤ most_sent * n → length all ≤ most_sent * m
+      far_sent : (n m : ℕ) (p : ResendCursor) → length (rest p) ≤ most_sent * n → length all ≤ most_sent * m
           → SentWithin y (suc (n + m)) p
       far_sent zero m p within most = elim (either (behind p y)) [
         | inl t ↦ near_sent (suc (zero + m)) p (omega (arith, within)) (in_kept (behind p) y all there t)
@@ -253,5 +254,5 @@ module _ (h : Hierarchy) where
           later a b = omega arith
 
       -- it is sent within so many ticks
-      pub sent_within : (m : ℕ) → length all ≤ most_sent * m → (p : Place) → SentWithin y (suc (m + m)) p
+      pub sent_within : (m : ℕ) → length all ≤ most_sent * m → (p : ResendCursor) → SentWithin y (suc (m + m)) p
       sent_within m most p = far_sent m m p (let l = kept_most (behind p) all in omega (arith, l, most)) most

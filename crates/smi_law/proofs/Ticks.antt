@@ -16,7 +16,7 @@ use Rattle.smi_protocol.specs.Ticking.{Owed, all_owed, first_place, is_before, m
 use Rattle.smi_protocol.specs.declared.item.Deed.TheVariants as deed
 use Rattle.smi_protocol.specs.declared.item.Item.{Item}
 use Rattle.smi_protocol.specs.declared.item.Item.TheVariants as item
-use Rattle.smi_protocol.specs.declared.Place.{Place}
+use Rattle.smi_protocol.specs.declared.ResendCursor.{ResendCursor}
 use Rattle.smi_law.specs.World.{Among as IsSent}
 use Rattle.smi_law.specs.Rest.{Each, IsStation, led}
 use Rattle.smi_law.proofs.Ascending.{Ascends}
@@ -71,30 +71,31 @@ alike_on w v u a b = record {
 }
 
 -- the station with its next tick at another place
-abbrev pub at_place : Station → Place → Station
+abbrev pub at_place : Station → ResendCursor → Station
 at_place s p = record s { display = record s.display { place = p }; is_stopped = false }
 
 module _ (h : Hierarchy) (number : ℕ) (s : Station) where
   abbrev all : List Owed
   all = all_owed h number s.grants s.display
 
-  abbrev behind : Place → Place
+  abbrev behind : ResendCursor → ResendCursor
   behind p = place_behind h first_place most_sent (owed_from p all)
 
   -- what a tick makes of the world
-  abbrev ticked : World → Place → World
+  abbrev ticked : World → ResendCursor → World
   ticked w p = record {
     stations = put w.stations number (at_place s (behind p));
     sent = w.sent ++ take most_sent ([] ++ map (λ (x : Owed). x.message) (owed_from p all) ++ []);
   }
 
-  ticks_to : (w : World) (p : Place) → w.stations number ≡ at_place s p → (turn h w (tick number)).world ≡ ticked w p
+  ticks_to : (w : World) (p : ResendCursor) → w.stations number ≡ at_place s p → (turn h w (tick number)).world
+      ≡ ticked w p
   ticks_to w p is =
       subst (λ (z : Station). (if z.is_stopped then nothing w else stepped w number (after h number z Ticks)).world
       ≡ ticked w p) (sym is) refl
 
   -- what a tick sends is sent
-  tick_sent : (w : World) (p : Place) (y : Owed) → In y (owed_from p all) → IsSent y.message (ticked w p).sent
+  tick_sent : (w : World) (p : ResendCursor) (y : Owed) → In y (owed_from p all) → IsSent y.message (ticked w p).sent
   tick_sent w p y i =
       let few = length-take most_sent (filter (λ (x : Owed). not (is_before x.place p)) all) in
       let same = mapped_length (λ (x : Owed). x.message) (owed_from p all) in
@@ -102,7 +103,8 @@ module _ (h : Hierarchy) (number : ℕ) (s : Station) where
       (in_sent y.message _ (taken y.message most_sent (map (λ (x : Owed). x.message) (owed_from p all)) []
       (omega (arith, few, same)) (in_mapped (λ (x : Owed). x.message) y (owed_from p all) i)))
 
-  tick_alike : (w : World) (p : Place) → w.stations number ≡ at_place s p → s.is_stopped ≡ false → Alike w (ticked w p)
+  tick_alike : (w : World) (p : ResendCursor) → w.stations number ≡ at_place s p → s.is_stopped ≡ false → Alike
+      w (ticked w p)
   tick_alike w p is runs = record {
     grants = λ n. at_put (λ (z : Station). z.grants ≡ (w.stations n).grants) w.stations number (at_place s
         (behind p)) n
@@ -125,7 +127,7 @@ module _ (h : Hierarchy) (number : ℕ) (s : Station) where
       pub alike : Alike w (led h w (replicate count (tick number)))
       pub sends : IsSent y.message (led h w (replicate count (tick number))).sent
 
-    sends_after : (y : Owed) (k : ℕ) (p : Place) (w : World) → w.stations number ≡ at_place s p
+    sends_after : (y : Owed) (k : ℕ) (p : ResendCursor) (w : World) → w.stations number ≡ at_place s p
         → SentWithin h all ascends begun y k p → Sends w y k
     sends_after y zero p w is within = absurd within
     sends_after y (suc k) p w is (inl sent) = record {

@@ -21,7 +21,7 @@ use Rattle.smi_protocol.specs.Refusals.{refusal_of}
 use Rattle.smi_protocol.specs.Tidy.{IsTidy}
 use Rattle.smi_protocol.specs.Step.{body_noticed, notice, answered_or, after as after_happening}
 use Rattle.smi_protocol.specs.Watching.{is_watched, lists_before, is_full, lists_after, watch_comes}
-use Rattle.smi_roles.specs.Roles.{is_child_unit}
+use Rattle.smi_tree.specs.Roles.{is_child_unit}
 use Rattle.smi_protocol.specs.Watching.{unwatch_comes, told_state, showed_if, state_comes, order_noticed}
 use Rattle.smi_protocol.specs.declared.Entry.{Entry}
 use Rattle.smi_protocol.specs.declared.Order.{Order}

@@ -10,15 +10,15 @@ use Rattle.smi_grant.specs.declared.Command.{Command}
 use Rattle.smi_grant.specs.declared.Holder.{Holder}
 use Rattle.smi_grant.specs.Holder.{is_free, same_holder}
 use Rattle.smi_grant.specs.Record.{Standing, IsRecord, last_epoch}
-use Rattle.smi_grant.specs.declared.Link.{Link}
-use Rattle.smi_grant.specs.declared.Link.TheVariants.{Out, Taking, Held, Dropping}
-use Rattle.smi_grant.specs.declared.LinkHeard.{LinkHeard}
-use Rattle.smi_grant.specs.Hearing.{told_link, told_heard, told_held, newest_settled, settled_count}
-use Rattle.smi_grant.specs.Hearing.{settlement_in, commands_settled}
-use Rattle.smi_grant.specs.Link.{is_unsettled}
-use Rattle.smi_grant.specs.Pending.{base_of}
-use Rattle.smi_grant.proofs.Facts.{LinkOk}
-use Rattle.smi_grant.proofs.Heard.{choose, by_row_taking, by_row_held, by_row_dropping}
+use Rattle.smi_command.specs.declared.Link.{Link}
+use Rattle.smi_command.specs.declared.Link.TheVariants.{Out, Taking, Held, Dropping}
+use Rattle.smi_command.specs.declared.LinkHeard.{LinkHeard}
+use Rattle.smi_command.specs.Hearing.{told_link, told_heard, told_held, newest_settled, settled_count}
+use Rattle.smi_command.specs.Hearing.{settlement_in, commands_settled}
+use Rattle.smi_command.specs.Link.{is_unsettled}
+use Rattle.smi_command.specs.Pending.{base_of}
+use Rattle.smi_command.proofs.Facts.{LinkOk}
+use Rattle.smi_command.proofs.Heard.{choose, by_row_taking, by_row_held, by_row_dropping}
 use Rattle.smi_grant.proofs.Holders.{same_is}
 use Rattle.smi_protocol.specs.Hearing.{is_heard}
 use Rattle.smi_law.specs.Waiting.{waiting}

@@ -15,13 +15,13 @@ use Rattle.smi_message.specs.declared.Body.{Body}
 use Rattle.smi_message.specs.declared.Body.TheVariants as body
 use Rattle.smi_tree.specs.Hierarchy.{Hierarchy}
 use Rattle.smi_tree.specs.Lookups.{parent_of}
-use Rattle.smi_grant.specs.declared.Link.{Link}
-use Rattle.smi_grant.specs.declared.Link.TheVariants.{Out, Held}
-use Rattle.smi_grant.specs.Hearing.{told_link}
-use Rattle.smi_grant.specs.Order.{take_begun, drop_begun, command_issued}
-use Rattle.smi_grant.proofs.Heard.{choose}
+use Rattle.smi_command.specs.declared.Link.{Link}
+use Rattle.smi_command.specs.declared.Link.TheVariants.{Out, Held}
+use Rattle.smi_command.specs.Hearing.{told_link}
+use Rattle.smi_command.specs.Order.{take_begun, drop_begun, command_issued}
+use Rattle.smi_command.proofs.Heard.{choose}
 use Rattle.smi_grant.proofs.Holders.{either, same_is}
-use Rattle.smi_roles.specs.Roles.{is_parent}
+use Rattle.smi_tree.specs.Roles.{is_parent}
 use Rattle.smi_protocol.specs.Children.{change_of, link_after}
 use Rattle.smi_protocol.specs.Display.{Station}
 use Rattle.smi_protocol.specs.Grants.{Grants, put_link}

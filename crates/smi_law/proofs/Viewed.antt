@@ -12,17 +12,17 @@ use Rattle.smi_message.specs.declared.Body.{Body}
 use Rattle.smi_message.specs.declared.Body.TheVariants as body
 use Rattle.smi_message.specs.Message.{Message}
 use Rattle.smi_tree.specs.Hierarchy.{Hierarchy}
-use Rattle.smi_grant.specs.declared.Due.{Due}
-use Rattle.smi_grant.specs.declared.Due.TheVariants.{Take, Drop, Run}
-use Rattle.smi_grant.specs.Link.{due_of}
-use Rattle.smi_grant.specs.OneLink.{Datagram, Asks, Tells, Pair, Event, after, reached, Among}
-use Rattle.smi_grant.specs.declared.Link.{Link}
-use Rattle.smi_grant.specs.KnownGrant.{Waits}
-use Rattle.smi_grant.proofs.Facts.{Fits, LinkOk}
+use Rattle.smi_command.specs.declared.Due.{Due}
+use Rattle.smi_command.specs.declared.Due.TheVariants.{Take, Drop, Run}
+use Rattle.smi_command.specs.Link.{due_of}
+use Rattle.smi_command.specs.OneLink.{Datagram, Asks, Tells, Pair, Event, after, reached, Among}
+use Rattle.smi_command.specs.declared.Link.{Link}
+use Rattle.smi_command.specs.KnownGrant.{Waits}
+use Rattle.smi_command.proofs.Facts.{Fits, LinkOk}
 use Rattle.smi_grant.proofs.Holders.{told_apart}
-use Rattle.smi_grant.proofs.OneLinkKept.{reached_well}
-use Rattle.smi_grant.proofs.Waiting.{due_waits, waiting_number}
-use Rattle.smi_roles.specs.Roles.{is_number, holder_station}
+use Rattle.smi_command.proofs.OneLinkKept.{reached_well}
+use Rattle.smi_command.proofs.Waiting.{due_waits, waiting_number}
+use Rattle.smi_tree.specs.Roles.{is_number, holder_station}
 use Rattle.smi_protocol.specs.Display.{Station}
 use Rattle.smi_protocol.specs.Happening.{Happening}
 use Rattle.smi_protocol.specs.Messages.{home}

@@ -7,14 +7,14 @@ use Rattle.smi_grant.specs.Record.{Standing}
 use Rattle.smi_message.specs.declared.Body.{Body}
 use Rattle.smi_message.specs.declared.Body.TheVariants as body
 use Rattle.smi_message.specs.Message.{Message}
-use Rattle.smi_grant.specs.declared.Link.{Link}
-use Rattle.smi_grant.specs.declared.Due.{Due}
-use Rattle.smi_grant.specs.declared.Due.TheVariants.{Take, Drop, Run}
-use Rattle.smi_grant.specs.Hearing.{told_link}
-use Rattle.smi_grant.specs.Link.{due_of}
-use Rattle.smi_grant.specs.OneLink.{Datagram, Asks, Tells, Pair, asked_record, relinked, commanded, sent_due}
-use Rattle.smi_grant.specs.OneLink.{delivered, has_number, is_stranger, Event, OrderTake, OrderCommand, OrderDrop}
-use Rattle.smi_grant.specs.OneLink.{SendDue, Deliver, Settle, Stranger, Ask, after, Among}
+use Rattle.smi_command.specs.declared.Link.{Link}
+use Rattle.smi_command.specs.declared.Due.{Due}
+use Rattle.smi_command.specs.declared.Due.TheVariants.{Take, Drop, Run}
+use Rattle.smi_command.specs.Hearing.{told_link}
+use Rattle.smi_command.specs.Link.{due_of}
+use Rattle.smi_command.specs.OneLink.{Datagram, Asks, Tells, Pair, asked_record, relinked, commanded, sent_due}
+use Rattle.smi_command.specs.OneLink.{delivered, has_number, is_stranger, Event, OrderTake, OrderCommand, OrderDrop}
+use Rattle.smi_command.specs.OneLink.{SendDue, Deliver, Settle, Stranger, Ask, after, Among}
 use Rattle.smi_grant.proofs.Holders.{told_apart}
 use Rattle.smi_protocol.specs.Messages.{request}
 use Rattle.smi_law.specs.World.{Among as IsSent}

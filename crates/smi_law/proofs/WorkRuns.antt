@@ -9,15 +9,15 @@ use Rattle.smi_grant.specs.declared.Holder.TheVariants.{Domain}
 use Rattle.smi_grant.specs.Record.{Standing}
 use Rattle.smi_tree.specs.Hierarchy.{Hierarchy}
 use Rattle.smi_tree.specs.Lookups.{accepts, is_below, parent_of}
-use Rattle.smi_grant.specs.declared.Link.{Link}
-use Rattle.smi_grant.specs.declared.Link.TheVariants.{Out, Taking, Held, Dropping}
-use Rattle.smi_grant.specs.Order.{take_begun, drop_begun, command_issued}
+use Rattle.smi_command.specs.declared.Link.{Link}
+use Rattle.smi_command.specs.declared.Link.TheVariants.{Out, Taking, Held, Dropping}
+use Rattle.smi_command.specs.Order.{take_begun, drop_begun, command_issued}
 use Rattle.smi_grant.proofs.Holders.{either, same_self}
-use Rattle.smi_grant.proofs.Orders.{take_begins, drop_begins, command_issues}
+use Rattle.smi_command.proofs.Orders.{take_begins, drop_begins, command_issues}
 use Rattle.smi_rows.specs.declared.Mode.{Mode}
 use Rattle.smi_rows.specs.declared.Mode.TheVariants as mode
-use Rattle.smi_roles.specs.Roles.{is_number, is_parent}
-use Rattle.smi_grant.specs.Link.{is_held, is_unsettled}
+use Rattle.smi_tree.specs.Roles.{is_number, is_parent}
+use Rattle.smi_command.specs.Link.{is_held, is_unsettled}
 use Rattle.smi_protocol.specs.Children.{ChildChange, Stays, Relinked, ComesInto, relinked_or, is_commanded, same_mode}
 use Rattle.smi_protocol.specs.Children.{comes_into, handed_on, aimed_at, targeted, child_change, change_of}
 use Rattle.smi_protocol.specs.Children.{link_after, mode_after, links_after, modes_after}

@@ -20,18 +20,18 @@ use Rattle.smi_message.specs.declared.Body.TheVariants as body
 use Rattle.smi_message.specs.Message.{Message}
 use Rattle.smi_tree.specs.Hierarchy.{Hierarchy}
 use Rattle.smi_tree.specs.Lookups.{parent_of}
-use Rattle.smi_grant.specs.declared.Due.TheVariants as due
-use Rattle.smi_grant.specs.declared.Link.{Link}
-use Rattle.smi_grant.specs.declared.Link.TheVariants.{Out, Taking, Held, Dropping}
-use Rattle.smi_grant.specs.Hearing.{told_link}
-use Rattle.smi_grant.specs.KnownGrant.{Waits}
-use Rattle.smi_grant.specs.Order.{take_begun, drop_begun, command_issued}
-use Rattle.smi_grant.proofs.Asked.{admitted}
-use Rattle.smi_grant.proofs.Facts.{LinkOk}
+use Rattle.smi_command.specs.declared.Due.TheVariants as due
+use Rattle.smi_command.specs.declared.Link.{Link}
+use Rattle.smi_command.specs.declared.Link.TheVariants.{Out, Taking, Held, Dropping}
+use Rattle.smi_command.specs.Hearing.{told_link}
+use Rattle.smi_command.specs.KnownGrant.{Waits}
+use Rattle.smi_command.specs.Order.{take_begun, drop_begun, command_issued}
+use Rattle.smi_command.proofs.Asked.{admitted}
+use Rattle.smi_command.proofs.Facts.{LinkOk}
 use Rattle.smi_grant.proofs.Holders.{either, same_is}
-use Rattle.smi_grant.proofs.Orders.{command_issues}
-use Rattle.smi_roles.specs.Roles.{is_number, is_parent, is_keeper}
-use Rattle.smi_grant.specs.Link.{is_unsettled}
+use Rattle.smi_command.proofs.Orders.{command_issues}
+use Rattle.smi_tree.specs.Roles.{is_number, is_parent, is_keeper}
+use Rattle.smi_command.specs.Link.{is_unsettled}
 use Rattle.smi_protocol.specs.Children.{links_after, modes_after, own_code}
 use Rattle.smi_protocol.specs.Grants.{Grants, put, with_record, with_link}
 use Rattle.smi_protocol.specs.GrantStep.{waits_for_children}

@@ -10,11 +10,11 @@ use Rattle.smi_grant.specs.declared.Holder.TheVariants.{Domain}
 use Rattle.smi_grant.specs.Record.{Standing, is_settled, last_epoch}
 use Rattle.smi_tree.specs.Hierarchy.{Hierarchy}
 use Rattle.smi_tree.specs.Lookups.{parent_of}
-use Rattle.smi_grant.specs.declared.Link.{Link}
-use Rattle.smi_grant.specs.declared.Link.TheVariants.{Out, Taking, Held, Dropping}
-use Rattle.smi_grant.specs.Hearing.{told_link, settled_count}
-use Rattle.smi_grant.specs.Link.{known, is_held, is_unsettled}
-use Rattle.smi_grant.proofs.Heard.{by_row_taking, by_row_held, by_row_dropping}
+use Rattle.smi_command.specs.declared.Link.{Link}
+use Rattle.smi_command.specs.declared.Link.TheVariants.{Out, Taking, Held, Dropping}
+use Rattle.smi_command.specs.Hearing.{told_link, settled_count}
+use Rattle.smi_command.specs.Link.{known, is_held, is_unsettled}
+use Rattle.smi_command.proofs.Heard.{by_row_taking, by_row_held, by_row_dropping}
 use Rattle.smi_grant.proofs.Holders.{either, same_self}
 use Rattle.smi_rows.specs.declared.Mode.TheVariants as mode
 use Rattle.smi_protocol.specs.Grants.{Grants, put_link}

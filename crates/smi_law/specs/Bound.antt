@@ -3,7 +3,7 @@ use Rattle.std.specs.Prelude.{ℕ, ◌+◌, ◌*◌, ◌/◌, List, [], ◌∷�
 use Rattle.smi_base.specs.declared.trees.TheConstants.{MOST_OPERATORS_OF_A_STATION}
 use Rattle.smi_tree.specs.Hierarchy.{Hierarchy}
 use Rattle.smi_tree.specs.Lookups.{device_count, domain_count}
-use Rattle.smi_grant.specs.Pending.{most_pending}
+use Rattle.smi_command.specs.Pending.{most_pending}
 use Rattle.smi_protocol.specs.Refusals.{most_links}
 use Rattle.smi_protocol.specs.Ticking.{most_sent}
 

@@ -3,9 +3,9 @@ use Rattle.std.specs.Prelude.{ℕ, unwrap_or}
 use Rattle.smi_grant.specs.declared.Holder.{Holder}
 use Rattle.smi_grant.specs.Record.{Standing}
 use Rattle.smi_tree.specs.Hierarchy.{Hierarchy}
-use Rattle.smi_grant.specs.declared.Link.{Link}
+use Rattle.smi_command.specs.declared.Link.{Link}
 use Rattle.smi_protocol.specs.Messages.{home}
-use Rattle.smi_roles.specs.Roles.{holder_station}
+use Rattle.smi_tree.specs.Roles.{holder_station}
 use Rattle.smi_protocol.specs.Schedule.{World}
 
 -- the station of a holder

@@ -9,7 +9,7 @@ use Rattle.smi_publish.specs.declared.condition.Condition.{Condition}
 use Rattle.smi_publish.specs.Published.{last_sequence}
 use Rattle.smi_tree.specs.Hierarchy.{Hierarchy}
 use Rattle.smi_tree.specs.Lookups.{station_count}
-use Rattle.smi_grant.specs.Link.{is_unsettled}
+use Rattle.smi_command.specs.Link.{is_unsettled}
 use Rattle.smi_protocol.specs.declared.item.Deed.TheVariants as deed
 use Rattle.smi_protocol.specs.declared.item.Item.{Item}
 use Rattle.smi_protocol.specs.declared.item.Item.TheVariants as item

@@ -1,7 +1,7 @@
 -- How much a holder waits for.
 use Rattle.std.specs.Prelude.{ℕ, length}
-use Rattle.smi_grant.specs.declared.Link.{Link}
-use Rattle.smi_grant.specs.declared.Link.TheVariants.{Out, Taking, Held, Dropping}
+use Rattle.smi_command.specs.declared.Link.{Link}
+use Rattle.smi_command.specs.declared.Link.TheVariants.{Out, Taking, Held, Dropping}
 
 -- a take and a drop are one thing to wait for, and so is each pending command
 abbrev pub waiting : Link → ℕ

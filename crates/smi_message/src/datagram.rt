@@ -4,22 +4,50 @@ use std::marker::Model;
 /// What a datagram says. The first five are about a domain, the last three about an object.
 #[derive(Clone, Copy, Debug, PartialEq, Eq)]
 pub enum Body {
-    /// How does the domain stand?
+    /// Asks how the domain stands.
     Ask(u16),
     /// The holder takes the domain, which it last saw free at this epoch.
-    Take(u16, Holder, u64),
+    Take {
+        domain: u16,
+        holder: Holder,
+        seen: u64,
+    },
     /// The holder lets go of its grant of this epoch.
-    Drop(u16, Holder, u64),
+    Drop {
+        domain: u16,
+        holder: Holder,
+        epoch: u64,
+    },
     /// The holder's command of this number, under its grant of this epoch.
-    Run(u16, Holder, u64, u32, Command),
-    /// So the domain stands.
-    Tell(u16, Record),
+    Run {
+        domain: u16,
+        holder: Holder,
+        epoch: u64,
+        number: u32,
+        command: Command,
+    },
+    /// Tells how the domain stands.
+    Tell {
+        domain: u16,
+        told: Record,
+    },
     /// The sender watches the object, since its boot of this number.
-    Watch(u16, u32),
-    /// To the watcher since that boot: the object is in this state.
-    State(u16, u32, Version, u16),
+    Watch {
+        object: u16,
+        boot: u32,
+    },
+    /// Tells the watcher since that boot which state the object is in.
+    State {
+        object: u16,
+        boot: u32,
+        version: Version,
+        state: u16,
+    },
     /// The sender, in its boot of this number, does not watch the object.
-    Unwatch(u16, u32),
+    Unwatch {
+        object: u16,
+        boot: u32,
+    },
 }
 
 /// A datagram from one station to another.
@@ -69,7 +97,7 @@ impl Datagram {
             from,
             to,
             tree,
-            body: Body::Tell(domain, told),
+            body: Body::Tell { domain, told },
         }
     }
 }

@@ -72,9 +72,21 @@ fn other_at(f: &Spelled<'_>) -> Result<Datagram, Bad>
     match f.kind() {
         1 => checked(f, Some(Body::Ask(f.subject()))),
         5 => checked(f, tell_at(f)),
-        6 => checked(f, Some(Body::Watch(f.subject(), f.echo()))),
+        6 => checked(
+            f,
+            Some(Body::Watch {
+                object: f.subject(),
+                boot: f.echo(),
+            }),
+        ),
         7 => checked(f, Some(state_at(f))),
-        _ => checked(f, Some(Body::Unwatch(f.subject(), f.echo()))),
+        _ => checked(
+            f,
+            Some(Body::Unwatch {
+                object: f.subject(),
+                boot: f.echo(),
+            }),
+        ),
     }
 }
 
@@ -122,7 +134,11 @@ fn take_at(f: &Spelled<'_>) -> Option<Body>
     ensures { result ≡ spec.take_at f.now }
 {
     match holder_at(f) {
-        Some(holder) => Some(Body::Take(f.subject(), holder, f.epoch())),
+        Some(holder) => Some(Body::Take {
+            domain: f.subject(),
+            holder,
+            seen: f.epoch(),
+        }),
         None => None,
     }
 }
@@ -131,7 +147,11 @@ fn drop_at(f: &Spelled<'_>) -> Option<Body>
     ensures { result ≡ spec.drop_at f.now }
 {
     match holder_at(f) {
-        Some(holder) => Some(Body::Drop(f.subject(), holder, f.epoch())),
+        Some(holder) => Some(Body::Drop {
+            domain: f.subject(),
+            holder,
+            epoch: f.epoch(),
+        }),
         None => None,
     }
 }
@@ -150,7 +170,13 @@ fn run_at(f: &Spelled<'_>) -> Option<Body>
 {
     let holder = holder_at(f)?;
     let command = command_at(f)?;
-    Some(Body::Run(f.subject(), holder, f.epoch(), f.number(), command))
+    Some(Body::Run {
+        domain: f.subject(),
+        holder,
+        epoch: f.epoch(),
+        number: f.number(),
+        command,
+    })
 }
 
 fn told_at(f: &Spelled<'_>) -> Option<Record>
@@ -165,7 +191,10 @@ fn tell_at(f: &Spelled<'_>) -> Option<Body>
     ensures { result ≡ spec.tell_at f.now }
 {
     match told_at(f) {
-        Some(told) => Some(Body::Tell(f.subject(), told)),
+        Some(told) => Some(Body::Tell {
+            domain: f.subject(),
+            told,
+        }),
         None => None,
     }
 }
@@ -177,7 +206,12 @@ fn state_at(f: &Spelled<'_>) -> Body
         boot: f.boot(),
         sequence: f.sequence(),
     };
-    Body::State(f.subject(), f.echo(), version, f.code())
+    Body::State {
+        object: f.subject(),
+        boot: f.echo(),
+        version,
+        state: f.code(),
+    }
 }
 
 /// The layout in which a command is said.
@@ -205,25 +239,41 @@ fn is_body(body: &Body) -> bool
 {
     match *body {
         Body::Ask(domain) => is_domain(domain),
-        Body::Take(domain, holder, seen) => {
-            is_domain(domain) && is_party(holder) && seen <= LAST_EPOCH
-        }
-        Body::Drop(domain, holder, epoch) => {
-            is_domain(domain) && is_party(holder) && is_grant_epoch(epoch)
-        }
-        Body::Run(domain, holder, epoch, number, command) => {
+        Body::Take {
+            domain,
+            holder,
+            seen,
+        } => { is_domain(domain) && is_party(holder) && seen <= LAST_EPOCH }
+        Body::Drop {
+            domain,
+            holder,
+            epoch,
+        } => { is_domain(domain) && is_party(holder) && is_grant_epoch(epoch) }
+        Body::Run {
+            domain,
+            holder,
+            epoch,
+            number,
+            command,
+        } => {
             is_domain(domain)
                 && is_party(holder)
                 && is_grant_epoch(epoch)
                 && is_between(1, LAST_NUMBER, number)
                 && command.is_in_range()
         }
-        Body::Tell(domain, told) => {
+        Body::Tell { domain, told } => {
             is_domain(domain) && told.holder.is_in_range() && is_outcome(told.outcome)
         }
-        Body::Watch(object, echo) | Body::Unwatch(object, echo) => is_object(object)
-            && is_boot(echo),
-        Body::State(object, echo, version, state) => {
+        Body::Watch { object, boot: echo } | Body::Unwatch { object, boot: echo } => is_object(
+            object,
+        ) && is_boot(echo),
+        Body::State {
+            object,
+            boot: echo,
+            version,
+            state,
+        } => {
             is_object(object)
                 && is_boot(echo)
                 && is_version(version)

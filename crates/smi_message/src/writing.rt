@@ -50,15 +50,29 @@ fn fields_of(from: u16, to: u16, tree: u16, body: &Body) -> Fields
 {
     match *body {
         Body::Ask(domain) => plain(1, from, to, tree, domain),
-        Body::Take(domain, holder, seen) => Fields {
+        Body::Take {
+            domain,
+            holder,
+            seen,
+        } => Fields {
             epoch: seen,
             ..about_grant(2, from, to, tree, domain, holder)
         },
-        Body::Drop(domain, holder, epoch) => Fields {
+        Body::Drop {
+            domain,
+            holder,
+            epoch,
+        } => Fields {
             epoch,
             ..about_grant(3, from, to, tree, domain, holder)
         },
-        Body::Run(domain, holder, epoch, number, command) => Fields {
+        Body::Run {
+            domain,
+            holder,
+            epoch,
+            number,
+            command,
+        } => Fields {
             layout: layout_of(command),
             code: command.verb(),
             epoch,
@@ -66,25 +80,30 @@ fn fields_of(from: u16, to: u16, tree: u16, body: &Body) -> Fields
             argument: command.argument(),
             ..about_grant(4, from, to, tree, domain, holder)
         },
-        Body::Tell(domain, told) => Fields {
+        Body::Tell { domain, told } => Fields {
             phase: told.phase.number(),
             code: told.outcome,
             epoch: told.epoch,
             number: told.last,
             ..about_grant(5, from, to, tree, domain, told.holder)
         },
-        Body::Watch(object, echo) => Fields {
+        Body::Watch { object, boot: echo } => Fields {
             echo,
             ..plain(6, from, to, tree, object)
         },
-        Body::State(object, echo, version, state) => Fields {
+        Body::State {
+            object,
+            boot: echo,
+            version,
+            state,
+        } => Fields {
             code: state,
             echo,
             boot: version.boot,
             sequence: version.sequence,
             ..plain(7, from, to, tree, object)
         },
-        Body::Unwatch(object, echo) => Fields {
+        Body::Unwatch { object, boot: echo } => Fields {
             echo,
             ..plain(8, from, to, tree, object)
         },

@@ -1,7 +1,7 @@
 -- What one event leaves of a node: of its station, its link, its desk and its board.
 use Rattle.std.specs.Prelude.{ℕ, ◌≡◌, Bool, true, false, List, Option, Some, None, Result, Ok, Err, OnOk}
 use Rattle.smi_rows.specs.Store.{Rows}
-use Rattle.smi_holdings.specs.Save.{IfKept, IfMemory, IfStopped}
+use Rattle.smi_station_grants.specs.Save.{IfKept, IfMemory, IfStopped}
 use Rattle.smi_protocol.specs.Step.{Out, Outcome, after_event, nothing_out}
 use Rattle.smi_protocol.specs.declared.event.Event.{Event}
 use Rattle.smi_protocol.specs.declared.event.Event.TheVariants as event
@@ -13,7 +13,7 @@ use Rattle.smi_protocol.specs.declared.order.Answer.{Answer}
 use Rattle.smi_protocol.specs.declared.order.Order.TheVariants as order
 use Rattle.smi_operator.specs.declared.ends.Desk.{Desk}
 use Rattle.smi_station.specs.Core.{Core, IsStoredIn, MaySendAll, Steps, is_stopped_by, number_of, station_of, tree_of}
-use Rattle.smi_station.specs.Leaving.{Leaves}
+use Rattle.smi_station_grants.specs.Leaving.{Leaves}
 use Rattle.smi_station.specs.Readers.{Whole}
 use Rattle.smi_station.specs.Wanting.{adds_by, wants_memory}
 use Rattle.smi_view.specs.Shows.{BoardShows}

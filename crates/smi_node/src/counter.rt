@@ -2,10 +2,10 @@
 
 use crate::counts::{Counts, raise};
 use crate::witness::Witness;
-use smi_out::Out;
 use smi_protocol::{Event, Heard, StepFault};
 use smi_rows::Stable;
 use smi_station::Station;
+use smi_station_output::Out;
 use std::alloc::Global;
 use std::sync::Arc;
 

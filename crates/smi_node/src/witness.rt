@@ -1,9 +1,9 @@
 //! Who is told of each step.
 
-use smi_out::Out;
 use smi_protocol::{Event, Heard, StepFault};
 use smi_rows::Stable;
 use smi_station::Station;
+use smi_station_output::Out;
 
 /// Who is told of each step that a node makes, right after it, before anything of it is sent, published or answered.
 ///

@@ -1,11 +1,12 @@
-use smi_grant::link_law::{
+use smi_command::laws::{
     commands_settle_by_number, known_epoch_never_falls, one_link_and_its_keeper,
     taking_ends_by_hearing,
 };
-use smi_grant::{
-    Command, Due, Holder, LAST_EPOCH, LAST_NUMBER, Link, LinkHeard, MOST_PENDING, Outcome, Pending,
-    Phase, Record, Refusal, Settlement, begin_drop, begin_take, due, issue, told,
+use smi_command::{
+    Due, Link, LinkHeard, MOST_PENDING, Pending, Refusal, Settlement, begin_drop, begin_take, due,
+    issue, told,
 };
+use smi_grant::{Command, Holder, LAST_EPOCH, LAST_NUMBER, Outcome, Phase, Record};
 
 const BOB: Holder = Holder::Operator(2);
 
@@ -207,7 +208,12 @@ fn at_the_limit() -> Result<[bool; 4], u16> {
     Ok([
         issue(&full, START) == Err(22),
         begin_drop(&full) == Err(22),
-        due(&full, 7) == Some(Due::Run(1, 8, START)),
+        due(&full, 7)
+            == Some(Due::Run {
+                epoch: 1,
+                number: 8,
+                command: START,
+            }),
         due(&full, 8) == None,
     ])
 }
@@ -236,8 +242,16 @@ fn what_is_due(rt: HostRuntime) {
             waiting,
             5,
             true,
-            Some(Due::Run(5, 6, CONFIGURE)),
-            Some(Due::Run(5, 7, START)),
+            Some(Due::Run {
+                epoch: 5,
+                number: 6,
+                command: CONFIGURE,
+            }),
+            Some(Due::Run {
+                epoch: 5,
+                number: 7,
+                command: START,
+            }),
         ),
     ];
     for (i, (link, known, is_unsettled, first, next)) in table.iter().enumerate() {

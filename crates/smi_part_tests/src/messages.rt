@@ -34,7 +34,11 @@ fn each_kind_has_its_bytes(rt: HostRuntime) {
             ],
         ),
         (
-            Body::Take(1, Holder::Operator(2), 0),
+            Body::Take {
+                domain: 1,
+                holder: Holder::Operator(2),
+                seen: 0,
+            },
             [
                 0x53, 0x4D, 0x01, 0x02, 0x00, 0x02, 0x00, 0x01, 0x00, 0x01, 0x01, 0x00, 0x00, 0x02,
                 0x00, 0x00, 0x00, 0x00, 0x00, 0x00, 0x00, 0x00, 0x00, 0x00, 0x00, 0x00, 0x00, 0x00,
@@ -43,7 +47,11 @@ fn each_kind_has_its_bytes(rt: HostRuntime) {
             ],
         ),
         (
-            Body::Drop(1, Holder::Domain(128), LAST_EPOCH - 1),
+            Body::Drop {
+                domain: 1,
+                holder: Holder::Domain(128),
+                epoch: LAST_EPOCH - 1,
+            },
             [
                 0x53, 0x4D, 0x01, 0x03, 0x00, 0x02, 0x00, 0x01, 0x00, 0x01, 0x02, 0x00, 0x00, 0x80,
                 0x00, 0x00, 0x3F, 0xFF, 0xFF, 0xFF, 0xFF, 0xFF, 0xFF, 0xFF, 0x00, 0x00, 0x00, 0x00,
@@ -52,7 +60,13 @@ fn each_kind_has_its_bytes(rt: HostRuntime) {
             ],
         ),
         (
-            Body::Run(1, Holder::Operator(2), 1, 1, Command::Do(64)),
+            Body::Run {
+                domain: 1,
+                holder: Holder::Operator(2),
+                epoch: 1,
+                number: 1,
+                command: Command::Do(64),
+            },
             [
                 0x53, 0x4D, 0x01, 0x04, 0x00, 0x02, 0x00, 0x01, 0x00, 0x01, 0x01, 0x00, 0x00, 0x02,
                 0x00, 0x01, 0x00, 0x00, 0x00, 0x00, 0x00, 0x00, 0x00, 0x01, 0x00, 0x00, 0x00, 0x01,
@@ -61,7 +75,13 @@ fn each_kind_has_its_bytes(rt: HostRuntime) {
             ],
         ),
         (
-            Body::Run(1, Holder::Operator(2), 1, 1_000_000, Command::Ignore(128)),
+            Body::Run {
+                domain: 1,
+                holder: Holder::Operator(2),
+                epoch: 1,
+                number: 1_000_000,
+                command: Command::Ignore(128),
+            },
             [
                 0x53, 0x4D, 0x02, 0x04, 0x00, 0x02, 0x00, 0x01, 0x00, 0x01, 0x01, 0x00, 0x00, 0x02,
                 0x00, 0x05, 0x00, 0x00, 0x00, 0x00, 0x00, 0x00, 0x00, 0x01, 0x00, 0x0F, 0x42, 0x40,
@@ -69,9 +89,12 @@ fn each_kind_has_its_bytes(rt: HostRuntime) {
                 0x00, 0x00,
             ],
         ),
-        (Body::Tell(1, told), TELL),
+        (Body::Tell { domain: 1, told }, TELL),
         (
-            Body::Watch(640, 4_000_000_000),
+            Body::Watch {
+                object: 640,
+                boot: 4_000_000_000,
+            },
             [
                 0x53, 0x4D, 0x01, 0x06, 0x00, 0x02, 0x00, 0x01, 0x02, 0x80, 0x00, 0x00, 0x00, 0x00,
                 0x00, 0x00, 0x00, 0x00, 0x00, 0x00, 0x00, 0x00, 0x00, 0x00, 0x00, 0x00, 0x00, 0x00,
@@ -80,15 +103,15 @@ fn each_kind_has_its_bytes(rt: HostRuntime) {
             ],
         ),
         (
-            Body::State(
-                3,
-                7,
-                Version {
+            Body::State {
+                object: 3,
+                boot: 7,
+                version: Version {
                     boot: 8,
                     sequence: 0,
                 },
-                64,
-            ),
+                state: 64,
+            },
             [
                 0x53, 0x4D, 0x01, 0x07, 0x00, 0x02, 0x00, 0x01, 0x00, 0x03, 0x00, 0x00, 0x00, 0x00,
                 0x00, 0x40, 0x00, 0x00, 0x00, 0x00, 0x00, 0x00, 0x00, 0x00, 0x00, 0x00, 0x00, 0x00,
@@ -97,7 +120,7 @@ fn each_kind_has_its_bytes(rt: HostRuntime) {
             ],
         ),
         (
-            Body::Unwatch(3, 1),
+            Body::Unwatch { object: 3, boot: 1 },
             [
                 0x53, 0x4D, 0x01, 0x08, 0x00, 0x02, 0x00, 0x01, 0x00, 0x03, 0x00, 0x00, 0x00, 0x00,
                 0x00, 0x00, 0x00, 0x00, 0x00, 0x00, 0x00, 0x00, 0x00, 0x00, 0x00, 0x00, 0x00, 0x00,

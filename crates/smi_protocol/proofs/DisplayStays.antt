@@ -19,12 +19,12 @@ use Rattle.smi_tree.specs.Lookups.{state_count, station_count}
 use Rattle.smi_publish.specs.declared.condition.Condition.{Condition}
 use Rattle.smi_publish.specs.Published.{HasRoom}
 use Rattle.smi_publish.specs.Publishing.{acted, device_objects, is_among, reported}
-use Rattle.smi_roles.specs.Roles.{domain_of, is_kept_by, is_number, is_keeper, is_child_unit}
+use Rattle.smi_tree.specs.Roles.{domain_of, is_kept_by, is_number, is_keeper, is_child_unit}
 use Rattle.smi_publish.specs.Publishing as publishing
 use Rattle.smi_view.specs.declared.Acceptance.{Acceptance}
 use Rattle.smi_view.specs.declared.Acceptance.TheVariants.{Accepted, OtherBoot, NotNewer}
 use Rattle.smi_view.specs.Accepting.{acceptance, last_after}
-use Rattle.smi_grant.proofs.Heard.{choose}
+use Rattle.smi_command.proofs.Heard.{choose}
 use Rattle.smi_grant.proofs.Holders.{either}
 use Rattle.smi_protocol.specs.Display.{Display, Station}
 use Rattle.smi_protocol.specs.Grants.{Grants, put}

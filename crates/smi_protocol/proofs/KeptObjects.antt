@@ -11,7 +11,7 @@ use Rattle.smi_tree.specs.Lawful.{IsTree}
 use Rattle.smi_tree.specs.Lookups.{domain_count, device_count, station_of, first_state}
 use Rattle.smi_publish.specs.declared.condition.Condition.{Condition}
 use Rattle.smi_publish.specs.Published.{condition}
-use Rattle.smi_roles.specs.Roles.{is_kept_by}
+use Rattle.smi_tree.specs.Roles.{is_kept_by}
 use Rattle.smi_publish.specs.Publishing.{first_condition}
 use Rattle.smi_protocol.specs.Opening.{object_count}
 use Rattle.smi_protocol.proofs.Ranges.{number_within}

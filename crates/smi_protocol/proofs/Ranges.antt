@@ -20,13 +20,13 @@ use Rattle.smi_tree.specs.declared.row.Domain.{Domain as DomainRow}
 use Rattle.smi_tree.specs.Hierarchy.{Hierarchy, entry}
 use Rattle.smi_tree.specs.Lawful.{IsBetween, IsTree}
 use Rattle.smi_tree.specs.Lookups.{domain_count, operator_count, operator_station_of, parent_of, station_count}
-use Rattle.smi_grant.specs.declared.Due.{Due}
-use Rattle.smi_grant.specs.declared.Due.TheVariants.{Take, Drop, Run}
-use Rattle.smi_grant.specs.declared.Link.{Link}
-use Rattle.smi_grant.specs.declared.Link.TheVariants.{Out, Taking, Held, Dropping}
-use Rattle.smi_grant.specs.Link.{due_of}
-use Rattle.smi_grant.specs.Pending.{base_of}
-use Rattle.smi_roles.specs.Roles.{is_holder_of, is_number, is_parent, holder_station, is_keeper}
+use Rattle.smi_command.specs.declared.Due.{Due}
+use Rattle.smi_command.specs.declared.Due.TheVariants.{Take, Drop, Run}
+use Rattle.smi_command.specs.declared.Link.{Link}
+use Rattle.smi_command.specs.declared.Link.TheVariants.{Out, Taking, Held, Dropping}
+use Rattle.smi_command.specs.Link.{due_of}
+use Rattle.smi_command.specs.Pending.{base_of}
+use Rattle.smi_tree.specs.Roles.{is_holder_of, is_number, is_parent, holder_station, is_keeper}
 use Rattle.smi_rows.specs.Ranges.{is_standing}
 use Rattle.smi_protocol.specs.Messages.{home, request, requests, says, tells}
 use Rattle.smi_protocol.specs.Sound.{ArePending, IsCommand, IsLink, is_due}

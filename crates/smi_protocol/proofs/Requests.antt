@@ -4,7 +4,7 @@ use Rattle.std.specs.Prelude.{◌&&◌}
 use Rattle.smi_grant.specs.declared.Command.{Command}
 use Rattle.smi_grant.specs.declared.Command.TheVariants.{Do, Include, Exclude, Manual, Ignore}
 use Rattle.smi_tree.specs.Hierarchy.{Hierarchy}
-use Rattle.smi_roles.specs.Roles.{has_domain}
+use Rattle.smi_tree.specs.Roles.{has_domain}
 use Rattle.smi_protocol.specs.Grants.{Grants}
 use Rattle.smi_protocol.specs.Happening.{order_of}
 use Rattle.smi_protocol.specs.Ordering.{commands, order_comes}

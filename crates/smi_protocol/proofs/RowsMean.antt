@@ -8,21 +8,21 @@ use Rattle.smi_grant.specs.declared.Holder.TheVariants.{Operator, Domain}
 use Rattle.smi_grant.specs.Record.{fresh}
 use Rattle.smi_tree.specs.Hierarchy.{Hierarchy}
 use Rattle.smi_tree.specs.Lookups.{children_of, domain_count, parent_of}
-use Rattle.smi_grant.specs.declared.Link.{Link}
-use Rattle.smi_grant.specs.declared.Link.TheVariants.{Out, Taking, Held, Dropping}
+use Rattle.smi_command.specs.declared.Link.{Link}
+use Rattle.smi_command.specs.declared.Link.TheVariants.{Out, Taking, Held, Dropping}
 use Rattle.smi_rows.specs.declared.Mode.{Mode}
 use Rattle.smi_rows.specs.declared.Mode.TheVariants.{Included}
 use Rattle.smi_rows.specs.declared.Row.{Row}
 use Rattle.smi_rows.specs.declared.Row.TheVariants as row
 use Rattle.smi_rows.specs.declared.StoredLink.{StoredLink}
-use Rattle.smi_grant.specs.Link.{is_held}
+use Rattle.smi_command.specs.Link.{is_held}
 use Rattle.smi_rows.specs.Reading.{kept_domain}
 use Rattle.smi_rows.specs.Store.{Rows}
 use Rattle.smi_rows.specs.Stored.{KeptDomain, stored}
 use Rattle.smi_protocol.specs.Grants.{Grants}
 use Rattle.smi_protocol.specs.Loading.{AreSaved, KeepsTheSame, boot_of, domain_in, domain_of, grants_in, links_of}
 use Rattle.smi_protocol.specs.Loading.{mode_under, stored_at}
-use Rattle.smi_roles.specs.Roles.{is_keeper}
+use Rattle.smi_tree.specs.Roles.{is_keeper}
 use Rattle.smi_protocol.specs.SavedRows.{child_links, domain_row, is_new, operator_links, operator_row, stored_if}
 use Rattle.smi_protocol.specs.Sound.{In, IsSound}
 use Rattle.smi_protocol.proofs.Lists.{in_range}

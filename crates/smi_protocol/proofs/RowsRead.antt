@@ -17,19 +17,19 @@ use Rattle.smi_grant.specs.Record.{is_settled, last_epoch, last_number}
 use Rattle.smi_tree.specs.Hierarchy.{Hierarchy}
 use Rattle.smi_tree.specs.Lawful.{IsTree}
 use Rattle.smi_tree.specs.Lookups.{children_of, domain_count, numbers_from, operator_station_of}
-use Rattle.smi_grant.specs.declared.Link.{Link}
-use Rattle.smi_grant.specs.declared.Link.TheVariants.{Out, Taking, Held, Dropping}
-use Rattle.smi_grant.specs.Pending.{most_pending}
+use Rattle.smi_command.specs.declared.Link.{Link}
+use Rattle.smi_command.specs.declared.Link.TheVariants.{Out, Taking, Held, Dropping}
+use Rattle.smi_command.specs.Pending.{most_pending}
 use Rattle.smi_rows.specs.declared.Mode.{Mode}
 use Rattle.smi_rows.specs.declared.Mode.TheVariants as mode
 use Rattle.smi_rows.specs.declared.RowKind.TheVariants as kind
 use Rattle.smi_rows.specs.declared.Schema.{Schema}
 use Rattle.smi_rows.specs.declared.StoredLink.{StoredLink}
 use Rattle.smi_rows.specs.Known.{are_commands_of, is_child_link, is_tree_link}
-use Rattle.smi_roles.specs.Roles.{is_command_of, is_number, is_parent, is_keeper}
+use Rattle.smi_tree.specs.Roles.{is_command_of, is_number, is_parent, is_keeper}
 use Rattle.smi_rows.specs.Ranges.{each_command_in, is_grant_in, is_link_in, is_mode_in}
 use Rattle.smi_base.specs.Between.{is_between}
-use Rattle.smi_grant.specs.Link.{is_held, is_out, is_unsettled}
+use Rattle.smi_command.specs.Link.{is_held, is_out, is_unsettled}
 use Rattle.smi_rows.specs.Ranges.{is_work_in, rises_above}
 use Rattle.smi_rows.specs.Schema.{last_verb, most_pending_in}
 use Rattle.smi_rows.specs.Written.{IsRow}

@@ -20,15 +20,15 @@ use Rattle.smi_tree.specs.Hierarchy.{Hierarchy}
 use Rattle.smi_tree.specs.Lawful.{IsBetween, IsTree}
 use Rattle.smi_tree.specs.Lookups.{children_of, domain_count, operators_of, operator_station_of, parent_of}
 use Rattle.smi_tree.specs.Lookups.{station_count}
-use Rattle.smi_grant.specs.declared.Due.{Due}
-use Rattle.smi_grant.specs.declared.Link.{Link}
-use Rattle.smi_grant.specs.Link.{due_of}
-use Rattle.smi_grant.specs.Hearing.{told_link}
-use Rattle.smi_grant.specs.Order.{take_begun, drop_begun, command_issued}
-use Rattle.smi_grant.specs.Pending.{most_pending}
-use Rattle.smi_grant.proofs.Heard.{not_true}
+use Rattle.smi_command.specs.declared.Due.{Due}
+use Rattle.smi_command.specs.declared.Link.{Link}
+use Rattle.smi_command.specs.Link.{due_of}
+use Rattle.smi_command.specs.Hearing.{told_link}
+use Rattle.smi_command.specs.Order.{take_begun, drop_begun, command_issued}
+use Rattle.smi_command.specs.Pending.{most_pending}
+use Rattle.smi_command.proofs.Heard.{not_true}
 use Rattle.smi_grant.proofs.Lawful.{free_last, none_settled}
-use Rattle.smi_roles.specs.Roles.{is_number, is_parent, has_domain, is_keeper}
+use Rattle.smi_tree.specs.Roles.{is_number, is_parent, has_domain, is_keeper}
 use Rattle.smi_rows.specs.Ranges.{is_standing}
 use Rattle.smi_protocol.specs.Children.{ChildChange, Stays, Relinked, ComesInto, change_of, link_after, own_code}
 use Rattle.smi_protocol.specs.Grants.{Grants}

@@ -18,15 +18,15 @@ use Rattle.smi_tree.specs.Hierarchy.{Hierarchy, entry}
 use Rattle.smi_tree.specs.Lawful.{IsBetween, IsTree}
 use Rattle.smi_tree.specs.Lookups.{domain_count, device_count, operators_of, operator_station_of, parent_of}
 use Rattle.smi_tree.specs.Lookups.{station_count, station_of}
-use Rattle.smi_grant.specs.declared.Due.{Due}
-use Rattle.smi_grant.specs.declared.Link.{Link}
-use Rattle.smi_grant.specs.Link.{due_of}
-use Rattle.smi_grant.specs.Pending.{most_pending}
-use Rattle.smi_grant.proofs.Heard.{choose}
+use Rattle.smi_command.specs.declared.Due.{Due}
+use Rattle.smi_command.specs.declared.Link.{Link}
+use Rattle.smi_command.specs.Link.{due_of}
+use Rattle.smi_command.specs.Pending.{most_pending}
+use Rattle.smi_command.proofs.Heard.{choose}
 use Rattle.smi_publish.specs.declared.condition.Condition.{Condition}
 use Rattle.smi_publish.specs.Published.{shown_at}
 use Rattle.smi_publish.specs.Publishing.{device_objects}
-use Rattle.smi_roles.specs.Roles.{is_number, is_keeper, is_child_unit}
+use Rattle.smi_tree.specs.Roles.{is_number, is_keeper, is_child_unit}
 use Rattle.smi_view.specs.declared.Acceptance.{Acceptance}
 use Rattle.smi_view.specs.declared.Acceptance.TheVariants.{Accepted, OtherBoot, NotNewer}
 use Rattle.smi_view.specs.Accepting.{acceptance}
@@ -51,7 +51,7 @@ use Rattle.smi_protocol.specs.Watching.{order_noticed, showed_if, state_comes, t
 use Rattle.smi_protocol.specs.Watching.{watch_comes}
 use Rattle.smi_protocol.specs.declared.order.Order.{Order}
 use Rattle.smi_protocol.specs.declared.order.Order.TheVariants as order
-use Rattle.smi_protocol.specs.declared.place.Place.TheVariants as place
+use Rattle.smi_protocol.specs.declared.resend_cursor.ResendCursor.TheVariants as place
 use Rattle.smi_protocol.proofs.DisplayStays.{conditions_stay, notice_sound}
 use Rattle.smi_protocol.proofs.Lists.{In, in_both, from_chosen, from_flat, from_mapped, from_range}
 use Rattle.smi_protocol.proofs.Ranges.{between, domain_in, domain_party, due_in, home_there, is_within, kept_there}

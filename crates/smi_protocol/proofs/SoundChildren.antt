@@ -5,13 +5,13 @@ use Rattle.smi_grant.specs.declared.Command.{Command}
 use Rattle.smi_grant.specs.declared.Command.TheVariants.{Do, Include, Exclude, Manual, Ignore}
 use Rattle.smi_tree.specs.Hierarchy.{Hierarchy}
 use Rattle.smi_tree.specs.Lookups.{accepts, is_below}
-use Rattle.smi_grant.specs.declared.Link.{Link}
-use Rattle.smi_grant.specs.declared.Link.TheVariants.{Held}
-use Rattle.smi_grant.specs.Order.{take_begun, drop_begun, command_issued}
-use Rattle.smi_grant.proofs.Heard.{choose}
+use Rattle.smi_command.specs.declared.Link.{Link}
+use Rattle.smi_command.specs.declared.Link.TheVariants.{Held}
+use Rattle.smi_command.specs.Order.{take_begun, drop_begun, command_issued}
+use Rattle.smi_command.proofs.Heard.{choose}
 use Rattle.smi_rows.specs.declared.Mode.{Mode}
 use Rattle.smi_rows.specs.declared.Mode.TheVariants as mode
-use Rattle.smi_grant.specs.Link.{is_held, is_unsettled}
+use Rattle.smi_command.specs.Link.{is_held, is_unsettled}
 use Rattle.smi_protocol.specs.Children.{ChildChange, Stays, Relinked, ComesInto, relinked_or, is_commanded, same_mode}
 use Rattle.smi_protocol.specs.Children.{comes_into, handed_on, aimed_at, targeted, child_change, link_after}
 use Rattle.smi_protocol.specs.Children.{mode_after, code_of}

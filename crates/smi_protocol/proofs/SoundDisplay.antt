@@ -21,11 +21,11 @@ use Rattle.smi_tree.specs.Lawful.{IsBetween, IsClass, IsRule, IsTree}
 use Rattle.smi_tree.specs.Lookups.{class_of_device, class_of_domain, domain_count, first_state, moved, moved_by}
 use Rattle.smi_tree.specs.Lookups.{state_count, unit_state}
 use Rattle.smi_tree.specs.Rules.{holds, state_by}
-use Rattle.smi_grant.proofs.Heard.{choose}
+use Rattle.smi_command.proofs.Heard.{choose}
 use Rattle.smi_publish.specs.declared.condition.Condition.{Condition}
 use Rattle.smi_publish.specs.Published.{HasRoom, changes_at, condition, differs, last_sequence, shown, shown_at}
 use Rattle.smi_publish.specs.Publishing.{acted, come_to, device_objects, evaluated, first_condition, is_among}
-use Rattle.smi_roles.specs.Roles.{is_kept_by}
+use Rattle.smi_tree.specs.Roles.{is_kept_by}
 use Rattle.smi_publish.specs.Publishing.{reported, unit_moved}
 use Rattle.smi_publish.specs.Publishing as publishing
 use Rattle.smi_watchers.specs.declared.Watcher.{Watcher}

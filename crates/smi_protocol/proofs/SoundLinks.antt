@@ -7,14 +7,14 @@ use Rattle.smi_grant.specs.declared.Holder.{Holder}
 use Rattle.smi_grant.specs.Holder.{is_free, odd_of}
 use Rattle.smi_grant.specs.Record.{Standing, IsRecord}
 use Rattle.smi_tree.specs.Hierarchy.{Hierarchy}
-use Rattle.smi_grant.specs.declared.Link.{Link}
-use Rattle.smi_grant.specs.declared.Link.TheVariants.{Out, Taking, Held, Dropping}
-use Rattle.smi_grant.specs.Hearing.{told_link, settled_count}
-use Rattle.smi_grant.specs.Order.{take_begun, drop_begun, command_issued}
-use Rattle.smi_grant.specs.Pending.{most_pending}
-use Rattle.smi_grant.proofs.Heard.{by_row_taking, by_row_held, by_row_dropping}
+use Rattle.smi_command.specs.declared.Link.{Link}
+use Rattle.smi_command.specs.declared.Link.TheVariants.{Out, Taking, Held, Dropping}
+use Rattle.smi_command.specs.Hearing.{told_link, settled_count}
+use Rattle.smi_command.specs.Order.{take_begun, drop_begun, command_issued}
+use Rattle.smi_command.specs.Pending.{most_pending}
+use Rattle.smi_command.proofs.Heard.{by_row_taking, by_row_held, by_row_dropping}
 use Rattle.smi_grant.proofs.Holders.{held_odd}
-use Rattle.smi_grant.proofs.Orders.{take_begins, drop_begins, command_issues}
+use Rattle.smi_command.proofs.Orders.{take_begins, drop_begins, command_issues}
 use Rattle.smi_protocol.specs.Sound.{IsCommand, ArePending, IsLink}
 
 all_left : {X : Type 0} (P : X → Type 0) (k : ℕ) (xs : List X) → AllByRecursion P xs → AllByRecursion P (drop k xs)

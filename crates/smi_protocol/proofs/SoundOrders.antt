@@ -14,14 +14,14 @@ use Rattle.smi_grant.specs.Record.{Standing, IsRecord}
 use Rattle.smi_tree.specs.Hierarchy.{Hierarchy}
 use Rattle.smi_tree.specs.Lawful.{IsTree}
 use Rattle.smi_tree.specs.Lookups.{action_count, domain_count, operator_station_of}
-use Rattle.smi_grant.specs.declared.Link.{Link}
-use Rattle.smi_grant.specs.declared.Link.TheVariants.{Out, Taking, Held, Dropping}
-use Rattle.smi_grant.specs.Hearing.{told_link}
-use Rattle.smi_grant.specs.Order.{take_begun, drop_begun, command_issued}
-use Rattle.smi_grant.specs.Pending.{most_pending}
-use Rattle.smi_grant.proofs.Orders.{drop_begins, command_issues}
-use Rattle.smi_roles.specs.Roles.{is_number, has_domain}
-use Rattle.smi_grant.specs.Link.{is_held, is_out}
+use Rattle.smi_command.specs.declared.Link.{Link}
+use Rattle.smi_command.specs.declared.Link.TheVariants.{Out, Taking, Held, Dropping}
+use Rattle.smi_command.specs.Hearing.{told_link}
+use Rattle.smi_command.specs.Order.{take_begun, drop_begun, command_issued}
+use Rattle.smi_command.specs.Pending.{most_pending}
+use Rattle.smi_command.proofs.Orders.{drop_begins, command_issues}
+use Rattle.smi_tree.specs.Roles.{is_number, has_domain}
+use Rattle.smi_command.specs.Link.{is_held, is_out}
 use Rattle.smi_base.specs.Between.{is_between}
 use Rattle.smi_protocol.specs.Grants.{Grants, put_link, with_link}
 use Rattle.smi_protocol.specs.GrantsOf.{grant_step}

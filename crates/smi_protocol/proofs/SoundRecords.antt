@@ -10,10 +10,10 @@ use Rattle.smi_grant.specs.Holder.{is_free, same_holder}
 use Rattle.smi_grant.specs.Keeper.{handed, take_after, drop_after}
 use Rattle.smi_grant.specs.Record.{Standing, is_settled, last_epoch}
 use Rattle.smi_tree.specs.Hierarchy.{Hierarchy}
-use Rattle.smi_grant.proofs.Heard.{choose}
+use Rattle.smi_command.proofs.Heard.{choose}
 use Rattle.smi_grant.proofs.Holders.{same_is}
 use Rattle.smi_grant.proofs.Lawful.{free_last, none_settled, granted_lawful, freed_lawful}
-use Rattle.smi_roles.specs.Roles.{is_holder_of}
+use Rattle.smi_tree.specs.Roles.{is_holder_of}
 use Rattle.smi_rows.specs.Ranges.{is_standing}
 use Rattle.smi_protocol.specs.Grants.{Grants, with_record}
 use Rattle.smi_protocol.specs.Keeping.{decided}

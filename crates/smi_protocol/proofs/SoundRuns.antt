@@ -12,13 +12,13 @@ use Rattle.smi_grant.specs.Keeper.{started}
 use Rattle.smi_grant.specs.Record.{Standing, IsRecord, is_outcome, is_settled, last_number}
 use Rattle.smi_tree.specs.Hierarchy.{Hierarchy}
 use Rattle.smi_tree.specs.Lookups.{accepts, children_of, is_below}
-use Rattle.smi_grant.specs.Pending.{most_pending}
-use Rattle.smi_grant.proofs.Heard.{choose}
+use Rattle.smi_command.specs.Pending.{most_pending}
+use Rattle.smi_command.proofs.Heard.{choose}
 use Rattle.smi_grant.proofs.Holders.{same_is}
 use Rattle.smi_grant.proofs.Lawful.{started_lawful}
 use Rattle.smi_rows.specs.declared.Mode.TheVariants as mode
-use Rattle.smi_roles.specs.Roles.{is_holder_of, is_parent}
-use Rattle.smi_grant.specs.Link.{is_held, is_unsettled}
+use Rattle.smi_tree.specs.Roles.{is_holder_of, is_parent}
+use Rattle.smi_command.specs.Link.{is_held, is_unsettled}
 use Rattle.smi_rows.specs.Ranges.{is_standing}
 use Rattle.smi_protocol.specs.Children.{change_of, link_after, mode_after, links_after, modes_after, code_of}
 use Rattle.smi_protocol.specs.Children.{code_at_domain, largest, own_code}

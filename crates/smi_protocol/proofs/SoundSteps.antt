@@ -19,9 +19,9 @@ use Rattle.smi_base.specs.Between.{is_between}
 use Rattle.smi_tree.specs.Hierarchy.{Hierarchy}
 use Rattle.smi_tree.specs.Lawful.{IsBetween, IsTree}
 use Rattle.smi_tree.specs.Lookups.{operators_of, parent_of, station_count}
-use Rattle.smi_grant.specs.Hearing.{told_heard}
-use Rattle.smi_grant.proofs.Heard.{choose, not_true}
-use Rattle.smi_roles.specs.Roles.{is_command_of, is_holder_of, is_number, is_parent, is_keeper}
+use Rattle.smi_command.specs.Hearing.{told_heard}
+use Rattle.smi_command.proofs.Heard.{choose, not_true}
+use Rattle.smi_tree.specs.Roles.{is_command_of, is_holder_of, is_number, is_parent, is_keeper}
 use Rattle.smi_protocol.specs.Grants.{Grants}
 use Rattle.smi_protocol.specs.GrantsOf.{datagram_comes, grant_step}
 use Rattle.smi_protocol.specs.GrantStep.{GrantStep, waits_for_children}

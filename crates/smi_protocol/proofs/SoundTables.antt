@@ -9,11 +9,11 @@ use Rattle.smi_grant.specs.declared.Holder.TheVariants.{Operator, Domain}
 use Rattle.smi_grant.specs.Holder as holder
 use Rattle.smi_grant.specs.Record.{Standing, IsRecord, is_record, is_outcome}
 use Rattle.smi_grant.proofs.Records.{is_record-true, is_record-facts}
-use Rattle.smi_grant.specs.declared.Link.{Link}
+use Rattle.smi_command.specs.declared.Link.{Link}
 use Rattle.smi_tree.specs.Hierarchy.{Hierarchy}
 use Rattle.smi_tree.specs.Lookups.{children_of, domain_count}
 use Rattle.smi_rows.specs.Ranges.{is_standing}
-use Rattle.smi_grant.specs.Link.{is_out, is_unsettled}
+use Rattle.smi_command.specs.Link.{is_out, is_unsettled}
 use Rattle.smi_protocol.specs.Grants.{Grants}
 use Rattle.smi_protocol.specs.GrantStep.{waits_for_children}
 use Rattle.smi_protocol.specs.Refusals.{links_in_use}

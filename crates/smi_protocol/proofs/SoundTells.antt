@@ -11,19 +11,19 @@ use Rattle.smi_grant.specs.Holder.{is_free, same_holder}
 use Rattle.smi_grant.specs.Record.{Standing, IsRecord, is_outcome, is_settled, last_epoch}
 use Rattle.smi_tree.specs.Hierarchy.{Hierarchy}
 use Rattle.smi_tree.specs.Lookups.{children_of}
-use Rattle.smi_grant.specs.declared.Link.{Link}
-use Rattle.smi_grant.specs.declared.Link.TheVariants.{Out, Taking, Held, Dropping}
-use Rattle.smi_grant.specs.declared.LinkHeard.{LinkHeard}
-use Rattle.smi_grant.specs.declared.Settlement.{Settlement}
-use Rattle.smi_grant.specs.Hearing.{told_link, told_heard, settled_count, code_in, settlement_in, settlements}
-use Rattle.smi_grant.specs.Hearing.{commands_settled}
-use Rattle.smi_grant.specs.Pending.{most_pending, base_of}
-use Rattle.smi_grant.proofs.Heard.{choose, not_true, by_row_held}
-use Rattle.smi_grant.proofs.HeardCommands.{newest_at_most}
+use Rattle.smi_command.specs.declared.Link.{Link}
+use Rattle.smi_command.specs.declared.Link.TheVariants.{Out, Taking, Held, Dropping}
+use Rattle.smi_command.specs.declared.LinkHeard.{LinkHeard}
+use Rattle.smi_command.specs.declared.Settlement.{Settlement}
+use Rattle.smi_command.specs.Hearing.{told_link, told_heard, settled_count, code_in, settlement_in, settlements}
+use Rattle.smi_command.specs.Hearing.{commands_settled}
+use Rattle.smi_command.specs.Pending.{most_pending, base_of}
+use Rattle.smi_command.proofs.Heard.{choose, not_true, by_row_held}
+use Rattle.smi_command.proofs.HeardCommands.{newest_at_most}
 use Rattle.smi_grant.proofs.Lawful.{busy_is, settled_lawful}
 use Rattle.smi_rows.specs.declared.Mode.TheVariants.{Included}
-use Rattle.smi_roles.specs.Roles.{is_holder_of, is_parent}
-use Rattle.smi_grant.specs.Link.{is_held, is_unsettled}
+use Rattle.smi_tree.specs.Roles.{is_holder_of, is_parent}
+use Rattle.smi_command.specs.Link.{is_held, is_unsettled}
 use Rattle.smi_rows.specs.Ranges.{is_standing}
 use Rattle.smi_protocol.specs.Grants.{Grants, put, put_link}
 use Rattle.smi_protocol.specs.GrantStep.{waits_for_children}

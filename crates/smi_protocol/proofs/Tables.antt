@@ -8,12 +8,12 @@ use Rattle.std.proofs.lemmas.Bool.{and_parts, eqb-true}
 use Rattle.std.proofs.lemmas.Bool.Decides.{nat_tests}
 use Rattle.smi_grant.specs.declared.Holder.{Holder}
 use Rattle.smi_grant.specs.Holder.{same_holder}
-use Rattle.smi_grant.specs.declared.Link.{Link}
+use Rattle.smi_command.specs.declared.Link.{Link}
 use Rattle.smi_grant.proofs.Holders.{either, same_is, same_self}
 use Rattle.smi_tree.specs.declared.row.Domain.{Domain as DomainRow}
 use Rattle.smi_tree.specs.Hierarchy.{Hierarchy, entry, is_child_of}
 use Rattle.smi_tree.specs.Lookups.{children_of, operators_of, operator_station_of, parent_of}
-use Rattle.smi_roles.specs.Roles.{is_number, is_parent}
+use Rattle.smi_tree.specs.Roles.{is_number, is_parent}
 use Rattle.smi_protocol.specs.Grants.{put, put_link}
 use Rattle.smi_protocol.proofs.Lists.{In, in_numbers, from_numbers}
 

@@ -8,10 +8,10 @@ use Rattle.smi_grant.specs.declared.Holder.TheVariants.{Domain}
 use Rattle.smi_grant.specs.Holder.{same_holder}
 use Rattle.smi_tree.specs.Hierarchy.{Hierarchy}
 use Rattle.smi_tree.specs.Lookups.{is_below, accepts, children_of}
-use Rattle.smi_grant.specs.declared.Link.{Link}
-use Rattle.smi_grant.specs.Order.{take_begun, drop_begun, command_issued}
-use Rattle.smi_roles.specs.Roles.{is_parent}
-use Rattle.smi_grant.specs.Link.{is_held}
+use Rattle.smi_command.specs.declared.Link.{Link}
+use Rattle.smi_command.specs.Order.{take_begun, drop_begun, command_issued}
+use Rattle.smi_tree.specs.Roles.{is_parent}
+use Rattle.smi_command.specs.Link.{is_held}
 use Rattle.smi_rows.specs.Stored.{mode_number}
 use Rattle.smi_rows.specs.declared.Mode.{Mode}
 use Rattle.smi_rows.specs.declared.Mode.TheVariants as mode

@@ -4,7 +4,7 @@ use Rattle.smi_grant.specs.declared.Shown.{Shown}
 use Rattle.smi_publish.specs.declared.condition.Condition.{Condition}
 use Rattle.smi_watchers.specs.declared.Watcher.{Watcher}
 use Rattle.smi_protocol.specs.Grants.{Grants}
-use Rattle.smi_protocol.specs.declared.place.Place.{Place}
+use Rattle.smi_protocol.specs.declared.resend_cursor.ResendCursor.{ResendCursor}
 
 -- Tables by number: the states of its objects; what it was shown last of each object; which objects its
 -- operators watch; the greatest echo of each station; who watches its objects; where the next tick begins;
@@ -15,7 +15,7 @@ pub record Display : Type 0 where
   pub named : ℕ → Bool
   pub echoes : ℕ → ℕ
   pub watchers : List (List Watcher)
-  pub place : Place
+  pub place : ResendCursor
   pub asks : ℕ → Option ℕ
 
 -- a station: its grants, its display, and whether it has stopped

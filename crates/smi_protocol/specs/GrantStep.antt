@@ -5,7 +5,7 @@ use Rattle.smi_grant.specs.declared.Holder.TheVariants.{Domain}
 use Rattle.smi_message.specs.Message.{Message}
 use Rattle.smi_tree.specs.Hierarchy.{Hierarchy}
 use Rattle.smi_tree.specs.Lookups.{children_of}
-use Rattle.smi_grant.specs.Link.{is_unsettled}
+use Rattle.smi_command.specs.Link.{is_unsettled}
 use Rattle.smi_protocol.specs.Grants.{Grants}
 use Rattle.smi_protocol.specs.declared.order.Mark.{Mark}
 use Rattle.smi_protocol.specs.declared.order.Answer.{Answer}

@@ -8,17 +8,17 @@ use Rattle.smi_grant.specs.Keeper.{settled}
 use Rattle.smi_grant.specs.Record.{Standing, is_settled}
 use Rattle.smi_tree.specs.Hierarchy.{Hierarchy}
 use Rattle.smi_tree.specs.Lookups.{operators_of, parent_of}
-use Rattle.smi_grant.specs.declared.Link.{Link}
-use Rattle.smi_grant.specs.declared.Link.TheVariants.{Out, Taking, Held, Dropping}
-use Rattle.smi_grant.specs.declared.LinkHeard.{LinkHeard}
-use Rattle.smi_grant.specs.declared.LinkHeard.TheVariants as heard
-use Rattle.smi_grant.specs.declared.Settlement.{Settlement}
-use Rattle.smi_grant.specs.Hearing.{told_link, told_heard}
+use Rattle.smi_command.specs.declared.Link.{Link}
+use Rattle.smi_command.specs.declared.Link.TheVariants.{Out, Taking, Held, Dropping}
+use Rattle.smi_command.specs.declared.LinkHeard.{LinkHeard}
+use Rattle.smi_command.specs.declared.LinkHeard.TheVariants as heard
+use Rattle.smi_command.specs.declared.Settlement.{Settlement}
+use Rattle.smi_command.specs.Hearing.{told_link, told_heard}
 use Rattle.smi_message.specs.Message.{Message}
 use Rattle.smi_protocol.specs.Grants.{Grants, with_gathered, with_link, with_record}
 use Rattle.smi_protocol.specs.Messages.{requests_due, tells_holder}
 use Rattle.smi_protocol.specs.Happening.{answer, answer_command}
-use Rattle.smi_roles.specs.Roles.{is_keeper}
+use Rattle.smi_tree.specs.Roles.{is_keeper}
 use Rattle.smi_protocol.specs.GrantStep.{GrantStep, OfDomain, OfOperator, unchanged, waits_for_children}
 use Rattle.smi_protocol.specs.declared.order.Answer.{Answer}
 use Rattle.smi_protocol.specs.declared.order.Order.TheVariants as order

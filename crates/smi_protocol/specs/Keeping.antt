@@ -11,8 +11,8 @@ use Rattle.smi_grant.specs.Keeper.{take_after, drop_after, admits, started}
 use Rattle.smi_message.specs.Message.{Message}
 use Rattle.smi_tree.specs.Hierarchy.{Hierarchy}
 use Rattle.smi_tree.specs.Lookups.{children_of}
-use Rattle.smi_grant.specs.declared.Link.TheVariants.{Dropping}
-use Rattle.smi_roles.specs.Roles.{is_parent}
+use Rattle.smi_command.specs.declared.Link.TheVariants.{Dropping}
+use Rattle.smi_tree.specs.Roles.{is_parent}
 use Rattle.smi_protocol.specs.Grants.{Grants, put, with_record}
 use Rattle.smi_protocol.specs.Messages.{tells, requests_due}
 use Rattle.smi_protocol.specs.Children.{ChildChange, Relinked, ComesInto, change_of, links_after, modes_after}

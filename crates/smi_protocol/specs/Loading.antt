@@ -4,8 +4,8 @@ use Rattle.std.specs.Prelude.{option_and_then, unwrap_or, Result, Ok, Err, if◌
 use Rattle.smi_grant.specs.declared.Holder.{Holder}
 use Rattle.smi_grant.specs.declared.Holder.TheVariants.{Free, Operator, Domain}
 use Rattle.smi_grant.specs.Record.{fresh}
-use Rattle.smi_grant.specs.declared.Link.{Link}
-use Rattle.smi_grant.specs.declared.Link.TheVariants.{Out}
+use Rattle.smi_command.specs.declared.Link.{Link}
+use Rattle.smi_command.specs.declared.Link.TheVariants.{Out}
 use Rattle.smi_base.specs.Between.{is_between}
 use Rattle.smi_message.specs.Message.{last_boot}
 use Rattle.smi_tree.specs.Hierarchy.{Hierarchy}
@@ -18,7 +18,7 @@ use Rattle.smi_rows.specs.declared.Row.TheVariants as row
 use Rattle.smi_rows.specs.declared.RowFault.{RowFault}
 use Rattle.smi_rows.specs.declared.RowFault.TheVariants.{Code, Memory}
 use Rattle.smi_rows.specs.declared.StoredLink.{StoredLink}
-use Rattle.smi_roles.specs.Roles.{is_number, is_parent, is_keeper}
+use Rattle.smi_tree.specs.Roles.{is_number, is_parent, is_keeper}
 use Rattle.smi_rows.specs.Reading.{kept_domain, row_of}
 use Rattle.smi_rows.specs.Store.{Rows, is_before}
 use Rattle.smi_rows.specs.Stored.{KeptDomain, stored}

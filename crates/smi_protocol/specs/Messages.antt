@@ -9,12 +9,12 @@ use Rattle.smi_message.specs.declared.Body.TheVariants as body
 use Rattle.smi_message.specs.Message.{Message}
 use Rattle.smi_tree.specs.Hierarchy.{Hierarchy}
 use Rattle.smi_tree.specs.Lookups.{station_of}
-use Rattle.smi_roles.specs.Roles.{holder_station, keeper_of}
-use Rattle.smi_grant.specs.declared.Link.{Link}
-use Rattle.smi_grant.specs.declared.Due.{Due}
-use Rattle.smi_grant.specs.declared.Due.TheVariants.{Take, Drop, Run}
-use Rattle.smi_grant.specs.Link.{due_of}
-use Rattle.smi_grant.specs.Pending.{most_pending}
+use Rattle.smi_tree.specs.Roles.{holder_station, keeper_of}
+use Rattle.smi_command.specs.declared.Link.{Link}
+use Rattle.smi_command.specs.declared.Due.{Due}
+use Rattle.smi_command.specs.declared.Due.TheVariants.{Take, Drop, Run}
+use Rattle.smi_command.specs.Link.{due_of}
+use Rattle.smi_command.specs.Pending.{most_pending}
 use Rattle.smi_rows.specs.Known.{pending_of}
 
 -- the station of a domain

@@ -4,9 +4,9 @@ use Rattle.smi_grant.specs.declared.Command.{Command}
 use Rattle.smi_grant.specs.declared.Command.TheVariants.{Do, Include, Exclude, Manual, Ignore}
 use Rattle.smi_grant.specs.declared.Holder.TheVariants.{Operator}
 use Rattle.smi_tree.specs.Hierarchy.{Hierarchy}
-use Rattle.smi_grant.specs.declared.Link.{Link}
-use Rattle.smi_grant.specs.declared.Link.TheVariants.{Held, Dropping}
-use Rattle.smi_grant.specs.Order.{take_begun, drop_begun, command_issued}
+use Rattle.smi_command.specs.declared.Link.{Link}
+use Rattle.smi_command.specs.declared.Link.TheVariants.{Held, Dropping}
+use Rattle.smi_command.specs.Order.{take_begun, drop_begun, command_issued}
 use Rattle.smi_protocol.specs.Grants.{Grants, with_link}
 use Rattle.smi_protocol.specs.Messages.{request_newest}
 use Rattle.smi_protocol.specs.Happening.{mark}

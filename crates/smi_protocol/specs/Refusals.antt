@@ -14,11 +14,11 @@ use Rattle.smi_base.specs.Between.{is_between}
 use Rattle.smi_tree.specs.Hierarchy.{Hierarchy}
 use Rattle.smi_tree.specs.Lookups.{station_count, state_count, action_count, domain_count}
 use Rattle.smi_tree.specs.Lookups.{operator_station_of}
-use Rattle.smi_roles.specs.Roles.{has_domain, has_object, holder_station, is_command_of, is_holder_of, is_keeper}
-use Rattle.smi_roles.specs.Roles.{is_kept_by, is_number}
-use Rattle.smi_grant.specs.declared.Link.{Link}
-use Rattle.smi_grant.specs.Order.{take_begun, drop_begun, command_issued}
-use Rattle.smi_grant.specs.Link.{is_out}
+use Rattle.smi_tree.specs.Roles.{has_domain, has_object, holder_station, is_command_of, is_holder_of, is_keeper}
+use Rattle.smi_tree.specs.Roles.{is_kept_by, is_number}
+use Rattle.smi_command.specs.declared.Link.{Link}
+use Rattle.smi_command.specs.Order.{take_begun, drop_begun, command_issued}
+use Rattle.smi_command.specs.Link.{is_out}
 use Rattle.smi_protocol.specs.Grants.{Grants}
 use Rattle.smi_protocol.specs.Happening.{Happening, Comes, Orders, Reports, Ticks}
 use Rattle.smi_protocol.specs.declared.order.Order.{Order}

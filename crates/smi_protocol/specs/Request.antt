@@ -5,7 +5,7 @@ use Rattle.smi_grant.specs.declared.Command.TheVariants.{Do, Include, Exclude, M
 use Rattle.smi_base.specs.Between.{is_between}
 use Rattle.smi_tree.specs.Hierarchy.{Hierarchy}
 use Rattle.smi_tree.specs.Lookups.{action_count}
-use Rattle.smi_roles.specs.Roles.{has_domain}
+use Rattle.smi_tree.specs.Roles.{has_domain}
 use Rattle.smi_protocol.specs.Happening.{order_of}
 use Rattle.smi_protocol.specs.declared.order.Order.{Order}
 use Rattle.smi_protocol.specs.declared.order.Order.TheVariants as order

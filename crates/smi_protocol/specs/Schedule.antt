@@ -6,7 +6,7 @@ use Rattle.smi_message.specs.Message.{Message, last_boot}
 use Rattle.smi_base.specs.Between.{is_between}
 use Rattle.smi_tree.specs.Hierarchy.{Hierarchy}
 use Rattle.smi_tree.specs.Lookups.{station_count, domain_count, operator_station_of}
-use Rattle.smi_roles.specs.Roles.{keeper_of}
+use Rattle.smi_tree.specs.Roles.{keeper_of}
 use Rattle.smi_rows.specs.declared.Plan.{Plan}
 use Rattle.smi_rows.specs.declared.Plan.TheVariants as plan
 use Rattle.smi_protocol.specs.declared.entry.Entry.{Entry}

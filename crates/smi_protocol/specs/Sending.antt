@@ -5,15 +5,15 @@ use Rattle.smi_message.specs.declared.Body.{Body}
 use Rattle.smi_message.specs.declared.Body.TheVariants as body
 use Rattle.smi_message.specs.Message.{Message}
 use Rattle.smi_tree.specs.Hierarchy.{Hierarchy}
-use Rattle.smi_grant.specs.declared.Due.{Due}
-use Rattle.smi_grant.specs.declared.Due.TheVariants.{Take, Drop, Run}
-use Rattle.smi_grant.specs.Link.{due_of}
+use Rattle.smi_command.specs.declared.Due.{Due}
+use Rattle.smi_command.specs.declared.Due.TheVariants.{Take, Drop, Run}
+use Rattle.smi_command.specs.Link.{due_of}
 use Rattle.smi_publish.specs.Published.{shown_at}
 use Rattle.smi_watchers.specs.Watching.{listed, watcher}
 use Rattle.smi_protocol.specs.Grants.{Grants}
 use Rattle.smi_protocol.specs.Display.{Station}
 use Rattle.smi_protocol.specs.Messages.{home, object_home}
-use Rattle.smi_roles.specs.Roles.{holder_station, is_keeper}
+use Rattle.smi_tree.specs.Roles.{holder_station, is_keeper}
 use Rattle.smi_protocol.specs.Watching.{is_watched}
 
 -- a link of a holder of the station is due this

@@ -16,8 +16,8 @@ use Rattle.smi_tree.specs.Lookups.{accepts, domain_count, children_of, parent_of
 use Rattle.smi_publish.specs.declared.condition.Condition.{Condition}
 use Rattle.smi_publish.specs.Published.{changes_at, last_sequence}
 use Rattle.smi_publish.specs.Publishing.{reported, acted, evaluated, device_objects}
-use Rattle.smi_roles.specs.Roles.{domain_of}
-use Rattle.smi_grant.specs.Link.{is_held}
+use Rattle.smi_tree.specs.Roles.{domain_of}
+use Rattle.smi_command.specs.Link.{is_held}
 use Rattle.smi_watchers.specs.declared.Watcher.{Watcher}
 use Rattle.smi_watchers.specs.Watching.{listed}
 use Rattle.smi_protocol.specs.Grants.{Grants}

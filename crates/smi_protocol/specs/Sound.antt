@@ -6,13 +6,13 @@ use Rattle.smi_grant.specs.declared.Holder.TheVariants.{Operator, Domain}
 use Rattle.smi_grant.specs.Command.{is_in_range}
 use Rattle.smi_grant.specs.Record.{is_outcome, is_settled, last_epoch, last_number}
 use Rattle.smi_tree.specs.Hierarchy.{Hierarchy}
-use Rattle.smi_grant.specs.declared.Due.{Due}
-use Rattle.smi_grant.specs.declared.Due.TheVariants.{Take, Drop, Run}
-use Rattle.smi_grant.specs.declared.Link.{Link}
-use Rattle.smi_grant.specs.declared.Link.TheVariants.{Out, Taking, Held, Dropping}
-use Rattle.smi_grant.specs.Pending.{most_pending}
-use Rattle.smi_roles.specs.Roles.{is_command_of, is_holder_of, is_parent}
-use Rattle.smi_grant.specs.Link.{is_held}
+use Rattle.smi_command.specs.declared.Due.{Due}
+use Rattle.smi_command.specs.declared.Due.TheVariants.{Take, Drop, Run}
+use Rattle.smi_command.specs.declared.Link.{Link}
+use Rattle.smi_command.specs.declared.Link.TheVariants.{Out, Taking, Held, Dropping}
+use Rattle.smi_command.specs.Pending.{most_pending}
+use Rattle.smi_tree.specs.Roles.{is_command_of, is_holder_of, is_parent}
+use Rattle.smi_command.specs.Link.{is_held}
 use Rattle.smi_rows.specs.Ranges.{is_standing}
 use Rattle.smi_rows.specs.declared.Mode.TheVariants.{Included}
 use Rattle.smi_protocol.specs.Grants.{Grants}

@@ -8,7 +8,7 @@ use Rattle.smi_tree.specs.Lawful.{IsBetween}
 use Rattle.smi_tree.specs.Lookups.{domain_count, state_count, station_count}
 use Rattle.smi_publish.specs.declared.condition.Condition.{Condition}
 use Rattle.smi_publish.specs.Published.{HasRoom, last_sequence}
-use Rattle.smi_roles.specs.Roles.{is_kept_by}
+use Rattle.smi_tree.specs.Roles.{is_kept_by}
 use Rattle.smi_watchers.specs.declared.Watcher.{Watcher}
 use Rattle.smi_watchers.specs.Watching.{listed}
 use Rattle.smi_protocol.specs.Display.{Display}

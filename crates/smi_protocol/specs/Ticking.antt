@@ -7,15 +7,15 @@ use Rattle.smi_grant.specs.declared.Holder.TheVariants.{Operator, Domain}
 use Rattle.smi_message.specs.Message.{Message}
 use Rattle.smi_tree.specs.Hierarchy.{Hierarchy}
 use Rattle.smi_tree.specs.Lookups.{domain_count, device_count, operators_of, parent_of}
-use Rattle.smi_grant.specs.declared.Due.{Due}
-use Rattle.smi_grant.specs.declared.Due.TheVariants.{Take, Drop, Run}
+use Rattle.smi_command.specs.declared.Due.{Due}
+use Rattle.smi_command.specs.declared.Due.TheVariants.{Take, Drop, Run}
 use Rattle.smi_protocol.specs.Grants.{Grants}
 use Rattle.smi_protocol.specs.Display.{Display}
 use Rattle.smi_protocol.specs.Messages.{all_due, requests, asks_about, watches}
-use Rattle.smi_roles.specs.Roles.{is_keeper}
+use Rattle.smi_tree.specs.Roles.{is_keeper}
 use Rattle.smi_protocol.specs.Watching.{Notice, noticed, is_watched}
-use Rattle.smi_protocol.specs.declared.place.Place.{Place}
-use Rattle.smi_protocol.specs.declared.place.Place.TheVariants as place
+use Rattle.smi_protocol.specs.declared.resend_cursor.ResendCursor.{ResendCursor}
+use Rattle.smi_protocol.specs.declared.resend_cursor.ResendCursor.TheVariants as place
 
 -- a step sends at most so many datagrams
 abbrev pub most_sent : ℕ
@@ -24,7 +24,7 @@ most_sent = MOST_SENT
 -- Places stand in the order of their kinds, and then of their numbers.
 
 -- the numbers by which places stand
-abbrev pub place_key : Place → List ℕ
+abbrev pub place_key : ResendCursor → List ℕ
 place_key (place.Child x) = 0 ∷ x ∷ []
 place_key (place.Link o d n) = 1 ∷ o ∷ d ∷ n ∷ []
 place_key (place.Ask o) = 2 ∷ o ∷ []
@@ -37,15 +37,15 @@ is_key_before (a ∷ more) [] = false
 is_key_before (a ∷ more) (b ∷ rest) = nat_lt a b || (a == b && is_key_before more rest)
 
 -- one place stands before another
-abbrev pub is_before : Place → Place → Bool
+abbrev pub is_before : ResendCursor → ResendCursor → Bool
 is_before a b = is_key_before (place_key a) (place_key b)
 
 -- where the first tick begins
-abbrev pub first_place : Place
+abbrev pub first_place : ResendCursor
 first_place = place.Child 1
 
 -- the place after a place: after the last object it is the first
-abbrev pub next_place : Hierarchy → Place → Place
+abbrev pub next_place : Hierarchy → ResendCursor → ResendCursor
 next_place h (place.Child x) = place.Child (x + 1)
 next_place h (place.Link o d n) = place.Link o d (n + 1)
 next_place h (place.Ask o) = place.Ask (o + 1)
@@ -53,11 +53,11 @@ next_place h (place.Watch x) = if nat_le (domain_count h + device_count h) x the
 
 -- a datagram that is due, and its place
 pub record Owed : Type 0 where
-  pub place : Place
+  pub place : ResendCursor
   pub message : Message
 
 -- a datagram at a place
-abbrev pub owed : Place → Message → Owed
+abbrev pub owed : ResendCursor → Message → Owed
 owed p m = record { place = p; message = m }
 
 -- a take and a drop have number 0
@@ -104,11 +104,11 @@ all_owed h number g s =
     ++ flat_map (owed_watch h number g.boot s) (range_with_len 1 (domain_count h + device_count h))
 
 -- what is due from a place on, as much as one step sends
-abbrev pub owed_from : Place → List Owed → List Owed
+abbrev pub owed_from : ResendCursor → List Owed → List Owed
 owed_from p all = take most_sent (filter (λ x. not (is_before x.place p)) all)
 
 -- where the next tick begins: after the last that was sent, or at the first where all was
-abbrev pub place_behind : Hierarchy → Place → ℕ → List Owed → Place
+abbrev pub place_behind : Hierarchy → ResendCursor → ℕ → List Owed → ResendCursor
 place_behind h last room [] = if room == 0 then next_place h last else first_place
 place_behind h last room (x ∷ more) = place_behind h x.place (room - 1) more
 

@@ -8,7 +8,7 @@ use Rattle.smi_message.specs.Message.{Message}
 use Rattle.smi_tree.specs.Hierarchy.{Hierarchy}
 use Rattle.smi_tree.specs.Lookups.{operators_of}
 use Rattle.smi_publish.specs.Published.{shown_at}
-use Rattle.smi_roles.specs.Roles.{is_child_unit, is_number}
+use Rattle.smi_tree.specs.Roles.{is_child_unit, is_number}
 use Rattle.smi_view.specs.declared.Acceptance.{Acceptance}
 use Rattle.smi_view.specs.declared.Acceptance.TheVariants.{Accepted}
 use Rattle.smi_view.specs.Accepting.{acceptance, last_after}

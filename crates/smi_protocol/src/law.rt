@@ -6,7 +6,7 @@ ghost use Rattle.smi_message.specs.Spelling.{spelling, reading};
 ghost use Rattle.smi_tree.specs.Hierarchy.{Hierarchy};
 ghost use Rattle.smi_tree.specs.Lawful.{IsBetween, IsTree};
 ghost use Rattle.smi_tree.specs.Lookups.{operator_station_of, station_count};
-ghost use Rattle.smi_roles.specs.Roles.{is_number, is_keeper};
+ghost use Rattle.smi_tree.specs.Roles.{is_number, is_keeper};
 ghost use Rattle.smi_rows.specs.Written.{IsRow};
 ghost use Rattle.smi_protocol.specs.Display.{Station};
 ghost use Rattle.smi_protocol.specs.Grants.{Grants, no_grants};

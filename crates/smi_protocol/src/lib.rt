@@ -73,12 +73,12 @@ mod item;
 pub mod law;
 pub mod limits;
 mod order;
-mod place;
 pub mod refusals;
+mod resend_cursor;
 
 pub use entry::Entry;
 pub use event::{Event, Heard, StepFault};
 pub use fault::OpenFault;
 pub use item::{Deed, Item, Line, Moment};
 pub use order::{Answer, Mark, Order, OrderCode, Request, Told};
-pub use place::Place;
+pub use resend_cursor::ResendCursor;

@@ -4,7 +4,7 @@
 
 ghost use Rattle.std.specs.Prelude.{◌≡◌, [], ◌∷◌};
 ghost use Rattle.smi_grant.specs.declared.Command.TheVariants as command;
-ghost use Rattle.smi_grant.specs.declared.Link.TheVariants.{Out, Taking, Held, Dropping};
+ghost use Rattle.smi_command.specs.declared.Link.TheVariants.{Out, Taking, Held, Dropping};
 ghost use Rattle.smi_rows.specs.declared.Mode.TheVariants as mode;
 ghost use Rattle.smi_protocol.specs.Happening.{Orders, Reports};
 ghost use Rattle.smi_protocol.specs.Opening.{first_opened};

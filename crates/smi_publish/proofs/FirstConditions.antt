@@ -13,7 +13,7 @@ use Rattle.smi_tree.specs.Lawful.{IsTree}
 use Rattle.smi_publish.specs.declared.condition.Condition.{Condition}
 use Rattle.smi_publish.specs.Published.{condition, condition_in, HasRoom, last_sequence}
 use Rattle.smi_publish.specs.Publishing.{first_condition}
-use Rattle.smi_roles.specs.Roles.{is_kept_by, keeper_of}
+use Rattle.smi_tree.specs.Roles.{is_kept_by, keeper_of}
 
 -- the first objects have their first conditions
 pub record Opened (h : Hierarchy) (station n : ℕ) (table : List (Option Condition)) : Type 0 where

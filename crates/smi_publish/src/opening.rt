@@ -2,12 +2,11 @@
 
 ghost use Rattle.std.specs.Prelude.{◌≡◌, ◌+◌, ◌≤◌, Some};
 ghost use Rattle.smi_tree.specs.Lookups.{domain_count, device_count};
-ghost use Rattle.smi_roles.specs.Roles.{keeper_of};
+ghost use Rattle.smi_tree.specs.Roles.{keeper_of};
 ghost use Rattle.smi_publish.specs.Publishing.{first_condition};
 
 use crate::condition::Condition;
-use smi_roles::keeper_of;
-use smi_tree::Tree;
+use smi_tree::{Tree, keeper_of};
 
 /// The condition of an object at the start of a station, none where another one keeps it.
 pub(crate) fn first_condition(tree: &Tree, station: u16, object: u16) -> Option<Condition>

@@ -13,8 +13,8 @@ use Rattle.smi_grant.specs.declared.Command.TheVariants.{Do, Include, Exclude, M
 use Rattle.smi_grant.specs.Command as command
 use Rattle.smi_grant.specs.Command.{verb_of, argument_of, command_of}
 use Rattle.smi_grant.specs.Record.{last_epoch, last_number}
-use Rattle.smi_grant.specs.declared.Link.{Link}
-use Rattle.smi_grant.specs.declared.Link.TheVariants.{Out, Taking, Held, Dropping}
+use Rattle.smi_command.specs.declared.Link.{Link}
+use Rattle.smi_command.specs.declared.Link.TheVariants.{Out, Taking, Held, Dropping}
 use Rattle.smi_rows.specs.declared.mode.Mode.{Mode}
 use Rattle.smi_rows.specs.declared.mode.Mode.TheVariants as mode
 use Rattle.smi_rows.specs.declared.row.StoredLink.{StoredLink}

@@ -5,7 +5,7 @@ use Rattle.std.proofs.lemmas.List.{take_all}
 use Rattle.std.specs.Int.{w16, to_be_bytes}
 use Rattle.smi_grant.specs.declared.Command.{Command}
 use Rattle.smi_grant.specs.declared.Command.TheVariants.{Do}
-use Rattle.smi_grant.specs.declared.Link.TheVariants.{Held}
+use Rattle.smi_command.specs.declared.Link.TheVariants.{Held}
 use Rattle.smi_rows.specs.declared.mode.Mode.{Mode}
 use Rattle.smi_rows.specs.declared.row.StoredLink.{StoredLink}
 use Rattle.smi_rows.specs.Layout.{front_bytes, grant_bytes, command_bytes, commands_bytes, link_bytes, links_bytes}

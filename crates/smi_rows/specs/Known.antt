@@ -4,11 +4,11 @@ use Rattle.std.specs.List.{list_all}
 use Rattle.smi_base.specs.Between.{is_between}
 use Rattle.smi_grant.specs.declared.Command.{Command}
 use Rattle.smi_grant.specs.declared.Holder.TheVariants.{Operator}
-use Rattle.smi_grant.specs.declared.Link.{Link}
-use Rattle.smi_grant.specs.declared.Link.TheVariants.{Out, Taking, Held, Dropping}
+use Rattle.smi_command.specs.declared.Link.{Link}
+use Rattle.smi_command.specs.declared.Link.TheVariants.{Out, Taking, Held, Dropping}
 use Rattle.smi_tree.specs.Hierarchy.{Hierarchy}
 use Rattle.smi_tree.specs.Lookups.{station_count, domain_count}
-use Rattle.smi_roles.specs.Roles.{holder_station, is_command_of, is_holder_of, is_keeper, is_number, is_parent}
+use Rattle.smi_tree.specs.Roles.{holder_station, is_command_of, is_holder_of, is_keeper, is_number, is_parent}
 use Rattle.smi_rows.specs.declared.key.Key.{Key}
 use Rattle.smi_rows.specs.declared.row.StoredLink.{StoredLink}
 use Rattle.smi_rows.specs.declared.row.Row.{Row}

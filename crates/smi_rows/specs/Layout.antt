@@ -5,8 +5,8 @@ use Rattle.smi_grant.specs.declared.Command.{Command}
 use Rattle.smi_grant.specs.Command.{verb_of, argument_of}
 use Rattle.smi_grant.specs.Holder.{kind_of, number_of}
 use Rattle.smi_grant.specs.Record.{Standing, phase_number}
-use Rattle.smi_grant.specs.declared.Link.{Link}
-use Rattle.smi_grant.specs.declared.Link.TheVariants.{Out, Taking, Held, Dropping}
+use Rattle.smi_command.specs.declared.Link.{Link}
+use Rattle.smi_command.specs.declared.Link.TheVariants.{Out, Taking, Held, Dropping}
 use Rattle.smi_rows.specs.declared.mode.Mode.{Mode}
 use Rattle.smi_rows.specs.declared.row.StoredLink.{StoredLink}
 use Rattle.smi_rows.specs.declared.row.Row.{Row}

@@ -11,9 +11,9 @@ use Rattle.smi_grant.specs.Holder as holder
 use Rattle.smi_grant.specs.declared.Phase.{Phase}
 use Rattle.smi_grant.specs.declared.Phase.TheVariants.{Settled, Busy}
 use Rattle.smi_grant.specs.Record.{Standing, is_record, is_outcome, last_epoch, last_number}
-use Rattle.smi_grant.specs.Link.{is_held, is_out, is_unsettled}
-use Rattle.smi_grant.specs.declared.Link.{Link}
-use Rattle.smi_grant.specs.declared.Link.TheVariants.{Out, Taking, Held, Dropping}
+use Rattle.smi_command.specs.Link.{is_held, is_out, is_unsettled}
+use Rattle.smi_command.specs.declared.Link.{Link}
+use Rattle.smi_command.specs.declared.Link.TheVariants.{Out, Taking, Held, Dropping}
 use Rattle.smi_rows.specs.declared.key.RowKind.TheVariants as kind
 use Rattle.smi_rows.specs.declared.key.RowKind.{RowKind}
 use Rattle.smi_rows.specs.declared.mode.Mode.{Mode}

@@ -7,8 +7,8 @@ use Rattle.smi_grant.specs.declared.Command.{Command}
 use Rattle.smi_grant.specs.Command.{command_of}
 use Rattle.smi_grant.specs.Holder.{holder_of}
 use Rattle.smi_grant.specs.Record.{Standing, standing, phase_of, checked}
-use Rattle.smi_grant.specs.declared.Link.{Link}
-use Rattle.smi_grant.specs.declared.Link.TheVariants.{Out, Taking, Held, Dropping}
+use Rattle.smi_command.specs.declared.Link.{Link}
+use Rattle.smi_command.specs.declared.Link.TheVariants.{Out, Taking, Held, Dropping}
 use Rattle.smi_tree.specs.Hierarchy.{Hierarchy}
 use Rattle.smi_rows.specs.declared.key.Key.{Key}
 use Rattle.smi_rows.specs.declared.key.RowKind.{RowKind}

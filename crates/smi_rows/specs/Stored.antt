@@ -1,7 +1,7 @@
 -- What is stored of links and domains.
 use Rattle.std.specs.Prelude.{ℕ, ◌==◌, List, Option, Some, None, if◌then◌else◌}
 use Rattle.smi_grant.specs.Record.{Standing}
-use Rattle.smi_grant.specs.declared.Link.{Link}
+use Rattle.smi_command.specs.declared.Link.{Link}
 use Rattle.smi_rows.specs.declared.mode.Mode.{Mode}
 use Rattle.smi_rows.specs.declared.mode.Mode.TheVariants.{Included, Manual, Ignored}
 use Rattle.smi_rows.specs.declared.row.StoredLink.{StoredLink}

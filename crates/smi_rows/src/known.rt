@@ -5,9 +5,9 @@ ghost use Rattle.smi_rows.specs.Known as spec;
 
 use crate::key::Key;
 use crate::row::{Row, StoredLink};
-use smi_grant::{Holder, Link};
-use smi_roles::{is_at, is_command_of, is_holder_of, is_keeper, is_parent};
-use smi_tree::Tree;
+use smi_command::Link;
+use smi_grant::Holder;
+use smi_tree::{Tree, is_at, is_command_of, is_holder_of, is_keeper, is_parent};
 
 /// Whether the tree has what the row of this key names.
 pub(crate) fn is_known(tree: &Tree, key: Key, row: &Row) -> bool

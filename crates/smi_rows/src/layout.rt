@@ -3,12 +3,13 @@
 ghost use Rattle.std.specs.Prelude.{◌≡◌, ◌++◌, ◌<◌, ◌≤◌, ◌^◌, length, IfOk, OnOk};
 ghost use Rattle.smi_rows.specs.Layout as spec;
 ghost use Rattle.smi_rows.specs.Schema.{newest};
-ghost use Rattle.smi_grant.specs.declared.Link.{Link};
+ghost use Rattle.smi_command.specs.declared.Link.{Link};
 
 use crate::key::RowKind;
 use crate::mode::Mode;
 use crate::row::{DomainRow, OperatorRow, Row, StoredLink};
-use smi_grant::{Command, Link, Pending, Record};
+use smi_command::{Link, Pending};
+use smi_grant::{Command, Record};
 use std::alloc::{AllocError, Global};
 
 /// The bytes of the row of a boot.

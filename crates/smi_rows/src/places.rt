@@ -8,7 +8,8 @@ use crate::mode::Mode;
 use crate::row::StoredLink;
 use crate::schema::Schema;
 use smi_base::{u16_at, u32_at, u64_at};
-use smi_grant::{Command, Holder, Link, Pending, Phase, Record};
+use smi_command::{Link, Pending};
+use smi_grant::{Command, Holder, Phase, Record};
 
 /// How many bytes a link takes that has at most one pending command.
 const LINK: usize = 20;

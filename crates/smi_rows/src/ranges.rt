@@ -8,7 +8,8 @@ use crate::mode::Mode;
 use crate::row::{DomainRow, OperatorRow, Row, StoredLink};
 use crate::schema::Schema;
 use smi_base::{LAST_BOOT, MOST_DOMAINS, MOST_LINKS};
-use smi_grant::{Command, LAST_EPOCH, LAST_NUMBER, Link, Pending, Phase, Record, is_outcome};
+use smi_command::{Link, Pending};
+use smi_grant::{Command, LAST_EPOCH, LAST_NUMBER, Phase, Record, is_outcome};
 
 /// Whether rows of the schema can say this.
 pub(crate) fn is_row_in(schema: Schema, row: &Row) -> bool

@@ -1,5 +1,6 @@
 use crate::mode::Mode;
-use smi_grant::{Link, Record};
+use smi_command::Link;
+use smi_grant::Record;
 use std::marker::Model;
 
 /// A holder's link to a domain, as it is stored. A domain that has no stored link is out, and

@@ -15,13 +15,13 @@ fn push_kind(text: &mut Vec<u8>, body: &Body) -> Result<(), AllocError>
 {
     match body {
         Body::Ask(..) => push_word(text, b"ASK"),
-        Body::Take(..) => push_word(text, b"TAKE"),
-        Body::Drop(..) => push_word(text, b"DROP"),
-        Body::Run(..) => push_word(text, b"RUN"),
-        Body::Tell(..) => push_word(text, b"TELL"),
-        Body::Watch(..) => push_word(text, b"WATCH"),
-        Body::State(..) => push_word(text, b"STATE"),
-        Body::Unwatch(..) => push_word(text, b"UNWATCH"),
+        Body::Take { .. } => push_word(text, b"TAKE"),
+        Body::Drop { .. } => push_word(text, b"DROP"),
+        Body::Run { .. } => push_word(text, b"RUN"),
+        Body::Tell { .. } => push_word(text, b"TELL"),
+        Body::Watch { .. } => push_word(text, b"WATCH"),
+        Body::State { .. } => push_word(text, b"STATE"),
+        Body::Unwatch { .. } => push_word(text, b"UNWATCH"),
     }
 }
 
@@ -31,13 +31,13 @@ fn push_subject(text: &mut Vec<u8>, tree: &Tree, body: &Body) -> Result<(), Allo
 {
     match *body {
         Body::Ask(domain) => push_called(text, names::domain(tree, domain), domain),
-        Body::Take(domain, ..) => push_called(text, names::domain(tree, domain), domain),
-        Body::Drop(domain, ..) => push_called(text, names::domain(tree, domain), domain),
-        Body::Run(domain, ..) => push_called(text, names::domain(tree, domain), domain),
-        Body::Tell(domain, ..) => push_called(text, names::domain(tree, domain), domain),
-        Body::Watch(object, ..) => push_called(text, names::object(tree, object), object),
-        Body::State(object, ..) => push_called(text, names::object(tree, object), object),
-        Body::Unwatch(object, ..) => push_called(text, names::object(tree, object), object),
+        Body::Take { domain, .. } => push_called(text, names::domain(tree, domain), domain),
+        Body::Drop { domain, .. } => push_called(text, names::domain(tree, domain), domain),
+        Body::Run { domain, .. } => push_called(text, names::domain(tree, domain), domain),
+        Body::Tell { domain, .. } => push_called(text, names::domain(tree, domain), domain),
+        Body::Watch { object, .. } => push_called(text, names::object(tree, object), object),
+        Body::State { object, .. } => push_called(text, names::object(tree, object), object),
+        Body::Unwatch { object, .. } => push_called(text, names::object(tree, object), object),
     }
 }
 

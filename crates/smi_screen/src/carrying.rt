@@ -12,10 +12,10 @@ ghost use Rattle.smi_screen.specs.Noting.{handed_notes};
 use crate::noting::note_handed;
 use smi_link::DatagramLink;
 use smi_node::send_all;
-use smi_out::Out;
 use smi_protocol::{Event, Heard, StepFault};
 use smi_rows::Stable;
 use smi_station::Station;
+use smi_station_output::Out;
 use smi_view::Picture;
 use thiserror::Error;
 

@@ -12,10 +12,10 @@ use crate::carrying::{Stopped, carry};
 use crate::noting::note_datagram;
 use crate::pace::Pace;
 use smi_link::{DatagramLink, Reception};
-use smi_out::Out;
 use smi_protocol::{Event, Heard, Order, StepFault};
 use smi_rows::Stable;
 use smi_station::Station;
+use smi_station_output::Out;
 use smi_view::Picture;
 
 /// So many datagrams are carried in a turn at most, so many objects watched, and so many domains asked about.

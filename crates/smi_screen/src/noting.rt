@@ -14,8 +14,8 @@ ghost use Rattle.smi_screen.specs.Noting.{
 
 use smi_grant::{Record, Shown};
 use smi_message::{Body, decode};
-use smi_out::Out;
 use smi_protocol::{Answer, Order};
+use smi_station_output::Out;
 use smi_view::Picture;
 
 /// A state that a step showed.
@@ -70,14 +70,14 @@ fn note_body(picture: &mut Picture, body: &Body, now: u64)
     ensures { TakesIn (body_notes body.now now) picture.old picture.new }
 {
     match body {
-        Body::Tell(domain, told) => picture.tell(*domain, told, now),
+        Body::Tell { domain, told } => picture.tell(*domain, told, now),
         Body::Ask(..) => {}
-        Body::Take(..) => {}
-        Body::Drop(..) => {}
-        Body::Run(..) => {}
-        Body::Watch(..) => {}
-        Body::State(..) => {}
-        Body::Unwatch(..) => {}
+        Body::Take { .. } => {}
+        Body::Drop { .. } => {}
+        Body::Run { .. } => {}
+        Body::Watch { .. } => {}
+        Body::State { .. } => {}
+        Body::Unwatch { .. } => {}
     }
 }
 

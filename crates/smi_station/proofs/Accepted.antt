@@ -13,7 +13,7 @@ use Rattle.smi_message.specs.Message.{Message, is_boot, is_body, is_domain, is_g
 use Rattle.smi_base.specs.Between.{is_between}
 use Rattle.smi_message.specs.declared.Body.{Body}
 use Rattle.smi_message.specs.declared.Body.TheVariants as body
-use Rattle.smi_roles.specs.Roles.{is_holder_of, is_number, is_kept_by, is_keeper}
+use Rattle.smi_tree.specs.Roles.{is_holder_of, is_number, is_kept_by, is_keeper}
 use Rattle.smi_tree.specs.Hierarchy.{Hierarchy}
 use Rattle.smi_tree.specs.Lawful.{IsBetween, IsTree}
 use Rattle.smi_tree.specs.Lookups.{domain_count, parent_of, station_count}

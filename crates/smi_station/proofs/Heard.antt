@@ -14,12 +14,12 @@ use Rattle.smi_protocol.specs.Showing.{domain_of_body, is_spent, moved_by_body, 
 use Rattle.smi_protocol.specs.SoundDisplay.{MayChange}
 use Rattle.smi_protocol.specs.Step.{Out, accepted, body_noticed, conditions_by, nothing_out}
 use Rattle.smi_protocol.specs.Watching.{Notice}
-use Rattle.smi_holdings.specs.Kept.{Kept, grants_of}
-use Rattle.smi_out.specs.Handed.{sent_after, with_notice}
-use Rattle.smi_plan.specs.Handing.{with_step}
-use Rattle.smi_display.specs.Displayed.{Displayed, display_of}
-use Rattle.smi_display.specs.Listening.{KeepsTheRest}
-use Rattle.smi_display.specs.Members.{Listed}
+use Rattle.smi_station_grants.specs.GrantTable.{Kept, grants_of}
+use Rattle.smi_station_output.specs.Out.{sent_after, with_notice}
+use Rattle.smi_station_decide.specs.Handing.{with_step}
+use Rattle.smi_station_display.specs.Displayed.{Displayed, display_of}
+use Rattle.smi_station_display.specs.Listening.{KeepsTheRest}
+use Rattle.smi_station_display.specs.Members.{Listed}
 use Rattle.smi_station.specs.Core.{AreHalves, station_with}
 use Rattle.smi_station.specs.Stirring.{action_of, members_in, shown_anew, stirred}
 use Rattle.smi_station.proofs.Outcomes.{body_stirs, notice_stays, parts_together, station_together}

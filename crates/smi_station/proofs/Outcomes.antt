@@ -34,10 +34,10 @@ use Rattle.smi_protocol.specs.Watching.{Notice, is_watched, noticed, showed_if, 
 use Rattle.smi_view.specs.Accepting.{acceptance}
 use Rattle.smi_protocol.specs.declared.order.Answer.{Answer}
 use Rattle.smi_protocol.specs.declared.order.Mark.{Mark}
-use Rattle.smi_out.specs.Handed.{answered_after, kept_after, sent_after, with_notice}
-use Rattle.smi_out.proofs.Sending.{sent_first, sent_twice}
-use Rattle.smi_plan.specs.Handing.{with_step}
-use Rattle.smi_display.specs.Members.{are_same, followed_by, listed_of, same_numbers}
+use Rattle.smi_station_output.specs.Out.{answered_after, kept_after, sent_after, with_notice}
+use Rattle.smi_station_output.proofs.Sending.{sent_first, sent_twice}
+use Rattle.smi_station_decide.specs.Handing.{with_step}
+use Rattle.smi_station_display.specs.Members.{are_same, followed_by, listed_of, same_numbers}
 use Rattle.smi_station.specs.Stirring.{acted_by, action_by, action_of, members_in, stirred}
 
 -- What is handed out.

@@ -20,7 +20,7 @@ use Rattle.smi_protocol.specs.Showing.{is_spent}
 use Rattle.smi_protocol.specs.SoundDisplay.{IsCondition}
 use Rattle.smi_protocol.proofs.Lists.{Apart, In, from_mapped, in_any, in_chosen, in_first, in_second, numbers_above}
 use Rattle.smi_protocol.proofs.Lists.{same}
-use Rattle.smi_display.specs.Members.{Listed, are_same, followed_by}
+use Rattle.smi_station_display.specs.Members.{Listed, are_same, followed_by}
 use Rattle.smi_station.specs.Stirring.{acted_by}
 
 -- Lists.

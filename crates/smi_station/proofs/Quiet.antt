@@ -10,8 +10,8 @@ use Rattle.smi_protocol.specs.GrantStep.{GrantStep, unchanged}
 use Rattle.smi_protocol.specs.Happening.{Orders, Ticks, answer}
 use Rattle.smi_protocol.specs.Ordering.{obeyed, order_comes}
 use Rattle.smi_protocol.specs.Sound.{IsSound}
-use Rattle.smi_grant.specs.Order.{take_begun, drop_begun, command_issued}
-use Rattle.smi_grant.specs.declared.Link.{Link}
+use Rattle.smi_command.specs.Order.{take_begun, drop_begun, command_issued}
+use Rattle.smi_command.specs.declared.Link.{Link}
 use Rattle.smi_grant.specs.declared.Command.{Command}
 use Rattle.smi_grant.specs.declared.Command.TheVariants.{Do, Include, Exclude, Manual, Ignore}
 use Rattle.smi_grant.specs.declared.Holder.TheVariants.{Operator}
@@ -19,18 +19,18 @@ use Rattle.smi_protocol.specs.SoundDisplay.{MayChange}
 use Rattle.smi_protocol.specs.Step.{Out, accepted, nothing_out, put_together}
 use Rattle.smi_protocol.specs.Ticking.{tick_noticed}
 use Rattle.smi_protocol.specs.Watching.{Notice, noticed, order_noticed}
-use Rattle.smi_roles.specs.Roles.{is_child_unit}
+use Rattle.smi_tree.specs.Roles.{is_child_unit}
 use Rattle.smi_protocol.specs.Messages.{object_home, unwatches}
 use Rattle.smi_protocol.specs.declared.order.Order.{Order}
 use Rattle.smi_protocol.specs.declared.order.Order.TheVariants as order
-use Rattle.smi_holdings.specs.Kept.{Kept, grants_of}
-use Rattle.smi_holdings.specs.Change.{changed}
-use Rattle.smi_holdings.specs.declared.change.Change.{Change}
-use Rattle.smi_holdings.specs.declared.change.Change.TheVariants as change
-use Rattle.smi_display.specs.Listening.{KeepsTheRest}
-use Rattle.smi_out.specs.Handed.{with_notice}
-use Rattle.smi_plan.specs.Handing.{with_step}
-use Rattle.smi_display.specs.Displayed.{Displayed, display_of}
+use Rattle.smi_station_grants.specs.GrantTable.{Kept, grants_of}
+use Rattle.smi_station_grants.specs.Change.{changed}
+use Rattle.smi_station_grants.specs.declared.change.Change.{Change}
+use Rattle.smi_station_grants.specs.declared.change.Change.TheVariants as change
+use Rattle.smi_station_display.specs.Listening.{KeepsTheRest}
+use Rattle.smi_station_output.specs.Out.{with_notice}
+use Rattle.smi_station_decide.specs.Handing.{with_step}
+use Rattle.smi_station_display.specs.Displayed.{Displayed, display_of}
 use Rattle.smi_station.specs.Core.{AreHalves, station_with}
 use Rattle.smi_station.proofs.Outcomes.{parts_together, station_together}
 
@@ -79,10 +79,10 @@ module _ (k : Kept) (d0 d2 : Displayed) (halves : AreHalves k d0)
 -- a change leaves the boot
 pub changed_boot : (h : Hierarchy) (g : Grants) (c : Change) → (changed h g c).boot ≡ g.boot
 changed_boot h g change.Nothing = refl
-changed_boot h g (change.Handed d r) = refl
+changed_boot h g (change.HolderChanged d r) = refl
 changed_boot h g (change.Linked o d l) = refl
 changed_boot h g (change.Ran d c r code xs) = refl
-changed_boot h g (change.Heard p d l r code) = refl
+changed_boot h g (change.ChildReported p d l r code) = refl
 
 -- both halves have stayed the station's
 pub still_halves : (k0 k2 : Kept) (d0 d2 : Displayed) (grants : Grants) → AreHalves k0 d0

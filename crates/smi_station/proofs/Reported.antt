@@ -13,7 +13,7 @@ use Rattle.smi_tree.specs.declared.row.Device.{Device}
 use Rattle.smi_publish.specs.declared.condition.Condition.{Condition}
 use Rattle.smi_publish.specs.Published.{HasRoom, change_at, changes_at, conditions_of}
 use Rattle.smi_publish.specs.Publishing.{device_objects, reported}
-use Rattle.smi_roles.specs.Roles.{domain_of, is_kept_by}
+use Rattle.smi_tree.specs.Roles.{domain_of, is_kept_by}
 use Rattle.smi_protocol.specs.Display.{Display, Station}
 use Rattle.smi_protocol.specs.GrantStep.{unchanged}
 use Rattle.smi_protocol.specs.Happening.{Reports}
@@ -25,12 +25,12 @@ use Rattle.smi_protocol.specs.Step.{Out, accepted, conditions_by, nothing_out}
 use Rattle.smi_protocol.specs.Watching.{unnoticed}
 use Rattle.smi_protocol.proofs.Lists.{Apart, In, apart_moved, apart_numbers, in_mapped, in_numbers, same}
 use Rattle.smi_protocol.proofs.Tables.{number_self}
-use Rattle.smi_holdings.specs.Kept.{Kept, grants_of}
-use Rattle.smi_out.specs.Handed.{sent_after}
-use Rattle.smi_display.specs.Displayed.{Displayed, display_of}
-use Rattle.smi_display.specs.Following.{followed_at}
-use Rattle.smi_display.specs.Listening.{KeepsTheRest}
-use Rattle.smi_display.specs.Members.{Listed, listed_of}
+use Rattle.smi_station_grants.specs.GrantTable.{Kept, grants_of}
+use Rattle.smi_station_output.specs.Out.{sent_after}
+use Rattle.smi_station_display.specs.Displayed.{Displayed, display_of}
+use Rattle.smi_station_display.specs.Following.{followed_at}
+use Rattle.smi_station_display.specs.Listening.{KeepsTheRest}
+use Rattle.smi_station_display.specs.Members.{Listed, listed_of}
 use Rattle.smi_station.specs.Core.{AreHalves, station_with}
 use Rattle.smi_station.specs.Stirring.{stirred_in}
 use Rattle.smi_station.proofs.Outcomes.{listed_follows, parts_together, station_together}

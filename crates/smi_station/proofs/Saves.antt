@@ -2,9 +2,9 @@
 use Rattle.std.proofs.Common.{ℕ, ◌≡◌, false, true, Option, Some, None, refl, sym, ap, ◌∙◌, subst}
 use Rattle.std.specs.Prelude.{is_some, option_map}
 use Rattle.smi_tree.specs.Hierarchy.{Hierarchy}
-use Rattle.smi_holdings.specs.Change.{touched}
-use Rattle.smi_holdings.specs.Plans.{Plans}
-use Rattle.smi_holdings.specs.declared.change.Change.{Change}
+use Rattle.smi_station_grants.specs.Change.{touched}
+use Rattle.smi_station_decide.specs.Plans.{Plans}
+use Rattle.smi_station_grants.specs.declared.change.Change.{Change}
 use Rattle.smi_protocol.specs.Display.{Station}
 use Rattle.smi_protocol.specs.Grants.{Grants}
 use Rattle.smi_protocol.specs.GrantsOf.{grant_step}
@@ -38,6 +38,20 @@ module _ (h : Hierarchy) (number : ℕ) (s : Station) (what : Happening) where
               (option_map (saved_row h number (grant_step h number s.grants what).grants) o)
           each None = refl
           each (Some x) = refl
+
+  -- one that is taken saves one where its step has one
+  pub step_saves : (g : Grants) → s.grants ≡ g → refusal_of h number g what ≡ None
+      → is_some (grant_step h number g what).row ≡ is_some (after h number s what).saved
+  step_saves g same is =
+      subst (λ o. is_some (grant_step h number g what).row ≡ is_some (answered_or h number s what o).saved)
+      (sym (ap (λ z. refusal_of h number z what) same ∙ is))
+      (ap (λ (z : Grants). is_some (grant_step h number z what).row) (sym same)
+      ∙ each (grant_step h number s.grants what).row)
+    where
+      each : (o : Option _) → is_some o ≡ is_some
+          (option_map (saved_row h number (grant_step h number s.grants what).grants) o)
+      each None = refl
+      each (Some x) = refl
 
   -- and so where it asks for a row that memory was refused for
   pub wanted_saves : (g : Grants) → s.grants ≡ g → refusal_of h number g what ≡ None

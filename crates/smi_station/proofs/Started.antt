@@ -6,7 +6,7 @@ use Rattle.smi_tree.specs.Hierarchy.{Hierarchy}
 use Rattle.smi_tree.specs.Lookups.{first_state}
 use Rattle.smi_publish.specs.declared.condition.Condition.{Condition}
 use Rattle.smi_publish.specs.Published.{condition, last_sequence}
-use Rattle.smi_roles.specs.Roles.{is_kept_by}
+use Rattle.smi_tree.specs.Roles.{is_kept_by}
 use Rattle.smi_rows.specs.Store.{Rows}
 use Rattle.smi_protocol.specs.Loading.{Opens}
 use Rattle.smi_protocol.specs.Opening.{first_display}
@@ -16,9 +16,9 @@ use Rattle.smi_protocol.specs.Tidy.{IsTidy}
 use Rattle.smi_law.proofs.Tidy.{first_tidy}
 use Rattle.smi_protocol.specs.declared.fault.OpenFault.{OpenFault}
 use Rattle.smi_protocol.specs.declared.fault.OpenFault.TheVariants as open_fault
-use Rattle.smi_holdings.specs.Kept.{Kept, grants_of}
-use Rattle.smi_display.specs.Displayed.{Displayed, display_of}
-use Rattle.smi_start.specs.Starting.{beginning_with}
+use Rattle.smi_station_grants.specs.GrantTable.{Kept, grants_of}
+use Rattle.smi_station_display.specs.Displayed.{Displayed, display_of}
+use Rattle.smi_station_grants.specs.Starting.{beginning_with}
 use Rattle.smi_station.specs.Core.{Core, IsCore, begun, core_with, station_of}
 
 -- at a start each object may change

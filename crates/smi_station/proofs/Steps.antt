@@ -29,13 +29,13 @@ use Rattle.smi_protocol.specs.declared.event.Heard.{Heard}
 use Rattle.smi_protocol.specs.declared.event.Heard.TheVariants.{Refused}
 use Rattle.smi_protocol.specs.declared.event.StepFault.{StepFault}
 use Rattle.smi_protocol.specs.declared.event.StepFault.TheVariants.{NotStored, Stopped, Memory}
-use Rattle.smi_holdings.specs.Kept.{Kept, grants_of}
-use Rattle.smi_out.specs.Handed.{with_notice}
-use Rattle.smi_display.specs.Displayed.{Displayed, display_of}
-use Rattle.smi_display.specs.Listening.{KeepsTheRest}
+use Rattle.smi_station_grants.specs.GrantTable.{Kept, grants_of}
+use Rattle.smi_station_output.specs.Out.{with_notice}
+use Rattle.smi_station_display.specs.Displayed.{Displayed, display_of}
+use Rattle.smi_station_display.specs.Listening.{KeepsTheRest}
 use Rattle.smi_station.specs.Core.{AreHalves, Core, IsCore, MaySendAll, Steps, core_with, number_of, same_or_memory}
 use Rattle.smi_station.specs.Core.{station_of, station_with, tree_of}
-use Rattle.smi_station.specs.Leaving.{Leaves}
+use Rattle.smi_station_grants.specs.Leaving.{Leaves}
 use Rattle.smi_station.proofs.Outcomes.{notice_stays}
 use Rattle.smi_station.proofs.Quiet.{quiet_out, quiet_room, quiet_station}
 

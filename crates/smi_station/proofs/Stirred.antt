@@ -15,10 +15,10 @@ use Rattle.smi_protocol.specs.Messages.{if_any}
 use Rattle.smi_protocol.specs.Showing.{is_spent, members_of, passed_in, shown_to_all}
 use Rattle.smi_protocol.specs.SoundDisplay.{IsDisplay, MayChange}
 use Rattle.smi_protocol.proofs.Lists.{In}
-use Rattle.smi_display.specs.Displayed.{Displayed, display_of}
-use Rattle.smi_display.specs.Following.{followed_at}
-use Rattle.smi_display.specs.Listening.{KeepsTheRest}
-use Rattle.smi_display.specs.Members.{Listed, followed_by, listed_of}
+use Rattle.smi_station_display.specs.Displayed.{Displayed, display_of}
+use Rattle.smi_station_display.specs.Following.{followed_at}
+use Rattle.smi_station_display.specs.Listening.{KeepsTheRest}
+use Rattle.smi_station_display.specs.Members.{Listed, followed_by, listed_of}
 use Rattle.smi_station.specs.Stirring.{shown_anew, stirred_in}
 use Rattle.smi_station.proofs.Passing.{Stirs, followed_then, no_device, stirs_room, stirs_shown}
 

@@ -13,10 +13,10 @@ use Rattle.smi_protocol.specs.declared.event.Event.{Event}
 use Rattle.smi_protocol.specs.declared.event.Heard.{Heard}
 use Rattle.smi_protocol.specs.declared.event.StepFault.{StepFault}
 use Rattle.smi_protocol.specs.declared.fault.OpenFault.{OpenFault}
-use Rattle.smi_holdings.specs.Change.{with_saved}
-use Rattle.smi_start.specs.Starting.{after_start}
-use Rattle.smi_start.specs.Stored.{IsStored, Restarts}
-use Rattle.smi_start.proofs.Restarting.{event_stored, only_restarts, opens_stored}
+use Rattle.smi_station_grants.specs.Change.{with_saved}
+use Rattle.smi_station_grants.specs.Starting.{after_start}
+use Rattle.smi_station_grants.specs.Stored.{IsStored, Restarts}
+use Rattle.smi_station_grants.proofs.Restarting.{event_stored, only_restarts, opens_stored}
 use Rattle.smi_station.specs.Core.{Core, IsOf, IsStoredIn, Steps, begun, number_of, station_of, tree_of}
 
 -- a step

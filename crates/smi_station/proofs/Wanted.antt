@@ -4,7 +4,7 @@ use Rattle.std.specs.Prelude.{is_some, IsOk, OnErr}
 use Rattle.smi_rows.specs.Store.{Saved}
 use Rattle.smi_protocol.specs.declared.event.StepFault.{StepFault}
 use Rattle.smi_protocol.specs.declared.event.StepFault.TheVariants.{NotStored, Stopped, Memory}
-use Rattle.smi_holdings.specs.Save.{IfMemory}
+use Rattle.smi_station_grants.specs.Save.{IfMemory}
 use Rattle.smi_station.specs.Core.{same_or_memory}
 use Rattle.smi_station.specs.Wanting.{wants_memory}
 

@@ -1,12 +1,12 @@
 -- A station as it is kept: the half of its grants, the half of its display, and whether it has stopped.
 use Rattle.std.specs.Prelude.{ℕ, ◌≡◌, Bool, true, false, Result, Ok, Err, IfOk, OnOk, OnErr, List}
 use Rattle.smi_tree.specs.Hierarchy.{Hierarchy}
-use Rattle.smi_holdings.specs.Kept.{Kept, grants_of}
-use Rattle.smi_display.specs.Displayed.{Displayed, display_of}
+use Rattle.smi_station_grants.specs.GrantTable.{Kept, grants_of}
+use Rattle.smi_station_display.specs.Displayed.{Displayed, display_of}
 use Rattle.smi_protocol.specs.Display.{Station}
 use Rattle.smi_message.specs.Message.{Message}
 use Rattle.smi_rows.specs.Store.{Rows}
-use Rattle.smi_start.specs.Stored.{IsStored}
+use Rattle.smi_station_grants.specs.Stored.{IsStored}
 use Rattle.smi_protocol.specs.Sending.{MaySend}
 use Rattle.smi_protocol.specs.Sound.{In, IsSound}
 use Rattle.smi_protocol.specs.SoundDisplay.{MayChange}

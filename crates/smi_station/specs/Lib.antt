@@ -1,7 +1,6 @@
 pub mod Core
-pub mod Leaving
-pub mod Making
 pub mod Lending
+pub mod Making
 pub mod Readers
 pub mod Stirring
 pub mod Wanting

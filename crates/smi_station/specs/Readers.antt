@@ -3,14 +3,14 @@ use Rattle.std.specs.Prelude.{ℕ, ◌&&◌, if◌then◌else◌, List, Option, 
 use Rattle.smi_grant.specs.declared.Holder.{Holder}
 use Rattle.smi_grant.specs.declared.Shown.{Shown}
 use Rattle.smi_grant.specs.Record.{Standing}
-use Rattle.smi_grant.specs.declared.Link.{Link}
+use Rattle.smi_command.specs.declared.Link.{Link}
 use Rattle.smi_tree.specs.Hierarchy.{Hierarchy}
 use Rattle.smi_tree.specs.Lookups.{operators_of}
 use Rattle.smi_publish.specs.Published.{shown_at}
 use Rattle.smi_rows.specs.declared.Mode.{Mode}
 use Rattle.smi_protocol.specs.Display.{Station}
 use Rattle.smi_protocol.specs.declared.fault.OpenFault.{OpenFault}
-use Rattle.smi_roles.specs.Roles.{has_domain, is_keeper, is_child_unit}
+use Rattle.smi_tree.specs.Roles.{has_domain, is_keeper, is_child_unit}
 use Rattle.smi_protocol.specs.Refusals.{speaks_for}
 use Rattle.smi_station.specs.Core.{Core, number_of, station_of, tree_of}
 

@@ -1,6 +1,8 @@
 -- What comes of an event for the states of a station's objects, in the words of what the station has at hand: a
 -- domain, its members before, and the action that runs there.
 use Rattle.std.specs.Prelude.{ℕ, Bool, true, false, if◌then◌else◌, List, Option, Some, None}
+use Rattle.smi_station_grants.specs.Change.{runs}
+use Rattle.smi_station_grants.specs.declared.change.Change.{Change}
 use Rattle.std.specs.List.{flat_map}
 use Rattle.smi_grant.specs.Keeper.{admits}
 use Rattle.smi_grant.specs.declared.Command.{Command}
@@ -15,7 +17,7 @@ use Rattle.smi_publish.specs.Publishing.{acted}
 use Rattle.smi_protocol.specs.Grants.{Grants}
 use Rattle.smi_protocol.specs.Display.{Display}
 use Rattle.smi_protocol.specs.Showing.{members_of, passed_in, shown_to_all}
-use Rattle.smi_display.specs.Members.{Listed, followed_by, listed_of, nobody}
+use Rattle.smi_station_display.specs.Members.{Listed, followed_by, listed_of, nobody}
 
 -- the members of the domain as they are, nobody where there is no domain
 abbrev pub members_in : Hierarchy → Grants → Display → Option ℕ → Listed
@@ -31,6 +33,14 @@ action_by h d _ = None
 abbrev pub action_of : Hierarchy → Grants → Body → Option ℕ
 action_of h g (body.Run d who e n c) = if admits (g.records d) who e n then action_by h d c else None
 action_of h g _ = None
+
+-- the action of the command that a change runs
+abbrev pub action_run : Hierarchy → Option (ℕ × Command) → Option ℕ
+action_run h None = None
+action_run h (Some (d, c)) = action_by h d c
+
+abbrev pub action_in : Hierarchy → Change → Option ℕ
+action_in h c = action_run h (runs c)
 
 -- the domain's devices move
 abbrev pub acted_by : Hierarchy → (ℕ → Option Condition) → ℕ → Option ℕ → ℕ → Option Condition

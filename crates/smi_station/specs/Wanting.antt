@@ -11,7 +11,7 @@ use Rattle.smi_protocol.specs.Display.{Display}
 use Rattle.smi_protocol.specs.Refusals.{refusal_of_message}
 use Rattle.smi_protocol.specs.declared.event.Event.{Event}
 use Rattle.smi_protocol.specs.declared.event.Event.TheVariants as event
-use Rattle.smi_display.specs.Listening.{adds_watcher}
+use Rattle.smi_station_display.specs.Listening.{adds_watcher}
 
 -- a datagram's body is a watch that adds an entry
 abbrev pub adds : Display → ℕ → Body → Bool

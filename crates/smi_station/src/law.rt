@@ -10,8 +10,8 @@ ghost use Rattle.smi_protocol.specs.Loading.{Opens};
 ghost use Rattle.smi_protocol.specs.Step.{after_event};
 ghost use Rattle.smi_protocol.specs.declared.event.Event.{Event};
 ghost use Rattle.smi_protocol.specs.declared.fault.OpenFault.{OpenFault};
-ghost use Rattle.smi_holdings.specs.Change.{with_saved};
-ghost use Rattle.smi_start.specs.Stored.{IsStored, Restarts};
+ghost use Rattle.smi_station_grants.specs.Change.{with_saved};
+ghost use Rattle.smi_station_grants.specs.Stored.{IsStored, Restarts};
 
 /// A station whose rows say all that it keeps makes a step, and its process ends at any moment of that. The rows that
 /// are then found are those of before or of after the step (the clause `crash` of what a step leaves,

@@ -3,14 +3,15 @@
 ghost use Rattle.std.specs.Prelude.{◌≡◌};
 ghost use Rattle.smi_station.specs.Core.{is_stopped_by};
 
-use crate::opening::start;
-use smi_display::Displayed;
-use smi_grant::{Holder, Link, Record, Shown};
-use smi_holdings::Kept;
+use crate::start::start;
+use smi_command::Link;
+use smi_grant::{Holder, Record, Shown};
 use smi_message::decode;
-use smi_out::Out;
 use smi_protocol::{Event, Heard, OpenFault, StepFault};
 use smi_rows::{Mode, Stable};
+use smi_station_display::Displayed;
+use smi_station_grants::GrantTable;
+use smi_station_output::Out;
 use smi_tree::Tree;
 use std::alloc::Global;
 use std::marker::Model;
@@ -18,7 +19,7 @@ use std::marker::Model;
 /// The half of the grants, the half of the display, and whether the station has stopped.
 #[derive(Drop)]
 pub(crate) struct Core<'a> {
-    pub(crate) kept: Kept<'a>,
+    pub(crate) kept: GrantTable<'a>,
     pub(crate) display: Displayed<'a>,
     pub(crate) is_stopped: bool,
 }
@@ -109,7 +110,7 @@ impl<'a, S> Station<'a, S> {
     }
 
     /// What it keeps of grants.
-    pub fn grants(&self) -> &Kept<'a>
+    pub fn grants(&self) -> &GrantTable<'a>
         ensures { result.now ≡ self.now.core.kept }
     {
         &self.core.kept
@@ -136,16 +137,16 @@ impl<'a, S: Stable> Station<'a, S> {
     ghost use Rattle.std.specs.Prelude.{◌≤◌, ◌<◌, ◌+◌, ◌⊎◌, IfErr, IfOk, OnOk};
     ghost use Rattle.smi_rows.specs.Store.{Rows, IsSame};
     ghost use Rattle.smi_protocol.specs.Loading.{IsStation, Opens};
-    ghost use Rattle.smi_start.specs.Starting.{IfCertain, IfInDoubt, IfStoreFailed, IfStoreUnfailed};
-    ghost use Rattle.smi_start.specs.Starting.{IfUnchanged, IsToldAsMemory, after_start};
+    ghost use Rattle.smi_station_grants.specs.Starting.{IfCertain, IfInDoubt, IfStoreFailed, IfStoreUnfailed};
+    ghost use Rattle.smi_station_grants.specs.Starting.{IfUnchanged, IsToldAsMemory, after_start};
     ghost use Rattle.smi_station.specs.Core.{IsOf, IsStoredIn, begun};
     ghost use Rattle.smi_station.specs.Readers.{core_in, store_in};
     ghost use Rattle.std.specs.Prelude.{◌≡◌, true, false, Err};
-    ghost use Rattle.smi_holdings.specs.Save.{IfKept, IfMemory, IfStopped};
+    ghost use Rattle.smi_station_grants.specs.Save.{IfKept, IfMemory, IfStopped};
     ghost use Rattle.smi_protocol.specs.Step.{after_event, nothing_out};
     ghost use Rattle.smi_protocol.specs.declared.event.StepFault.TheVariants.{Stopped};
     ghost use Rattle.smi_station.specs.Core.{MaySendAll, Steps, number_of, station_of, tree_of};
-    ghost use Rattle.smi_station.specs.Leaving.{Leaves};
+    ghost use Rattle.smi_station_grants.specs.Leaving.{Leaves};
     ghost use Rattle.smi_station.specs.Wanting.{adds_by, wants_memory};
 
     /// A station opens on the store of its rows, by its number of the tree: it is what the rows mean, one boot later,
@@ -252,12 +253,12 @@ fn is_stopped_by(heard: &Result<Heard, StepFault>) -> bool
 
 impl<'a> Core<'a> {
     ghost use Rattle.std.specs.Prelude.{◌≡◌, true, false, Err, OnErr, OnOk};
-    ghost use Rattle.smi_holdings.specs.Save.{IfKept, IfMemory, IfStopped};
+    ghost use Rattle.smi_station_grants.specs.Save.{IfKept, IfMemory, IfStopped};
     ghost use Rattle.smi_message.specs.Spelling.{reading};
     ghost use Rattle.smi_protocol.specs.Step.{after_event, after_reading, nothing_out};
     ghost use Rattle.smi_protocol.specs.declared.event.StepFault.TheVariants.{Stopped};
     ghost use Rattle.smi_station.specs.Core.{MaySendAll, Steps, number_of, station_of, tree_of};
-    ghost use Rattle.smi_station.specs.Leaving.{Leaves};
+    ghost use Rattle.smi_station_grants.specs.Leaving.{Leaves};
     ghost use Rattle.smi_station.specs.Wanting.{adds_by, adds_read, wants_memory};
 
     /// An event comes. A station that has stopped makes no step.

@@ -5,9 +5,9 @@ use crate::plays::{Expected, Play, PlayedInput};
 use crate::tables;
 use crate::tables::{A, B, BOB, Bytes, CONFIGURE, DCS, READY, START, TPC, Table};
 use smi_message::encode;
-use smi_out::Out;
 use smi_protocol::Order;
 use smi_rows::{Key, SavedRow};
+use smi_station_output::Out;
 use std::test::Fail;
 
 // "A take": operator 2, at station 2, takes domain 1 of tree 17, which it last saw free at epoch 0.

@@ -6,8 +6,8 @@ use crate::tables::{
 use crate::{bytes, tables};
 use smi_grant::{Holder, Shown, Version};
 use smi_message::encode;
-use smi_out::Out;
 use smi_protocol::{Event, Heard, Order};
+use smi_station_output::Out;
 use std::alloc::{AllocError, Global};
 use std::test::Fail;
 

@@ -4,9 +4,9 @@
 use crate::bytes::TAKE;
 use crate::tables;
 use crate::tables::{A, ANN, BOB, CONFIGURE, DCS, TPC, Table, Tried, rows_in, step};
-use smi_out::Out;
 use smi_protocol::{Event, Heard, Order, StepFault};
 use smi_rows::{Key, Plan, SavedRow, Stable};
+use smi_station_output::Out;
 use std::alloc::{AllocError, Global};
 use std::test::Fail;
 

@@ -4,10 +4,10 @@
 //! stands in functions over references. For the same reason a station is asked for a step in one place.
 
 use crate::{bytes, migrations, plays, refusals, starts};
-use smi_out::Out;
 use smi_protocol::{Event, Heard, StepFault};
 use smi_rows::{MemoryStable, PlannedStable, SavedRow, Stable, StoreFault};
 use smi_station::Station;
+use smi_station_output::Out;
 use smi_testkit::WORKED;
 use smi_tree::Tree;
 use std::alloc::Global;

@@ -269,21 +269,34 @@ fn grants_are_sent<R: Abort>(rt: &R, alloc: Global, tree: &Tree) -> Result<(), A
         from: 1,
         to: 2,
         tree: 17,
-        body: Body::Tell(1, Record::fresh()),
+        body: Body::Tell {
+            domain: 1,
+            told: Record::fresh(),
+        },
     };
     assert!(rt; is_sent(alloc, tree, 2, tell, b"sent 2 TELL A B DCS\n")?);
     let take = Datagram {
         from: 1,
         to: 2,
         tree: 17,
-        body: Body::Take(2, Holder::Domain(1), 2),
+        body: Body::Take {
+            domain: 2,
+            holder: Holder::Domain(1),
+            seen: 2,
+        },
     };
     assert!(rt; is_sent(alloc, tree, 16, take, b"sent 16 TAKE A B TPC\n")?);
     let run = Datagram {
         from: 1,
         to: 2,
         tree: 17,
-        body: Body::Run(2, Holder::Domain(1), 1, 1, Command::Do(1)),
+        body: Body::Run {
+            domain: 2,
+            holder: Holder::Domain(1),
+            epoch: 1,
+            number: 1,
+            command: Command::Do(1),
+        },
     };
     assert!(rt; is_sent(alloc, tree, 10, run, b"sent 10 RUN A B TPC\n")?);
     Ok(())
@@ -294,21 +307,24 @@ fn objects_are_sent<R: Abort>(rt: &R, alloc: Global, tree: &Tree) -> Result<(), 
         from: 1,
         to: 2,
         tree: 17,
-        body: Body::Watch(2, 1),
+        body: Body::Watch { object: 2, boot: 1 },
     };
     assert!(rt; is_sent(alloc, tree, 13, watch, b"sent 13 WATCH A B TPC\n")?);
     let unwatch = Datagram {
         from: 2,
         to: 1,
         tree: 17,
-        body: Body::Unwatch(3, 1),
+        body: Body::Unwatch { object: 3, boot: 1 },
     };
     assert!(rt; is_sent(alloc, tree, 14, unwatch, b"sent 14 UNWATCH B A HV\n")?);
     let strange = Datagram {
         from: 128,
         to: 3,
         tree: 17,
-        body: Body::Watch(640, 1),
+        body: Body::Watch {
+            object: 640,
+            boot: 1,
+        },
     };
     assert!(rt;
         is_sent(

@@ -12,6 +12,10 @@
 //! Schedules are texts of the same kind of lines: what cuts and reads them ([`first_line`], [`first_word`],
 //! [`one_name`], [`number_within`] ..) is public for them.
 //!
+//! Who keeps, who may hold and who stands above what, by the tree, is what rows, datagrams and orders are measured by
+//! (`roles`). A station keeps domains and with them their devices. A domain is held by nobody, by an operator of the
+//! tree, or by the domain above it (docs/PROTOCOL.md, "The record"). No function there takes memory.
+//!
 //! # How it is proved
 //!
 //! ## Reading
@@ -93,6 +97,7 @@ mod name;
 mod names;
 mod number;
 mod read;
+mod roles;
 mod row;
 mod rule;
 mod tables;
@@ -104,6 +109,10 @@ pub use fault::{Fault, TreeFault};
 pub use name::Name;
 pub use number::{Address, number_within};
 pub use read::is_comment;
+pub use roles::{
+    has_domain, has_object, holder_station, is_at, is_child_unit, is_command_of, is_holder_of,
+    is_keeper, is_kept_by, is_parent, keeper_of,
+};
 pub use row::{Device, Domain};
 pub use text::{Word, first_line, first_word, length_of_line, without_return};
 pub use tree::Tree;

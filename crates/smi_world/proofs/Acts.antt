@@ -7,8 +7,8 @@ use Rattle.std.proofs.lemmas.Bool.{eqb-true, eq-eqb}
 use Rattle.smi_message.specs.Message.{last_boot}
 use Rattle.smi_tree.specs.Hierarchy.{Hierarchy}
 use Rattle.smi_rows.specs.Store.{IsSame, Rows, found_in}
-use Rattle.smi_start.specs.Starting.{IfStoreFailed, IfUnchanged}
-use Rattle.smi_start.specs.Stored.{Restarts}
+use Rattle.smi_station_grants.specs.Starting.{IfStoreFailed, IfUnchanged}
+use Rattle.smi_station_grants.specs.Stored.{Restarts}
 use Rattle.smi_protocol.specs.Opening.{opened, opening_entries, saved_only}
 use Rattle.smi_protocol.specs.Step.{Out, nothing_out}
 use Rattle.smi_protocol.specs.declared.entry.Entry.{Entry}

@@ -8,7 +8,7 @@ use Rattle.smi_tree.specs.Hierarchy.{Hierarchy}
 use Rattle.smi_rows.specs.Store.{Rows, found_in}
 use Rattle.smi_protocol.specs.declared.item.Line.{Line}
 use Rattle.smi_protocol.specs.declared.item.Line.TheVariants as line
-use Rattle.smi_start.proofs.Taking.{no_rows, none_mean}
+use Rattle.smi_station_grants.proofs.Taking.{no_rows, none_mean}
 use Rattle.smi_protocol.specs.Display.{Station}
 use Rattle.smi_protocol.specs.Grants.{Grants}
 use Rattle.smi_protocol.specs.Loading.{Opens, grants_in}

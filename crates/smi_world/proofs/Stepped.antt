@@ -13,7 +13,7 @@ use Rattle.smi_protocol.specs.declared.entry.Entry.TheVariants as entry
 use Rattle.smi_protocol.specs.declared.event.Heard.{Heard}
 use Rattle.smi_protocol.specs.declared.event.StepFault.{StepFault}
 use Rattle.smi_protocol.specs.declared.event.StepFault.TheVariants.{Memory, NotStored, Stopped}
-use Rattle.smi_holdings.specs.Save.{IfCounted, IfKept}
+use Rattle.smi_station_grants.specs.Save.{IfCounted, IfKept}
 use Rattle.smi_station.specs.Core.{Core, IsStoredIn}
 use Rattle.smi_world.specs.Left.{Left}
 use Rattle.smi_world.specs.Made.{Leaves}

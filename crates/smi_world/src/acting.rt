@@ -46,7 +46,7 @@ fn start_again(alloc: Global, post: &mut Post<'_>, left: &mut Left) -> Result<()
     ensures before { left.new.before ≡ left.old.before }
 {
     left.station = post.station.grants().number();
-    left.out.clear_but_kept();
+    left.out.clear_but_entries();
     match post.station.restart(alloc) {
         Ok(()) => {
             post.is_down = false;

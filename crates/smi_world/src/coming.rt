@@ -91,7 +91,7 @@ fn report_of(tree: &Tree, device: u16, state: u16) -> Option<Arrival>
 
 ghost use Rattle.smi_protocol.specs.Happening.{Reports};
 
-use smi_out::object_home;
+use smi_station_output::object_home;
 
 /// An order comes to the operator's station, and a report in it to the device's.
 fn order_of(tree: &Tree, operator: u16, order: &Order) -> Option<Arrival>

@@ -12,8 +12,8 @@ use crate::coming::Coming;
 use crate::left::Left;
 use crate::post::Post;
 use crate::stepping::{make, would_save};
-use smi_out::Out;
 use smi_rows::Plan;
+use smi_station_output::Out;
 use std::alloc::AllocError;
 
 /// An order whose row was not saved is answered.
@@ -81,7 +81,7 @@ fn fail_after(post: &mut Post<'_>, what: &Coming, left: &mut Left) -> Result<(),
 {
     make(&mut post.station, what, left)?;
     left.started = None;
-    left.out.clear_but_kept();
+    left.out.clear_but_entries();
     post.is_down = true;
     Ok(())
 }

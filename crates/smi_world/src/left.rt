@@ -1,5 +1,5 @@
 use smi_grant::{Shown, Version};
-use smi_out::{Out, object_home};
+use smi_station_output::{Out, object_home};
 use smi_tree::Tree;
 use std::alloc::AllocError;
 use std::marker::Model;
@@ -173,7 +173,7 @@ impl Left {
     pub fn push_lines(&self, tree: &Tree, lines: &mut Vec<Line>) -> Result<(), AllocError>
         ensures { OnOk result (lines.new.items ≡ lines.old.items ++ lines_left tree.now self.now) }
     {
-        push_entries(lines, self.out.kept().as_slice())?;
+        push_entries(lines, self.out.entries().as_slice())?;
         if let Some(boot) = self.started {
             push_start(lines, tree, self.station, boot)?;
         }
@@ -183,7 +183,7 @@ impl Left {
                 shown,
             }))?;
         }
-        push_passed(lines, self.out.passed().as_slice())?;
+        push_passed(lines, self.out.transitions().as_slice())?;
         push_told(lines, self.out.answers())?;
         self.push_sent(lines)
     }

@@ -10,10 +10,10 @@ ghost use Rattle.smi_world.specs.Made.{Leaves, Steps};
 use crate::coming::Coming;
 use crate::left::Left;
 use smi_message::encode;
-use smi_out::Out;
 use smi_protocol::Event;
 use smi_rows::MemoryStable;
 use smi_station::Station;
+use smi_station_output::Out;
 use std::alloc::AllocError;
 
 /// An event comes to a station that runs. A store in memory never fails, so that only memory may run out.

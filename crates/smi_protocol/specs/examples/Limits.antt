@@ -7,7 +7,7 @@ use Rattle.smi_grant.specs.Record.{standing}
 use Rattle.smi_message.specs.declared.Body.{Body}
 use Rattle.smi_message.specs.declared.Body.TheVariants as body
 use Rattle.smi_tree.specs.Hierarchy.{Hierarchy}
-use Rattle.smi_grant.specs.declared.Link.TheVariants.{Out, Taking}
+use Rattle.smi_command.specs.declared.Link.TheVariants.{Out, Taking}
 use Rattle.smi_watchers.specs.Watching.{watcher}
 use Rattle.smi_protocol.specs.Display.{Station}
 use Rattle.smi_protocol.specs.Grants.{with_record, with_link}

@@ -7,7 +7,7 @@ use Rattle.smi_grant.specs.declared.Phase.TheVariants.{Settled}
 use Rattle.smi_grant.specs.Record.{standing}
 use Rattle.smi_message.specs.declared.Body.TheVariants as body
 use Rattle.smi_tree.specs.Hierarchy.{Hierarchy}
-use Rattle.smi_grant.specs.declared.Link.{Link}
+use Rattle.smi_command.specs.declared.Link.{Link}
 use Rattle.smi_rows.specs.declared.Mode.{Mode}
 use Rattle.smi_protocol.specs.Grants.{put, with_record, with_link}
 use Rattle.smi_protocol.specs.Display.{Station}

@@ -2,11 +2,12 @@
 
 ghost use Rattle.std.specs.Prelude.{◌≡◌};
 
-use smi_grant::{Holder, Link, Phase, Record};
+use smi_command::Link;
+use smi_grant::{Holder, Phase, Record};
 use smi_message::encode;
-use smi_out::Out;
 use smi_protocol::{Entry, Line};
 use smi_station::Station;
+use smi_station_output::Out;
 
 /// How many lines of each kind were seen.
 #[derive(Drop)]

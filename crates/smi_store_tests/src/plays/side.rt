@@ -4,10 +4,10 @@ ghost use Rattle.std.specs.Prelude.{◌≡◌};
 
 use super::store::Played;
 use super::turn::{StationTurn, Turn};
-use smi_out::Out;
 use smi_protocol::{Answer, Event, Heard, OrderCode, StepFault, Told};
 use smi_rows::{Plan, PlannedStable, SavedRow, Stable};
 use smi_station::Station;
+use smi_station_output::Out;
 use smi_tree::Tree;
 use std::alloc::Global;
 

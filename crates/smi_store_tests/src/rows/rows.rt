@@ -1,7 +1,8 @@
 //! Rows as they are written, and the fault of each that is not.
 
 use super::{EVEN, examples, fault, rewritten, with_byte};
-use smi_grant::{Command, Holder, Link, Pending, Phase, Record};
+use smi_command::{Link, Pending};
+use smi_grant::{Command, Holder, Phase, Record};
 use smi_rows::{DomainRow, Key, Mode, Row, StoredLink};
 use smi_testkit::{BOOT, HELD, OLDEST, PENDING, TAKEN, WORKING, key};
 use smi_tree::Tree;

@@ -3,10 +3,10 @@
 
 use super::disks::{FusedFiles, OnDisks, back, blank, copied};
 use smi_grant::Holder;
-use smi_out::Out;
 use smi_protocol::{Event, Heard, OpenFault, StepFault};
 use smi_rows::{SavedRow, Stable, StoreFault};
 use smi_station::Station;
+use smi_station_output::Out;
 use smi_testkit::{BOOT, TAKEN, key};
 use smi_tree::Tree;
 use std::alloc::Global;

@@ -1,6 +1,6 @@
 -- The facts on each pair of a keeper and a link, said of the world.
 use Rattle.std.proofs.Common.{subst}
-use Rattle.smi_grant.specs.declared.Due.TheVariants.{Run}
+use Rattle.smi_command.specs.declared.Due.TheVariants.{Run}
 use Rattle.smi_law.proofs.KnownFacts.{known_lawful, known_grant, known_in_step, known_sent}
 use Rattle.smi_law.proofs.Unheld.{held_by_somebody}
 use Rattle.smi_law.proofs.Viewed.{viewed}

@@ -17,4 +17,4 @@ returns-clause-makes c = λ h number s is.
     after_makes h number s c.args.post.now is (record { station = c.make.new.station; is_down = _ }) c.make.new.left _
     (happening c.args.what.now) c.requires.runs refl
     c.in_ok-make.ensures.station c.in_ok-make.ensures.of c.in_ok-make.ensures.leaves (c.make.ensures.stored is.stored)
-    refl (c.clear_but_kept.ensures ∙ ap (λ (l : Left). record nothing_out { kept = l.out.kept }) c.left.view_is)
+    refl (c.clear_but_entries.ensures ∙ ap (λ (l : Left). record nothing_out { kept = l.out.kept }) c.left.view_is)

@@ -1,5 +1,5 @@
 use Rattle.std.proofs.Common.{◌∙◌, ap, refl}
-use Rattle.smi_holdings.specs.Kept.{Kept}
+use Rattle.smi_station_grants.specs.GrantTable.{Kept}
 use Rattle.smi_station.specs.Core.{number_of, station_of, tree_of}
 use Rattle.smi_world.specs.Coming.{happening}
 use Rattle.smi_world.proofs.Stepped.{leaves}

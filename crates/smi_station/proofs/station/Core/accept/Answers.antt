@@ -2,11 +2,11 @@ use Rattle.std.proofs.Common.{◌≡◌, false}
 use Rattle.smi_protocol.specs.Happening.{Comes}
 use Rattle.smi_protocol.specs.Step.{accepted}
 use Rattle.smi_station.specs.Core.{Core, Steps, core_with, number_of, station_of, station_with, tree_of}
-use Rattle.smi_station.specs.Leaving.{Leaves}
+use Rattle.smi_station_grants.specs.Leaving.{Leaves}
 use Rattle.smi_station.proofs.Steps.{made_core, made_steps, made_tidy, running, stands}
-use Rattle.smi_holdings.specs.Save.{IfMemory}
+use Rattle.smi_station_grants.specs.Save.{IfMemory}
 use Rattle.std.specs.Prelude.{true}
-use Rattle.smi_display.specs.Displayed.{display_of}
+use Rattle.smi_station_display.specs.Displayed.{display_of}
 use Rattle.smi_station.specs.Wanting.{adds, wants_memory}
 use Rattle.smi_station.proofs.Wanted.{for_entry, for_row}
 use Rattle.smi_station.proofs.station.Core.accept.Goals as goal

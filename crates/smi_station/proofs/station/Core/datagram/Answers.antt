@@ -14,5 +14,5 @@ returns-in-None-clause-step g c =
     c.self.view_is
     (sym (ap (λ (h : Hierarchy). refusal_of_message h c.number.result c.args.datagram.now) c.tree.ensures.value
     ∙ ap (λ n. refusal_of_message c.self.inside.kept.tree n c.args.datagram.now) c.number.ensures.value)
-    ∙ sym c.refusal_of_message.ensures ∙ c.in-None.is))
+    ∙ sym c.check_datagram.ensures ∙ c.in-None.is))
     c.accept.ensures.step

@@ -3,7 +3,7 @@ use Rattle.smi_protocol.specs.Happening.{Happening}
 use Rattle.smi_protocol.specs.Step.{after, ordered_or_reported}
 use Rattle.smi_protocol.specs.declared.order.Order.{Order}
 use Rattle.smi_station.specs.Core.{Steps, number_of, station_of, tree_of}
-use Rattle.smi_station.specs.Leaving.{Leaves}
+use Rattle.smi_station_grants.specs.Leaving.{Leaves}
 use Rattle.smi_station.proofs.station.Core.order.Goals as goal
 
 pub returns-in-Some-clause-step : goal.returns-in-Some-clause-step

@@ -1,7 +1,7 @@
 use Rattle.std.proofs.Common.{◌∙◌, Ok, ap, subst, sym}
 use Rattle.smi_tree.specs.Lawful.{IsBetween}
 use Rattle.smi_tree.specs.Lookups.{station_count}
-use Rattle.smi_start.specs.Stored.{Restarts}
+use Rattle.smi_station_grants.specs.Stored.{Restarts}
 use Rattle.smi_station.proofs.Stored.{start_restarts, start_stored}
 use Rattle.smi_station.specs.Core.{Core, IsStoredIn, begun, number_of, station_of, tree_of}
 use Rattle.smi_station.proofs.station.Core.restart.Goals as goal

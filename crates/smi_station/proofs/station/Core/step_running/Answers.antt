@@ -4,7 +4,7 @@ use Rattle.smi_protocol.specs.declared.event.Event.{Event}
 use Rattle.smi_station.specs.Core.{Core, Steps, number_of, station_of, tree_of}
 use Rattle.smi_tree.specs.Lawful.{IsTree}
 use Rattle.smi_protocol.specs.Tidy.{IsTidy}
-use Rattle.smi_station.specs.Leaving.{Leaves}
+use Rattle.smi_station_grants.specs.Leaving.{Leaves}
 use Rattle.smi_station.proofs.Steps.{steps_may}
 use Rattle.smi_station.proofs.station.Core.step_running.Goals as goal
 

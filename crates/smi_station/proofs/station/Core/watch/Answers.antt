@@ -10,8 +10,8 @@ use Rattle.smi_station.specs.Core.{station_with, tree_of}
 use Rattle.smi_station.proofs.Steps.{running, stands}
 use Rattle.smi_station.proofs.Steps.{watched_core, watched_steps}
 use Rattle.std.specs.Prelude.{OnErr, true}
-use Rattle.smi_display.specs.Displayed.{display_of}
-use Rattle.smi_display.specs.Listening.{adds_watcher}
+use Rattle.smi_station_display.specs.Displayed.{display_of}
+use Rattle.smi_station_display.specs.Listening.{adds_watcher}
 use Rattle.smi_station.specs.Wanting.{adds}
 use Rattle.smi_station.proofs.Wanted.{as_memory}
 use Rattle.smi_station.proofs.station.Core.watch.Goals as goal

@@ -1,5 +1,5 @@
 use Rattle.std.proofs.Common.{subst}
-use Rattle.smi_start.specs.Stored.{Restarts}
+use Rattle.smi_station_grants.specs.Stored.{Restarts}
 use Rattle.smi_station.specs.Core.{IsStoredIn, begun, number_of, station_of, tree_of}
 use Rattle.smi_station.specs.Readers.{Whole, restarted}
 use Rattle.smi_station.proofs.station.Station.restart.Goals as goal

@@ -3,10 +3,10 @@ use Rattle.smi_protocol.specs.Step.{after_event}
 use Rattle.std.specs.Prelude.{OnOk}
 use Rattle.smi_station.proofs.Stored.{step_stored}
 use Rattle.smi_station.specs.Core.{IsStoredIn, Steps, number_of, station_of, tree_of}
-use Rattle.smi_station.specs.Leaving.{Leaves}
+use Rattle.smi_station_grants.specs.Leaving.{Leaves}
 use Rattle.smi_station.specs.Readers.{Whole}
 use Rattle.smi_station.specs.Wanting.{adds_by, wants_memory}
-use Rattle.smi_holdings.specs.Save.{IfMemory}
+use Rattle.smi_station_grants.specs.Save.{IfMemory}
 use Rattle.smi_station.proofs.station.Station.step.Goals as goal
 
 pub returns-clause-step : goal.returns-clause-step

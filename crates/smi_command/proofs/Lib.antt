@@ -1,0 +1,15 @@
+pub mod Asked
+pub mod EndedNumbers
+pub mod Epochs
+pub mod Example
+pub mod Facts
+pub mod Heard
+pub mod HeardCommands
+pub mod KeeperSteps
+pub mod LinkSteps
+pub mod Logs
+pub mod OneLinkKept
+pub mod Orders
+pub mod SettledRuns
+pub mod Stored
+pub mod Waiting

@@ -1,8 +1,0 @@
-use Rattle.std.proofs.Common.{◌≡◌}
-use Rattle.smi_display.specs.Listening.{forgotten}
-use Rattle.smi_display.proofs.Listing.{so_far}
-use Rattle.smi_display.proofs.displayed.Displayed.forget_questions.Given as goal
-
--- the questions so far are forgotten
-abbrev pub invariant-loop-asked : goal.invariant-loop-asked
-invariant-loop-asked l = l.asked-items ≡ so_far (forgotten l.domain) l.initial.asked-items l.asked-index

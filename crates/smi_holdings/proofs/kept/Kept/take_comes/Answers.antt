@@ -1,6 +1,0 @@
-use Rattle.smi_holdings.proofs.Verdicts.{verdict_planned}
-use Rattle.smi_holdings.proofs.kept.Kept.take_comes.Goals as goal
-
-pub returns-clause-plan : goal.returns-clause-plan
-returns-clause-plan c = λ from. rw (c.handed_by.ensures, c.take.ensures, c.record.ensures)
-    (verdict_planned _ _ _ from c.args.domain _ _ (record { least = c.requires.least; most = c.requires.most }))

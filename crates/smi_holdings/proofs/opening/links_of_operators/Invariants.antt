@@ -1,9 +1,0 @@
-use Rattle.std.proofs.Common.{◌≡◌}
-use Rattle.std.specs.Prelude.{map}
-use Rattle.std.specs.List.{range_with_len}
-use Rattle.smi_holdings.specs.Restored.{first_links}
-use Rattle.smi_holdings.proofs.opening.links_of_operators.Given as goal
-
--- the links of the first operators are there
-abbrev pub invariant-loop-place : goal.invariant-loop-place
-invariant-loop-place l = l.tables.items ≡ map (first_links l.tree l.number) (range_with_len 1 l.place)

@@ -1,3 +1,0 @@
-pub mod Asked
-pub mod Handing
-pub mod Leaving

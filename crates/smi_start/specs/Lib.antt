@@ -1,4 +1,0 @@
-pub mod Restoring
-pub mod Starting
-pub mod Stored
-pub mod Migrating

@@ -1,0 +1,10 @@
+pub mod Answering
+pub mod Decisions
+pub mod Ends
+pub mod Handings
+pub mod Heard
+pub mod Left
+pub mod Listeners
+pub mod Ordered
+pub mod Sends
+pub mod Verdicts

@@ -1,0 +1,12 @@
+pub mod Change
+pub mod Children
+pub mod Commanded
+pub mod Entries
+pub mod GrantTable
+pub mod Leaving
+pub mod Migrating
+pub mod Restored
+pub mod Restoring
+pub mod Save
+pub mod Starting
+pub mod Stored
