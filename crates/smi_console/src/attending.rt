@@ -8,8 +8,8 @@ use crate::socket_drops::SocketDrops;
 use crossbeam_channel::Receiver;
 use smi_base::write_whole;
 use smi_commands::status::{no_memory, read_fault, write_fault};
-use smi_front::{Front, MOST_GIVEN, Showing, StationNews};
 use smi_schedule::Unwritten;
+use smi_session::{BoardReader, MOST_PENDING, SessionService, StationEvent};
 use smi_tree::Tree;
 use std::io::Write;
 use std::sync::Wait;
@@ -24,28 +24,28 @@ const NEWS: usize = 512;
 
 /// What the thread has beside its outputs.
 #[derive(Drop)]
-pub(crate) struct Attendant<G: Showing + Drop> {
-    pub(crate) front: Box<Front<G>>,
+pub(crate) struct Attendant<G: BoardReader + Drop> {
+    pub(crate) front: Box<SessionService<G>>,
     pub(crate) hall: Box<Hall>,
     pub(crate) bell: Bell,
     /// Where what the standard input is told goes.
     pub(crate) outlet: Outlet,
     /// What is typed at the standard input, and what the station tells.
     pub(crate) lines: Receiver<Input>,
-    pub(crate) news: Receiver<StationNews>,
+    pub(crate) news: Receiver<StationEvent>,
     /// Whether the standard input is heard no more.
     pub(crate) is_plain_over: bool,
     /// What the system drops of the datagrams to the node.
     pub(crate) drops: SocketDrops,
 }
 
-impl<G: Showing + Drop> Attendant<G> {
+impl<G: BoardReader + Drop> Attendant<G> {
     /// What the station has told is noted. Whether there may be more.
     fn note_news<R: Wait>(&mut self, rt: &R) -> bool {
         for _ in 0..NEWS {
             match self.news.try_recv(rt) {
                 Ok(news) => {
-                    if self.front.note(news).is_err() {
+                    if self.front.record(news).is_err() {
                         self.hall.lose_followers();
                     }
                 }
@@ -58,8 +58,8 @@ impl<G: Showing + Drop> Attendant<G> {
     /// Each answer that is there goes to its caller.
     fn tell_answers(&mut self, tree: &Tree) {
         for place in 0..self.front.seat_count() {
-            for _ in 0..MOST_GIVEN {
-                match self.front.answer(place) {
+            for _ in 0..MOST_PENDING {
+                match self.front.next_answer(place) {
                     Some(answered) => self.hall.tell_answer(&mut self.front, tree, &answered),
                     None => break,
                 }
@@ -71,7 +71,7 @@ impl<G: Showing + Drop> Attendant<G> {
     fn note_drops(&mut self, now: Option<Instant>) {
         if self.drops.is_due(now) {
             let drops = self.drops.read(now);
-            self.front.note_drops(drops);
+            self.front.set_drops(drops);
         }
     }
 
@@ -93,8 +93,8 @@ impl<G: Showing + Drop> Attendant<G> {
     /// How the standard input has ended, once all that it gave is answered, and the answers are written.
     fn ended(&self) -> Option<InputEnd> {
         let plain = &self.hall.plain;
-        let is_told = plain.said().is_empty() && self.outlet.is_written();
-        if is_told && plain.is_idle() && !self.front.owes(plain.number()) {
+        let is_told = plain.output().is_empty() && self.outlet.is_written();
+        if is_told && plain.is_idle() && !self.front.has_pending(plain.number()) {
             self.hall.ending
         } else {
             None
@@ -119,21 +119,21 @@ fn tell_ending<F: Write>(ending: Result<InputEnd, Unwritten>, faults: &mut F) {
 }
 
 /// Hands on what the caller at the standard input is to be told, and tells its faults.
-fn print<G: Showing + Drop, R: Wait, F: Write>(
+fn print<G: BoardReader + Drop, R: Wait, F: Write>(
     rt: &R,
     attendant: &mut Attendant<G>,
     faults: &mut F,
 ) -> Result<(), Unwritten> {
     let plain = attendant.hall.plain();
-    if !plain.faults().is_empty() {
-        let _ = write_whole(faults, plain.faults());
-        plain.faults_told();
+    if !plain.errors().is_empty() {
+        let _ = write_whole(faults, plain.errors());
+        plain.clear_errors();
     }
     attendant.outlet.say(rt, plain)
 }
 
 /// The standard input is heard, line by line, and told. Whether it has more.
-fn serve_plain<G: Showing + Drop, R: Wait, F: Write>(
+fn serve_plain<G: BoardReader + Drop, R: Wait, F: Write>(
     rt: &R,
     tree: &Tree,
     now: Option<Instant>,
@@ -143,15 +143,19 @@ fn serve_plain<G: Showing + Drop, R: Wait, F: Write>(
     if attendant.hall.is_plain_lost() {
         return Err(Unwritten::Memory);
     }
-    attendant.front.tell_news(tree, &mut attendant.hall.plain)?;
-    attendant.front.go_on(tree, now, &mut attendant.hall.plain)?;
+    attendant
+        .front
+        .deliver_events(tree, &mut attendant.hall.plain)?;
+    attendant
+        .front
+        .resume(tree, now, &mut attendant.hall.plain)?;
     print(rt, attendant, faults)?;
     for _ in 0..LINES {
         match attendant.next_line(rt) {
             Some(line) => {
                 attendant
                     .front
-                    .hear(tree, now, &mut attendant.hall.plain, line)?;
+                    .receive_line(tree, now, &mut attendant.hall.plain, line)?;
                 print(rt, attendant, faults)?;
             }
             None => return Ok(false),
@@ -161,7 +165,7 @@ fn serve_plain<G: Showing + Drop, R: Wait, F: Write>(
 }
 
 /// The standard input is heard and told, and where it ends, that is told too. Whether it has more.
-fn attend_plain<G: Showing + Drop, R: Wait, F: Write>(
+fn attend_plain<G: BoardReader + Drop, R: Wait, F: Write>(
     rt: &R,
     tree: &Tree,
     now: Option<Instant>,
@@ -184,7 +188,7 @@ fn attend_plain<G: Showing + Drop, R: Wait, F: Write>(
 }
 
 /// Everybody is heard and told once, as far as nothing waits. Whether the standard input, or the station, has more.
-fn round<G: Showing + Drop, R: Wait + Clock, F: Write>(
+fn round<G: BoardReader + Drop, R: Wait + Clock, F: Write>(
     rt: &R,
     tree: &Tree,
     attendant: &mut Attendant<G>,
@@ -197,7 +201,7 @@ fn round<G: Showing + Drop, R: Wait + Clock, F: Write>(
     let has_more_lines = attend_plain(rt, tree, now, attendant, faults);
     attendant.hall.welcome_all();
     attendant.hall.serve_guests(&mut attendant.front, tree, now);
-    attendant.front.forget_news();
+    attendant.front.clear_events();
     if attendant.front.has_given() {
         attendant.bell.ring();
     }
@@ -205,7 +209,7 @@ fn round<G: Showing + Drop, R: Wait + Clock, F: Write>(
 }
 
 /// Hears and tells, round after round, until the standard input has ended where nobody else can talk to the node.
-pub(crate) fn attend<G: Showing + Drop, R: Wait + Clock, F: Write>(
+pub(crate) fn attend<G: BoardReader + Drop, R: Wait + Clock, F: Write>(
     rt: &R,
     tree: &Tree,
     attendant: &mut Attendant<G>,

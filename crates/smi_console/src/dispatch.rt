@@ -2,7 +2,7 @@
 
 use crate::chime::Chime;
 use crossbeam_channel::Sender;
-use smi_front::{Act, StationNews, boxed};
+use smi_session::{ActionDone, StationEvent, boxed};
 use std::alloc::{AllocError, Global};
 use std::collections::VecDeque;
 use std::sync::{Arc, Wait};
@@ -15,8 +15,8 @@ const MOST_WAITING: usize = 4_096;
 struct DispatchParts<H: Drop> {
     rt: H,
     chime: Arc<Chime, Global>,
-    way: Sender<StationNews>,
-    waiting: VecDeque<StationNews>,
+    way: Sender<StationEvent>,
+    waiting: VecDeque<StationEvent>,
     /// How many actions there was no room for.
     missed: u32,
 }
@@ -35,7 +35,7 @@ impl<H: Wait + Drop> Dispatch<H> {
         alloc: Global,
         rt: H,
         chime: Arc<Chime, Global>,
-        way: Sender<StationNews>,
+        way: Sender<StationEvent>,
     ) -> Result<Dispatch<H>, AllocError> {
         let parts = DispatchParts {
             rt,
@@ -69,7 +69,7 @@ impl<H: Wait + Drop> Dispatch<H> {
     }
 
     /// Tells news. Whether there was room.
-    pub(crate) fn tell(&mut self, news: StationNews) -> bool {
+    pub(crate) fn tell(&mut self, news: StationEvent) -> bool {
         let waiting = &mut self.parts.waiting;
         if waiting.len() >= MOST_WAITING || waiting.push_back(news).is_err() {
             return false;
@@ -82,14 +82,14 @@ impl<H: Wait + Drop> Dispatch<H> {
     pub(crate) fn go_on(&mut self) {
         self.hand_on();
         let missed = self.parts.missed;
-        if missed > 0 && self.tell(StationNews::Missed(missed)) {
+        if missed > 0 && self.tell(StationEvent::Lagged(missed)) {
             self.parts.missed = 0;
         }
     }
 
     /// Tells of an action, or counts it.
-    pub(crate) fn tell_act(&mut self, act: Act) {
-        if self.parts.missed > 0 || !self.tell(StationNews::Acted(act)) {
+    pub(crate) fn tell_act(&mut self, act: ActionDone) {
+        if self.parts.missed > 0 || !self.tell(StationEvent::ActionDone(act)) {
             self.parts.missed = self.parts.missed.saturating_add(1);
         }
     }

@@ -16,10 +16,10 @@ use crate::side::{Chimed, StationSide};
 use crate::starting::{Console, Lobby, begin_console};
 use crossbeam_channel::Sender;
 use smi_base::MOST_OPERATORS_OF_A_STATION;
-use smi_front::{Front, Office, Showing, StationNews, boxed};
 use smi_link::{DatagramLink, UdpLink};
 use smi_node::{Counter, Counts};
 use smi_operator::{Desk, Seat, open_seats};
+use smi_session::{BoardReader, SeatTable, SessionService, StationEvent, boxed};
 use smi_view::Picture;
 use std::alloc::{AllocError, Global};
 use std::fs::Files;
@@ -58,7 +58,7 @@ fn seated(alloc: Global, operators: &[u16]) -> Result<Seats, AllocError>
 }
 
 /// The front desk of a node, over the seats of its operators and behind them nobody's.
-fn front_of<G: Showing + Drop>(
+fn front_of<G: BoardReader + Drop>(
     alloc: Global,
     setup: &NodeSetup,
     operators: &[u16],
@@ -66,21 +66,21 @@ fn front_of<G: Showing + Drop>(
     reports: Seat,
     glance: G,
     counts: &Arc<Counts, Global>,
-) -> Result<Box<Front<G>>, AllocError> {
-    let office = Office::open(alloc, operators, own, reports)?;
+) -> Result<Box<SessionService<G>>, AllocError> {
+    let office = SeatTable::open(alloc, operators, own, reports)?;
     let picture = Picture::new(alloc, setup.tree.object_count(), 0)?;
     let counts = Arc::try_clone(counts)?;
-    Front::open(alloc, office, glance, counts, picture)
+    SessionService::open(alloc, office, glance, counts, picture)
 }
 
 /// The seats of a station's operators and one for reports, at the front, and their desk.
-fn seated_front<G: Showing + Drop>(
+fn seated_front<G: BoardReader + Drop>(
     alloc: Global,
     setup: &NodeSetup,
     operators: &[u16],
     glance: G,
     counts: &Arc<Counts, Global>,
-) -> Result<(Box<Front<G>>, Box<Desk>), AllocError> {
+) -> Result<(Box<SessionService<G>>, Box<Desk>), AllocError> {
     let Seats { own, reports, desk } = seated(alloc, operators)?;
     match front_of(alloc, setup, operators, own, reports, glance, counts) {
         Ok(front) => Ok((front, desk)),
@@ -91,14 +91,14 @@ fn seated_front<G: Showing + Drop>(
 /// What a node has before its consoles begin: the station's side, the front desk over its seats, and a bell to the
 /// station.
 #[derive(Drop)]
-struct Ends<L: Drop, G: Showing + Drop> {
+struct Ends<L: Drop, G: BoardReader + Drop> {
     side: StationSide<L>,
-    front: Box<Front<G>>,
+    front: Box<SessionService<G>>,
     bell: Bell,
 }
 
 /// The seats of a station's operators and one for reports, at the front, their desk, and last the station's link.
-fn posted<K: Linking, G: Showing + Drop>(
+fn posted<K: Linking, G: BoardReader + Drop>(
     alloc: Global,
     setup: &NodeSetup,
     operators: &[u16],
@@ -129,14 +129,14 @@ fn hall_of<H: Files + Net + AllocGlobal>(
 
 /// What a node has before its threads begin: the station's side, what stands at the front, and a chime to it.
 #[derive(Drop)]
-struct BothSides<L: Drop, G: Showing + Drop> {
+struct BothSides<L: Drop, G: BoardReader + Drop> {
     side: StationSide<L>,
     lobby: Lobby<G>,
     chime: Arc<Chime, Global>,
 }
 
 /// The seats of a station and its link, and then the hall of its node.
-fn both_sides<K: Linking, G: Showing + Drop, H: Files + Net + AllocGlobal>(
+fn both_sides<K: Linking, G: BoardReader + Drop, H: Files + Net + AllocGlobal>(
     rt: &H,
     setup: &NodeSetup,
     operators: &[u16],
@@ -165,7 +165,7 @@ fn counted(alloc: Global) -> Result<Arc<Counts, Global>, Halt> {
 fn dispatch_of<H: Wait + AllocGlobal + Clone + Drop>(
     rt: &H,
     chime: &Arc<Chime, Global>,
-    news: Sender<StationNews>,
+    news: Sender<StationEvent>,
 ) -> Result<Dispatch<H>, AllocError> {
     let chime = Arc::try_clone(chime)?;
     let there = rt.clone()?;
@@ -192,7 +192,7 @@ fn service_of<L: DatagramLink + Drop, T: Keeps, H: Wait + AllocGlobal + Clone + 
     station: &T,
     side: StationSide<L>,
     chime: Arc<Chime, Global>,
-    news: Sender<StationNews>,
+    news: Sender<StationEvent>,
 ) -> Result<Service<Chimed<L>, Herald<H>>, AllocError> {
     let dispatch = dispatch_of(rt, &chime, news)?;
     let herald = herald_of(rt.alloc(), setup, station, side.counts(), dispatch)?;
@@ -202,7 +202,7 @@ fn service_of<L: DatagramLink + Drop, T: Keeps, H: Wait + AllocGlobal + Clone + 
 /// The station's seats and its link are made, and the threads of its consoles begin, in this order.
 fn manned<
     K: Linking,
-    G: Showing + Drop + Send + 'static,
+    G: BoardReader + Drop + Send + 'static,
     T: Keeps,
     H: Files + Net + Wait + Threads + Clock + AllocGlobal + Clone + Drop + Send + 'static,
     I: Read + Drop + Send + 'static,
@@ -235,7 +235,7 @@ pub(crate) type Fitted<'a, H> = Service<Chimed<UdpLink<&'a H>>, Herald<H>>;
 /// and the threads of its consoles, in this order.
 pub(crate) fn fitted<
     'a,
-    G: Showing + Drop + Send + 'static,
+    G: BoardReader + Drop + Send + 'static,
     T: Keeps,
     H: Files + Net + Wait + Threads + Clock + AllocGlobal + Clone + Drop + Send + 'static,
     I: Read + Drop + Send + 'static,

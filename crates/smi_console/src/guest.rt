@@ -2,7 +2,9 @@
 
 use crate::doors::Stream;
 use mio::event::Event;
-use smi_front::{Caller, Cutter, Front, MOST_UNSENT, Manners, SeatAnswer, Showing};
+use smi_session::{
+    BoardReader, LineSplitter, MOST_UNSENT, ReplyStyle, SeatAnswer, Session, SessionService,
+};
 use smi_tree::Tree;
 use std::alloc::{AllocError, Global};
 use std::io::ErrorKind;
@@ -23,8 +25,8 @@ const PATIENCE: u64 = 2;
 #[derive(Drop)]
 pub(crate) struct ConsoleGuest {
     stream: Stream,
-    caller: Caller,
-    cutter: Cutter,
+    caller: Session,
+    splitter: LineSplitter,
     /// Whether there may be something to read, and room to write.
     can_read: bool,
     can_write: bool,
@@ -54,8 +56,8 @@ impl ConsoleGuest {
     ) -> Result<ConsoleGuest, AllocError> {
         Ok(ConsoleGuest {
             stream,
-            caller: Caller::new(alloc, number, Manners::Wordy)?,
-            cutter: Cutter::new(alloc),
+            caller: Session::new(alloc, number, ReplyStyle::Human)?,
+            splitter: LineSplitter::new(alloc),
             can_read: true,
             can_write: true,
             is_over: false,
@@ -66,7 +68,7 @@ impl ConsoleGuest {
     }
 
     /// Who types.
-    pub(crate) fn caller(&mut self) -> &mut Caller {
+    pub(crate) fn caller(&mut self) -> &mut Session {
         &mut self.caller
     }
 
@@ -101,7 +103,7 @@ impl ConsoleGuest {
         match self.stream.read(&mut block) {
             Ok(0) => self.is_over = true,
             Ok(count) => {
-                self.cutter.fill(block.get(..count).unwrap_or(&[]))?;
+                self.splitter.push(block.get(..count).unwrap_or(&[]))?;
                 return Ok(Read::Some);
             }
             Err(e) if e.kind() == ErrorKind::WouldBlock => self.can_read = false,
@@ -117,12 +119,12 @@ impl ConsoleGuest {
     /// The next line that it typed.
     fn next_line(&mut self) -> Result<Option<Vec<u8>>, AllocError> {
         for _ in 0..READS {
-            if let Some(line) = self.cutter.next()? {
+            if let Some(line) = self.splitter.next_line()? {
                 return Ok(Some(line));
             }
             match self.read()? {
                 Read::Some => {}
-                Read::Nothing if self.is_over => return self.cutter.rest(),
+                Read::Nothing if self.is_over => return self.splitter.last_line(),
                 Read::Nothing => return Ok(None),
             }
         }
@@ -130,20 +132,20 @@ impl ConsoleGuest {
     }
 
     /// Its lines are heard.
-    fn talk<G: Showing + Drop>(
+    fn talk<G: BoardReader + Drop>(
         &mut self,
-        front: &mut Front<G>,
+        front: &mut SessionService<G>,
         tree: &Tree,
         now: Option<Instant>,
     ) -> Result<(), AllocError> {
-        front.tell_news(tree, &mut self.caller)?;
-        front.go_on(tree, now, &mut self.caller)?;
+        front.deliver_events(tree, &mut self.caller)?;
+        front.resume(tree, now, &mut self.caller)?;
         for _ in 0..LINES {
             if !self.caller.has_room() {
                 return Ok(());
             }
             match self.next_line()? {
-                Some(line) => front.hear(tree, now, &mut self.caller, line)?,
+                Some(line) => front.receive_line(tree, now, &mut self.caller, line)?,
                 None => return Ok(()),
             }
         }
@@ -153,8 +155,8 @@ impl ConsoleGuest {
     /// Writes what it is to be told, as far as there is room.
     fn write(&mut self, now: Option<Instant>) {
         if self.is_deaf {
-            self.caller.written(usize::MAX);
-        } else if self.caller.said().is_empty() {
+            self.caller.consume(usize::MAX);
+        } else if self.caller.output().is_empty() {
             self.since = None;
             return;
         }
@@ -164,9 +166,9 @@ impl ConsoleGuest {
         if self.is_deaf || !self.can_write {
             return;
         }
-        match self.stream.write(self.caller.said()) {
+        match self.stream.write(self.caller.output()) {
             Ok(count) => {
-                self.caller.written(count);
+                self.caller.consume(count);
                 self.since = now;
             }
             Err(e) if e.kind() == ErrorKind::WouldBlock => self.can_write = false,
@@ -181,17 +183,17 @@ impl ConsoleGuest {
             (Some(now), Some(since)) => now.duration_since(since).as_secs() >= PATIENCE,
             _ => false,
         };
-        is_late || self.caller.said().len() > MOST_UNSENT
+        is_late || self.caller.output().len() > MOST_UNSENT
     }
 
     /// An answer is told to it, where it is of its order. Whether it is; one that can't be told it leaves.
-    pub(crate) fn is_answered<G: Showing + Drop>(
+    pub(crate) fn is_answered<G: BoardReader + Drop>(
         &mut self,
-        front: &mut Front<G>,
+        front: &mut SessionService<G>,
         tree: &Tree,
         answered: &SeatAnswer,
     ) -> bool {
-        match front.tell(tree, &mut self.caller, answered) {
+        match front.deliver(tree, &mut self.caller, answered) {
             Ok(is_own) => is_own,
             Err(_) => {
                 self.leaves = true;
@@ -214,22 +216,23 @@ impl ConsoleGuest {
 
     /// Returns true if a refused guest was told its fault.
     fn is_turned_away(&self) -> bool {
-        self.caller.is_refused() && self.caller.said().is_empty()
+        self.caller.is_refused() && self.caller.output().is_empty()
     }
 
     /// Whether all that it typed is answered, or nobody is there to be answered.
-    fn is_done<G: Showing + Drop>(&self, front: &Front<G>) -> bool {
+    fn is_done<G: BoardReader + Drop>(&self, front: &SessionService<G>) -> bool {
         self.is_over
-            && self.cutter.is_used_up()
+            && self.splitter.is_empty()
             && self.caller.is_idle()
-            && self.caller.said().is_empty()
-            && (self.is_deaf || !self.caller.is_following() && !front.owes(self.caller.number()))
+            && self.caller.output().is_empty()
+            && (self.is_deaf
+                || !self.caller.has_subscription() && !front.has_pending(self.caller.number()))
     }
 
     /// Its lines are heard, and what it is to be told is written, as far as nothing waits.
-    pub(crate) fn turn<G: Showing + Drop>(
+    pub(crate) fn turn<G: BoardReader + Drop>(
         &mut self,
-        front: &mut Front<G>,
+        front: &mut SessionService<G>,
         tree: &Tree,
         now: Option<Instant>,
     ) {
@@ -248,13 +251,13 @@ impl ConsoleGuest {
 
     /// Whether it can go on without waiting.
     pub(crate) fn can_go_on(&self) -> bool {
-        let can_hear = !self.cutter.is_used_up() || self.can_read && !self.is_over;
+        let can_hear = !self.splitter.is_empty() || self.can_read && !self.is_over;
         can_hear && self.caller.has_room() || self.can_write && self.has_unsent()
     }
 
     /// Whether it has something to be told.
     fn has_unsent(&self) -> bool {
-        !self.caller.said().is_empty()
+        !self.caller.output().is_empty()
     }
 
     /// Whether it leaves once some time has passed.

@@ -5,7 +5,7 @@ use crate::guest::ConsoleGuest;
 use crate::reading::InputEnd;
 use mio::event::Event;
 use mio::{Events, Poll, Registry, Token, Waker};
-use smi_front::{Caller, Front, Manners, SeatAnswer, Showing, boxed};
+use smi_session::{BoardReader, ReplyStyle, SeatAnswer, Session, SessionService, boxed};
 use smi_tree::Tree;
 use std::alloc::{AllocError, Global};
 use std::fs::Files;
@@ -47,7 +47,7 @@ struct Entrance {
 pub(crate) struct Hall {
     alloc: Global,
     /// Who types at the standard input, and how that ended.
-    pub(crate) plain: Caller,
+    pub(crate) plain: Session,
     pub(crate) ending: Option<InputEnd>,
     is_plain_lost: bool,
     guests: Vec<ConsoleGuest>,
@@ -102,9 +102,9 @@ fn hear_of(entrances: &mut [Entrance], guests: &mut [ConsoleGuest], event: &Even
 }
 
 /// An answer is told to the guest who gave its order, where that is one of these.
-fn tell_guests<G: Showing + Drop>(
+fn tell_guests<G: BoardReader + Drop>(
     guests: &mut [ConsoleGuest],
-    front: &mut Front<G>,
+    front: &mut SessionService<G>,
     tree: &Tree,
     answered: &SeatAnswer,
 ) {
@@ -118,7 +118,7 @@ fn tell_guests<G: Showing + Drop>(
 impl Hall {
     /// A hall with these entrances, in which nobody is.
     fn over(alloc: Global, poll: Poll, entrances: Vec<Entrance>) -> Result<Box<Hall>, AllocError> {
-        let plain = Caller::new(alloc, 0, Manners::Terse)?;
+        let plain = Session::new(alloc, 0, ReplyStyle::Script)?;
         let events = Events::with_capacity(alloc, EVENTS)?;
         let hall = Hall {
             alloc,
@@ -148,7 +148,7 @@ impl Hall {
     }
 
     /// Who types at the standard input.
-    pub(crate) fn plain(&mut self) -> &mut Caller {
+    pub(crate) fn plain(&mut self) -> &mut Session {
         &mut self.plain
     }
 
@@ -158,13 +158,13 @@ impl Hall {
     }
 
     /// An answer is told to its caller, where that has not left.
-    pub(crate) fn tell_answer<G: Showing + Drop>(
+    pub(crate) fn tell_answer<G: BoardReader + Drop>(
         &mut self,
-        front: &mut Front<G>,
+        front: &mut SessionService<G>,
         tree: &Tree,
         answered: &SeatAnswer,
     ) {
-        match front.tell(tree, &mut self.plain, answered) {
+        match front.deliver(tree, &mut self.plain, answered) {
             Ok(true) => {}
             Ok(false) => tell_guests(&mut self.guests, front, tree, answered),
             Err(_) => self.is_plain_lost = true,
@@ -173,9 +173,9 @@ impl Hall {
 
     /// Those who want to be told of states or of actions can't be told all any more.
     pub(crate) fn lose_followers(&mut self) {
-        self.is_plain_lost = self.is_plain_lost || self.plain.is_following();
+        self.is_plain_lost = self.is_plain_lost || self.plain.has_subscription();
         for guest in self.guests.iter_mut() {
-            if guest.caller().is_following() {
+            if guest.caller().has_subscription() {
                 guest.leave();
             }
         }
@@ -234,9 +234,9 @@ impl Hall {
     }
 
     /// Each connection is heard and told, as far as nothing waits; those that are done leave.
-    pub(crate) fn serve_guests<G: Showing + Drop>(
+    pub(crate) fn serve_guests<G: BoardReader + Drop>(
         &mut self,
-        front: &mut Front<G>,
+        front: &mut SessionService<G>,
         tree: &Tree,
         now: Option<Instant>,
     ) {
@@ -247,12 +247,16 @@ impl Hall {
     }
 
     /// How long to wait at most for something to come.
-    fn patience<G: Showing + Drop>(&self, front: &Front<G>, has_more: bool) -> Option<Duration> {
+    fn patience<G: BoardReader + Drop>(
+        &self,
+        front: &SessionService<G>,
+        has_more: bool,
+    ) -> Option<Duration> {
         if has_more || self.guests.iter().any(|guest| guest.can_go_on()) {
             return Some(Duration::from_millis(0));
         }
-        let is_watchful = !front.is_at_rest()
-            || !self.plain.said().is_empty()
+        let is_watchful = !front.is_idle()
+            || !self.plain.output().is_empty()
             || self.entrances.iter().any(|entrance| entrance.is_called)
             || self.guests.iter().any(|guest| guest.is_timed());
         if is_watchful {
@@ -263,7 +267,11 @@ impl Hall {
     }
 
     /// Waits until something comes, or until it is time to look again. Whether it could wait.
-    pub(crate) fn wait<G: Showing + Drop>(&mut self, front: &Front<G>, has_more: bool) -> bool {
+    pub(crate) fn wait<G: BoardReader + Drop>(
+        &mut self,
+        front: &SessionService<G>,
+        has_more: bool,
+    ) -> bool {
         let patience = self.patience(front, has_more);
         let has_waited = self.poll.poll(&mut self.events, patience).is_ok();
         let (entrances, guests) = (&mut self.entrances, &mut self.guests);

@@ -1,11 +1,11 @@
 //! A witness of the steps of a node who tells the front desk of answers, of states and of actions.
 
 use crate::dispatch::Dispatch;
-use smi_front::{Act, StationNews, done_by};
 use smi_grant::Shown;
 use smi_node::{Counter, Witness};
 use smi_protocol::{Event, Heard, StepFault};
 use smi_rows::Stable;
+use smi_session::{ActionDone, StationEvent, step_action};
 use smi_station::Station;
 use smi_station_output::Out;
 use smi_tree::Tree;
@@ -75,7 +75,7 @@ impl<H: Wait + Drop> Herald<H> {
 
     /// A state is told, or owed where there is no room for it, or where others are owed.
     fn tell_or_owe(&mut self, shown: Shown) {
-        if self.owes || !self.dispatch.tell(StationNews::Showed(shown)) {
+        if self.owes || !self.dispatch.tell(StationEvent::StateChanged(shown)) {
             self.owe(shown);
         }
     }
@@ -99,7 +99,7 @@ impl<H: Wait + Drop> Herald<H> {
         self.owes = false;
         for owed in self.owed.iter_mut() {
             if let Some(shown) = *owed {
-                if self.dispatch.tell(StationNews::Showed(shown)) {
+                if self.dispatch.tell(StationEvent::StateChanged(shown)) {
                     *owed = None;
                 } else {
                     self.owes = true;
@@ -115,13 +115,13 @@ impl<H: Wait + Drop> Herald<H> {
         event: &Event<'_>,
         made: &Result<Heard, StepFault>,
     ) {
-        let Some(done) = done_by(&self.tree, event, made) else {
+        let Some(done) = step_action(&self.tree, event, made) else {
             return;
         };
         for device in done.devices {
             let object = self.tree.domain_count().saturating_add(*device);
             if let Some(shown) = station.current(object) {
-                self.dispatch.tell_act(Act {
+                self.dispatch.tell_act(ActionDone {
                     action: done.action,
                     shown,
                 });

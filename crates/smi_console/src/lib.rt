@@ -9,7 +9,7 @@
 //!
 //! Three threads, which nobody joins, have the consoles (`starting`). One reads the lines of the standard input and
 //! hands them on (`reading`); one writes what the standard input is told (`outlet`). The third stands at the front
-//! (`attending`): it has the front desk of `smi_front`, hears the standard input and the connections (`hall`,
+//! (`attending`): it has the front desk of `smi_session`, hears the standard input and the connections (`hall`,
 //! `guest`) that come in at the doors (`doors`), and tells each what it asked for. It waits for all of them at
 //! once, for none of them alone, and is woken by the thread that serves (`chime`) once a turn has brought an
 //! answer, a state or an action (`herald`, `dispatch`). Orders that were given are followed by a datagram to the

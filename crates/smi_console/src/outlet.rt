@@ -3,8 +3,8 @@
 use crate::chime::Chime;
 use crossbeam_channel::{Receiver, Sender, TrySendError, bounded};
 use smi_base::write_whole;
-use smi_front::{Caller, MOST_UNSENT};
 use smi_schedule::Unwritten;
+use smi_session::{MOST_UNSENT, Session};
 use std::alloc::{AllocError, Global};
 use std::io::Write;
 use std::sync::atomic::{AtomicBool, AtomicUsize, Ordering};
@@ -80,14 +80,14 @@ impl Outlet {
     }
 
     /// Hands on a block of what a caller is to be told. Whether there was room.
-    fn hand_on<R: Wait>(&self, rt: &R, caller: &mut Caller) -> Result<bool, Unwritten> {
-        let said = caller.said();
+    fn hand_on<R: Wait>(&self, rt: &R, caller: &mut Session) -> Result<bool, Unwritten> {
+        let said = caller.output();
         let count = said.len().min(AT_ONCE);
         let block = Vec::from_slice(self.alloc, said.get(..count).unwrap_or(said))?;
         self.progress.unwritten.fetch_add(1, Ordering::SeqCst);
         match self.blocks.try_send(rt, block) {
             Ok(()) => {
-                caller.written(count);
+                caller.consume(count);
                 return Ok(true);
             }
             Err(TrySendError::Full(_)) => {}
@@ -101,16 +101,16 @@ impl Outlet {
     /// Hands on what a caller is to be told, as far as there is room; the rest stays with the caller.
     ///
     /// `Writer` is answered where a write has failed, and where more stays than a caller may have untold.
-    pub(crate) fn say<R: Wait>(&self, rt: &R, caller: &mut Caller) -> Result<(), Unwritten> {
+    pub(crate) fn say<R: Wait>(&self, rt: &R, caller: &mut Session) -> Result<(), Unwritten> {
         if self.progress.has_failed.load(Ordering::SeqCst) {
             return Err(Unwritten::Writer);
         }
         for _ in 0..HANDED {
-            if caller.said().is_empty() || !self.hand_on(rt, caller)? {
+            if caller.output().is_empty() || !self.hand_on(rt, caller)? {
                 break;
             }
         }
-        if caller.said().len() > MOST_UNSENT {
+        if caller.output().len() > MOST_UNSENT {
             return Err(Unwritten::Writer);
         }
         Ok(())

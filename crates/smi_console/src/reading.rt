@@ -2,7 +2,7 @@
 
 use crate::chime::Chime;
 use crossbeam_channel::Sender;
-use smi_front::Cutter;
+use smi_session::LineSplitter;
 use std::alloc::{AllocError, Global};
 use std::io::{ErrorKind, Read};
 use std::sync::Wait;
@@ -36,12 +36,12 @@ enum Come {
 }
 
 /// Reads once, and has what came cut.
-fn read_once<I: Read>(reader: &mut I, cutter: &mut Cutter) -> Result<Come, AllocError> {
+fn read_once<I: Read>(reader: &mut I, splitter: &mut LineSplitter) -> Result<Come, AllocError> {
     let mut block = [0u8; AT_ONCE];
     match reader.read(&mut block) {
         Ok(0) => Ok(Come::End),
         Ok(count) => {
-            cutter.fill(block.get(..count).unwrap_or(&[]))?;
+            splitter.push(block.get(..count).unwrap_or(&[]))?;
             Ok(Come::More)
         }
         Err(e) if e.kind() == ErrorKind::Interrupted => Ok(Come::More),
@@ -50,15 +50,15 @@ fn read_once<I: Read>(reader: &mut I, cutter: &mut Cutter) -> Result<Come, Alloc
 }
 
 /// The next line of the input, or how it ended. The last line may lack its line feed.
-fn next_line<I: Read>(reader: &mut I, cutter: &mut Cutter) -> Result<Input, AllocError> {
+fn next_line<I: Read>(reader: &mut I, splitter: &mut LineSplitter) -> Result<Input, AllocError> {
     for _ in 0..MOST {
-        if let Some(line) = cutter.next()? {
+        if let Some(line) = splitter.next_line()? {
             return Ok(Input::Line(line));
         }
-        match read_once(reader, cutter)? {
+        match read_once(reader, splitter)? {
             Come::More => {}
             Come::End => {
-                return Ok(match cutter.rest()? {
+                return Ok(match splitter.last_line()? {
                     Some(line) => Input::Line(line),
                     None => Input::Ended(InputEnd::End),
                 });
@@ -70,8 +70,8 @@ fn next_line<I: Read>(reader: &mut I, cutter: &mut Cutter) -> Result<Input, Allo
 }
 
 /// What the input gives next.
-fn next_input<I: Read>(reader: &mut I, cutter: &mut Cutter) -> Input {
-    match next_line(reader, cutter) {
+fn next_input<I: Read>(reader: &mut I, splitter: &mut LineSplitter) -> Input {
+    match next_line(reader, splitter) {
         Ok(input) => input,
         Err(_) => Input::Ended(InputEnd::Memory),
     }
@@ -92,9 +92,9 @@ pub(crate) fn read_all<I: Read, R: Wait>(
     lines: &Sender<Input>,
     chime: &Chime,
 ) {
-    let mut cutter = Cutter::new(alloc);
+    let mut splitter = LineSplitter::new(alloc);
     for _ in 0..MOST {
-        let input = next_input(reader, &mut cutter);
+        let input = next_input(reader, &mut splitter);
         let is_last = matches!(input, Input::Ended(_));
         if !hand_on(rt, input, lines, chime) || is_last {
             return;

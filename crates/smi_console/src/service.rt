@@ -4,11 +4,11 @@ ghost use Rattle.smi_node.specs.Carried.{edges, node};
 ghost use Rattle.smi_node.specs.Linked.{shown_by};
 ghost use Rattle.smi_console.specs.Serving.{IsServed, ServesFor, serving};
 
-use smi_front::boxed;
 use smi_link::DatagramLink;
 use smi_node::{ServeFault, Witness, serve_before};
 use smi_operator::Desk;
 use smi_rows::Stable;
+use smi_session::boxed;
 use smi_station::Station;
 use smi_view::{Board, BoardId};
 use std::alloc::{AllocError, Global};

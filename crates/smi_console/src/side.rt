@@ -2,10 +2,10 @@
 
 use crate::chime::{Chime, ChimedLink};
 use crate::service::Service;
-use smi_front::boxed;
 use smi_link::DatagramLink;
 use smi_node::{CountedLink, Counts, Witness};
 use smi_operator::Desk;
+use smi_session::boxed;
 use std::alloc::{AllocError, Global};
 use std::sync::Arc;
 

@@ -9,7 +9,7 @@ use crate::reading::{Input, read_all};
 use crate::running::NodeSetup;
 use crate::socket_drops::SocketDrops;
 use crossbeam_channel::{Receiver, Sender, bounded};
-use smi_front::{Front, Showing, StationNews, boxed};
+use smi_session::{BoardReader, SessionService, StationEvent, boxed};
 use std::alloc::{AllocError, Global};
 use std::io::{Read, Write};
 use std::sync::{Arc, Wait};
@@ -69,7 +69,7 @@ fn begin_writing<
 
 /// Starts the thread at the front. Nobody joins it: it ends with the program, or before.
 fn begin_attending<
-    G: Showing + Drop + Send + 'static,
+    G: BoardReader + Drop + Send + 'static,
     H: Wait + Threads + Clock + AllocGlobal + Clone + Drop + Send + 'static,
     E: Write + Drop + Send + 'static,
 >(rt: &H, setup: &NodeSetup, attendant: Box<Attendant<G>>, faults: E) -> Result<(), AllocError> {
@@ -87,19 +87,19 @@ fn begin_attending<
 
 /// What stands at the front beside its threads.
 #[derive(Drop)]
-pub(crate) struct Lobby<G: Showing + Drop> {
-    pub(crate) front: Box<Front<G>>,
+pub(crate) struct Lobby<G: BoardReader + Drop> {
+    pub(crate) front: Box<SessionService<G>>,
     pub(crate) hall: Box<Hall>,
     pub(crate) bell: Bell,
 }
 
 /// What the thread at the front has of this lobby.
-fn attendant_of<G: Showing + Drop>(
+fn attendant_of<G: BoardReader + Drop>(
     alloc: Global,
     lobby: Lobby<G>,
     outlet: Outlet,
     lines: Receiver<Input>,
-    news: Receiver<StationNews>,
+    news: Receiver<StationEvent>,
     drops: SocketDrops,
 ) -> Result<Box<Attendant<G>>, AllocError> {
     let Lobby { front, hall, bell } = lobby;
@@ -118,7 +118,7 @@ fn attendant_of<G: Showing + Drop>(
 
 /// Starts the thread at the front of this lobby, and answers the way by which it is told news.
 fn begin_front<
-    G: Showing + Drop + Send + 'static,
+    G: BoardReader + Drop + Send + 'static,
     H: Wait + Threads + Clock + AllocGlobal + Clone + Drop + Send + 'static,
     E: Write + Drop + Send + 'static,
 >(
@@ -128,7 +128,7 @@ fn begin_front<
     outlet: Outlet,
     lines: Receiver<Input>,
     faults: E,
-) -> Result<Sender<StationNews>, AllocError> {
+) -> Result<Sender<StationEvent>, AllocError> {
     let (sender, news) = bounded(rt.alloc(), NEWS)?;
     let drops = SocketDrops::of(rt.alloc(), setup)?;
     let attendant = attendant_of(rt.alloc(), lobby, outlet, lines, news, drops)?;
@@ -138,7 +138,7 @@ fn begin_front<
 
 /// Starts the threads of a node's consoles, and answers the way by which they are told news.
 pub(crate) fn begin_console<
-    G: Showing + Drop + Send + 'static,
+    G: BoardReader + Drop + Send + 'static,
     H: Wait + Threads + Clock + AllocGlobal + Clone + Drop + Send + 'static,
     I: Read + Drop + Send + 'static,
     O: Write + Drop + Send + 'static,
@@ -149,7 +149,7 @@ pub(crate) fn begin_console<
     lobby: Lobby<G>,
     chime: &Arc<Chime, Global>,
     console: Console<I, O, E>,
-) -> Result<Sender<StationNews>, AllocError> {
+) -> Result<Sender<StationEvent>, AllocError> {
     let Console {
         input,
         output,

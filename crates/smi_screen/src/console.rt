@@ -1,7 +1,7 @@
 //! The console of a node, to which the orders go that are given from the page.
 
 use mio::net::{TcpStream, UnixStream};
-use smi_front::Cutter;
+use smi_session::LineSplitter;
 use smi_window::Relay;
 use std::alloc::{AllocError, Global};
 use std::io::{self, ErrorKind, Read, Write};
@@ -85,7 +85,7 @@ enum Standing {
 #[derive(Drop)]
 struct Connected {
     stream: ConsoleStream,
-    cutter: Cutter,
+    splitter: LineSplitter,
     /// Since when it is there or on its way.
     since: u64,
 }
@@ -118,7 +118,7 @@ impl Connected {
     /// The lines that have come are heard.
     fn hear(&mut self, relay: &mut Relay, now: u64) -> Result<(), AllocError> {
         for _ in 0..LINES {
-            match self.cutter.next()? {
+            match self.splitter.next_line()? {
                 Some(line) => relay.hear(line.as_slice(), now)?,
                 None => return Ok(()),
             }
@@ -136,7 +136,7 @@ impl Connected {
                 Err(error) => return after_fault(error),
             };
             let came = block.get(..count).unwrap_or(&[]);
-            if self.cutter.fill(came).is_err() || self.hear(relay, now).is_err() {
+            if self.splitter.push(came).is_err() || self.hear(relay, now).is_err() {
                 return Standing::Broken;
             }
         }
@@ -196,7 +196,7 @@ impl NodeConsole {
         if let Ok(stream) = ConsoleStream::connect(rt, &self.place) {
             self.line = Some(Connected {
                 stream,
-                cutter: Cutter::new(self.alloc),
+                splitter: LineSplitter::new(self.alloc),
                 since: now,
             });
         }

@@ -1,0 +1,60 @@
+-- One queue changes, and all others stay.
+use Rattle.std.proofs.Common.{◌≡◌, ◌≢◌, ℕ, zero, suc, ◌<◌, Bool, List, [], ◌∷◌, length, get_or, slice_get, slice_set}
+use Rattle.std.proofs.Common.{refl, ap, ◌∙◌, inl, inr, arith, true, Option, Some}
+use Rattle.std.proofs.Math.Seq.{map-set_same}
+use Rattle.std.proofs.lemmas.List.{get_or-set_same, length-set}
+use Rattle.std.proofs.lemmas.Option.{slice_get-get_or}
+use Rattle.smi_session.specs.Session.{SessionState}
+use Rattle.smi_session.specs.SeatTable.{AreQueuesOf, ChangesAt, Gives, SeatTableState, place_of}
+use Rattle.smi_session.specs.SeatQueue.{Keeps, SeatQueueState, Submits}
+use Rattle.smi_session.specs.declared.seat_queue.PendingOrder.{PendingOrder}
+
+-- the element at a place that was written, and at any other
+get_written : {X : Type 0} (xs : List X) (i : ℕ) (y : X) → i < length xs → slice_get (slice_set xs i y) i ≡ Some y
+get_written xs i y within =
+    slice_get-get_or (slice_set xs i y) i y (omega (arith, length-set xs i y, within))
+    ∙ ap Some (get_or-set_same xs i y y within)
+
+get_another : {X : Type 0} (xs : List X) (i j : ℕ) (y : X) → j ≢ i → slice_get (slice_set xs i y) j ≡ slice_get xs j
+get_another [] i j y other = refl
+get_another (x ∷ xs) zero zero y other = absurd (other refl)
+get_another (x ∷ xs) zero (suc j) y other = refl
+get_another (x ∷ xs) (suc i) zero y other = refl
+get_another (x ∷ xs) (suc i) (suc j) y other = get_another xs i j y (λ e. other (ap suc e))
+
+-- whoever sits at the queues stays there
+pub stay : (os : List ℕ) (qs : List SeatQueueState) (i : ℕ) (q d : SeatQueueState)
+    → q.operator ≡ (get_or qs i d).operator → AreQueuesOf os qs → AreQueuesOf os (slice_set qs i q)
+stay os qs i q d same are = map-set_same (λ q. q.operator) qs i q d same ∙ are
+
+-- the queue of a place changes so, and the others do not
+pub changes : (R : SeatQueueState → SeatQueueState → Type 0) (a : SeatTableState) (i : ℕ) (q d : SeatQueueState)
+    (given : Bool) → i < length a.queues → R (get_or a.queues i d) q
+    → ChangesAt i R a (record a { queues = slice_set a.queues i q; has_given = given })
+changes R a i q d given within r = record {
+  this = rw (slice_get-get_or a.queues i d within, get_written a.queues i q within) r;
+  others = λ j other. get_another a.queues i j q other;
+  count = length-set a.queues i q;
+  operators = refl;
+}
+
+-- an order is given at the queue of a place
+pub gave_at : (operator : Option ℕ) (p : PendingOrder) (a : SeatTableState) (c : SessionState) (i : ℕ)
+    (q d : SeatQueueState) → i ≡ place_of a.operators operator → i < length a.queues → d ≡ get_or a.queues i d
+    → Submits p d q → Gives operator p a c (record a { queues = slice_set a.queues i q; has_given = true }) c
+gave_at operator p a c i q d at within read gave =
+    inl (rw (← at) (changes (Submits p) a i q d true within (rw (← read) gave)), refl, refl)
+
+-- or deferred
+pub deferred_at : (operator : Option ℕ) (p : PendingOrder) (a : SeatTableState) (c e : SessionState) (i : ℕ)
+    (q d : SeatQueueState) → i ≡ place_of a.operators operator → i < length a.queues → d ≡ get_or a.queues i d
+    → Keeps d q → e ≡ record c { deferred = Some (record { operator = operator; pending = p }) }
+    → Gives operator p a c (record a { queues = slice_set a.queues i q }) e
+deferred_at operator p a c e i q d at within read same deferred =
+    inr (rw (← at) (changes Keeps a i q d a.has_given within (rw (← read) same)), refl, deferred)
+
+-- an answer is taken, or there is none
+pub took_at : (R : SeatQueueState → SeatQueueState → Type 0) (a : SeatTableState) (i : ℕ) (q d : SeatQueueState)
+    → i < length a.queues → d ≡ get_or a.queues i d → R d q
+    → ChangesAt i R a (record a { queues = slice_set a.queues i q })
+took_at R a i q d within read took = changes R a i q d a.has_given within (rw (← read) took)

@@ -1,0 +1,5 @@
+pub mod Changing
+pub mod Rising
+pub mod Seating
+pub mod Splitting
+pub mod Stepping

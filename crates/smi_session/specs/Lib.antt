@@ -1,0 +1,17 @@
+pub mod FaultReply
+pub mod Handling
+pub mod Line
+pub mod LineSplitter
+pub mod Query
+pub mod Reply
+pub mod Request
+pub mod SeatQueue
+pub mod SeatTable
+pub mod Service
+pub mod Session
+pub mod StationEvent
+pub mod Action
+pub mod Subscription
+pub mod Tag
+pub mod Trust
+pub mod UnknownName

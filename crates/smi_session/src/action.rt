@@ -1,0 +1,64 @@
+//! Which action the step of an event did, and at which devices.
+
+ghost use Rattle.std.specs.Prelude.{◌≡◌, option_map};
+ghost use Rattle.smi_session.specs.Action as spec;
+
+use smi_grant::Command;
+use smi_message::{Body, decode};
+use smi_protocol::{Event, Heard, StepFault};
+use smi_tree::Tree;
+
+/// An action that a step did, and its devices by number: all of its domain, whether they moved or not.
+#[derive(Clone, Copy)]
+pub struct StepAction<'a> {
+    pub action: u16,
+    pub devices: &'a [u16],
+}
+
+/// Returns the action of a command. None if its domain does not accept it, or the command is no action.
+fn action_of(tree: &Tree, domain: u16, command: Command) -> Option<u16>
+    ensures { result ≡ spec.action_of tree.now domain command }
+{
+    match command {
+        Command::Do(action) if tree.accepts(domain, action) => Some(action),
+        _ => None,
+    }
+}
+
+/// Returns the action of a datagram whose command has run.
+fn run_action<'a>(tree: &'a Tree, body: &Body) -> Option<StepAction<'a>>
+    ensures { option_map (λ d. (d.action, d.devices.now)) result ≡ spec.run_action tree.now body.now }
+{
+    match *body {
+        Body::Run {
+            domain,
+            command,
+            ..
+        } if 1 <= domain && domain <= tree.domain_count() => {
+            let action = action_of(tree, domain, command)?;
+            Some(StepAction {
+                action,
+                devices: tree.devices(domain),
+            })
+        }
+        _ => None,
+    }
+}
+
+/// Returns the action that the step of an event did, by what the step answered. None if no command ran in it: one that
+/// had run before is not done again.
+pub fn step_action<'a>(
+    tree: &'a Tree,
+    event: &Event<'_>,
+    made: &Result<Heard, StepFault>,
+) -> Option<StepAction<'a>>
+    ensures { option_map (λ d. (d.action, d.devices.now)) result ≡ spec.step_action tree.now event.now made.now }
+{
+    match (event, made) {
+        (Event::Datagram(bytes), Ok(Heard::Done)) => match decode(bytes) {
+            Ok(datagram) => run_action(tree, &datagram.body),
+            Err(_) => None,
+        },
+        _ => None,
+    }
+}

@@ -1,0 +1,34 @@
+//! Reading what the board of a station shows.
+
+ghost use Rattle.std.specs.Prelude.{◌≡◌, ◌⊎◌, None};
+ghost use mathlib.Core.List.{IsPrefix};
+ghost use Rattle.smi_view.specs.Rows.{last_row};
+
+use smi_grant::Shown;
+use smi_view::{BoardId, Glance};
+
+/// Whatever reads the board of a station.
+///
+/// Contracts see what a glance of that board has seen and was told. The service is over any such reader, because a
+/// function that names the board of its glance is expensive to prove.
+pub trait BoardReader {
+    ghost use Rattle.smi_view.specs.Shows.{GlanceShows};
+
+    ghost shows: { Self → GlanceShows };
+
+    /// Returns the state that the board shows of an object. None if the board gave no reading.
+    fn shown(&mut self, object: u16) -> Option<Shown>
+        ensures shown { (result ≡ None) ⊎ (result ≡ last_row object (shows self.new).seen) }
+        ensures rises { IsPrefix (shows self.old).seen (shows self.new).seen };
+}
+
+impl<J: BoardId> BoardReader for Glance<J> {
+    ghost shows = { λ g. g };
+
+    fn shown(&mut self, object: u16) -> Option<Shown> {
+        match self.read(object) {
+            Ok(shown) => shown,
+            Err(_) => None,
+        }
+    }
+}

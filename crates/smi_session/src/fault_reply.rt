@@ -1,0 +1,115 @@
+//! What is told of a line that is refused.
+
+ghost use Rattle.std.specs.Prelude.{◌≡◌, ◌++◌, ◌∷◌, [], OnOk, is_some};
+ghost use Rattle.std.specs.Fmt.{decimal};
+ghost use Rattle.smi_session.specs.FaultReply as spec;
+ghost use Rattle.smi_session.specs.declared.session.ReplyStyle.TheVariants.{Script, Human};
+
+use crate::session::{ReplyStyle, Session};
+use crate::tag::TaggedLine;
+use crate::unknown_name::unknown_in;
+use smi_tree::{Fault, Tree};
+use std::alloc::AllocError;
+use std::io::Write;
+
+/// Returns a fault in words.
+fn words_of(fault: Fault) -> &'static [u8]
+    ensures { result.now ≡ spec.words_of fault }
+{
+    match fault {
+        Fault::UnknownWord => b"a word that no line has there",
+        Fault::WordCount => b"too few words, or too many",
+        Fault::Malformed => b"a name that is not well formed",
+        Fault::UnknownName => b"a name that this station does not have as what the line wants",
+        Fault::LineTooLong => b"more than 200 bytes",
+        _ => b"no line of a node",
+    }
+}
+
+/// Adds what is wrong with a line in words. If a name of it is unknown, that name is told.
+fn push_reason(
+    text: &mut Vec<u8>,
+    tree: &Tree,
+    operators: &[u16],
+    line: &[u8],
+    fault: Fault,
+) -> Result<(), AllocError>
+    ensures { OnOk result (text.new.items ≡ text.old.items ++ spec.reason_of tree.now operators.now line.now fault) }
+{
+    let unknown = match fault {
+        Fault::UnknownName => unknown_in(tree, operators, line),
+        _ => None,
+    };
+    match unknown {
+        Some(unknown) => {
+            text.extend_from_slice(unknown.name)?;
+            text.push(b' ')?;
+            text.extend_from_slice(unknown.message)
+        }
+        None => text.extend_from_slice(words_of(fault)),
+    }
+}
+
+/// Puts the fault of a line into a text, in place of what was there: with its number, if it has no tag.
+fn write_fault(
+    text: &mut Vec<u8>,
+    has_tag: bool,
+    number: u64,
+    fault: Fault,
+) -> Result<(), AllocError>
+    ensures { OnOk result (text.new.items ≡ spec.fault_line has_tag number fault) }
+{
+    text.clear();
+    if !has_tag {
+        text.extend_from_slice(b"line ")?;
+        write!(text, "{number} ").map_err(|_| AllocError)?;
+    }
+    text.extend_from_slice(b"fault ")?;
+    write!(text, "{}", fault.code()).map_err(|_| AllocError)
+}
+
+/// Ends the line of a fault, for a person with the reason.
+fn end_fault(
+    text: &mut Vec<u8>,
+    tree: &Tree,
+    operators: &[u16],
+    style: ReplyStyle,
+    line: &[u8],
+    fault: Fault,
+) -> Result<(), AllocError>
+    ensures { OnOk result (text.new.items
+        ≡ spec.fault_text style (spec.reason_of tree.now operators.now line.now fault) text.old.items) }
+{
+    match style {
+        ReplyStyle::Script => {}
+        ReplyStyle::Human => {
+            text.push(b':')?;
+            text.push(b' ')?;
+            push_reason(text, tree, operators, line, fault)?;
+        }
+    }
+    text.push(b'\n')?;
+    Ok(())
+}
+
+/// Tells a session the fault of its line: behind its tag, among the answers, or apart.
+///
+/// Its error is that memory was refused.
+pub(crate) fn push_fault(
+    text: &mut Vec<u8>,
+    tree: &Tree,
+    operators: &[u16],
+    session: &mut Session,
+    line: TaggedLine<'_>,
+    fault: Fault,
+) -> Result<(), AllocError>
+    ensures { OnOk result (session.new ≡ spec.with_fault tree.now operators.now line.entry.tag line.entry.number line.entry.text.now fault
+        session.old) }
+{
+    write_fault(text, line.tag.is_some(), line.number, fault)?;
+    end_fault(text, tree, operators, session.style(), line.text, fault)?;
+    match (session.style(), line.tag) {
+        (ReplyStyle::Script, None) => session.push_error(text.as_slice()),
+        _ => session.push_reply(line.tag, text.as_slice()),
+    }
+}

@@ -1,0 +1,50 @@
+//! What follows for whoever types at a node.
+
+ghost use Rattle.std.specs.Prelude.{ℕ, ◌≡◌, ◌+◌, ◌==◌, ◌++◌, ◌∷◌, [], List, length, map, slice_get, true, Some};
+ghost use Rattle.std.specs.Prelude.{None};
+ghost use Rattle.std.specs.List.{concat, list_any};
+ghost use Rattle.smi_grant.specs.declared.state.Shown.{Shown};
+ghost use Rattle.smi_node.specs.Served.{speaker};
+ghost use Rattle.smi_operator.specs.declared.ends.Seat.{Seat};
+ghost use Rattle.smi_operator.specs.Sides.{submitted, told_to};
+ghost use Rattle.smi_protocol.specs.declared.order.Told.{Told};
+ghost use Rattle.smi_session.specs.LineSplitter.{lines_of, lines_of_blocks};
+ghost use Rattle.smi_session.specs.SeatQueue.{IsInStep, SeatQueueState, TellsOldest};
+ghost use Rattle.smi_session.specs.SeatTable.{IsOpened, SeatTableState, place_of};
+ghost use Rattle.smi_session.specs.Service.{Records, ServiceState};
+ghost use Rattle.smi_session.specs.StationEvent.{AreInOrder};
+ghost use Rattle.smi_session.specs.declared.seat_queue.PendingOrder.{PendingOrder};
+ghost use Rattle.smi_session.specs.declared.station_event.StationEvent.{StationEvent};
+
+/// An order goes to the seat that the node serves as its operator's, and a report to the last one, which is nobody's.
+/// The queues of a table that was opened are over its seats, in their order.
+pub fn orders_go_to_their_operators_seat()
+    ensures operator { (operators : List ℕ) (operator : ℕ) → list_any (λ o. o == operator) operators ≡ true
+        → speaker operators (length operators + 1) (place_of operators (Some operator)) ≡ Some operator }
+    ensures nobody { (operators : List ℕ)
+        → speaker operators (length operators + 1) (place_of operators None) ≡ None }
+    ensures seats { (operators : List ℕ) (seats : List Seat) (reports : Seat) (t : SeatTableState)
+        → IsOpened operators seats reports t → length operators ≡ length seats
+        → map (λ q. q.seat) t.queues ≡ seats ++ reports ∷ [] }
+    ensures operators { (operators : List ℕ) (seats : List Seat) (reports : Seat) (t : SeatTableState)
+        → IsOpened operators seats reports t → length operators ≡ length seats → t.operators ≡ operators }
+{}
+
+/// The answer of a seat that is told is that of the order with its number: the first answer that of the first order, and
+/// so on.
+pub fn answers_are_of_their_orders()
+    ensures { (a b : SeatQueueState) (p : PendingOrder) (told : Told) → IsInStep a → TellsOldest p told a b
+        → slice_get (submitted a.seat) (length (told_to a.seat)) ≡ Some p.order }
+{}
+
+/// The lines of bytes are those of the whole, however these were cut into blocks.
+pub fn blocks_do_not_matter()
+    ensures { (line : List ℕ) (blocks : List (List ℕ)) → lines_of_blocks line blocks ≡ lines_of line (concat blocks) }
+{}
+
+/// The states of one object that are told rise, and none is newer than what is had of the object: that was so before an
+/// event is recorded, and is so afterwards.
+pub fn recorded_states_rise()
+    ensures { (e : StationEvent) (a b : ServiceState) → AreInOrder a.picture a.events → Records e a b
+        → AreInOrder b.picture b.events }
+{}

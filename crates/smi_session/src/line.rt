@@ -1,0 +1,122 @@
+//! Lines that are those of a schedule, and `show`.
+
+ghost use Rattle.std.specs.Prelude.{◌≡◌, ◌≤◌, IsTrue};
+ghost use Rattle.smi_tree.specs.Lookups.{operators_of, station_count};
+ghost use Rattle.smi_tree.specs.Text.{words};
+ghost use Rattle.smi_session.specs.Line as spec;
+
+use crate::request::Request;
+use smi_base::MOST_BYTES_OF_A_LINE;
+use smi_protocol::{Deed, Item, Order};
+use smi_schedule::read_item;
+use smi_tree::{Fault, Tree, first_word, is_comment, one_name};
+
+/// Returns true if an operator is one of a station.
+fn is_of(operators: &[u16], operator: u16) -> bool
+    ensures { result ≡ spec.is_of operators.now operator }
+{
+    operators.iter().any(|other| *other == operator)
+}
+
+/// Returns what an item of a schedule asks of a node with these operators.
+fn asked(operators: &[u16], item: Item) -> Result<Request, Fault>
+    ensures { result ≡ spec.asked operators.now item }
+{
+    match item {
+        Item::Do(Deed::Order(operator, order)) => {
+            if is_of(operators, operator) {
+                Ok(Request::Order(Some(operator), order))
+            } else {
+                Err(Fault::UnknownName)
+            }
+        }
+        Item::Do(Deed::Report(device, state)) => {
+            Ok(Request::Order(None, Order::Report(device, state)))
+        }
+        _ => Err(Fault::UnknownWord),
+    }
+}
+
+/// Returns what the words after `show` ask.
+#[tactic(auto, unfolding(crate::specs::Line::shown))]
+fn shown(tree: &Tree, text: &[u8]) -> Result<Request, Fault>
+    ensures { result ≡ spec.shown tree.now (words text.now) }
+{
+    let name = one_name(text)?;
+    let object = tree.object_named(name.text()).ok_or(Fault::UnknownName)?;
+    Ok(Request::Show(object))
+}
+
+/// Returns what an `order` or a `report` asks, as a schedule has it.
+#[tactic(auto, unfolding(crate::specs::Line::request_as_item))]
+fn request_as_item(tree: &Tree, operators: &[u16], line: &[u8]) -> Result<Option<Request>, Fault>
+    ensures { result ≡ spec.request_as_item tree.now operators.now line.now }
+{
+    match read_item(tree, line)? {
+        Some(item) => Ok(Some(asked(operators, item)?)),
+        None => Ok(None),
+    }
+}
+
+/// What a line is, by its first word.
+#[derive(Clone, Copy)]
+pub(crate) enum LineKind {
+    Show,
+    Order,
+    Report,
+}
+
+/// Returns what a line is that begins with this word.
+pub(crate) fn kind_of(word: &[u8]) -> Option<LineKind>
+    ensures { result ≡ spec.kind_of word.now }
+{
+    if word == b"show".as_slice() {
+        Some(LineKind::Show)
+    } else if word == b"order".as_slice() {
+        Some(LineKind::Order)
+    } else if word == b"report".as_slice() {
+        Some(LineKind::Report)
+    } else {
+        None
+    }
+}
+
+/// Returns what a line of this kind asks, if these words follow its first one.
+#[tactic(auto, unfolding(crate::specs::Line::request_of))]
+fn request_of(
+    tree: &Tree,
+    operators: &[u16],
+    kind: LineKind,
+    line: &[u8],
+    rest: &[u8],
+) -> Result<Option<Request>, Fault>
+    ensures { result ≡ spec.request_of tree.now operators.now kind line.now (words rest.now) }
+{
+    match kind {
+        LineKind::Show => Ok(Some(shown(tree, rest)?)),
+        LineKind::Order => request_as_item(tree, operators, line),
+        LineKind::Report => request_as_item(tree, operators, line),
+    }
+}
+
+/// Returns what a line asks of a station with these operators. None if it has no words or is a comment.
+///
+/// The line is without its line feed and the carriage return before it. An `order` or a `report` is as in a schedule,
+/// and `show` is followed by an object's name. The faults are those of schedules, in their order. An operator of
+/// another station is unknown here. It takes no memory.
+#[tactic(auto, unfolding(crate::specs::Line::request_in))]
+pub fn request_in(tree: &Tree, operators: &[u16], line: &[u8]) -> Result<Option<Request>, Fault>
+    ensures { result ≡ spec.request_in tree.now operators.now line.now }
+{
+    if line.len() > MOST_BYTES_OF_A_LINE {
+        return Err(Fault::LineTooLong);
+    }
+    let Some((first, rest)) = first_word(line) else {
+        return Ok(None);
+    };
+    if is_comment(first.text()) {
+        return Ok(None);
+    }
+    let kind = kind_of(first.text()).ok_or(Fault::UnknownWord)?;
+    request_of(tree, operators, kind, line, rest)
+}

@@ -1,0 +1,284 @@
+//! What a session is told: how its orders ended, and what it asks of the whole node.
+
+ghost use Rattle.std.specs.Prelude.{◌≡◌, OnOk, IfOk, codes};
+ghost use Rattle.smi_session.specs.Reply as spec;
+ghost use Rattle.smi_session.specs.Service.{told_by};
+ghost use Rattle.smi_session.specs.Session.{OnlyReplies};
+ghost use Rattle.smi_tree.specs.Text.{words};
+
+use crate::board_reader::BoardReader;
+use crate::query::Query;
+use crate::request::behind_first;
+use crate::seat_queue::SeatQueue;
+use crate::service::SessionService;
+use crate::session::Session;
+use crate::subscription::{Subscription, subscription_in};
+use crate::tag::{Tag, TaggedLine};
+use smi_protocol::{Entry, Line, Told};
+use smi_schedule::{spell, spell_board, spell_report, spell_waiting};
+use smi_tree::Tree;
+use smi_view::{Picture, Sight};
+use std::alloc::AllocError;
+use std::io::Write;
+use std::time::Instant;
+
+/// What a line may ask, a line each, with its line feed.
+const HELP: [&str; 12] = [
+    "help order OPERATOR take|drop|ask DOMAIN\n",
+    "help order OPERATOR do DOMAIN ACTION\n",
+    "help order OPERATOR include|exclude|manual|ignore DOMAIN CHILD\n",
+    "help order OPERATOR watch|unwatch OBJECT\n",
+    "help report DEVICE STATE\n",
+    "help show OBJECT -- the last state that the station took of an object that it watches\n",
+    "help states -- the newest state of each object that the station keeps or watches\n",
+    "help follow [OBJECT ..] -- these states and each later one, of some objects or of all\n",
+    "help actions [DEVICE ..] -- each action that is done at some devices from now on, or at all\n",
+    "help under way -- the orders that are not answered yet, with their seconds\n",
+    "help counts -- what this node has counted since it began\n",
+    "help @TAG LINE -- any of these at once, its answers behind the tag\n",
+];
+
+/// Puts how an order of an operator ended into a text, in place of what was there; or how a report did, which is
+/// nobody's.
+///
+/// Its error is that memory was refused.
+pub(crate) fn write_told(
+    text: &mut Vec<u8>,
+    tree: &Tree,
+    operator: Option<u16>,
+    told: Told,
+) -> Result<(), AllocError>
+    ensures { OnOk result (text.new.items ≡ told_by tree.now operator told) }
+{
+    match operator {
+        Some(operator) => spell(text, tree, &Line::Entry(Entry::Told { operator, told })),
+        None => spell_report(text, tree, &told),
+    }
+}
+
+/// Returns how many whole seconds have passed since an order was given, 0 if the clock could not be read.
+fn seconds_since(now: Option<Instant>, since: Option<Instant>) -> u64
+    ensures { result ≡ spec.seconds_since now since }
+{
+    match (now, since) {
+        (Some(now), Some(since)) => now.duration_since(since).as_secs(),
+        _ => 0,
+    }
+}
+
+/// Tells a session a line that counts what stood before it.
+fn push_count(
+    text: &mut Vec<u8>,
+    session: &mut Session,
+    tag: Option<Tag>,
+    what: &[u8],
+    count: usize,
+) -> Result<(), AllocError>
+    ensures told { OnOk result (session.new ≡ spec.with_count tag what.now count session.old) }
+    ensures only { OnlyReplies session.old session.new }
+{
+    text.clear();
+    text.extend_from_slice(what)?;
+    match writeln!(text, " {count}") {
+        Ok(()) => session.push_reply(tag, text.as_slice()),
+        Err(_) => Err(AllocError),
+    }
+}
+
+/// Adds how many datagrams the system has dropped to the line of a node's numbers.
+fn push_drops(text: &mut Vec<u8>, drops: Option<u64>) -> Result<(), AllocError> {
+    match drops {
+        Some(drops) => {
+            let _ = text.pop();
+            writeln!(text, " dropped {drops}").map_err(|_| AllocError)
+        }
+        None => Ok(()),
+    }
+}
+
+/// Lists the orders that are under way at an operator's seat, a line each.
+fn push_pending(
+    text: &mut Vec<u8>,
+    tree: &Tree,
+    now: Option<Instant>,
+    session: &mut Session,
+    tag: Option<Tag>,
+    listed: (u16, &SeatQueue),
+) -> Result<(), AllocError>
+    ensures { OnOk result (session.new ≡ spec.with_pending tree.now tag now listed.entry.0 listed.entry.1.now.pending session.old) }
+{
+    let (operator, queue) = listed;
+    for pending in queue.pending().iter() {
+        let seconds = seconds_since(now, pending.since);
+        spell_waiting(text, tree, operator, pending.order, seconds)?;
+        session.push_reply(tag, text.as_slice())?;
+    }
+    Ok(())
+}
+
+/// Lists the orders of a queue that are under way, and returns how many they are. Reports are not listed.
+fn push_queue(
+    text: &mut Vec<u8>,
+    tree: &Tree,
+    now: Option<Instant>,
+    session: &mut Session,
+    tag: Option<Tag>,
+    queue: &SeatQueue,
+) -> Result<usize, AllocError>
+    ensures told { OnOk result (session.new
+        ≡ spec.with_queue_of tree.now tag now queue.now.operator queue.now.pending session.old) }
+    ensures count { IfOk result (λ count. count ≡ spec.listed_in queue.now.operator queue.now.pending) }
+{
+    let Some(operator) = queue.operator() else {
+        return Ok(0);
+    };
+    push_pending(text, tree, now, session, tag, (operator, queue))?;
+    Ok(queue.pending().len())
+}
+
+/// Lists the orders of operators that are under way, a line each, and at the end how many they are.
+fn push_under_way(
+    text: &mut Vec<u8>,
+    tree: &Tree,
+    now: Option<Instant>,
+    session: &mut Session,
+    tag: Option<Tag>,
+    queues: &[SeatQueue],
+) -> Result<(), AllocError>
+    ensures { OnOk result (session.new ≡ spec.with_count tag (codes "under way") (spec.listed_beside 0 queues.now)
+        (spec.with_queues tree.now tag now queues.now session.old)) }
+{
+    let mut count: usize = 0;
+    for queue in queues {
+        let more = push_queue(text, tree, now, session, tag, queue)?;
+        count = count.saturating_add(more);
+    }
+    push_count(text, session, tag, b"under way", count)
+}
+
+/// Tells a session the newest state of an object, if one is known. Returns how many that are: one or none.
+fn push_state(
+    text: &mut Vec<u8>,
+    tree: &Tree,
+    session: &mut Session,
+    tag: Option<Tag>,
+    object: u16,
+    seen: Option<Sight>,
+) -> Result<usize, AllocError>
+    ensures told { OnOk result (session.new ≡ spec.with_state tree.now tag object seen session.old) }
+    ensures count { IfOk result (λ count. count ≡ spec.one_if_seen seen) }
+{
+    match seen {
+        Some(seen) => {
+            spell_board(text, tree, object, Some(seen.shown))?;
+            session.push_reply(tag, text.as_slice())?;
+            Ok(1)
+        }
+        None => Ok(0),
+    }
+}
+
+/// Lists the newest states, a line each, and at the end how many they are.
+fn push_states(
+    text: &mut Vec<u8>,
+    tree: &Tree,
+    picture: &Picture,
+    session: &mut Session,
+    tag: Option<Tag>,
+) -> Result<(), AllocError>
+    ensures { OnOk result (session.new
+        ≡ spec.with_count tag (codes "states") (spec.states_known picture.now (spec.objects tree.now))
+        (spec.with_states tree.now tag picture.now (spec.objects tree.now) session.old)) }
+{
+    let mut count: usize = 0;
+    for place in 0..tree.object_count() {
+        let object = place + 1;
+        let seen = picture.object(usize::from(object));
+        count += push_state(text, tree, session, tag, object, seen)?;
+    }
+    push_count(text, session, tag, b"states", count)
+}
+
+/// Tells a session the newest state of each object that it follows.
+fn push_followed(
+    text: &mut Vec<u8>,
+    tree: &Tree,
+    picture: &Picture,
+    session: &mut Session,
+) -> Result<(), AllocError>
+    ensures { OnOk result (session.new ≡ spec.with_followed tree.now picture.now (spec.objects tree.now) session.old) }
+{
+    for place in 0..tree.object_count() {
+        let object = place + 1;
+        if let Some(tag) = session.state_tag(object) {
+            let seen = picture.object(usize::from(object));
+            let _ = push_state(text, tree, session, tag, object, seen)?;
+        }
+    }
+    Ok(())
+}
+
+/// Lists what a line may ask, and at the end how many lines that were.
+fn push_help(text: &mut Vec<u8>, session: &mut Session, tag: Option<Tag>) -> Result<(), AllocError>
+    ensures { OnlyReplies session.old session.new }
+{
+    for line in HELP.iter() {
+        session.push_reply(tag, line.as_bytes())?;
+    }
+    push_count(text, session, tag, b"help", HELP.len())
+}
+
+/// Returns at how many devices a subscription follows actions.
+fn followed_count(tree: &Tree, subscription: &Subscription) -> usize
+    ensures { result ≡ spec.followed_count tree.now subscription.now.objects }
+{
+    match &subscription.objects {
+        Some(objects) => objects.len(),
+        None => usize::from(tree.device_count()),
+    }
+}
+
+impl<G: BoardReader + Drop> SessionService<G> {
+    ghost use Rattle.std.specs.Prelude.{◌≡◌, OnOk};
+    ghost use Rattle.smi_tree.specs.Text.{words};
+    ghost use Rattle.smi_session.specs.Reply.{Answers};
+
+    /// Tells a session what its line asks of the whole node.
+    ///
+    /// Its error is that memory was refused to the output of the session.
+    pub(crate) fn answer_query(
+        &mut self,
+        tree: &Tree,
+        now: Option<Instant>,
+        session: &mut Session,
+        line: TaggedLine<'_>,
+        query: Query,
+    ) -> Result<(), AllocError>
+        ensures told { OnOk result (Answers tree.now now line.entry.tag (words line.entry.text.now) query self.old session.old
+            session.new) }
+        ensures same { self.new ≡ self.old }
+    {
+        let (text, tag) = (&mut self.text, line.tag);
+        match query {
+            Query::Counts => {
+                self.counts.spell(text)?;
+                push_drops(text, self.drops)?;
+                session.push_reply(tag, text.as_slice())
+            }
+            Query::UnderWay => push_under_way(text, tree, now, session, tag, self.seats.queues()),
+            Query::States => push_states(text, tree, &self.picture, session, tag),
+            Query::Help => push_help(text, session, tag),
+            Query::Follow => {
+                let subscription = subscription_in(self.alloc, tree, tag, behind_first(line.text))?;
+                session.follow_states(subscription);
+                push_followed(text, tree, &self.picture, session)
+            }
+            Query::Actions => {
+                let subscription = subscription_in(self.alloc, tree, tag, behind_first(line.text))?;
+                let count = followed_count(tree, &subscription);
+                session.follow_actions(subscription);
+                push_count(text, session, tag, b"actions", count)
+            }
+        }
+    }
+}

@@ -1,0 +1,132 @@
+//! What a line asks.
+
+ghost use Rattle.std.specs.Prelude.{◌≡◌, is_some};
+ghost use Rattle.smi_tree.specs.Text.{words};
+ghost use Rattle.smi_session.specs.Request as spec;
+
+use crate::line::request_in;
+use crate::query::{Query, query_in};
+use crate::session::ReplyStyle;
+use smi_base::MOST_BYTES_OF_A_LINE;
+use smi_protocol::Order;
+use smi_tree::{Fault, Tree, first_word};
+
+/// What a line asks.
+#[derive(Clone, Copy)]
+pub enum Request {
+    /// An order of an operator. A report is nobody's.
+    Order(Option<u16>, Order),
+    /// What the board shows of an object.
+    Show(u16),
+    /// Something of the whole node.
+    Query(Query),
+}
+
+/// Returns true if a line may ask of the whole node, with a tag or without one.
+fn may_query(style: ReplyStyle, has_tag: bool) -> bool
+    ensures { result ≡ spec.may_query style has_tag }
+{
+    match style {
+        ReplyStyle::Human => true,
+        ReplyStyle::Script => has_tag,
+    }
+}
+
+/// Returns what a line asks of the whole node, if it may ask so.
+fn query_of(style: ReplyStyle, has_tag: bool, text: &[u8]) -> Result<Option<Query>, Fault>
+    ensures { result ≡ spec.query_of style has_tag text.now }
+{
+    if text.len() <= MOST_BYTES_OF_A_LINE && may_query(style, has_tag) {
+        query_in(text)
+    } else {
+        Ok(None)
+    }
+}
+
+/// Returns true if a query may name this: `follow` any object, `actions` a device.
+fn may_name(tree: &Tree, query: Query, name: &[u8]) -> bool
+    ensures { result ≡ spec.may_name tree.now query name.now }
+{
+    match query {
+        Query::Follow => tree.object_named(name).is_some(),
+        Query::Actions => tree.device_named(name).is_some(),
+        Query::Counts | Query::UnderWay | Query::States | Query::Help => false,
+    }
+}
+
+/// Returns true if a query may name all these words.
+fn may_name_all(tree: &Tree, query: Query, text: &[u8]) -> bool
+    ensures { result ≡ spec.may_name_all tree.now query (words text.now) }
+{
+    let mut left = text;
+    while let Some((word, rest)) = first_word(left) {
+        if !may_name(tree, query, word.text()) {
+            return false;
+        }
+        left = rest;
+    }
+    true
+}
+
+/// Returns what follows the first word of a text.
+pub(crate) fn behind_first(text: &[u8]) -> &[u8]
+    ensures { words result.now ≡ spec.behind_first (words text.now) }
+{
+    match first_word(text) {
+        Some((_, rest)) => rest,
+        None => text,
+    }
+}
+
+/// Returns a query with these names. A name that it may not have is a fault.
+fn named_request(tree: &Tree, query: Query, names: &[u8]) -> Result<Request, Fault>
+    ensures { result ≡ spec.named_request tree.now query (words names.now) }
+{
+    if may_name_all(tree, query, names) {
+        Ok(Request::Query(query))
+    } else {
+        Err(Fault::UnknownName)
+    }
+}
+
+/// Returns what a line asks that is a query.
+fn query_request(tree: &Tree, query: Query, text: &[u8]) -> Result<Request, Fault>
+    ensures { result ≡ spec.query_request tree.now query (words text.now) }
+{
+    match query {
+        Query::Follow => named_request(tree, Query::Follow, behind_first(text)),
+        Query::Actions => named_request(tree, Query::Actions, behind_first(text)),
+        Query::Counts | Query::UnderWay | Query::States | Query::Help => {
+            Ok(Request::Query(query))
+        }
+    }
+}
+
+/// Returns what a line asks that is no query. A line that asks nothing has a fault if it has a tag.
+fn line_request(has_tag: bool, request: Option<Request>) -> Result<Option<Request>, Fault>
+    ensures { result ≡ spec.line_request has_tag request }
+{
+    match request {
+        None if has_tag => Err(Fault::WordCount),
+        _ => Ok(request),
+    }
+}
+
+/// Returns what a line asks of a station with these operators. None if the line is skipped.
+///
+/// The text is without the tag, its line feed and the carriage return before that. docs/FORMATS.md, "A node's lines",
+/// has the faults and their order.
+pub fn request_of_line(
+    tree: &Tree,
+    operators: &[u16],
+    style: ReplyStyle,
+    has_tag: bool,
+    text: &[u8],
+) -> Result<Option<Request>, Fault>
+    ensures { result ≡ spec.request_of_line tree.now operators.now style has_tag text.now }
+{
+    match query_of(style, has_tag, text)? {
+        Some(query) => Ok(Some(query_request(tree, query, text)?)),
+        None => line_request(has_tag, request_in(tree, operators, text)?),
+    }
+}

@@ -1,0 +1,136 @@
+//! A seat, and the orders given there that are not answered yet.
+
+use crate::tag::Tag;
+use smi_operator::Seat;
+use smi_protocol::{Order, Told};
+use std::alloc::{AllocError, Global};
+use std::collections::VecDeque;
+use std::marker::Model;
+use std::time::Instant;
+
+/// The most orders of one seat that are not answered yet. The ring of a seat has room for as many.
+pub const MOST_PENDING: usize = 16;
+
+/// An order that is not answered yet.
+#[derive(Clone, Copy)]
+pub struct PendingOrder {
+    /// The number of the session that gave it.
+    pub session: u64,
+    /// The tag of its line, if that has one.
+    pub tag: Option<Tag>,
+    pub order: Order,
+    /// When it was given. None if the clock could not be read.
+    pub since: Option<Instant>,
+}
+
+/// A seat with its orders that are not answered yet, the oldest first. The station answers them in this order.
+///
+/// Contracts see the operator, the seat and these orders.
+#[derive(Drop)]
+pub struct SeatQueue {
+    operator: Option<u16>,
+    seat: Seat,
+    pending: VecDeque<PendingOrder>,
+}
+
+impl Model for SeatQueue {
+    ghost use Rattle.std.specs.Prelude.{◌≤◌};
+    ghost use Rattle.std.proofs.Common.{deque_capacity};
+    ghost use Rattle.smi_session.specs.SeatQueue.{SeatQueueState};
+    ghost use Rattle.smi_session.specs.declared.seat_queue.TheConstants.{MOST_PENDING};
+
+    ghost Value = { SeatQueueState };
+
+    ghost view = { λ q. record { operator = q.operator; seat = q.seat; pending = q.pending.items } };
+
+    ghost invariant = { λ q. MOST_PENDING ≤ deque_capacity q.pending };
+}
+
+impl SeatQueue {
+    ghost use Rattle.std.specs.List.{list_any};
+    ghost use Rattle.std.specs.Prelude.{◌≡◌, ◌==◌, ◌<◌, ◌∷◌, [], length, IsOk, IfOk, IfErr, IfNone, IfSome, OnOk};
+    ghost use Rattle.smi_operator.specs.Sides.{submitted};
+    ghost use Rattle.smi_session.specs.SeatQueue.{IsInStep, IsUnused, Keeps, Submits, TellsOldest, new_queue};
+
+    /// Makes the queue of an operator's seat, or of nobody's, at which nothing is pending.
+    ///
+    /// Its error is that memory was refused.
+    pub fn new(alloc: Global, operator: Option<u16>, seat: Seat) -> Result<SeatQueue, AllocError>
+        ensures new { IfOk result (λ q. q ≡ new_queue operator seat) }
+        ensures step { IfOk result (λ q. IsUnused seat → IsInStep q) }
+    {
+        Ok(SeatQueue {
+            operator,
+            seat,
+            pending: VecDeque::with_capacity(alloc, MOST_PENDING)?,
+        })
+    }
+
+    /// Returns the operator of the seat. None for the seat of reports, which is nobody's.
+    pub fn operator(&self) -> Option<u16>
+        ensures { result ≡ self.now.operator }
+    {
+        self.operator
+    }
+
+    /// Returns the orders that are not answered yet, the oldest first.
+    pub fn pending(&self) -> &VecDeque<PendingOrder>
+        ensures { result.now.items ≡ self.now.pending }
+    {
+        &self.pending
+    }
+
+    /// Returns true if no order is pending.
+    pub(crate) fn is_idle(&self) -> bool
+        ensures { result ≡ (length self.now.pending == 0) }
+    {
+        self.pending.is_empty()
+    }
+
+    /// Returns true if an order of this session is pending.
+    pub(crate) fn has_pending(&self, session: u64) -> bool
+        ensures { result ≡ list_any (λ p. p.session == session) self.now.pending }
+    {
+        self.pending
+            .iter()
+            .any(|pending| pending.session == session)
+    }
+
+    /// Submits an order. Hands it back if the seat is full: then all is as before.
+    ///
+    /// The first 16 orders of a seat always fit.
+    pub fn give(&mut self, pending: PendingOrder) -> Result<(), PendingOrder>
+        ensures given { OnOk result (Submits pending self.old self.new) }
+        ensures back { IfErr result (λ back. back ≡ pending) }
+        ensures same { IfErr result (λ back. Keeps self.old self.new) }
+        ensures fits { length self.old.pending < MOST_PENDING → length (submitted self.old.seat) < MOST_PENDING
+            → IsOk result }
+        ensures step { IsInStep self.old → IsInStep self.new }
+    {
+        if self.pending.len() >= MOST_PENDING {
+            return Err(pending);
+        }
+        match self.seat.submit(pending.order) {
+            Ok(()) => {
+                self.pending.push_back_reserved(pending);
+                Ok(())
+            }
+            Err(_) => Err(pending),
+        }
+    }
+
+    /// Returns the next answer of the seat, with the oldest pending order, which is the one that it is of. None if
+    /// there is no answer yet.
+    pub fn next_answer(&mut self) -> Option<(PendingOrder, Told)>
+        ensures some { IfSome result (λ r. TellsOldest r.0 r.1 self.old self.new) }
+        ensures none { IfNone result (Keeps self.old self.new) }
+        ensures operator { self.new.operator ≡ self.old.operator }
+        ensures step { IsInStep self.old → IsInStep self.new }
+    {
+        // The order is looked for first, because an answer that was taken without one could not be told to anybody.
+        let oldest = *self.pending.front()?;
+        let told = self.seat.told()?;
+        let _ = self.pending.pop_front();
+        Some((oldest, told))
+    }
+}

@@ -1,0 +1,362 @@
+//! Whoever types lines, and what is to be told there.
+
+ghost use Rattle.std.specs.Prelude.{◌≡◌};
+
+use crate::request::Request;
+use crate::seat_queue::PendingOrder;
+use crate::subscription::Subscription;
+use crate::tag::Tag;
+use crate::trust::{Trust, is_strange};
+use std::alloc::{AllocError, Global};
+use std::collections::VecDeque;
+use std::marker::Model;
+
+/// The most lines without a tag that wait for the answer of the one before. Then no further line is taken.
+const MOST_WAITING: usize = 64;
+
+/// The most bytes that a session may have unsent, 64 KiB.
+pub const MOST_UNSENT: usize = 64 * 1024;
+
+/// No further line of a session is taken while it has more than this many bytes unsent.
+const MANY_UNSENT: usize = 16 * 1024;
+
+/// How a session is answered.
+#[derive(Clone, Copy)]
+pub enum ReplyStyle {
+    /// As a script wants it: a fault is told apart, by its number. Only a line with a tag may ask of the whole node.
+    Script,
+    /// As a person wants it: a fault is told in words, among the answers. Any line may ask of the whole node.
+    Human,
+}
+
+/// A line with its number.
+///
+/// Contracts see both.
+#[derive(Drop)]
+pub struct NumberedLine {
+    pub(crate) number: u64,
+    pub(crate) line: Vec<u8>,
+}
+
+impl Model for NumberedLine {
+    ghost use Rattle.smi_session.specs.Session.{LineAt};
+
+    ghost Value = { LineAt };
+
+    ghost view = { λ n. record { number = n.number; line = n.line.items } };
+}
+
+/// An order for which its seat had no room yet.
+#[derive(Clone, Copy)]
+pub struct Deferred {
+    /// The operator who orders. None for a report.
+    pub operator: Option<u16>,
+    pub pending: PendingOrder,
+}
+
+/// A connection or the standard input: its lines that wait, and what is to be told there.
+///
+/// Contracts see all of it.
+#[derive(Drop)]
+pub struct Session {
+    number: u64,
+    style: ReplyStyle,
+    trust: Trust,
+    lines: u64,
+    /// The lines without a tag that wait for the answer of the one before.
+    waiting: VecDeque<NumberedLine>,
+    /// Whether an order of a line without a tag is pending.
+    is_busy: bool,
+    deferred: Option<Deferred>,
+    states: Option<Subscription>,
+    actions: Option<Subscription>,
+    output: Vec<u8>,
+    errors: Vec<u8>,
+}
+
+impl Model for Session {
+    ghost use Rattle.smi_session.specs.Session.{SessionState};
+
+    ghost Value = { SessionState };
+
+    ghost view = { λ s. record {
+      number = s.number;
+      style = s.style;
+      trust = s.trust;
+      lines = s.lines;
+      waiting = s.waiting.items;
+      is_busy = s.is_busy;
+      deferred = s.deferred;
+      states = s.states;
+      actions = s.actions;
+      output = s.output.items;
+      errors = s.errors.items;
+    } };
+}
+
+impl Session {
+    ghost use Rattle.std.specs.Prelude.{◌≡◌, ◌++◌, ◌∷◌, ◌||◌, ◌&&◌, [], None, Some, true, false, drop, is_some};
+    ghost use Rattle.std.specs.Prelude.{is_none, option_map, IfOk, OnOk, OnErr, MatchOption};
+    ghost use Rattle.smi_session.specs.Session.{OnlyReplies, beginning, counted, ending, has_room, is_idle, is_refused};
+    ghost use Rattle.smi_session.specs.Session.{may_go_on, new_session, next_line, waits, with_error, with_reply};
+    ghost use Rattle.smi_session.specs.Subscription.{tag_for};
+    ghost use Rattle.smi_session.specs.Trust.{admitted, judged};
+    ghost use Rattle.smi_tree.specs.Text.{words};
+
+    /// Makes a session of this number, which no other has, that has typed nothing.
+    ///
+    /// Its error is that memory was refused.
+    pub fn new(alloc: Global, number: u64, style: ReplyStyle) -> Result<Session, AllocError>
+        ensures { IfOk result (λ s. s ≡ new_session number style) }
+    {
+        Ok(Session {
+            number,
+            style,
+            trust: Trust::New,
+            lines: 0,
+            waiting: VecDeque::new(alloc),
+            is_busy: false,
+            deferred: None,
+            states: None,
+            actions: None,
+            output: Vec::new(alloc),
+            errors: Vec::new(alloc),
+        })
+    }
+
+    /// Returns its number.
+    pub fn number(&self) -> u64
+        ensures { result ≡ self.now.number }
+    {
+        self.number
+    }
+
+    /// Returns how it is answered.
+    pub fn style(&self) -> ReplyStyle
+        ensures { result ≡ self.now.style }
+    {
+        self.style
+    }
+
+    /// Returns true if no line of it is read any more.
+    pub fn is_refused(&self) -> bool
+        ensures { result ≡ is_refused self.now.trust }
+    {
+        match self.trust {
+            Trust::New | Trust::Accepted => false,
+            Trust::Refused => true,
+        }
+    }
+
+    /// Accepts the session if a line of it asks something.
+    pub(crate) fn admit(&mut self, request: Option<Request>)
+        ensures { self.new ≡ admitted request self.old }
+    {
+        if request.is_some() {
+            self.trust = Trust::Accepted;
+        }
+    }
+
+    /// Refuses a session that has asked nothing, if a faulty line of it is one that no client begins with. A browser
+    /// sends what a page wrote behind such a line: the head of its request.
+    pub(crate) fn judge(&mut self, has_tag: bool, text: &[u8])
+        ensures { self.new ≡ judged has_tag (words text.now) self.old }
+    {
+        match self.trust {
+            Trust::New if is_strange(self.style, has_tag, text) => {
+                self.trust = Trust::Refused;
+            }
+            Trust::New | Trust::Accepted | Trust::Refused => {}
+        }
+    }
+
+    /// Returns true if a further line of it may be taken.
+    pub fn has_room(&self) -> bool
+        ensures { result ≡ has_room self.now }
+    {
+        !self.is_refused()
+            && self.deferred.is_none()
+            && self.waiting.len() < MOST_WAITING
+            && self.output.len() <= MANY_UNSENT
+    }
+
+    /// Returns true if none of its lines waits, and no order of a line without a tag is pending.
+    pub fn is_idle(&self) -> bool
+        ensures { result ≡ is_idle self.now }
+    {
+        !self.is_busy && self.deferred.is_none() && self.waiting.is_empty()
+    }
+
+    /// Returns true if it wants to be told of states or of actions.
+    pub fn has_subscription(&self) -> bool
+        ensures { result ≡ (is_some self.now.states || is_some self.now.actions) }
+    {
+        self.states.is_some() || self.actions.is_some()
+    }
+
+    /// Returns what it is to be told and was not told yet.
+    pub fn output(&self) -> &[u8]
+        ensures { result.now ≡ self.now.output }
+    {
+        self.output.as_slice()
+    }
+
+    /// Drops the first `count` bytes of the output, or all if there are no more, because they were sent.
+    pub fn consume(&mut self, count: usize)
+        ensures { self.new ≡ record self.old { output = drop count self.old.output } }
+    {
+        if count >= self.output.len() {
+            self.output.clear();
+        } else {
+            let _ = self.output.drain(..count);
+        }
+    }
+
+    /// Returns the faults of its lines that are told apart from the output.
+    pub fn errors(&self) -> &[u8]
+        ensures { result.now ≡ self.now.errors }
+    {
+        self.errors.as_slice()
+    }
+
+    /// Drops these faults, because they were told.
+    pub fn clear_errors(&mut self)
+        ensures { self.new ≡ record self.old { errors = [] } }
+    {
+        self.errors.clear();
+    }
+
+    /// Counts a line, and returns its number.
+    pub(crate) fn count_line(&mut self) -> u64
+        ensures number { result ≡ next_line self.old }
+        ensures counted { self.new ≡ counted self.old }
+    {
+        self.lines = self.lines.saturating_add(1);
+        self.lines
+    }
+
+    /// Adds a line without a tag to those that wait.
+    ///
+    /// Its error is that memory was refused.
+    pub(crate) fn wait(&mut self, number: u64, line: Vec<u8>) -> Result<(), AllocError>
+        ensures waits { OnOk result (self.new ≡ waits number line.items self.old) }
+        ensures err { OnErr result (self.new ≡ self.old) }
+    {
+        match self.waiting.push_back(NumberedLine { number, line }) {
+            Ok(()) => Ok(()),
+            Err(_) => Err(AllocError),
+        }
+    }
+
+    /// Takes the first line that waits. None if it may not be handled yet, or the session is refused.
+    pub(crate) fn next_waiting(&mut self) -> Option<NumberedLine>
+        ensures { MatchOption result ((self.new ≡ self.old) × (may_go_on self.old ≡ false))
+            (λ line. (may_go_on self.old ≡ true) × (self.old ≡ record self.new { waiting = line ∷ self.new.waiting })) }
+    {
+        if self.is_refused() || self.is_busy || self.deferred.is_some() {
+            None
+        } else {
+            self.waiting.pop_front()
+        }
+    }
+
+    /// Notes that the order of a line is pending.
+    pub(crate) fn begin(&mut self, tag: Option<Tag>)
+        ensures { self.new ≡ beginning tag self.old }
+    {
+        self.is_busy = self.is_busy || tag.is_none();
+    }
+
+    /// Notes that the order of a line is answered.
+    pub(crate) fn end(&mut self, tag: Option<Tag>)
+        ensures { self.new ≡ ending tag self.old }
+    {
+        self.is_busy = self.is_busy && tag.is_some();
+    }
+
+    /// Keeps an order until its seat has room.
+    pub(crate) fn defer(&mut self, operator: Option<u16>, pending: PendingOrder)
+        ensures { self.new ≡ record self.old { deferred = Some (record { operator = operator; pending = pending }) } }
+    {
+        self.deferred = Some(Deferred { operator, pending });
+    }
+
+    /// Takes the order that it keeps, if any.
+    pub(crate) fn take_deferred(&mut self) -> Option<Deferred>
+        ensures deferred { result ≡ self.old.deferred }
+        ensures taken { self.new ≡ record self.old { deferred = None } }
+    {
+        let deferred = self.deferred;
+        self.deferred = None;
+        deferred
+    }
+
+    /// Subscribes it to states, in place of what it followed before.
+    pub(crate) fn follow_states(&mut self, subscription: Subscription)
+        ensures { self.new ≡ record self.old { states = Some subscription } }
+    {
+        self.states = Some(subscription);
+    }
+
+    /// Subscribes it to actions, in place of what it followed before.
+    pub(crate) fn follow_actions(&mut self, subscription: Subscription)
+        ensures { self.new ≡ record self.old { actions = Some subscription } }
+    {
+        self.actions = Some(subscription);
+    }
+
+    /// Returns the tag behind which it is told of this object's states. None if it is not told.
+    pub(crate) fn state_tag(&self, object: u16) -> Option<Option<Tag>>
+        ensures { result ≡ tag_for self.now.states object }
+    {
+        match &self.states {
+            Some(subscription) if subscription.includes(object) => Some(subscription.tag),
+            _ => None,
+        }
+    }
+
+    /// Returns the tag behind which it is told of actions at this object. None if it is not told.
+    pub(crate) fn action_tag(&self, object: u16) -> Option<Option<Tag>>
+        ensures { result ≡ tag_for self.now.actions object }
+    {
+        match &self.actions {
+            Some(subscription) if subscription.includes(object) => Some(subscription.tag),
+            _ => None,
+        }
+    }
+
+    /// Returns the tag behind which it is told of any actions. None if it is told of none.
+    pub(crate) fn any_action_tag(&self) -> Option<Option<Tag>>
+        ensures { result ≡ option_map (λ s. s.tag) self.now.actions }
+    {
+        match &self.actions {
+            Some(subscription) => Some(subscription.tag),
+            None => None,
+        }
+    }
+
+    /// Adds a text to the output, behind a tag.
+    ///
+    /// Its error is that memory was refused: then a part of the text may be there.
+    pub(crate) fn push_reply(&mut self, tag: Option<Tag>, text: &[u8]) -> Result<(), AllocError>
+        ensures pushed { OnOk result (self.new ≡ with_reply tag text.now self.old) }
+        ensures err { OnErr result (OnlyReplies self.old self.new) }
+    {
+        if let Some(tag) = tag {
+            self.output.push(b'@')?;
+            self.output.extend_from_slice(tag.text())?;
+            self.output.push(b' ')?;
+        }
+        self.output.extend_from_slice(text)
+    }
+
+    /// Adds a fault to those that are told apart.
+    ///
+    /// Its error is that memory was refused.
+    pub(crate) fn push_error(&mut self, text: &[u8]) -> Result<(), AllocError>
+        ensures pushed { OnOk result (self.new ≡ with_error text.now self.old) }
+        ensures err { OnErr result (self.new ≡ self.old) }
+    {
+        self.errors.extend_from_slice(text)
+    }
+}

@@ -1,0 +1,79 @@
+//! What a session wants to be told of from now on.
+
+ghost use Rattle.std.specs.Prelude.{IfOk, ◌≡◌};
+ghost use Rattle.smi_tree.specs.Text.{words};
+ghost use Rattle.smi_session.specs.Subscription.{objects_in, subscription_of};
+
+use crate::tag::Tag;
+use smi_tree::{Tree, first_word};
+use std::alloc::{AllocError, Global};
+use std::marker::Model;
+
+/// What a session wants to be told of from now on, and the tag of the line that asked for it.
+///
+/// Contracts see both.
+#[derive(Drop)]
+pub struct Subscription {
+    pub(crate) tag: Option<Tag>,
+    /// The objects, or None for all.
+    pub(crate) objects: Option<Vec<u16>>,
+}
+
+impl Model for Subscription {
+    ghost use Rattle.std.specs.Prelude.{option_map};
+    ghost use Rattle.smi_session.specs.Subscription.{SubscriptionState};
+
+    ghost Value = { SubscriptionState };
+
+    ghost view = { λ s. record { tag = s.tag; objects = option_map (λ v. v.items) s.objects } };
+}
+
+impl Subscription {
+    ghost use Rattle.std.specs.Prelude.{◌≡◌};
+    ghost use Rattle.smi_session.specs.Subscription.{includes};
+
+    /// Returns true if it is of this object.
+    pub(crate) fn includes(&self, object: u16) -> bool
+        ensures { result ≡ includes self.now object }
+    {
+        match &self.objects {
+            Some(objects) => objects.contains(&object),
+            None => true,
+        }
+    }
+}
+
+/// Returns the objects that words name. Words that name none are left out.
+fn objects_in(alloc: Global, tree: &Tree, text: &[u8]) -> Result<Vec<u16>, AllocError>
+    ensures { IfOk result (λ objects. objects.items ≡ objects_in tree.now (words text.now)) }
+{
+    let mut objects = Vec::new(alloc);
+    let mut left = text;
+    while let Some((word, rest)) = first_word(left) {
+        if let Some(object) = tree.object_named(word.text()) {
+            objects.push(object)?;
+        }
+        left = rest;
+    }
+    Ok(objects)
+}
+
+/// Returns the subscription that words ask for: of the objects that they name, or of all if there are none.
+///
+/// Its error is that memory was refused.
+pub(crate) fn subscription_in(
+    alloc: Global,
+    tree: &Tree,
+    tag: Option<Tag>,
+    text: &[u8],
+) -> Result<Subscription, AllocError>
+    ensures { IfOk result (λ s. s ≡ subscription_of tree.now tag (words text.now)) }
+{
+    let objects = objects_in(alloc, tree, text)?;
+    let objects = if objects.is_empty() {
+        None
+    } else {
+        Some(objects)
+    };
+    Ok(Subscription { tag, objects })
+}

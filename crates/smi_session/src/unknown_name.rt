@@ -1,0 +1,188 @@
+//! Which name of a line is unknown.
+
+ghost use Rattle.std.specs.Prelude.{◌≡◌, option_map};
+ghost use Rattle.smi_tree.specs.Text.{words};
+ghost use Rattle.smi_session.specs.UnknownName as spec;
+
+use crate::line::{LineKind, kind_of};
+use crate::query::{Query, query_named};
+use smi_tree::{Tree, first_word};
+
+/// What a name of a line stands for.
+#[derive(Clone, Copy)]
+pub(crate) enum NameKind {
+    /// An operator of this station.
+    Operator,
+    Domain,
+    Device,
+    /// A domain or a device.
+    Object,
+    Action,
+    State,
+}
+
+impl NameKind {
+    ghost use Rattle.std.specs.Prelude.{◌≡◌};
+    ghost use Rattle.smi_session.specs.UnknownName as spec;
+
+    /// Returns what is said of a name that is none.
+    fn message(self) -> &'static [u8]
+        ensures { result.now ≡ spec.message self }
+    {
+        match self {
+            NameKind::Operator => b"is no operator of this station",
+            NameKind::Domain => b"is no domain of the tree",
+            NameKind::Device => b"is no device of the tree",
+            NameKind::Object => b"is no domain or device of the tree",
+            NameKind::Action => b"is no action of the tree",
+            NameKind::State => b"is no state of the tree",
+        }
+    }
+
+    /// Returns true if a name is one of these.
+    fn has(self, tree: &Tree, operators: &[u16], name: &[u8]) -> bool
+        ensures { result ≡ spec.has tree.now operators.now self name.now }
+    {
+        match self {
+            NameKind::Operator => match tree.operator_named(name) {
+                Some(operator) => operators.contains(&operator),
+                None => false,
+            },
+            NameKind::Domain => tree.domain_named(name).is_some(),
+            NameKind::Device => tree.device_named(name).is_some(),
+            NameKind::Object => tree.object_named(name).is_some(),
+            NameKind::Action => tree.action_named(name).is_some(),
+            NameKind::State => tree.state_named(name).is_some(),
+        }
+    }
+}
+
+/// Returns what the first name behind the verb of an order stands for, and the second one. None if there is no such.
+fn kinds_of_order(verb: &[u8]) -> (Option<NameKind>, Option<NameKind>)
+    ensures { result ≡ spec.kinds_of_order verb.now }
+{
+    if verb == b"take".as_slice() || verb == b"drop".as_slice() || verb == b"ask".as_slice() {
+        (Some(NameKind::Domain), None)
+    } else if verb == b"include".as_slice()
+        || verb == b"exclude".as_slice()
+        || verb == b"manual".as_slice()
+        || verb == b"ignore".as_slice()
+    {
+        (Some(NameKind::Domain), Some(NameKind::Domain))
+    } else if verb == b"watch".as_slice() || verb == b"unwatch".as_slice() {
+        (Some(NameKind::Object), None)
+    } else if verb == b"do".as_slice() {
+        (Some(NameKind::Domain), Some(NameKind::Action))
+    } else {
+        (None, None)
+    }
+}
+
+/// An unknown name, and what is said of it.
+#[derive(Clone, Copy)]
+pub(crate) struct UnknownName<'a> {
+    pub(crate) name: &'a [u8],
+    pub(crate) message: &'static [u8],
+}
+
+/// Returns the first word of a text if it is no such name.
+fn unknown_first<'a>(
+    tree: &Tree,
+    operators: &[u16],
+    kind: Option<NameKind>,
+    text: &'a [u8],
+) -> Option<UnknownName<'a>>
+    ensures { option_map (λ u. (u.name.now, u.message.now)) result
+        ≡ spec.unknown_first tree.now operators.now kind (words text.now) }
+{
+    let kind = kind?;
+    let (word, _) = first_word(text)?;
+    if kind.has(tree, operators, word.text()) {
+        return None;
+    }
+    Some(UnknownName {
+        name: word.text(),
+        message: kind.message(),
+    })
+}
+
+/// Returns the first of two names of a text that is unknown.
+fn unknown_of_two<'a>(
+    tree: &Tree,
+    operators: &[u16],
+    kinds: (Option<NameKind>, Option<NameKind>),
+    text: &'a [u8],
+) -> Option<UnknownName<'a>>
+    ensures { option_map (λ u. (u.name.now, u.message.now)) result
+        ≡ spec.unknown_of_two tree.now operators.now kinds (words text.now) }
+{
+    let (first, second) = kinds;
+    match unknown_first(tree, operators, first, text) {
+        Some(unknown) => Some(unknown),
+        None => {
+            let (_, rest) = first_word(text)?;
+            unknown_first(tree, operators, second, rest)
+        }
+    }
+}
+
+/// Returns the first unknown name of an order that has a verb: its operator, or a name behind the verb.
+fn unknown_of_order<'a>(tree: &Tree, operators: &[u16], text: &'a [u8]) -> Option<UnknownName<'a>>
+    ensures { option_map (λ u. (u.name.now, u.message.now)) result
+        ≡ spec.unknown_of_order tree.now operators.now (words text.now) }
+{
+    let (_, rest) = first_word(text)?;
+    let (verb, names) = first_word(rest)?;
+    match unknown_first(tree, operators, Some(NameKind::Operator), text) {
+        Some(unknown) => Some(unknown),
+        None => unknown_of_two(tree, operators, kinds_of_order(verb.text()), names),
+    }
+}
+
+/// Returns the first of the words of a text that is no such name.
+fn unknown_among<'a>(
+    tree: &Tree,
+    operators: &[u16],
+    kind: NameKind,
+    text: &'a [u8],
+) -> Option<UnknownName<'a>>
+    ensures { option_map (λ u. (u.name.now, u.message.now)) result
+        ≡ spec.unknown_among tree.now operators.now kind (words text.now) }
+{
+    let mut left = text;
+    while let Some((word, rest)) = first_word(left) {
+        if !kind.has(tree, operators, word.text()) {
+            return Some(UnknownName {
+                name: word.text(),
+                message: kind.message(),
+            });
+        }
+        left = rest;
+    }
+    None
+}
+
+/// Returns the first unknown name of a line. None if there is none.
+pub(crate) fn unknown_in<'a>(
+    tree: &Tree,
+    operators: &[u16],
+    text: &'a [u8],
+) -> Option<UnknownName<'a>>
+    ensures { option_map (λ u. (u.name.now, u.message.now)) result
+        ≡ spec.unknown_in tree.now operators.now (words text.now) }
+{
+    let (first, rest) = first_word(text)?;
+    match kind_of(first.text()) {
+        Some(LineKind::Order) => unknown_of_order(tree, operators, rest),
+        Some(LineKind::Report) => {
+            let kinds = (Some(NameKind::Device), Some(NameKind::State));
+            unknown_of_two(tree, operators, kinds, rest)
+        }
+        Some(LineKind::Show) => unknown_among(tree, operators, NameKind::Object, rest),
+        None => match query_named(first.text()) {
+            Some(Query::Follow) => unknown_among(tree, operators, NameKind::Object, rest),
+            Some(Query::Actions) => unknown_among(tree, operators, NameKind::Device, rest),
+            _ => None,
+        },
+    }
+}
