@@ -2,7 +2,7 @@
 
 use mio::net::{TcpStream, UnixStream};
 use smi_session::LineSplitter;
-use smi_window::Relay;
+use smi_web::OrderRelay;
 use std::alloc::{AllocError, Global};
 use std::io::{self, ErrorKind, Read, Write};
 use std::net::{Net, SocketAddr};
@@ -116,10 +116,10 @@ fn after_fault(error: io::Error) -> Standing {
 
 impl Connected {
     /// The lines that have come are heard.
-    fn hear(&mut self, relay: &mut Relay, now: u64) -> Result<(), AllocError> {
+    fn hear(&mut self, relay: &mut OrderRelay, now: u64) -> Result<(), AllocError> {
         for _ in 0..LINES {
             match self.splitter.next_line()? {
-                Some(line) => relay.hear(line.as_slice(), now)?,
+                Some(line) => relay.receive_line(line.as_slice(), now)?,
                 None => return Ok(()),
             }
         }
@@ -127,7 +127,7 @@ impl Connected {
     }
 
     /// Reads what has come, as far as nothing waits, and hears it.
-    fn read(&mut self, relay: &mut Relay, now: u64) -> Standing {
+    fn read(&mut self, relay: &mut OrderRelay, now: u64) -> Standing {
         let mut block = [0u8; AT_ONCE];
         for _ in 0..READS {
             let count = match self.stream.read(&mut block) {
@@ -144,13 +144,13 @@ impl Connected {
     }
 
     /// Writes what is to be sent, as far as there is room.
-    fn write(&mut self, relay: &mut Relay) -> Standing {
+    fn write(&mut self, relay: &mut OrderRelay) -> Standing {
         if relay.unsent().is_empty() {
             return Standing::Sound;
         }
         match self.stream.write(relay.unsent()) {
             Ok(count) => {
-                relay.sent(count);
+                relay.consume(count);
                 Standing::Sound
             }
             Err(error) => after_fault(error),
@@ -158,7 +158,7 @@ impl Connected {
     }
 
     /// What a connection does in a turn that may only be on its way.
-    fn turn(&mut self, relay: &mut Relay, now: u64) -> Standing {
+    fn turn(&mut self, relay: &mut OrderRelay, now: u64) -> Standing {
         if !relay.is_open() {
             if !self.stream.is_made() {
                 return if now.saturating_sub(self.since) < PATIENCE {
@@ -204,7 +204,7 @@ impl NodeConsole {
 
     /// One turn: a connection is made where there is none, what was said over it is heard, and what is to be sent is
     /// sent, as far as nothing waits. With a connection that breaks, what was given on it is lost.
-    pub fn turn<R: Net>(&mut self, rt: &R, relay: &mut Relay, now: u64) {
+    pub fn turn<R: Net>(&mut self, rt: &R, relay: &mut OrderRelay, now: u64) {
         let standing = match &mut self.line {
             Some(line) => line.turn(relay, now),
             None => return self.connect(rt, now),

@@ -4,7 +4,7 @@ use crate::console::NodeConsole;
 use crate::gate::Gate;
 use smi_tree::Tree;
 use smi_view::Picture;
-use smi_window::Window;
+use smi_web::WebService;
 use std::alloc::Global;
 use std::net::Net;
 use std::time::Clock;
@@ -19,7 +19,7 @@ pub(crate) struct House {
     /// When the last frame was made, and how many were.
     framed: u64,
     frames: u64,
-    window: Window,
+    window: WebService,
     gate: Gate,
     /// Where orders go that are given from the page, where they may be.
     console: Option<NodeConsole>,
@@ -29,7 +29,7 @@ impl House {
     /// A house whose first frame is still to be made.
     pub(crate) fn new(
         alloc: Global,
-        window: Window,
+        window: WebService,
         gate: Gate,
         console: Option<NodeConsole>,
     ) -> House {
@@ -52,9 +52,9 @@ impl House {
         self.frames = self.frames.saturating_add(1);
         let _ = self
             .window
-            .frame
+            .snapshot
             .renew(self.alloc, tree, picture, self.frames, now);
-        let _ = self.window.tell_orders(self.alloc);
+        let _ = self.window.renew_orders(self.alloc);
     }
 
     /// Orders that were given go to their console, and what it says is heard.

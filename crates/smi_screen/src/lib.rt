@@ -1,12 +1,12 @@
 //! A screen: an observer of a detector, and a window on what it has seen.
 //!
 //! [`run`] is the whole of it, on one thread. Its station is opened on its store as any other; then it looks, turn
-//! after turn ([`look`]), a new frame is made of the picture five times a second (`smi_window`), and the guests
+//! after turn ([`look`]), a new frame is made of the picture five times a second (`smi_web`), and the guests
 //! at the gate have their turn, none of whom is waited for (`gate`). So a guest can hold up nothing but itself,
 //! and there is neither a lock nor a second thread. What a page elsewhere could ask is nothing: [`hosts_of`] says
 //! which names of hosts are answered.
 //!
-//! Where a [`NodeConsole`] is named, orders may be given from the page: they wait in the window's relay (`smi_window`),
+//! Where a [`NodeConsole`] is named, orders may be given from the page: they wait in the window's relay (`smi_web`),
 //! and each turn sends what is to be sent of them over one connection, and hears what is said there, without waiting.
 //! The station of the screen orders nothing: the orders are those of operators of the node whose console it is.
 //!

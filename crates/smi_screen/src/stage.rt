@@ -5,7 +5,7 @@ use crate::running::{Giving, ScreenSetup};
 use bytes::Bytes;
 use smi_tree::Tree;
 use smi_view::Picture;
-use smi_window::{Frame, Orders, Relay, Window};
+use smi_web::{Snapshot, PageOrders, OrderRelay, WebService};
 use std::alloc::{AllocError, Global};
 use std::mem::replace;
 
@@ -13,24 +13,24 @@ use std::mem::replace;
 #[derive(Drop)]
 pub(crate) struct Stage {
     pub(crate) picture: Picture,
-    pub(crate) window: Window,
+    pub(crate) window: WebService,
     pub(crate) console: Option<NodeConsole>,
 }
 
 /// What the window of a page has that may give orders, and the console that they go to.
-fn ordering(alloc: Global, giving: Giving) -> (Orders, NodeConsole) {
+fn ordering(alloc: Global, giving: Giving) -> (PageOrders, NodeConsole) {
     let Giving { console, key, tree } = giving;
-    let orders = Orders {
+    let orders = PageOrders {
         tree,
         key,
-        relay: Relay::new(alloc),
+        relay: OrderRelay::new(alloc),
         time: 0,
     };
     (orders, NodeConsole::new(alloc, console))
 }
 
 /// A stage on which nothing was seen, with what the setup has for it.
-fn stage_with(alloc: Global, setup: &mut ScreenSetup, picture: Picture, frame: Frame) -> Stage {
+fn stage_with(alloc: Global, setup: &mut ScreenSetup, picture: Picture, frame: Snapshot) -> Stage {
     let hosts = replace(&mut setup.hosts, Vec::new(alloc));
     let (orders, console) = match replace(&mut setup.giving, None) {
         Some(giving) => {
@@ -41,9 +41,9 @@ fn stage_with(alloc: Global, setup: &mut ScreenSetup, picture: Picture, frame: F
     };
     Stage {
         picture,
-        window: Window {
+        window: WebService {
             hosts,
-            frame,
+            snapshot: frame,
             orders,
         },
         console,
@@ -60,8 +60,8 @@ pub(crate) fn staged(
 ) -> Result<Box<Stage>, AllocError> {
     let picture = Picture::new(alloc, tree.object_count(), tree.domain_count())?;
     let page = replace(&mut setup.page, Bytes::from_static(b""));
-    let frame = Frame::first(alloc, page, tree, &picture)?;
+    let frame = Snapshot::first(alloc, page, tree, &picture)?;
     let mut stage = Box::new(alloc, stage_with(alloc, setup, picture, frame))?;
-    stage.window.tell_orders(alloc)?;
+    stage.window.renew_orders(alloc)?;
     Ok(stage)
 }

@@ -1,0 +1,178 @@
+-- What a request asks for, and what it is answered.
+use Rattle.std.specs.Prelude.{◌≡◌, ◌==◌, ℕ, List, [], ◌∷◌, ◌++◌, Bool, false, ◌||◌, ◌&&◌, codes, bytes_eq, drop, length, Option}
+use Rattle.std.specs.Prelude.{Some, None, is_some, map, option_map, if◌then◌else◌}
+use Rattle.std.specs.Option.{option_map_or}
+use Rattle.std.specs.List.{list_any, starts_with}
+use Rattle.http.specs.declared.request.Request.{Request}
+use Rattle.http_server.specs.Response.{fields_of}
+use Rattle.http_server.specs.declared.response.Response.{Response}
+use Rattle.smi_web.specs.declared.routing.Route.{Route}
+use Rattle.smi_web.specs.declared.routing.Route.TheVariants as route_to
+use Rattle.smi_web.specs.declared.snapshot.Snapshot.{Snapshot}
+use Rattle.smi_web.specs.declared.order_relay.Admission.{Admission}
+use Rattle.smi_web.specs.declared.order_relay.Admission.TheVariants as admission
+use Rattle.smi_web.specs.OrderRelay.{given, admission_of}
+use Rattle.smi_web.specs.Snapshot.{with_orders}
+use Rattle.smi_web.specs.declared.page_orders.PageOrders.{PageOrders}
+use Rattle.smi_web.specs.declared.service.WebService.{WebService}
+use Rattle.smi_web.specs.Parts.{PartsState, parts_of}
+
+abbrev pub is_text : Option (List ℕ) → List ℕ → Bool
+is_text (Some text) word = bytes_eq text word
+is_text None word = false
+
+-- the host is one of those that the service answers to
+abbrev pub is_ours : List (List ℕ) → Option (List ℕ) → Bool
+is_ours hosts (Some host) = list_any (λ ours. bytes_eq ours host) hosts
+is_ours hosts None = false
+
+abbrev pub reads_only : List ℕ → Bool
+reads_only method = bytes_eq method (codes "GET") || bytes_eq method (codes "HEAD")
+
+-- what stands at a place; with the version as its query, a picture that whoever asks has
+abbrev pub place_route : List ℕ → Option (List ℕ) → List ℕ → Bool → Route
+place_route path query version has_orders =
+    if bytes_eq path (codes "/") then route_to.Page
+    else (if bytes_eq path (codes "/api/tree") then route_to.Tree
+    else (if bytes_eq path (codes "/api/picture") then (if is_text query version then route_to.Unchanged else route_to.Picture)
+    else (if bytes_eq path (codes "/metrics") then route_to.Metrics
+    else (if has_orders && bytes_eq path (codes "/api/orders") then route_to.Orders else route_to.NotFound))))
+
+-- whoever asks stands on a page of this very host
+abbrev pub is_own_page : Option (List ℕ) → Option (List ℕ) → Bool
+is_own_page (Some host) (Some origin) = starts_with (λ a b. a == b) origin (codes "http://")
+    && bytes_eq (drop (length (codes "http://")) origin) host
+is_own_page (Some host) None = false
+is_own_page None origin = false
+
+-- it is the page that was served with this key, where it was served
+abbrev pub is_trusted : List ℕ → PartsState → Bool
+is_trusted key q = is_text q.key key && is_own_page q.host q.origin
+
+abbrev pub route_by : Admission → Route
+route_by admission.Accepted = route_to.Given
+route_by admission.NoOrder = route_to.NoOrder
+route_by admission.ConsoleDown = route_to.ConsoleDown
+route_by admission.QueueFull = route_to.QueueFull
+
+-- an order is given at one place, by the page alone, and what the relay says of it counts
+abbrev pub order_route : PageOrders → PartsState → Route
+order_route o q =
+    if bytes_eq q.method (codes "POST") && bytes_eq q.path (codes "/api/orders")
+    then (if is_trusted o.key q then route_by (admission_of o.tree o.relay q.body) else route_to.ForeignOrigin)
+    else route_to.Change
+
+abbrev pub change_route : Option PageOrders → PartsState → Route
+change_route (Some o) q = order_route o q
+change_route None q = route_to.Change
+
+-- first of all the host, then the method, then the place
+abbrev pub route_request : List (List ℕ) → List ℕ → Option PageOrders → PartsState → Route
+route_request hosts version orders q =
+    if q.is_absolute then route_to.WrongHost
+    else (if is_ours hosts q.host
+    then (if reads_only q.method then place_route q.path q.query version (is_some orders) else change_route orders q)
+    else route_to.WrongHost)
+
+-- what a request asks of a service
+abbrev pub route_of : WebService → Request (List ℕ) → Route
+route_of w request = route_request (map (λ h. h.items) w.hosts.items) w.snapshot.version w.orders (parts_of request)
+
+abbrev pub status_of : Route → ℕ
+status_of route_to.Page = 200
+status_of route_to.Tree = 200
+status_of route_to.Picture = 200
+status_of route_to.Metrics = 200
+status_of route_to.Unchanged = 204
+status_of route_to.Orders = 200
+status_of route_to.NotFound = 404
+status_of route_to.Change = 405
+status_of route_to.WrongHost = 421
+status_of route_to.Given = 202
+status_of route_to.ForeignOrigin = 403
+status_of route_to.NoOrder = 400
+status_of route_to.ConsoleDown = 503
+status_of route_to.QueueFull = 429
+
+-- the texts of the snapshot, and beside them some that tell nothing of the detector
+abbrev pub body_of : Snapshot → Route → List ℕ
+body_of snapshot route_to.Page = snapshot.page
+body_of snapshot route_to.Tree = snapshot.tree
+body_of snapshot route_to.Picture = snapshot.picture
+body_of snapshot route_to.Metrics = snapshot.metrics
+body_of snapshot route_to.Unchanged = []
+body_of snapshot route_to.Orders = snapshot.orders
+body_of snapshot route_to.NotFound = codes "there is no such page"
+body_of snapshot route_to.Change = codes "this screen only shows"
+body_of snapshot route_to.WrongHost = codes "this is another host"
+body_of snapshot route_to.Given = codes "the order is on its way"
+body_of snapshot route_to.ForeignOrigin = codes "orders are given from the page alone"
+body_of snapshot route_to.NoOrder = codes "this is no order of an operator of the tree"
+body_of snapshot route_to.ConsoleDown = codes "there is no connection with the console"
+body_of snapshot route_to.QueueFull = codes "too many orders wait"
+
+-- what a page may do: run what is in it, and ask where it came from
+abbrev pub policy : List ℕ
+policy = codes "default-src 'none'; script-src 'unsafe-inline'; style-src 'unsafe-inline'; connect-src 'self'; "
+    ++ codes "img-src data:; base-uri 'none'; form-action 'none'; frame-ancestors 'none'"
+
+-- what every answer carries: nobody keeps it, takes it for another kind of text or shows it in a frame, and a page
+-- runs what is in it and asks where it came from
+abbrev pub security_headers : List (List ℕ × List ℕ)
+security_headers = (codes "cache-control", codes "no-store") ∷ (codes "x-content-type-options", codes "nosniff")
+    ∷ (codes "x-frame-options", codes "DENY") ∷ (codes "referrer-policy", codes "no-referrer")
+    ∷ (codes "content-security-policy", policy) ∷ []
+
+abbrev pub of_type : List ℕ → List (List ℕ × List ℕ)
+of_type kind = (codes "content-type", kind) ∷ []
+
+abbrev pub html : List (List ℕ × List ℕ)
+html = of_type (codes "text/html; charset=utf-8")
+
+abbrev pub json : List (List ℕ × List ℕ)
+json = of_type (codes "application/json")
+
+abbrev pub plain : List (List ℕ × List ℕ)
+plain = of_type (codes "text/plain; charset=utf-8")
+
+-- and its own: of what type its text is, and what may be asked
+abbrev pub own_headers : Route → List (List ℕ × List ℕ)
+own_headers route_to.Page = html
+own_headers route_to.Tree = json
+own_headers route_to.Picture = json
+own_headers route_to.Metrics = of_type (codes "text/plain; version=0.0.4; charset=utf-8")
+own_headers route_to.Unchanged = []
+own_headers route_to.Orders = json
+own_headers route_to.NotFound = plain
+own_headers route_to.Change = (codes "allow", codes "GET, HEAD") ∷ plain
+own_headers route_to.WrongHost = plain
+own_headers route_to.Given = plain
+own_headers route_to.ForeignOrigin = plain
+own_headers route_to.NoOrder = plain
+own_headers route_to.ConsoleDown = plain
+own_headers route_to.QueueFull = plain
+
+-- headers that are added one after the other
+abbrev pub with_headers : List (List ℕ × List ℕ) → List (List ℕ × List ℕ) → List (List ℕ × List ℕ)
+with_headers done [] = done
+with_headers done (one ∷ more) = with_headers (done ++ one ∷ []) more
+
+-- a response is the one to what was asked
+pub record Answers (snapshot : Snapshot) (what : Route) (r : Response) : Type 0 where
+  pub status : r.status ≡ status_of what
+  pub headers : fields_of r ≡ security_headers ++ own_headers what
+  pub body : r.body.items ≡ body_of snapshot what
+
+-- the order is given
+abbrev pub ordered : PageOrders → List ℕ → PageOrders
+ordered o line = record o { relay = given o.relay line o.time }
+
+-- what a request leaves of the service: an order that is given is given to the relay, once, and nothing else changes
+-- anything
+abbrev pub left_by : Route → WebService → List ℕ → WebService
+left_by route_to.Given w line = record w { orders = option_map (λ o. ordered o line) w.orders }
+left_by _ w line = w
+
+-- what became of the orders is told anew, where orders may be given
+abbrev pub orders_told : WebService → WebService
+orders_told w = record w { snapshot = option_map_or (λ o. with_orders w.snapshot o.relay o.time) w.orders w.snapshot }

@@ -1,0 +1,12 @@
+pub mod Answers
+pub mod Parts
+pub mod Snapshot
+pub mod Outcome
+pub mod RelayedOrder
+pub mod OrderLine
+pub mod OrderRelay
+pub mod Metrics
+pub mod OrdersJson
+pub mod PictureJson
+pub mod TreeJson
+pub mod Json

@@ -1,0 +1,112 @@
+-- How a picture reads to a monitor: Prometheus' text format, each figure with what it is and all its samples below.
+use Rattle.std.specs.Prelude.{ℕ, ◌+◌, ◌-◌, ◌/◌, ◌%◌, ◌++◌, List, [], Option, Some, None, codes}
+use Rattle.std.specs.Fmt.{decimal}
+use Rattle.smi_grant.specs.declared.Holder.{Holder}
+use Rattle.smi_grant.specs.declared.Holder.TheVariants as holder
+use Rattle.smi_grant.specs.declared.Phase.{Phase}
+use Rattle.smi_grant.specs.declared.Phase.TheVariants as phase
+use Rattle.smi_tree.specs.Hierarchy.{Hierarchy}
+use Rattle.smi_tree.specs.Lookups.{device_count, domain_count}
+use Rattle.smi_schedule.specs.TraceWords.{domain_word, object_word, state_word}
+use Rattle.smi_view.specs.Pictured.{Pictured, domain_of, object_of}
+use Rattle.smi_view.specs.declared.Hearing.{Hearing}
+use Rattle.smi_view.specs.declared.Sight.{Sight}
+use Rattle.smi_web.specs.declared.metrics.Figure.{Figure}
+use Rattle.smi_web.specs.declared.metrics.Figure.TheVariants as figure
+use Rattle.smi_web.specs.Json.{listed, quoted}
+
+-- milliseconds as seconds with three places
+abbrev pub seconds_text : ℕ → List ℕ
+seconds_text ms =
+    decimal (ms / 1_000) ++ codes "." ++ decimal (ms / 100 % 10) ++ decimal (ms / 10 % 10) ++ decimal (ms % 10)
+
+-- what is told of each domain in a number of its own
+abbrev pub held_number : Holder → ℕ
+held_number holder.Free = 0
+held_number (holder.Operator o) = 1
+held_number (holder.Domain d) = 1
+
+abbrev pub busy_number : Phase → ℕ
+busy_number phase.Settled = 0
+busy_number phase.Busy = 1
+
+abbrev pub value_text : Figure → ℕ → Hearing → List ℕ
+value_text figure.Held now had = decimal (held_number had.«record».holder)
+value_text figure.Busy now had = decimal (busy_number had.«record».phase)
+value_text figure.Epoch now had = decimal had.«record».epoch
+value_text figure.Outcome now had = decimal had.«record».outcome
+value_text figure.Age now had = seconds_text (now - had.heard)
+
+abbrev pub name_text : Figure → List ℕ
+name_text figure.Held = codes "smi_domain_held"
+name_text figure.Busy = codes "smi_domain_busy"
+name_text figure.Epoch = codes "smi_domain_epoch"
+name_text figure.Outcome = codes "smi_domain_outcome"
+name_text figure.Age = codes "smi_domain_heard_age_seconds"
+
+abbrev pub help_text : Figure → List ℕ
+help_text figure.Held = codes "1 where somebody holds the domain, 0 where it is free."
+help_text figure.Busy = codes "1 while the domain works on a command, else 0."
+help_text figure.Epoch = codes "How often the domain has changed hands."
+help_text figure.Outcome = codes "How the last command of the domain ended, 0 where it was done or is not settled."
+help_text figure.Age = codes "How long ago the keeper of the domain was last heard."
+
+-- what stands above the samples of a figure
+unfoldable pub head_text : List ℕ → List ℕ → List ℕ → List ℕ
+head_text name help kind =
+    codes "# HELP " ++ name ++ codes " " ++ help ++ codes "\n# TYPE " ++ name ++ codes " " ++ kind ++ codes "\n"
+
+-- 1 for the state in which an object is; nothing where none was shown
+abbrev pub seen_sample : Hierarchy → ℕ → Option Sight → List ℕ
+seen_sample h x None = []
+seen_sample h x (Some seen) =
+    codes "smi_object_state{object=" ++ quoted (object_word h x)
+    ++ codes ",state=" ++ quoted (state_word h seen.shown.state) ++ codes "} 1\n"
+
+abbrev pub state_sample : Hierarchy → Pictured → ℕ → List ℕ
+state_sample h p x = seen_sample h x (object_of p x)
+
+-- the figure of a domain; nothing where it was never heard
+abbrev pub heard_sample : Hierarchy → Figure → ℕ → ℕ → Option Hearing → List ℕ
+heard_sample h figure now d None = []
+heard_sample h figure now d (Some had) =
+    name_text figure ++ codes "{domain=" ++ quoted (domain_word h d) ++ codes "} " ++ value_text figure now had
+    ++ codes "\n"
+
+abbrev pub figure_sample : Hierarchy → Pictured → Figure → ℕ → ℕ → List ℕ
+figure_sample h p figure now d = heard_sample h figure now d (domain_of p d)
+
+-- a figure with its samples
+unfoldable pub figure_text : Hierarchy → Pictured → Figure → ℕ → List ℕ
+figure_text h p figure now =
+    head_text (name_text figure) (help_text figure) (codes "gauge")
+    ++ listed [] (figure_sample h p figure now) (domain_count h)
+
+-- a figure of the whole screen
+unfoldable pub whole_text : List ℕ → List ℕ → List ℕ → ℕ → List ℕ
+whole_text name help kind number = head_text name help kind ++ name ++ codes " " ++ decimal number ++ codes "\n"
+
+-- how many pictures there were, and how many domains there are
+abbrev pub screen_text : Hierarchy → ℕ → List ℕ
+screen_text h number =
+    whole_text (codes "smi_screen_frames_total") (codes "How many pictures the screen has made.") (codes "counter") number
+    ++ whole_text (codes "smi_screen_domains") (codes "How many domains the tree has.") (codes "gauge") (domain_count h)
+
+-- the states of all objects
+abbrev pub states_text : Hierarchy → Pictured → List ℕ
+states_text h p =
+    head_text (codes "smi_object_state") (codes "1 for the state in which a unit or a device is.") (codes "gauge")
+    ++ listed [] (state_sample h p) (domain_count h + device_count h)
+
+-- the metrics of all domains
+abbrev pub domains_text : Hierarchy → Pictured → ℕ → List ℕ
+domains_text h p now =
+    figure_text h p figure.Held now
+    ++ figure_text h p figure.Busy now
+    ++ figure_text h p figure.Epoch now
+    ++ figure_text h p figure.Outcome now
+    ++ figure_text h p figure.Age now
+
+-- all metrics of a picture, which has this number and is looked at at this time
+abbrev pub metrics_text : Hierarchy → Pictured → (number now : ℕ) → List ℕ
+metrics_text h p number now = screen_text h number ++ states_text h p ++ domains_text h p now

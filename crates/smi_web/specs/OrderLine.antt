@@ -1,0 +1,30 @@
+-- Which lines are orders.
+use Rattle.std.specs.Prelude.{ℕ, nat_le, ◌==◌, ◌&&◌, not, Bool, true, false, List, Option, Some, None, Result, Ok, Err}
+use Rattle.std.specs.List.{list_all}
+use Rattle.smi_tree.specs.Hierarchy.{Hierarchy}
+use Rattle.smi_tree.specs.declared.fault.Fault.{Fault}
+use Rattle.smi_protocol.specs.declared.item.Item.{Item}
+use Rattle.smi_protocol.specs.declared.item.Item.TheVariants as item
+use Rattle.smi_protocol.specs.declared.item.Deed.TheVariants as deed
+use Rattle.smi_schedule.specs.Line.{item_in}
+
+-- printable ASCII without the quotation version and the backslash: no line ends there, and none is escaped
+abbrev pub is_plain : ℕ → Bool
+is_plain byte = nat_le 32 byte && nat_le byte 126 && not (byte == 34) && not (byte == 92)
+
+-- an operator orders
+abbrev pub is_order : Result (Option Item) Fault → Bool
+is_order (Ok (Some (item.Do (deed.Order operator what)))) = true
+is_order (Ok (Some (item.Do (deed.Report device state)))) = false
+is_order (Ok (Some (item.Do (deed.Deliver number)))) = false
+is_order (Ok (Some (item.Do (deed.Recent before)))) = false
+is_order (Ok (Some (item.Do (deed.Tick station)))) = false
+is_order (Ok (Some (item.Restart station))) = false
+is_order (Ok (Some (item.Stop station moment what))) = false
+is_order (Ok (Some (item.Fail station plan what))) = false
+is_order (Ok None) = false
+is_order (Err fault) = false
+
+-- one plain line, and an order of an operator of the tree as schedules and consoles have it
+abbrev pub is_order_line : Hierarchy → List ℕ → Bool
+is_order_line h line = list_all is_plain line && is_order (item_in h line)

@@ -1,0 +1,56 @@
+-- How the orders that were given from a page read.
+use Rattle.std.specs.Prelude.{ℕ, Bool, ◌-◌, ◌/◌, ◌++◌, List, [], length, Option, Some, None, codes}
+use Rattle.std.specs.Option.{option_map_or}
+use Rattle.std.specs.Fmt.{decimal}
+use Rattle.smi_tree.specs.Hierarchy.{entry}
+use Rattle.smi_web.specs.declared.relayed_order.Reply.{Reply}
+use Rattle.smi_web.specs.declared.relayed_order.RelayedOrder.{RelayedOrder}
+use Rattle.smi_web.specs.Outcome.{code_of, words_of}
+use Rattle.smi_web.specs.OrderRelay.{OrderRelayState, is_waiting}
+use Rattle.smi_web.specs.Json.{flag, listed, quoted}
+
+-- when it was answered; now, where it was not
+abbrev pub end_of : RelayedOrder → ℕ → ℕ
+end_of e now = option_map_or (λ answer. answer.at) e.answer now
+
+-- for how many whole seconds it waited, until now at most
+abbrev pub seconds : RelayedOrder → ℕ → ℕ
+seconds e now = (end_of e now - e.given) / 1_000
+
+-- a code, and what it means
+unfoldable pub code_text : Option ℕ → List ℕ
+code_text None = codes ",\"code\":null,\"words\":null"
+code_text (Some code) = codes ",\"code\":" ++ decimal code ++ codes ",\"words\":" ++ quoted (words_of code)
+
+-- what the console said, the code in it, and what that means
+unfoldable pub answer_text : List ℕ → Option Reply → List ℕ
+answer_text line None = codes ",\"answer\":null,\"code\":null,\"words\":null"
+answer_text line (Some answer) = codes ",\"answer\":" ++ quoted answer.text ++ code_text (code_of line answer.text)
+
+-- an order, and its number
+unfoldable pub given_text : RelayedOrder → List ℕ
+given_text e = codes "{\"number\":" ++ decimal e.number ++ codes ",\"line\":" ++ quoted e.line
+
+-- for how many seconds it waited or waits, and whether it does
+unfoldable pub waiting_text : ℕ → Bool → List ℕ
+waiting_text seconds waits = codes ",\"seconds\":" ++ decimal seconds ++ codes ",\"waits\":" ++ flag waits
+
+-- an order, how long it waited, and what was said to it
+unfoldable pub errand_text : OrderRelayState → ℕ → RelayedOrder → List ℕ
+errand_text r now e =
+    given_text e ++ waiting_text (seconds e now) (is_waiting r e) ++ answer_text e.line e.answer ++ codes "}"
+
+abbrev pub errand_or_nothing : OrderRelayState → ℕ → Option RelayedOrder → List ℕ
+errand_or_nothing r now None = []
+errand_or_nothing r now (Some e) = errand_text r now e
+
+abbrev pub errand_text_at : OrderRelayState → ℕ → ℕ → List ℕ
+errand_text_at r now n = errand_or_nothing r now (entry r.orders n)
+
+-- the orders, the oldest first
+abbrev pub errands_text : OrderRelayState → ℕ → List ℕ
+errands_text r now = codes ",\"orders\":[" ++ listed (codes ",") (errand_text_at r now) (length r.orders)
+
+-- whether there is a connection with the console, and the orders
+abbrev pub orders_text : OrderRelayState → ℕ → List ℕ
+orders_text r now = codes "{\"console\":" ++ flag r.is_open ++ errands_text r now ++ codes "]}\n"

@@ -1,0 +1,38 @@
+-- The texts of a snapshot.
+use Rattle.std.specs.Prelude.{ℕ, ◌++◌, List, [], codes}
+use Rattle.std.specs.Fmt.{decimal}
+use Rattle.smi_tree.specs.Hierarchy.{Hierarchy}
+use Rattle.smi_view.specs.Pictured.{Pictured}
+use Rattle.smi_web.specs.Metrics.{metrics_text}
+use Rattle.smi_web.specs.OrderRelay.{OrderRelayState}
+use Rattle.smi_web.specs.OrdersJson.{orders_text}
+use Rattle.smi_web.specs.PictureJson.{picture_text}
+use Rattle.smi_web.specs.TreeJson.{tree_text}
+use Rattle.smi_web.specs.declared.snapshot.Snapshot.{Snapshot}
+
+-- the query of one who has the picture of this number
+abbrev pub version_of : ℕ → List ℕ
+version_of number = codes "after=" ++ decimal number
+
+-- a page, a tree, and a picture of this number, looked at at this time
+abbrev pub snapshot_of : List ℕ → Hierarchy → Pictured → (number now : ℕ) → Snapshot
+snapshot_of page h p number now = record {
+  version = version_of number;
+  page = page;
+  tree = tree_text h;
+  picture = picture_text h p number now;
+  metrics = metrics_text h p number now;
+  orders = [];
+}
+
+-- a further picture, on the same page
+abbrev pub renewed : Snapshot → Hierarchy → Pictured → (number now : ℕ) → Snapshot
+renewed snapshot h p number now = record snapshot {
+  version = version_of number;
+  picture = picture_text h p number now;
+  metrics = metrics_text h p number now;
+}
+
+-- what became of the orders that were given from the page, looked at at this time
+abbrev pub with_orders : Snapshot → OrderRelayState → ℕ → Snapshot
+with_orders snapshot r now = record snapshot { orders = orders_text r now }

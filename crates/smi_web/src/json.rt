@@ -1,0 +1,69 @@
+//! The pieces that texts are put together from.
+
+ghost use Rattle.std.specs.Prelude.{◌≡◌, ◌++◌, OnOk, codes, option_map};
+ghost use Rattle.std.specs.Fmt.{decimal};
+ghost use Rattle.smi_schedule.specs.TraceWords.{called};
+ghost use Rattle.smi_web.specs.Json.{flag, quoted};
+
+use std::alloc::AllocError;
+use std::io::Write;
+
+/// A piece as it is.
+pub(crate) fn put(text: &mut Vec<u8>, piece: &[u8]) -> Result<(), AllocError>
+    ensures { OnOk result (text.new.items ≡ text.old.items ++ piece.now) }
+{
+    text.extend_from_slice(piece)
+}
+
+/// A number, behind a piece.
+pub(crate) fn put_number(text: &mut Vec<u8>, before: &[u8], number: u64) -> Result<(), AllocError>
+    ensures { OnOk result (text.new.items ≡ text.old.items ++ before.now ++ decimal number) }
+{
+    put(text, before)?;
+    write!(text, "{number}").map_err(|_| AllocError)
+}
+
+/// A name, or the number where the tree has no such thing.
+fn put_called(text: &mut Vec<u8>, name: Option<&[u8]>, number: u16) -> Result<(), AllocError>
+    ensures { OnOk result (text.new.items ≡ text.old.items ++ called (option_map (λ n. n.now) name.entry) number) }
+{
+    match name {
+        Some(name) => put(text, name),
+        None => write!(text, "{number}").map_err(|_| AllocError),
+    }
+}
+
+/// A name in quotes, behind a piece.
+pub(crate) fn put_quoted(
+    text: &mut Vec<u8>,
+    before: &[u8],
+    name: Option<&[u8]>,
+    number: u16,
+) -> Result<(), AllocError>
+    ensures { OnOk result (text.new.items ≡
+        text.old.items ++ before.now ++ quoted (called (option_map (λ n. n.now) name.entry) number)) }
+{
+    put(text, before)?;
+    put(text, b"\"")?;
+    put_called(text, name, number)?;
+    put(text, b"\"")
+}
+
+/// Whether something holds, behind a piece.
+#[tactic(auto, unfolding(crate::specs::Json::flag))]
+pub(crate) fn put_flag(text: &mut Vec<u8>, before: &[u8], is: bool) -> Result<(), AllocError>
+    ensures { OnOk result (text.new.items ≡ text.old.items ++ before.now ++ flag is) }
+{
+    put(text, before)?;
+    put(text, if is { b"true" } else { b"false" })
+}
+
+/// A text in quotes, behind a piece. It has nothing that had to be escaped.
+pub(crate) fn put_text(text: &mut Vec<u8>, before: &[u8], piece: &[u8]) -> Result<(), AllocError>
+    ensures { OnOk result (text.new.items ≡ text.old.items ++ before.now ++ quoted piece.now) }
+{
+    put(text, before)?;
+    put(text, b"\"")?;
+    put(text, piece)?;
+    put(text, b"\"")
+}

@@ -1,0 +1,314 @@
+//! The picture as metrics, in Prometheus' text format.
+
+ghost use Rattle.std.specs.Prelude.{◌≡◌, ◌++◌, IfOk, OnOk};
+ghost use Rattle.smi_web.specs.Metrics.{
+  busy_number,
+  domains_text,
+  figure_text,
+  metrics_text,
+  head_text,
+  heard_sample,
+  held_number,
+  help_text,
+  name_text,
+  screen_text,
+  seconds_text,
+  seen_sample,
+  states_text,
+  value_text,
+  whole_text,
+};
+
+use crate::json::{put, put_number, put_quoted};
+use crate::json_list::{Listing, put_listed};
+use smi_grant::{Holder, Phase};
+use smi_schedule::names;
+use smi_tree::Tree;
+use smi_view::{Hearing, Picture, Sight};
+use std::alloc::{AllocError, Global};
+
+/// What is told of each domain in a number of its own.
+#[derive(Clone, Copy, Debug, PartialEq, Eq)]
+enum Figure {
+    Held,
+    Busy,
+    Epoch,
+    Outcome,
+    /// How long ago it was heard.
+    Age,
+}
+
+impl Figure {
+    fn name(self) -> &'static [u8]
+        ensures { result.now ≡ name_text self }
+    {
+        match self {
+            Figure::Held => b"smi_domain_held",
+            Figure::Busy => b"smi_domain_busy",
+            Figure::Epoch => b"smi_domain_epoch",
+            Figure::Outcome => b"smi_domain_outcome",
+            Figure::Age => b"smi_domain_heard_age_seconds",
+        }
+    }
+
+    fn help(self) -> &'static [u8]
+        ensures { result.now ≡ help_text self }
+    {
+        match self {
+            Figure::Held => b"1 where somebody holds the domain, 0 where it is free.",
+            Figure::Busy => b"1 while the domain works on a command, else 0.",
+            Figure::Epoch => b"How often the domain has changed hands.",
+            Figure::Outcome => {
+                b"How the last command of the domain ended, 0 where it was done or is not settled."
+            }
+            Figure::Age => b"How long ago the keeper of the domain was last heard.",
+        }
+    }
+}
+
+fn held_number(holder: Holder) -> u64
+    ensures { result ≡ held_number holder }
+{
+    match holder {
+        Holder::Free => 0,
+        Holder::Operator(_) => 1,
+        Holder::Domain(_) => 1,
+    }
+}
+
+fn busy_number(phase: Phase) -> u64
+    ensures { result ≡ busy_number phase }
+{
+    match phase {
+        Phase::Settled => 0,
+        Phase::Busy => 1,
+    }
+}
+
+/// Milliseconds as seconds with three places.
+fn put_seconds(text: &mut Vec<u8>, ms: u64) -> Result<(), AllocError>
+    ensures { OnOk result (text.new.items ≡ text.old.items ++ seconds_text ms) }
+{
+    put_number(text, b"", ms / 1_000)?;
+    put_number(text, b".", ms / 100 % 10)?;
+    put_number(text, b"", ms / 10 % 10)?;
+    put_number(text, b"", ms % 10)
+}
+
+fn put_value(text: &mut Vec<u8>, figure: Figure, now: u64, had: &Hearing) -> Result<(), AllocError>
+    ensures { OnOk result (text.new.items ≡ text.old.items ++ value_text figure now had.now) }
+{
+    let record = &had.record;
+    match figure {
+        Figure::Held => put_number(text, b"", held_number(record.holder)),
+        Figure::Busy => put_number(text, b"", busy_number(record.phase)),
+        Figure::Epoch => put_number(text, b"", record.epoch),
+        Figure::Outcome => put_number(text, b"", u64::from(record.outcome)),
+        Figure::Age => put_seconds(text, now.saturating_sub(had.heard)),
+    }
+}
+
+/// What stands above the samples of a figure.
+#[tactic(auto, unfolding(crate::specs::Metrics::head_text))]
+fn put_head(text: &mut Vec<u8>, name: &[u8], help: &[u8], kind: &[u8]) -> Result<(), AllocError>
+    ensures { OnOk result (text.new.items ≡ text.old.items ++ head_text name.now help.now kind.now) }
+{
+    put(text, b"# HELP ")?;
+    put(text, name)?;
+    put(text, b" ")?;
+    put(text, help)?;
+    put(text, b"\n# TYPE ")?;
+    put(text, name)?;
+    put(text, b" ")?;
+    put(text, kind)?;
+    put(text, b"\n")
+}
+
+/// A figure of the whole screen.
+#[tactic(auto, unfolding(crate::specs::Metrics::whole_text))]
+fn put_whole(
+    text: &mut Vec<u8>,
+    name: &[u8],
+    help: &[u8],
+    kind: &[u8],
+    number: u64,
+) -> Result<(), AllocError>
+    ensures { OnOk result (text.new.items ≡ text.old.items ++ whole_text name.now help.now kind.now number) }
+{
+    put_head(text, name, help, kind)?;
+    put(text, name)?;
+    put_number(text, b" ", number)?;
+    put(text, b"\n")
+}
+
+fn put_seen(
+    text: &mut Vec<u8>,
+    tree: &Tree,
+    object: u16,
+    sight: Option<Sight>,
+) -> Result<(), AllocError>
+    ensures { OnOk result (text.new.items ≡ text.old.items ++ seen_sample tree.now object sight) }
+{
+    let Some(seen) = sight else {
+        return Ok(());
+    };
+    let state = seen.shown.state;
+    put_quoted(
+        text,
+        b"smi_object_state{object=",
+        names::object(tree, object),
+        object,
+    )?;
+    put_quoted(text, b",state=", names::state(tree, state), state)?;
+    put(text, b"} 1\n")
+}
+
+fn put_heard(
+    text: &mut Vec<u8>,
+    tree: &Tree,
+    figure: Figure,
+    now: u64,
+    domain: u16,
+    hearing: &Option<Hearing>,
+) -> Result<(), AllocError>
+    ensures { OnOk result (text.new.items ≡ text.old.items ++ heard_sample tree.now figure now domain hearing.now) }
+{
+    let Some(had) = hearing else {
+        return Ok(());
+    };
+    put(text, figure.name())?;
+    put_quoted(text, b"{domain=", names::domain(tree, domain), domain)?;
+    put(text, b"} ")?;
+    put_value(text, figure, now, had)?;
+    put(text, b"\n")
+}
+
+/// The states of a picture's objects.
+#[derive(Clone, Copy)]
+struct States<'a> {
+    tree: &'a Tree,
+    picture: &'a Picture,
+}
+
+impl<'a> Listing for States<'a> {
+    ghost use Rattle.smi_web.specs.Metrics.{state_sample};
+
+    ghost text = { λ s x. state_sample s.tree.now s.picture.now x };
+
+    fn put(&self, into: &mut Vec<u8>, number: u16) -> Result<(), AllocError> {
+        let sight = self.picture.object(usize::from(number));
+        put_seen(into, self.tree, number, sight)
+    }
+}
+
+/// A figure of a picture's domains.
+#[derive(Clone, Copy)]
+struct Metrics<'a> {
+    tree: &'a Tree,
+    picture: &'a Picture,
+    figure: Figure,
+    now: u64,
+}
+
+impl<'a> Listing for Metrics<'a> {
+    ghost use Rattle.smi_web.specs.Metrics.{figure_sample};
+
+    ghost text = { λ s d. figure_sample s.tree.now s.picture.now s.figure s.now d };
+
+    fn put(&self, into: &mut Vec<u8>, number: u16) -> Result<(), AllocError> {
+        let hearing = self.picture.domain(number);
+        put_heard(into, self.tree, self.figure, self.now, number, &hearing)
+    }
+}
+
+/// A figure with its samples.
+#[tactic(auto, unfolding(crate::specs::Metrics::figure_text))]
+fn put_figure(
+    text: &mut Vec<u8>,
+    tree: &Tree,
+    picture: &Picture,
+    figure: Figure,
+    now: u64,
+) -> Result<(), AllocError>
+    ensures { OnOk result (text.new.items ≡ text.old.items ++ figure_text tree.now picture.now figure now) }
+{
+    put_head(text, figure.name(), figure.help(), b"gauge")?;
+    let metrics = Metrics {
+        tree,
+        picture,
+        figure,
+        now,
+    };
+    put_listed(text, b"", &metrics, tree.domain_count())
+}
+
+/// How many pictures there were, and how many domains there are.
+fn put_screen(text: &mut Vec<u8>, tree: &Tree, number: u64) -> Result<(), AllocError>
+    ensures { OnOk result (text.new.items ≡ text.old.items ++ screen_text tree.now number) }
+{
+    put_whole(
+        text,
+        b"smi_screen_frames_total",
+        b"How many pictures the screen has made.",
+        b"counter",
+        number,
+    )?;
+    put_whole(
+        text,
+        b"smi_screen_domains",
+        b"How many domains the tree has.",
+        b"gauge",
+        u64::from(tree.domain_count()),
+    )?;
+    Ok(())
+}
+
+/// The states of all objects.
+fn put_states(text: &mut Vec<u8>, tree: &Tree, picture: &Picture) -> Result<(), AllocError>
+    ensures { OnOk result (text.new.items ≡ text.old.items ++ states_text tree.now picture.now) }
+{
+    put_head(
+        text,
+        b"smi_object_state",
+        b"1 for the state in which a unit or a device is.",
+        b"gauge",
+    )?;
+    put_listed(text, b"", &States { tree, picture }, tree.object_count())?;
+    Ok(())
+}
+
+/// The metrics of all domains.
+fn put_figures(
+    text: &mut Vec<u8>,
+    tree: &Tree,
+    picture: &Picture,
+    now: u64,
+) -> Result<(), AllocError>
+    ensures { OnOk result (text.new.items ≡ text.old.items ++ domains_text tree.now picture.now now) }
+{
+    put_figure(text, tree, picture, Figure::Held, now)?;
+    put_figure(text, tree, picture, Figure::Busy, now)?;
+    put_figure(text, tree, picture, Figure::Epoch, now)?;
+    put_figure(text, tree, picture, Figure::Outcome, now)?;
+    put_figure(text, tree, picture, Figure::Age, now)?;
+    Ok(())
+}
+
+/// All metrics of a picture, with its number and the time at which it was looked at.
+///
+/// It fails only where memory ran out, which tests alone see.
+pub fn write_metrics(
+    alloc: Global,
+    tree: &Tree,
+    picture: &Picture,
+    number: u64,
+    now: u64,
+) -> Result<Vec<u8>, AllocError>
+    ensures { IfOk result (λ text. text.items ≡ metrics_text tree.now picture.now number now) }
+{
+    let mut text = Vec::new(alloc);
+    put_screen(&mut text, tree, number)?;
+    put_states(&mut text, tree, picture)?;
+    put_figures(&mut text, tree, picture, now)?;
+    Ok(text)
+}

@@ -1,0 +1,248 @@
+//! The orders that were given from a page: those that wait, and the last of those that do not.
+
+ghost use Rattle.std.specs.Prelude.{◌≡◌, ◌≤◌, ◌<◌, true, length, vec_capacity, IfSome, OnErr, OnOk};
+ghost use Rattle.smi_web.specs.RelayedOrder.{answered};
+ghost use Rattle.smi_web.specs.OrderRelay as spec;
+
+use crate::order_line::is_order_line;
+use crate::relayed_order::RelayedOrder;
+use smi_tree::Tree;
+use std::alloc::{AllocError, Global};
+use std::marker::Model;
+
+/// The most orders that are kept: all that wait, and the newest of the others.
+pub const MOST_ORDERS: usize = 64;
+
+/// No order is taken while more than this many bytes are to be sent.
+pub const MOST_UNSENT: usize = 8_192;
+
+/// Whether an order may be given.
+#[derive(Clone, Copy, Debug, PartialEq, Eq)]
+pub enum Admission {
+    /// It may be given.
+    Accepted,
+    /// It is no order of an operator of the tree.
+    NoOrder,
+    /// There is no connection with a console.
+    ConsoleDown,
+    /// Too many wait.
+    QueueFull,
+}
+
+/// The orders that were given from a page, what is to be sent of them, and what became of them.
+///
+/// Contracts see the orders, the oldest first; the number of the next, and of the first that was given on this
+/// connection; the bytes that are to be sent; and whether there is a connection.
+#[derive(Drop)]
+pub struct OrderRelay {
+    alloc: Global,
+    orders: Vec<RelayedOrder>,
+    next: u64,
+    first: u64,
+    unsent: Vec<u8>,
+    is_open: bool,
+}
+
+impl Model for OrderRelay {
+    ghost use Rattle.std.specs.Prelude.{◌≤◌, length};
+    ghost use Rattle.smi_web.specs.OrderRelay.{OrderRelayState, most_orders};
+
+    ghost Value = { OrderRelayState };
+
+    ghost view = { λ r. record {
+      orders = r.orders.items;
+      next = r.next;
+      first = r.first;
+      unsent = r.unsent.items;
+      is_open = r.is_open;
+    } };
+
+    ghost invariant = { λ r. length r.orders.items ≤ most_orders };
+}
+
+/// Returns the place of the oldest order that does not wait. Those before the order `first` wait no more.
+fn first_over(orders: &[RelayedOrder], first: u64) -> Option<usize>
+    ensures place { result ≡ spec.first_over first orders.now }
+    ensures within { IfSome result (λ i. i < length orders.now) }
+{
+    orders.iter().position(|order| !order.is_waiting(first))
+}
+
+/// Removes the oldest order that does not wait, if no more can be kept.
+fn make_room(orders: &mut Vec<RelayedOrder>, first: u64)
+    requires { length orders.old.items ≤ spec.most_orders }
+    ensures items { orders.new.items ≡ spec.with_room first orders.old.items }
+    ensures room { spec.can_keep first orders.old.items ≡ true → length orders.new.items < spec.most_orders }
+    ensures capacity { vec_capacity orders.new ≡ vec_capacity orders.old }
+{
+    if orders.len() == MOST_ORDERS {
+        if let Some(place) = first_over(orders.as_slice(), first) {
+            let _over = orders.remove(place);
+        }
+    }
+}
+
+/// Answers the order at this place by a line that came now.
+fn answer_at(
+    alloc: Global,
+    orders: &mut [RelayedOrder],
+    place: usize,
+    line: &[u8],
+    now: u64,
+) -> Result<(), AllocError>
+    requires { place < length orders.old }
+    ensures ok { OnOk result (orders.new ≡ spec.changed_at (answered line.now now) place orders.old) }
+    ensures err { OnErr result (orders.new ≡ orders.old) }
+{
+    let answer = orders[place].answer_by(alloc, line, now)?;
+    orders[place].answer = Some(answer);
+    Ok(())
+}
+
+impl OrderRelay {
+    ghost use Rattle.std.specs.Prelude.{◌≡◌, ◌≤◌, ◌<◌, length, IfSome, OnErr, OnOk};
+    ghost use Rattle.smi_web.specs.OrderRelay as spec;
+
+    /// Makes a relay without a connection, to which nothing was given.
+    pub fn new(alloc: Global) -> OrderRelay
+        ensures { result ≡ spec.nothing }
+    {
+        OrderRelay {
+            alloc,
+            orders: Vec::new(alloc),
+            next: 1,
+            first: 1,
+            unsent: Vec::new(alloc),
+            is_open: false,
+        }
+    }
+
+    /// Returns true if there is a connection.
+    pub fn is_open(&self) -> bool
+        ensures { result ≡ self.now.is_open }
+    {
+        self.is_open
+    }
+
+    /// Returns the orders, the oldest first.
+    pub fn orders(&self) -> &[RelayedOrder]
+        ensures items { result.now ≡ self.now.orders }
+        ensures most { length result.now ≤ spec.most_orders }
+    {
+        self.orders.as_slice()
+    }
+
+    /// Returns true if an order waits for its answer. One that does not, and has none, was lost with its connection.
+    pub fn is_waiting(&self, order: &RelayedOrder) -> bool
+        ensures { result ≡ spec.is_waiting self.now order.now }
+    {
+        order.is_waiting(self.first)
+    }
+
+    /// Returns true if one more order could be taken.
+    fn has_room(&self) -> bool
+        ensures { result ≡ spec.has_room self.now }
+    {
+        self.next < u64::MAX
+            && self.unsent.len() <= MOST_UNSENT
+            && (self.orders.len() < MOST_ORDERS
+                || first_over(self.orders.as_slice(), self.first).is_some())
+    }
+
+    /// Returns whether a line may be given as an order.
+    pub fn admission(&self, tree: &Tree, line: &[u8]) -> Admission
+        ensures { result ≡ spec.admission_of tree.now self.now line.now }
+    {
+        if !is_order_line(tree, line) {
+            Admission::NoOrder
+        } else if !self.is_open {
+            Admission::ConsoleDown
+        } else if !self.has_room() {
+            Admission::QueueFull
+        } else {
+            Admission::Accepted
+        }
+    }
+
+    /// Gives an order now, where there is room: it is one order more, and its line, behind its tag, the last that is
+    /// to be sent. Where there is no room nothing changes.
+    ///
+    /// It fails only where memory ran out, which tests alone see, and changes nothing then.
+    pub fn give(&mut self, line: &[u8], now: u64) -> Result<(), AllocError>
+        ensures ok { OnOk result (self.new ≡ spec.given self.old line.now now) }
+        ensures err { OnErr result (self.new ≡ self.old) }
+    {
+        if !self.has_room() {
+            return Ok(());
+        }
+        let order = RelayedOrder::new(self.alloc, self.next, line, now)?;
+        let sent = order.sent(self.alloc)?;
+        self.orders.reserve(1)?;
+        self.unsent.extend_from_slice(sent.as_slice())?;
+        make_room(&mut self.orders, self.first);
+        self.next += 1;
+        match self.orders.push(order) {
+            Ok(()) => Ok(()),
+            Err(_) => unreachable!(),
+        }
+    }
+
+    /// Returns the bytes that are to be sent.
+    pub fn unsent(&self) -> &[u8]
+        ensures { result.now ≡ self.now.unsent }
+    {
+        self.unsent.as_slice()
+    }
+
+    /// Drops the first `count` of them, because they were sent.
+    pub fn consume(&mut self, count: usize)
+        ensures { self.new ≡ spec.sent count self.old }
+    {
+        if count >= self.unsent.len() {
+            self.unsent.clear();
+        } else {
+            let _ = self.unsent.drain(..count);
+        }
+    }
+
+    /// Returns the place of the order that a line answers, if any.
+    fn place_of(&self, line: &[u8]) -> Option<usize>
+        ensures place { result ≡ spec.place_of self.now line.now }
+        ensures within { IfSome result (λ i. i < length self.now.orders) }
+    {
+        let first = self.first;
+        self.orders
+            .iter()
+            .position(|order| order.is_answered_by(first, line))
+    }
+
+    /// The console has said a line now: what follows its tag is the answer to the order of that tag. A line that
+    /// answers none changes nothing.
+    ///
+    /// It fails only where memory ran out, which tests alone see, and changes nothing then.
+    pub fn receive_line(&mut self, line: &[u8], now: u64) -> Result<(), AllocError>
+        ensures ok { OnOk result (self.new ≡ spec.heard self.old line.now now) }
+        ensures err { OnErr result (self.new ≡ self.old) }
+    {
+        match self.place_of(line) {
+            Some(place) => answer_at(self.alloc, &mut self.orders, place, line, now),
+            None => Ok(()),
+        }
+    }
+
+    /// Notes that there is a connection now.
+    pub fn open(&mut self)
+        ensures { self.new ≡ spec.opened self.old }
+    {
+        self.is_open = true;
+    }
+
+    /// The connection has ended: the answers that have not come are lost, and nothing that was given is sent any more.
+    pub fn close(&mut self)
+        ensures { self.new ≡ spec.closed self.old }
+    {
+        self.is_open = false;
+        self.first = self.next;
+        self.unsent.clear();
+    }
+}

@@ -1,0 +1,156 @@
+//! The orders that were given from a page, as JSON.
+
+ghost use Rattle.std.specs.Prelude.{◌≡◌, ◌≤◌, ◌++◌, length, IfOk, OnOk, option_map};
+ghost use Rattle.smi_web.specs.OrderRelay.{most_orders};
+ghost use Rattle.smi_tree.specs.Hierarchy.{entry};
+ghost use Rattle.smi_web.specs.OrdersJson.{
+  answer_text,
+  code_text,
+  end_of,
+  errand_text,
+  errands_text,
+  given_text,
+  orders_text,
+  seconds,
+  waiting_text,
+};
+
+use crate::json::{put, put_flag, put_number, put_text};
+use crate::json_list::{Listing, put_list};
+use crate::order_relay::OrderRelay;
+use crate::outcome::{code_of, words_of};
+use crate::relayed_order::{RelayedOrder, Reply};
+use std::alloc::{AllocError, Global};
+
+/// When an order was answered; now, where it was not.
+fn end_of(order: &RelayedOrder, now: u64) -> u64
+    ensures { result ≡ end_of order.now now }
+{
+    match &order.answer {
+        Some(answer) => answer.at,
+        None => now,
+    }
+}
+
+/// For how many whole seconds an order waited, until now at most.
+fn seconds(order: &RelayedOrder, now: u64) -> u64
+    ensures { result ≡ seconds order.now now }
+{
+    end_of(order, now).saturating_sub(order.given) / 1_000
+}
+
+/// A code, and what it means.
+#[tactic(auto, unfolding(crate::specs::OrdersJson::code_text))]
+fn put_code(text: &mut Vec<u8>, code: Option<u64>) -> Result<(), AllocError>
+    ensures { OnOk result (text.new.items ≡ text.old.items ++ code_text code) }
+{
+    match code {
+        Some(code) => {
+            put_number(text, b",\"code\":", code)?;
+            put_text(text, b",\"words\":", words_of(code))
+        }
+        None => put(text, b",\"code\":null,\"words\":null"),
+    }
+}
+
+/// What was said to an order of this line.
+#[tactic(auto, unfolding(crate::specs::OrdersJson::answer_text))]
+fn put_answer(text: &mut Vec<u8>, line: &[u8], answer: &Option<Reply>) -> Result<(), AllocError>
+    ensures { OnOk result (text.new.items ≡ text.old.items ++ answer_text line.now answer.now) }
+{
+    match answer {
+        Some(answer) => {
+            put_text(text, b",\"answer\":", answer.text.as_slice())?;
+            put_code(text, code_of(line, answer.text.as_slice()))
+        }
+        None => put(text, b",\"answer\":null,\"code\":null,\"words\":null"),
+    }
+}
+
+/// An order, and its number.
+#[tactic(auto, unfolding(crate::specs::OrdersJson::given_text))]
+fn put_given(text: &mut Vec<u8>, order: &RelayedOrder) -> Result<(), AllocError>
+    ensures { OnOk result (text.new.items ≡ text.old.items ++ given_text order.now) }
+{
+    put_number(text, b"{\"number\":", order.number)?;
+    put_text(text, b",\"line\":", order.line.as_slice())
+}
+
+/// For how long it waited or waits, and whether it does.
+fn put_waiting(text: &mut Vec<u8>, seconds: u64, waits: bool) -> Result<(), AllocError>
+    ensures { OnOk result (text.new.items ≡ text.old.items ++ waiting_text seconds waits) }
+{
+    put_number(text, b",\"seconds\":", seconds)?;
+    put_flag(text, b",\"waits\":", waits)
+}
+
+#[tactic(auto, unfolding(crate::specs::OrdersJson::errand_text))]
+fn put_errand(
+    text: &mut Vec<u8>,
+    relay: &OrderRelay,
+    order: &RelayedOrder,
+    now: u64,
+) -> Result<(), AllocError>
+    ensures { OnOk result (text.new.items ≡ text.old.items ++ errand_text relay.now now order.now) }
+{
+    put_given(text, order)?;
+    put_waiting(text, seconds(order, now), relay.is_waiting(order))?;
+    put_answer(text, order.line.as_slice(), &order.answer)?;
+    put(text, b"}")
+}
+
+/// The orders of a relay, looked at now.
+#[derive(Clone, Copy)]
+struct Errands<'a> {
+    relay: &'a OrderRelay,
+    now: u64,
+}
+
+/// The order of a number among these.
+fn errand_at(orders: &[RelayedOrder], number: u16) -> Option<&RelayedOrder>
+    ensures { option_map (λ e. e.now) result ≡ entry orders.now number }
+{
+    orders.get(usize::from(number).checked_sub(1)?)
+}
+
+impl<'a> Listing for Errands<'a> {
+    ghost use Rattle.smi_web.specs.OrdersJson.{errand_text_at};
+
+    ghost text = { λ s n. errand_text_at s.relay.now s.now n };
+
+    fn put(&self, into: &mut Vec<u8>, number: u16) -> Result<(), AllocError> {
+        match errand_at(self.relay.orders(), number) {
+            Some(order) => put_errand(into, self.relay, order, self.now),
+            None => Ok(()),
+        }
+    }
+}
+
+/// How many orders there are.
+fn count_of(orders: &[RelayedOrder]) -> u16
+    requires { length orders.now ≤ most_orders }
+    ensures { result ≡ length orders.now }
+{
+    orders.len() as u16
+}
+
+fn put_orders(text: &mut Vec<u8>, relay: &OrderRelay, now: u64) -> Result<(), AllocError>
+    ensures { OnOk result (text.new.items ≡ text.old.items ++ errands_text relay.now now) }
+{
+    let count = count_of(relay.orders());
+    put_list(text, b",\"orders\":[", &Errands { relay, now }, count)?;
+    Ok(())
+}
+
+/// The orders that were given, the oldest first, in one line of JSON.
+///
+/// It fails only where memory ran out, which tests alone see.
+pub fn write_orders(alloc: Global, relay: &OrderRelay, now: u64) -> Result<Vec<u8>, AllocError>
+    ensures { IfOk result (λ text. text.items ≡ orders_text relay.now now) }
+{
+    let mut text = Vec::new(alloc);
+    put_flag(&mut text, b"{\"console\":", relay.is_open())?;
+    put_orders(&mut text, relay, now)?;
+    put(&mut text, b"]}\n")?;
+    Ok(text)
+}

@@ -1,0 +1,185 @@
+//! The picture as JSON.
+
+ghost use Rattle.std.specs.Prelude.{◌≡◌, ◌+◌, ◌++◌, IfOk, OnOk};
+ghost use Rattle.smi_view.specs.Pictured.{object_of};
+ghost use Rattle.smi_tree.specs.Lookups.{domain_count};
+ghost use Rattle.smi_web.specs.PictureJson.{
+  busy_text,
+  device_text,
+  domain_text,
+  grant_text,
+  hearing_text,
+  holder_text,
+  last_text,
+  picture_text,
+  sight_text,
+};
+
+use crate::json::{put, put_number, put_quoted};
+use crate::json_list::{Listing, put_list};
+use smi_grant::{Holder, Phase, Record};
+use smi_schedule::names;
+use smi_tree::Tree;
+use smi_view::{Hearing, Picture, Sight};
+use std::alloc::{AllocError, Global};
+
+/// A state that was shown.
+fn put_seen(text: &mut Vec<u8>, tree: &Tree, seen: Sight) -> Result<(), AllocError>
+    ensures { OnOk result (text.new.items ≡ text.old.items ++ sight_text tree.now (Some seen)) }
+{
+    let shown = seen.shown;
+    put_quoted(
+        text,
+        b"{\"state\":",
+        names::state(tree, shown.state),
+        shown.state,
+    )?;
+    put_number(text, b",\"boot\":", u64::from(shown.version.boot))?;
+    put_number(text, b",\"sequence\":", u64::from(shown.version.sequence))?;
+    put_number(text, b",\"at\":", seen.at)?;
+    put(text, b"}")
+}
+
+fn put_sight(text: &mut Vec<u8>, tree: &Tree, sight: Option<Sight>) -> Result<(), AllocError>
+    ensures { OnOk result (text.new.items ≡ text.old.items ++ sight_text tree.now sight) }
+{
+    match sight {
+        Some(seen) => put_seen(text, tree, seen),
+        None => put(text, b"null"),
+    }
+}
+
+fn put_holder(text: &mut Vec<u8>, tree: &Tree, holder: Holder) -> Result<(), AllocError>
+    ensures { OnOk result (text.new.items ≡ text.old.items ++ holder_text tree.now holder) }
+{
+    match holder {
+        Holder::Free => put(text, b"null"),
+        Holder::Operator(number) => {
+            let name = names::operator(tree, number);
+            put_quoted(text, b"{\"operator\":", name, number)?;
+            put(text, b"}")
+        }
+        Holder::Domain(number) => {
+            put_quoted(text, b"{\"domain\":", names::domain(tree, number), number)?;
+            put(text, b"}")
+        }
+    }
+}
+
+fn put_busy(text: &mut Vec<u8>, phase: Phase) -> Result<(), AllocError>
+    ensures { OnOk result (text.new.items ≡ text.old.items ++ busy_text phase) }
+{
+    match phase {
+        Phase::Settled => put(text, b"false"),
+        Phase::Busy => put(text, b"true"),
+    }
+}
+
+/// Who holds a domain and since when.
+fn put_grant(text: &mut Vec<u8>, tree: &Tree, record: &Record) -> Result<(), AllocError>
+    ensures { OnOk result (text.new.items ≡ text.old.items ++ grant_text tree.now record.now) }
+{
+    put(text, b"{\"holder\":")?;
+    put_holder(text, tree, record.holder)?;
+    put_number(text, b",\"epoch\":", record.epoch)
+}
+
+/// The last command of a domain and how it stands.
+fn put_last(text: &mut Vec<u8>, record: &Record) -> Result<(), AllocError>
+    ensures { OnOk result (text.new.items ≡ text.old.items ++ last_text record.now) }
+{
+    put_number(text, b",\"last\":", u64::from(record.last))?;
+    put(text, b",\"busy\":")?;
+    put_busy(text, record.phase)?;
+    put_number(text, b",\"outcome\":", u64::from(record.outcome))
+}
+
+fn put_hearing(text: &mut Vec<u8>, tree: &Tree, hearing: &Option<Hearing>) -> Result<(), AllocError>
+    ensures { OnOk result (text.new.items ≡ text.old.items ++ hearing_text tree.now hearing.now) }
+{
+    match hearing {
+        Some(had) => {
+            put_grant(text, tree, &had.record)?;
+            put_last(text, &had.record)?;
+            put_number(text, b",\"since\":", had.since)?;
+            put_number(text, b",\"heard\":", had.heard)?;
+            put(text, b"}")
+        }
+        None => put(text, b"null"),
+    }
+}
+
+/// The domains of a picture.
+#[derive(Clone, Copy)]
+struct Domains<'a> {
+    tree: &'a Tree,
+    picture: &'a Picture,
+}
+
+impl<'a> Listing for Domains<'a> {
+    ghost use Rattle.smi_web.specs.PictureJson.{domain_text};
+
+    ghost text = { λ s d. domain_text s.tree.now s.picture.now d };
+
+    fn put(&self, into: &mut Vec<u8>, number: u16) -> Result<(), AllocError> {
+        let name = names::domain(self.tree, number);
+        put_quoted(into, b"{\"name\":", name, number)?;
+        put(into, b",\"shown\":")?;
+        put_sight(into, self.tree, self.picture.object(usize::from(number)))?;
+        put(into, b",\"told\":")?;
+        put_hearing(into, self.tree, &self.picture.domain(number))?;
+        put(into, b"}")
+    }
+}
+
+/// What was seen of a device.
+fn sight_of_device(tree: &Tree, picture: &Picture, device: u16) -> Option<Sight>
+    ensures { result ≡ object_of picture.now (domain_count tree.now + device) }
+{
+    picture.object(usize::from(tree.domain_count()) + usize::from(device))
+}
+
+/// The devices of a picture.
+#[derive(Clone, Copy)]
+struct SeenDevices<'a> {
+    tree: &'a Tree,
+    picture: &'a Picture,
+}
+
+impl<'a> Listing for SeenDevices<'a> {
+    ghost use Rattle.smi_web.specs.PictureJson.{device_text};
+
+    ghost text = { λ s d. device_text s.tree.now s.picture.now d };
+
+    fn put(&self, into: &mut Vec<u8>, number: u16) -> Result<(), AllocError> {
+        let name = names::device(self.tree, number);
+        put_quoted(into, b"{\"name\":", name, number)?;
+        put(into, b",\"shown\":")?;
+        let sight = sight_of_device(self.tree, self.picture, number);
+        put_sight(into, self.tree, sight)?;
+        put(into, b"}")
+    }
+}
+
+/// The picture in one line of JSON, with its number and the time at which it was looked at.
+///
+/// It fails only where memory ran out, which tests alone see.
+pub fn write_picture(
+    alloc: Global,
+    tree: &Tree,
+    picture: &Picture,
+    number: u64,
+    now: u64,
+) -> Result<Vec<u8>, AllocError>
+    ensures { IfOk result (λ text. text.items ≡ picture_text tree.now picture.now number now) }
+{
+    let mut text = Vec::new(alloc);
+    put_number(&mut text, b"{\"frame\":", number)?;
+    put_number(&mut text, b",\"now\":", now)?;
+    let domains = Domains { tree, picture };
+    put_list(&mut text, b",\"domains\":[", &domains, tree.domain_count())?;
+    let devices = SeenDevices { tree, picture };
+    put_list(&mut text, b"],\"devices\":[", &devices, tree.device_count())?;
+    put(&mut text, b"]}\n")?;
+    Ok(text)
+}

@@ -1,0 +1,131 @@
+//! An order that was given from a page, and what became of it.
+
+ghost use Rattle.std.specs.Prelude.{◌≡◌, drop, IfOk};
+ghost use Rattle.smi_web.specs.RelayedOrder as spec;
+
+use crate::order_line::is_all_plain;
+use bytes::Bytes;
+use std::alloc::{AllocError, Global};
+use std::io::Write;
+
+/// An order that was given from a page.
+#[derive(Drop)]
+pub struct RelayedOrder {
+    /// Its number, from 1, which no other has.
+    pub number: u64,
+    /// What its line begins with on its way, and so does its answer.
+    pub tag: Bytes,
+    /// The order, as it was given.
+    pub line: Bytes,
+    /// When it was given, in milliseconds.
+    pub given: u64,
+    pub answer: Option<Reply>,
+}
+
+/// What the console said to an order, without the tag, and when.
+#[derive(Drop)]
+pub struct Reply {
+    pub text: Bytes,
+    pub at: u64,
+}
+
+/// A text whose copies share its bytes.
+pub(crate) fn shared(text: Vec<u8>) -> Result<Bytes, AllocError>
+    ensures { IfOk result (λ bytes. bytes ≡ text.items) }
+{
+    match Bytes::from_vec(text) {
+        Ok(bytes) => Ok(bytes),
+        Err(_) => Err(AllocError),
+    }
+}
+
+/// The tag of the order of this number.
+fn tag_of(alloc: Global, number: u64) -> Result<Bytes, AllocError>
+    ensures { IfOk result (λ tag. tag ≡ spec.tag_of number) }
+{
+    let mut text = Vec::from_slice(alloc, b"@")?;
+    write!(text, "{number}").map_err(|_| AllocError)?;
+    text.extend_from_slice(b" ")?;
+    shared(text)
+}
+
+/// What the console said, where it is plain text.
+fn said(text: &[u8]) -> &[u8]
+    ensures { result.now ≡ spec.said text.now }
+{
+    if is_all_plain(text) { text } else { b"?" }
+}
+
+/// A line without its first bytes, so many.
+fn behind(line: &[u8], count: usize) -> &[u8]
+    ensures { result.now ≡ drop count line.now }
+{
+    if count <= line.len() {
+        &line[count..]
+    } else {
+        &[]
+    }
+}
+
+impl RelayedOrder {
+    ghost use Rattle.std.specs.Prelude.{◌≡◌, IfOk};
+    ghost use Rattle.smi_web.specs.RelayedOrder as spec;
+
+    /// The order of this number, whose order was given now.
+    pub(crate) fn new(
+        alloc: Global,
+        number: u64,
+        line: &[u8],
+        now: u64,
+    ) -> Result<RelayedOrder, AllocError>
+        ensures { IfOk result (λ order. order ≡ spec.order_of number line.now now) }
+    {
+        Ok(RelayedOrder {
+            number,
+            tag: tag_of(alloc, number)?,
+            line: shared(Vec::from_slice(alloc, line)?)?,
+            given: now,
+            answer: None,
+        })
+    }
+
+    /// What is sent of it.
+    pub(crate) fn sent(&self, alloc: Global) -> Result<Vec<u8>, AllocError>
+        ensures { IfOk result (λ text. text.items ≡ spec.sent_of self.now) }
+    {
+        let mut text = Vec::from_slice(alloc, self.tag.as_slice())?;
+        text.extend_from_slice(self.line.as_slice())?;
+        text.extend_from_slice(b"\n")?;
+        Ok(text)
+    }
+
+    /// Whether it waits for its answer, where those before the order `first` wait no more.
+    pub(crate) fn is_waiting(&self, first: u64) -> bool
+        ensures { result ≡ spec.is_waiting first self.now }
+    {
+        self.answer.is_none() && first <= self.number
+    }
+
+    /// Whether a line answers it.
+    pub(crate) fn is_answered_by(&self, first: u64, line: &[u8]) -> bool
+        ensures { result ≡ spec.is_answered_by first line.now self.now }
+    {
+        self.is_waiting(first) && line.starts_with(self.tag.as_slice())
+    }
+
+    /// The answer that a line is, which came now.
+    pub(crate) fn answer_by(
+        &self,
+        alloc: Global,
+        line: &[u8],
+        now: u64,
+    ) -> Result<Reply, AllocError>
+        ensures { IfOk result (λ answer. answer ≡ spec.answer_by self.now line.now now) }
+    {
+        let text = said(behind(line, self.tag.len()));
+        Ok(Reply {
+            text: shared(Vec::from_slice(alloc, text)?)?,
+            at: now,
+        })
+    }
+}

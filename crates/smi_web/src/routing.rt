@@ -1,0 +1,209 @@
+//! Which answer a request gets.
+
+ghost use Rattle.std.specs.Prelude.{◌≡◌, bytes_eq, map, option_map};
+ghost use Rattle.std.specs.List.{list_any};
+ghost use Rattle.smi_web.specs.Answers as spec;
+
+use crate::order_relay::Admission;
+use crate::page_orders::PageOrders;
+use std::marker::Model;
+
+/// What matters of a request.
+#[derive(Drop)]
+pub struct RequestParts<'a> {
+    pub method: &'a [u8],
+    /// The value of its `Host`, if it has one.
+    pub host: Option<&'a [u8]>,
+    /// True if its target names a host itself.
+    pub is_absolute: bool,
+    pub path: &'a [u8],
+    pub query: Option<&'a [u8]>,
+    /// The value of its `Origin`, by which a browser says whose page asks, if it has one.
+    pub origin: Option<&'a [u8]>,
+    /// The value of its `Authorization`, if it has one.
+    pub key: Option<&'a [u8]>,
+    pub body: &'a [u8],
+}
+
+impl<'a> Model for RequestParts<'a> {
+    ghost use Rattle.std.specs.Prelude.{option_map};
+    ghost use Rattle.smi_web.specs.Parts.{PartsState};
+
+    ghost Value = { PartsState };
+
+    ghost view = { λ q. record {
+      method = q.method.now;
+      host = option_map (λ h. h.now) q.host;
+      is_absolute = q.is_absolute;
+      path = q.path.now;
+      query = option_map (λ h. h.now) q.query;
+      origin = option_map (λ h. h.now) q.origin;
+      key = option_map (λ h. h.now) q.key;
+      body = q.body.now;
+    } };
+}
+
+/// Which answer a request gets.
+#[derive(Clone, Copy, Debug, PartialEq, Eq)]
+pub enum Route {
+    Page,
+    Tree,
+    Picture,
+    Metrics,
+    /// Nothing, because the client has the newest picture.
+    Unchanged,
+    /// What became of the orders that were given.
+    Orders,
+    /// There is no such page.
+    NotFound,
+    /// This screen changes nothing.
+    Change,
+    /// The order is given.
+    Given,
+    /// The order comes from another page than the one that is served here.
+    ForeignOrigin,
+    /// The order is none.
+    NoOrder,
+    /// There is no connection with the console.
+    ConsoleDown,
+    /// Too many orders wait.
+    QueueFull,
+    /// The request names another host: somebody else has turned that name to this address.
+    WrongHost,
+}
+
+/// Returns true if a text is there and is this word.
+fn is_text(text: Option<&[u8]>, word: &[u8]) -> bool
+    ensures { result ≡ spec.is_text (option_map (λ t. t.now) text.entry) word.now }
+{
+    match text {
+        Some(text) => text == word,
+        None => false,
+    }
+}
+
+/// Returns true if a host is one of these.
+fn is_among(hosts: &[Vec<u8>], host: &[u8]) -> bool
+    ensures { result ≡ list_any (λ ours. bytes_eq ours.items host.now) hosts.now }
+{
+    hosts.iter().any(|ours| ours.as_slice() == host)
+}
+
+/// Returns true if a host is there and is one of these.
+#[tactic(auto, using(crate::proofs::Hosts::any_of_map))]
+fn is_ours(hosts: &[Vec<u8>], host: Option<&[u8]>) -> bool
+    ensures { result ≡ spec.is_ours (map (λ h. h.items) hosts.now) (option_map (λ h. h.now) host.entry) }
+{
+    match host {
+        Some(host) => is_among(hosts, host),
+        None => false,
+    }
+}
+
+/// Returns true if a method only reads.
+fn reads_only(method: &[u8]) -> bool
+    ensures { result ≡ spec.reads_only method.now }
+{
+    method == b"GET".as_slice() || method == b"HEAD".as_slice()
+}
+
+/// Returns what is at a place.
+fn place_route(path: &[u8], query: Option<&[u8]>, version: &[u8], has_orders: bool) -> Route
+    ensures { result ≡ spec.place_route path.now (option_map (λ q. q.now) query.entry) version.now has_orders }
+{
+    if path == b"/".as_slice() {
+        return Route::Page;
+    }
+    if path == b"/api/tree".as_slice() {
+        return Route::Tree;
+    }
+    if path == b"/api/picture".as_slice() {
+        return if is_text(query, version) {
+            Route::Unchanged
+        } else {
+            Route::Picture
+        };
+    }
+    if path == b"/metrics".as_slice() {
+        return Route::Metrics;
+    }
+    if has_orders && path == b"/api/orders".as_slice() {
+        return Route::Orders;
+    }
+    Route::NotFound
+}
+
+/// Returns true if a page of this host asks. A browser says where a page came from, and no page can say otherwise.
+fn is_own_page(host: Option<&[u8]>, origin: Option<&[u8]>) -> bool
+    ensures { result ≡ spec.is_own_page (option_map (λ h. h.now) host.entry) (option_map (λ o. o.now) origin.entry) }
+{
+    match (host, origin) {
+        (Some(host), Some(origin)) => {
+            origin.starts_with(b"http://") && &origin[b"http://".len()..] == host
+        }
+        _ => false,
+    }
+}
+
+/// Returns true if the page asks that was served with this key, from where it was served.
+fn is_trusted(key: &[u8], parts: &RequestParts<'_>) -> bool
+    ensures { result ≡ spec.is_trusted key.now parts.now }
+{
+    is_text(parts.key, key) && is_own_page(parts.host, parts.origin)
+}
+
+/// Returns the answer to an order of which the relay says so.
+fn route_by(admission: Admission) -> Route
+    ensures { result ≡ spec.route_by admission }
+{
+    match admission {
+        Admission::Accepted => Route::Given,
+        Admission::NoOrder => Route::NoOrder,
+        Admission::ConsoleDown => Route::ConsoleDown,
+        Admission::QueueFull => Route::QueueFull,
+    }
+}
+
+/// Returns the answer to a request that would change something, if orders may be given.
+fn order_route(orders: &PageOrders, parts: &RequestParts<'_>) -> Route
+    ensures { result ≡ spec.order_route orders.now parts.now }
+{
+    if parts.method != b"POST".as_slice() || parts.path != b"/api/orders".as_slice() {
+        return Route::Change;
+    }
+    if !is_trusted(orders.key.as_slice(), parts) {
+        return Route::ForeignOrigin;
+    }
+    route_by(orders.relay.admission(&orders.tree, parts.body))
+}
+
+/// Returns the answer to a request that would change something.
+fn change_route(orders: &Option<PageOrders>, parts: &RequestParts<'_>) -> Route
+    ensures { result ≡ spec.change_route orders.now parts.now }
+{
+    match orders {
+        Some(orders) => order_route(orders, parts),
+        None => Route::Change,
+    }
+}
+
+/// Returns the answer to a request, by these tests in their order: the host, the method, the place; and of an order who
+/// gives it, whether it is one, and whether it can be sent.
+///
+/// The hosts are those that are answered. `version` is the query of a client that has the newest picture.
+pub fn route_request(
+    hosts: &[Vec<u8>],
+    version: &[u8],
+    orders: &Option<PageOrders>,
+    parts: &RequestParts<'_>,
+) -> Route
+    ensures { result ≡ spec.route_request (map (λ h. h.items) hosts.now) version.now orders.now parts.now }
+{
+    if parts.is_absolute || !is_ours(hosts, parts.host) {
+        return Route::WrongHost;
+    }
+    if !reads_only(parts.method) {
+        return change_route(orders, parts);
+    }
+    place_route(parts.path, parts.query, version, orders.is_some())
+}

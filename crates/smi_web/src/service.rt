@@ -1,0 +1,236 @@
+//! The service over a snapshot.
+
+ghost use Rattle.std.specs.Prelude.{◌≡◌, ◌++◌, ◌∷◌, [], codes, option_map, IsTrue, OnErr, OnOk};
+ghost use Rattle.http_header.specs.FieldValue.{is_visible_text};
+ghost use Rattle.http_server.specs.Response.{IsBlank, fields_of};
+ghost use Rattle.smi_web.specs.Answers.{Answers, left_by, of_type, orders_told, own_headers, plain};
+ghost use Rattle.smi_web.specs.Answers.{security_headers, with_headers};
+ghost use Rattle.smi_web.specs.declared.routing.Route.TheVariants as route_to;
+ghost use Rattle.smi_web.specs.Parts.{parts_of, field_of};
+
+use crate::page_orders::PageOrders;
+use crate::routing::{RequestParts, Route, route_request};
+use crate::snapshot::Snapshot;
+use bytes::Bytes;
+use http::{HeaderName, HeaderValue, Request, StatusCode, header};
+use http_server::{Response, Service};
+use std::alloc::{AllocError, Global};
+
+/// Answers requests from a snapshot.
+#[derive(Drop)]
+pub struct WebService {
+    /// The hosts that it answers to.
+    pub hosts: Vec<Vec<u8>>,
+    pub snapshot: Snapshot,
+    /// The orders that its page may give, if it may.
+    pub orders: Option<PageOrders>,
+}
+
+/// What a page may do: run what stands in it, and ask where it came from.
+const CSP: &str =
+    "default-src 'none'; script-src 'unsafe-inline'; style-src 'unsafe-inline'; connect-src 'self'; img-src data:; base-uri 'none'; form-action 'none'; frame-ancestors 'none'";
+
+const HTML: &str = "text/html; charset=utf-8";
+
+const JSON: &str = "application/json";
+
+const METRICS: &str = "text/plain; version=0.0.4; charset=utf-8";
+
+const PLAIN: &str = "text/plain; charset=utf-8";
+
+/// Returns the first value of a header, if there is one.
+fn field_of(request: &Request<Bytes>, name: HeaderName) -> Option<&[u8]>
+    ensures { option_map (λ v. v.now) result ≡ field_of request.now name }
+{
+    match request.headers().get(name) {
+        Some(value) => Some(value.as_bytes()),
+        None => None,
+    }
+}
+
+/// Returns what matters of a request.
+fn parts_of(request: &Request<Bytes>) -> RequestParts<'_>
+    ensures { result ≡ parts_of request.now }
+{
+    let uri = request.uri();
+    let query = match uri.query() {
+        Some(query) => Some(query.as_bytes()),
+        None => None,
+    };
+    RequestParts {
+        method: request.method().as_str().as_bytes(),
+        host: field_of(request, header::HOST),
+        is_absolute: uri.authority().is_some(),
+        path: uri.path().as_bytes(),
+        query,
+        origin: field_of(request, header::ORIGIN),
+        key: field_of(request, header::AUTHORIZATION),
+        body: request.body().as_slice(),
+    }
+}
+
+/// Adds a header.
+fn add(response: &mut Response, name: HeaderName, value: &'static str) -> Result<(), AllocError>
+    requires { IsTrue (is_visible_text value.now) }
+    ensures status { response.new.status ≡ response.old.status }
+    ensures headers { OnOk result (fields_of response.new ≡ fields_of response.old ++ (name, value.now) ∷ []) }
+    ensures body { response.new.body ≡ response.old.body }
+{
+    response.add_header(name, HeaderValue::from_static(value))
+}
+
+/// Adds the headers that every answer has.
+fn add_security_headers(response: &mut Response) -> Result<(), AllocError>
+    ensures status { response.new.status ≡ response.old.status }
+    ensures headers { OnOk result (fields_of response.new ≡ with_headers (fields_of response.old) security_headers) }
+    ensures body { response.new.body ≡ response.old.body }
+{
+    add(response, header::CACHE_CONTROL, "no-store")?;
+    add(response, header::X_CONTENT_TYPE_OPTIONS, "nosniff")?;
+    add(response, header::X_FRAME_OPTIONS, "DENY")?;
+    add(response, header::REFERRER_POLICY, "no-referrer")?;
+    add(response, header::CONTENT_SECURITY_POLICY, CSP)
+}
+
+/// Fills in a text of this type.
+fn fill(
+    response: &mut Response,
+    status: StatusCode,
+    kind: &'static str,
+    text: &Bytes,
+) -> Result<(), AllocError>
+    requires { IsTrue (is_visible_text kind.now) }
+    ensures status { OnOk result (response.new.status ≡ status) }
+    ensures headers { OnOk result (fields_of response.new ≡ with_headers (fields_of response.old) (of_type kind.now)) }
+    ensures body { OnOk result (response.new.body.items ≡ response.old.body.items ++ text.now) }
+{
+    response.status = status;
+    add(response, header::CONTENT_TYPE, kind)?;
+    response.body.push(text.clone()?)
+}
+
+/// Fills in words that tell nothing of the detector.
+fn fill_plain(
+    response: &mut Response,
+    status: StatusCode,
+    text: &'static str,
+) -> Result<(), AllocError>
+    ensures status { OnOk result (response.new.status ≡ status) }
+    ensures headers { OnOk result (fields_of response.new ≡ with_headers (fields_of response.old) plain) }
+    ensures body { OnOk result (response.new.body.items ≡ response.old.body.items ++ text.now) }
+{
+    let text = Bytes::from_static(text.as_bytes());
+    fill(response, status, PLAIN, &text)
+}
+
+/// Refuses to change anything.
+fn refuse_change(response: &mut Response) -> Result<(), AllocError>
+    ensures status { OnOk result (response.new.status ≡ 405) }
+    ensures headers { OnOk result (fields_of response.new
+        ≡ with_headers (fields_of response.old) (own_headers route_to.Change)) }
+    ensures body { OnOk result (response.new.body.items ≡ response.old.body.items ++ codes "this screen only shows") }
+{
+    add(response, header::ALLOW, "GET, HEAD")?;
+    let status = StatusCode::METHOD_NOT_ALLOWED;
+    fill_plain(response, status, "this screen only shows")
+}
+
+impl WebService {
+    /// Renews the text of what became of the orders that were given.
+    ///
+    /// Its error is that memory was refused: nothing changes then.
+    pub fn renew_orders(&mut self, alloc: Global) -> Result<(), AllocError>
+        ensures ok { OnOk result (self.new ≡ orders_told self.old) }
+        ensures err { OnErr result (self.new ≡ self.old) }
+    {
+        match &self.orders {
+            Some(orders) => self
+                .snapshot
+                .renew_orders(alloc, &orders.relay, orders.time),
+            None => Ok(()),
+        }
+    }
+
+    /// Gives an order, if orders may be given.
+    fn give(&mut self, line: &[u8]) -> Result<(), AllocError>
+        ensures ok { OnOk result (self.new ≡ left_by route_to.Given self.old line.now) }
+        ensures err { OnErr result (self.new ≡ self.old) }
+    {
+        match &mut self.orders {
+            Some(orders) => orders.give(line),
+            None => Ok(()),
+        }
+    }
+
+    /// Fills in the answer to a request.
+    fn answer(&self, what: Route, response: &mut Response) -> Result<(), AllocError>
+        requires { IsBlank response.old }
+        ensures { OnOk result (Answers self.now.snapshot what response.new) }
+    {
+        add_security_headers(response)?;
+        let snapshot = &self.snapshot;
+        match what {
+            Route::Page => fill(response, StatusCode::OK, HTML, &snapshot.page),
+            Route::Tree => fill(response, StatusCode::OK, JSON, &snapshot.tree),
+            Route::Picture => fill(response, StatusCode::OK, JSON, &snapshot.picture),
+            Route::Metrics => fill(response, StatusCode::OK, METRICS, &snapshot.metrics),
+            Route::Orders => fill(response, StatusCode::OK, JSON, &snapshot.orders),
+            Route::Unchanged => {
+                response.status = StatusCode::NO_CONTENT;
+                Ok(())
+            }
+            Route::NotFound => fill_plain(response, StatusCode::NOT_FOUND, "there is no such page"),
+            Route::Change => refuse_change(response),
+            Route::WrongHost => {
+                let status = StatusCode::MISDIRECTED_REQUEST;
+                fill_plain(response, status, "this is another host")
+            }
+            Route::Given => fill_plain(response, StatusCode::ACCEPTED, "the order is on its way"),
+            Route::ForeignOrigin => {
+                let status = StatusCode::FORBIDDEN;
+                fill_plain(response, status, "orders are given from the page alone")
+            }
+            Route::NoOrder => {
+                let status = StatusCode::BAD_REQUEST;
+                fill_plain(
+                    response,
+                    status,
+                    "this is no order of an operator of the tree",
+                )
+            }
+            Route::ConsoleDown => {
+                let status = StatusCode::SERVICE_UNAVAILABLE;
+                fill_plain(response, status, "there is no connection with the console")
+            }
+            Route::QueueFull => {
+                let status = StatusCode::TOO_MANY_REQUESTS;
+                fill_plain(response, status, "too many orders wait")
+            }
+        }
+    }
+}
+
+impl Service for WebService {
+    ghost use Rattle.std.specs.Prelude.{◌≡◌};
+    ghost use Rattle.http.specs.Request.{body_of};
+    ghost use Rattle.smi_web.specs.Answers.{Answers, route_of, left_by};
+
+    ghost answers = { λ old request response new.
+        (new ≡ left_by (route_of old request) old (body_of request))
+        × Answers old.snapshot (route_of old request) response };
+
+    fn call(
+        &mut self,
+        request: &Request<Bytes>,
+        response: &mut Response,
+    ) -> Result<(), AllocError> {
+        let parts = parts_of(request);
+        let version = self.snapshot.version.as_slice();
+        let what = route_request(&self.hosts, version, &self.orders, &parts);
+        self.answer(what, response)?;
+        if what == Route::Given {
+            return self.give(request.body().as_slice());
+        }
+        Ok(())
+    }
+}

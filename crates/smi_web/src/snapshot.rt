@@ -1,0 +1,116 @@
+//! What a picture looks like at one moment.
+
+ghost use Rattle.std.specs.Prelude.{◌≡◌, IfOk};
+ghost use Rattle.smi_web.specs.Snapshot.{version_of};
+
+use crate::metrics::write_metrics;
+use crate::order_relay::OrderRelay;
+use crate::orders_json::write_orders;
+use crate::picture_json::write_picture;
+use crate::tree_json::write_tree;
+use bytes::Bytes;
+use smi_tree::Tree;
+use smi_view::Picture;
+use std::alloc::{AllocError, Global};
+use std::io::Write;
+
+/// The texts that are served.
+#[derive(Drop)]
+pub struct Snapshot {
+    /// The query of one who has this picture already.
+    pub version: Bytes,
+    pub page: Bytes,
+    pub tree: Bytes,
+    pub picture: Bytes,
+    pub metrics: Bytes,
+    /// The orders that were given from the page; nothing, where none can be.
+    pub orders: Bytes,
+}
+
+/// A text whose copies share its bytes.
+fn shared(text: Vec<u8>) -> Result<Bytes, AllocError>
+    ensures { IfOk result (λ bytes. bytes ≡ text.items) }
+{
+    match Bytes::from_vec(text) {
+        Ok(bytes) => Ok(bytes),
+        Err(_) => Err(AllocError),
+    }
+}
+
+/// The query of one who has the picture of this number.
+fn version_of(alloc: Global, number: u64) -> Result<Bytes, AllocError>
+    ensures { IfOk result (λ bytes. bytes ≡ version_of number) }
+{
+    let mut text = Vec::from_slice(alloc, b"after=")?;
+    write!(text, "{number}").map_err(|_| AllocError)?;
+    shared(text)
+}
+
+impl Snapshot {
+    ghost use Rattle.std.specs.Prelude.{◌≡◌, IfOk, OnErr, OnOk};
+    ghost use Rattle.smi_web.specs.Snapshot.{snapshot_of, renewed, with_orders};
+
+    /// The first snapshot, of a page, a tree and a picture, which has number 0 and is looked at at time 0.
+    ///
+    /// It fails only where memory ran out, which tests alone see.
+    pub fn first(
+        alloc: Global,
+        page: Bytes,
+        tree: &Tree,
+        picture: &Picture,
+    ) -> Result<Snapshot, AllocError>
+        ensures { IfOk result (λ snapshot. snapshot ≡ snapshot_of page tree.now picture.now 0 0) }
+    {
+        let shape = shared(write_tree(alloc, tree)?)?;
+        let scene = shared(write_picture(alloc, tree, picture, 0, 0)?)?;
+        let metrics = shared(write_metrics(alloc, tree, picture, 0, 0)?)?;
+        Ok(Snapshot {
+            version: version_of(alloc, 0)?,
+            page,
+            tree: shape,
+            picture: scene,
+            metrics,
+            orders: Bytes::from_static(b""),
+        })
+    }
+
+    /// The snapshot of a picture, which has this number and is looked at at this time, in place of the one before. The
+    /// page and the tree stay.
+    ///
+    /// It fails only where memory ran out, which tests alone see, and changes nothing then.
+    pub fn renew(
+        &mut self,
+        alloc: Global,
+        tree: &Tree,
+        picture: &Picture,
+        number: u64,
+        now: u64,
+    ) -> Result<(), AllocError>
+        ensures ok { OnOk result (self.new ≡ renewed self.old tree.now picture.now number now) }
+        ensures err { OnErr result (self.new ≡ self.old) }
+    {
+        let scene = shared(write_picture(alloc, tree, picture, number, now)?)?;
+        let metrics = shared(write_metrics(alloc, tree, picture, number, now)?)?;
+        self.version = version_of(alloc, number)?;
+        self.picture = scene;
+        self.metrics = metrics;
+        Ok(())
+    }
+
+    /// What became of the orders of this relay, looked at at this time, in place of what was told before. All else
+    /// stays.
+    ///
+    /// It fails only where memory ran out, which tests alone see, and changes nothing then.
+    pub fn renew_orders(
+        &mut self,
+        alloc: Global,
+        relay: &OrderRelay,
+        now: u64,
+    ) -> Result<(), AllocError>
+        ensures ok { OnOk result (self.new ≡ with_orders self.old relay.now now) }
+        ensures err { OnErr result (self.new ≡ self.old) }
+    {
+        self.orders = shared(write_orders(alloc, relay, now)?)?;
+        Ok(())
+    }
+}

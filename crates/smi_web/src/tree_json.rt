@@ -1,0 +1,249 @@
+//! The tree as JSON: what does not change while a program runs.
+
+ghost use Rattle.std.specs.Prelude.{◌≡◌, ◌++◌, IfOk, OnOk, option_map};
+ghost use Rattle.smi_tree.specs.Hierarchy.{entry};
+ghost use Rattle.smi_tree.specs.Lookups.{station_of};
+ghost use Rattle.smi_schedule.specs.TraceWords.{domain_word, station_word};
+ghost use Rattle.smi_web.specs.TreeJson.{
+  accepted_text,
+  all_kinds_text,
+  before_text,
+  device_shape,
+  domain_shape,
+  kind_count,
+  kinds_text,
+  operator_shape,
+  or_null,
+  place_text,
+  tree_text,
+};
+ghost use Rattle.smi_web.specs.Json.{quoted};
+
+use crate::json::{put, put_flag, put_number, put_quoted};
+use crate::json_list::{Listing, put_list};
+use smi_schedule::names;
+use smi_tree::Tree;
+use std::alloc::{AllocError, Global};
+
+/// The station of an operator, where there is such an operator.
+fn home_of(tree: &Tree, operator: u16) -> Option<u16>
+    ensures { result ≡ entry tree.now.homes operator }
+{
+    if 1 <= operator && operator <= tree.operator_count() {
+        Some(tree.operator_station(operator))
+    } else {
+        None
+    }
+}
+
+/// The station of a domain, where there is such a domain.
+fn station_of(tree: &Tree, domain: u16) -> Option<u16>
+    ensures { result ≡ station_of tree.now domain }
+{
+    if 1 <= domain && domain <= tree.domain_count() {
+        Some(tree.domain(domain).station)
+    } else {
+        None
+    }
+}
+
+/// The domain of a device, where there is such a device.
+fn domain_of(tree: &Tree, device: u16) -> Option<u16>
+    ensures { result ≡ option_map (λ row. row.domain) (entry tree.now.devices device) }
+{
+    if 1 <= device && device <= tree.device_count() {
+        Some(tree.device(device).domain)
+    } else {
+        None
+    }
+}
+
+fn put_station(text: &mut Vec<u8>, tree: &Tree, station: Option<u16>) -> Result<(), AllocError>
+    ensures { OnOk result (text.new.items ≡
+        text.old.items ++ or_null (option_map (λ s. quoted (station_word tree.now s)) station)) }
+{
+    match station {
+        Some(station) => put_quoted(text, b"", names::station(tree, station), station),
+        None => put(text, b"null"),
+    }
+}
+
+fn put_domain(text: &mut Vec<u8>, tree: &Tree, domain: Option<u16>) -> Result<(), AllocError>
+    ensures { OnOk result (text.new.items ≡
+        text.old.items ++ or_null (option_map (λ d. quoted (domain_word tree.now d)) domain)) }
+{
+    match domain {
+        Some(domain) => put_quoted(text, b"", names::domain(tree, domain), domain),
+        None => put(text, b"null"),
+    }
+}
+
+fn put_operator(text: &mut Vec<u8>, tree: &Tree, number: u16) -> Result<(), AllocError>
+    ensures { OnOk result (text.new.items ≡ text.old.items ++ operator_shape tree.now number) }
+{
+    let name = names::operator(tree, number);
+    put_quoted(text, b"{\"name\":", name, number)?;
+    put(text, b",\"station\":")?;
+    put_station(text, tree, home_of(tree, number))?;
+    put(text, b"}")
+}
+
+/// Which actions a domain accepts, by number.
+#[derive(Clone, Copy)]
+struct Accepting<'a> {
+    tree: &'a Tree,
+    domain: u16,
+}
+
+impl<'a> Listing for Accepting<'a> {
+    ghost use Rattle.smi_web.specs.TreeJson.{accept_text};
+
+    ghost text = { λ s n. accept_text s.tree.now s.domain n };
+
+    fn put(&self, into: &mut Vec<u8>, number: u16) -> Result<(), AllocError> {
+        put_flag(into, b"", self.tree.accepts(self.domain, number))
+    }
+}
+
+fn put_accepted(text: &mut Vec<u8>, tree: &Tree, domain: u16) -> Result<(), AllocError>
+    ensures { OnOk result (text.new.items ≡ text.old.items ++ accepted_text tree.now domain) }
+{
+    put_list(
+        text,
+        b",\"accepts\":[",
+        &Accepting { tree, domain },
+        tree.action_count(),
+    )?;
+    Ok(())
+}
+
+/// Where a domain stands.
+#[tactic(auto, unfolding(crate::specs::TreeJson::place_text))]
+fn put_place(text: &mut Vec<u8>, tree: &Tree, number: u16) -> Result<(), AllocError>
+    ensures { OnOk result (text.new.items ≡ text.old.items ++ place_text tree.now number) }
+{
+    let name = names::domain(tree, number);
+    put_quoted(text, b"{\"name\":", name, number)?;
+    put(text, b",\"station\":")?;
+    put_station(text, tree, station_of(tree, number))?;
+    put(text, b",\"parent\":")?;
+    put_domain(text, tree, tree.parent(number))
+}
+
+fn put_whole_domain(text: &mut Vec<u8>, tree: &Tree, number: u16) -> Result<(), AllocError>
+    ensures { OnOk result (text.new.items ≡ text.old.items ++ domain_shape tree.now number) }
+{
+    put_place(text, tree, number)?;
+    put_accepted(text, tree, number)?;
+    put(text, b"]}")
+}
+
+fn put_device(text: &mut Vec<u8>, tree: &Tree, number: u16) -> Result<(), AllocError>
+    ensures { OnOk result (text.new.items ≡ text.old.items ++ device_shape tree.now number) }
+{
+    let name = names::device(tree, number);
+    put_quoted(text, b"{\"name\":", name, number)?;
+    put(text, b",\"domain\":")?;
+    put_domain(text, tree, domain_of(tree, number))?;
+    put(text, b"}")
+}
+
+/// What a tree has by number.
+#[derive(Clone, Copy, Debug, PartialEq, Eq)]
+enum Kind {
+    State,
+    Action,
+    Station,
+    Operator,
+    Domain,
+    Device,
+}
+
+/// All of a kind that a tree has.
+#[derive(Clone, Copy)]
+struct All<'a> {
+    tree: &'a Tree,
+    kind: Kind,
+}
+
+impl<'a> Listing for All<'a> {
+    ghost use Rattle.smi_web.specs.TreeJson.{kind_text};
+
+    ghost text = { λ s n. kind_text s.tree.now s.kind n };
+
+    fn put(&self, into: &mut Vec<u8>, number: u16) -> Result<(), AllocError> {
+        let tree = self.tree;
+        match self.kind {
+            Kind::State => put_quoted(into, b"", names::state(tree, number), number),
+            Kind::Action => put_quoted(into, b"", names::action(tree, number), number),
+            Kind::Station => put_quoted(into, b"", names::station(tree, number), number),
+            Kind::Operator => put_operator(into, tree, number),
+            Kind::Domain => put_whole_domain(into, tree, number),
+            Kind::Device => put_device(into, tree, number),
+        }
+    }
+}
+
+impl Kind {
+    /// What stands before the list of a kind.
+    fn before(self) -> &'static [u8]
+        ensures { result.now ≡ before_text self }
+    {
+        match self {
+            Kind::State => b",\"states\":[",
+            Kind::Action => b"],\"actions\":[",
+            Kind::Station => b"],\"stations\":[",
+            Kind::Operator => b"],\"operators\":[",
+            Kind::Domain => b"],\"domains\":[",
+            Kind::Device => b"],\"devices\":[",
+        }
+    }
+
+    /// How many of a kind a tree has.
+    fn count(self, tree: &Tree) -> u16
+        ensures { result ≡ kind_count tree.now self }
+    {
+        match self {
+            Kind::State => tree.state_count(),
+            Kind::Action => tree.action_count(),
+            Kind::Station => tree.station_count(),
+            Kind::Operator => tree.operator_count(),
+            Kind::Domain => tree.domain_count(),
+            Kind::Device => tree.device_count(),
+        }
+    }
+}
+
+/// All of a kind.
+#[tactic(auto, unfolding(crate::specs::TreeJson::kinds_text))]
+fn put_kinds(text: &mut Vec<u8>, tree: &Tree, kind: Kind) -> Result<(), AllocError>
+    ensures { OnOk result (text.new.items ≡ text.old.items ++ kinds_text tree.now kind) }
+{
+    put_list(text, kind.before(), &All { tree, kind }, kind.count(tree))?;
+    Ok(())
+}
+
+fn put_all_kinds(text: &mut Vec<u8>, tree: &Tree) -> Result<(), AllocError>
+    ensures { OnOk result (text.new.items ≡ text.old.items ++ all_kinds_text tree.now) }
+{
+    put_kinds(text, tree, Kind::State)?;
+    put_kinds(text, tree, Kind::Action)?;
+    put_kinds(text, tree, Kind::Station)?;
+    put_kinds(text, tree, Kind::Operator)?;
+    put_kinds(text, tree, Kind::Domain)?;
+    put_kinds(text, tree, Kind::Device)?;
+    Ok(())
+}
+
+/// The tree in one line of JSON.
+///
+/// It fails only where memory ran out, which tests alone see.
+pub fn write_tree(alloc: Global, tree: &Tree) -> Result<Vec<u8>, AllocError>
+    ensures { IfOk result (λ text. text.items ≡ tree_text tree.now) }
+{
+    let mut text = Vec::new(alloc);
+    put_number(&mut text, b"{\"tree\":", u64::from(tree.number()))?;
+    put_all_kinds(&mut text, tree)?;
+    put(&mut text, b"]}\n")?;
+    Ok(text)
+}

@@ -1,8 +1,0 @@
-use Rattle.std.proofs.Common.{◌≡◌, ◌++◌}
-use Rattle.smi_window.specs.Words.{listed}
-use Rattle.smi_window.proofs.listed.put_listed.Given as goal
-
--- the texts so far stand there
-abbrev pub invariant-loop-place : goal.invariant-loop-place
-invariant-loop-place g l =
-    l.text.items ≡ l.initial.text.items ++ listed l.between (g.L.Listing.text l.listing) l.place
