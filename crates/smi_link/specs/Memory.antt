@@ -18,6 +18,7 @@ pub record Memory : Type 0 where
   pub sent : List Sent
   pub fails_after : Option ℕ
   pub failures : ℕ
+  pub receives : ℕ
   pub refusals : ℕ
 
 abbrev pub datagram_of : ToReceive → Option (List ℕ)
@@ -42,6 +43,7 @@ opened station = record {
   sent = [];
   fails_after = None;
   failures = 0;
+  receives = 0;
   refusals = 0;
 }
 
@@ -79,6 +81,10 @@ refused m = record m { refusals = m.refusals + 1 }
 abbrev pub moved_on : Memory → Memory
 moved_on m = record m { place = m.place + 1 }
 
+-- it was asked once more for what has come
+abbrev pub asked : Memory → Memory
+asked m = record m { receives = m.receives + 1 }
+
 -- what comes next is given once, and at the end there is nothing
 abbrev pub GivesNext : Option ToReceive → Memory → Memory → List ℕ → Reception → Type 0
 GivesNext None old new buffer r = (r ≡ is.Nothing) × (new ≡ old)
@@ -88,7 +94,7 @@ GivesNext (Some Nothing) old new buffer r = (r ≡ is.Nothing) × (new ≡ moved
 GivesNext (Some Fault) old new buffer r = (r ≡ is.Fault) × (new ≡ failed (moved_on old))
 
 abbrev pub Gives : Memory → Memory → List ℕ → Reception → Type 0
-Gives old new buffer r = GivesNext (slice_get old.coming old.place) old new buffer r
+Gives old new buffer r = GivesNext (slice_get old.coming old.place) (asked old) new buffer r
 
 -- the next send is to fail
 abbrev pub is_planned : Memory → Bool

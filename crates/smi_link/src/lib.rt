@@ -6,9 +6,9 @@
 //! reads.
 //!
 //! The layer above may rely on this: each fault raises the link's count of failures by one, and nothing
-//! else does; and where a link tells its datagrams, as `MemoryLink` does, what it received and what it
-//! handed on grow by just what the calls gave and took. A caller over any link is proved once, from the
-//! trait.
+//! else does; each call of `receive` raises the count of receives by one, and nothing else does; and where a
+//! link tells its datagrams, as `MemoryLink` does, what it received and what it handed on grow by just what
+//! the calls gave and took. A caller over any link is proved once, from the trait.
 //!
 //! # How it is proved
 //!
@@ -30,11 +30,13 @@
 //! a step remembers the one before it in the same way. So it has no bytes, its count has no end, and nothing of it is
 //! proved by hand.
 //!
-//! Of `UdpLink` contracts see the addresses and the count of failures (`specs/Udp`):
+//! Of `UdpLink` contracts see the addresses, where datagrams went, and its counts (`specs/Udp`):
 //!
 //! - `open` and `over` keep the addresses that they are given and begin with no failure. A link is opened only for a
 //!   station that has an address.
-//! - `receive` and `send` leave the addresses unchanged, and a datagram is handed on only to a station that has one.
+//! - `receive` and `send` leave the addresses unchanged. A datagram goes to the address of the station that it is for,
+//!   and nowhere else: `PeerSocket`, which alone has the socket, remembers the address of its last send, and how often
+//!   it sent, as contracts see them. What it remembers rests on one short body, `PeerSocket::send_to`.
 //! - How many milliseconds a call may still wait is `left_at` (`specs/Patience`), of when the link's patience began
 //!   and of the moment that its clock gave.
 //! - Not claimed: any byte, that a datagram arrives, what the clock says, that `receive` returns.
@@ -45,6 +47,7 @@ mod growth;
 mod link;
 mod memory;
 mod patience;
+mod peer_socket;
 mod udp;
 
 pub use link::{DATAGRAM_BYTES, DatagramLink, LinkFault, MOST_BYTES, Reception};

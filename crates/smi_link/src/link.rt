@@ -1,6 +1,6 @@
 //! What a link is to whoever sends and receives over it.
 
-ghost use Rattle.std.specs.Prelude.{ℕ, List, Option, ◌≡◌};
+ghost use Rattle.std.specs.Prelude.{ℕ, List, Option, ◌≡◌, ◌+◌};
 ghost use Rattle.smi_link.specs.Link.{Receives, Sends, CountsReception, CountsSend};
 
 use thiserror::Error;
@@ -30,10 +30,11 @@ pub struct LinkFault;
 
 /// A way to other stations, which may lose, repeat and reorder datagrams but never cuts or joins them.
 ///
-/// Contracts see three things of a link. *Received* is the list of all that `receive` gave as received,
+/// Contracts see four things of a link. *Received* is the list of all that `receive` gave as received,
 /// and *handed* the list of the stations and datagrams for which `send` answered `Ok`; a link that does
 /// not tell its datagrams has none of the two. *Failures* is a count that has no last value: each fault
-/// raises it by one, and nothing else does.
+/// raises it by one, and nothing else does. *Receives* is another such count: each call of `receive`
+/// raises it by one, whatever it answers, and nothing else does.
 pub trait DatagramLink {
     ghost received: { Self → Option (List (List ℕ)) };
 
@@ -41,13 +42,16 @@ pub trait DatagramLink {
 
     ghost failures: { Self → ℕ };
 
+    ghost receives: { Self → ℕ };
+
     /// The next datagram, in the beginning of the buffer.
     ///
     /// After `Nothing` and `Fault` the rest of the buffer says nothing, and no datagram was taken.
     fn receive(&mut self, buffer: &mut [u8; 45]) -> Reception
         ensures received { Receives (received self.old) (received self.new) buffer.new result }
         ensures handed { handed self.new ≡ handed self.old }
-        ensures failures { CountsReception result (failures self.old) (failures self.new) };
+        ensures failures { CountsReception result (failures self.old) (failures self.new) }
+        ensures receives { receives self.new ≡ receives self.old + 1 };
 
     /// Hands a datagram on to a station.
     ///
@@ -55,5 +59,6 @@ pub trait DatagramLink {
     fn send(&mut self, station: u16, datagram: &[u8; 44]) -> Result<(), LinkFault>
         ensures handed { Sends (handed self.old) (handed self.new) station datagram.now result }
         ensures received { received self.new ≡ received self.old }
-        ensures failures { CountsSend result (failures self.old) (failures self.new) };
+        ensures failures { CountsSend result (failures self.old) (failures self.new) }
+        ensures receives { receives self.new ≡ receives self.old };
 }

@@ -19,6 +19,7 @@ pub struct MemoryLink {
     sent: Vec<Sent>,
     fails_after: Option<u32>,
     faults: Tally,
+    receives: Tally,
     growth: Growth,
 }
 
@@ -35,6 +36,7 @@ impl Model for MemoryLink {
       sent = l.sent.items;
       fails_after = l.fails_after;
       failures = l.faults.count;
+      receives = l.receives.count;
       refusals = l.growth.count;
     } };
 
@@ -56,6 +58,7 @@ impl MemoryLink {
             sent: Vec::new(alloc),
             fails_after: None,
             faults: Tally::zero(),
+            receives: Tally::zero(),
             growth: Growth::new(),
         }
     }
@@ -96,7 +99,7 @@ impl MemoryLink {
 }
 
 impl DatagramLink for MemoryLink {
-    ghost use Rattle.std.specs.Prelude.{Some, ◌≡◌, IsErr, IsTrue};
+    ghost use Rattle.std.specs.Prelude.{Some, ◌≡◌, ◌+◌, IsErr, IsTrue};
     ghost use Rattle.smi_link.specs.Link.{Receives, Sends, CountsReception, CountsSend};
     ghost use Rattle.smi_link.specs.Memory.{received_of, handed_of, is_planned, Gives, Takes};
 
@@ -106,28 +109,37 @@ impl DatagramLink for MemoryLink {
 
     ghost failures = { λ l. l.failures };
 
+    ghost receives = { λ l. l.receives };
+
     fn receive(&mut self, buffer: &mut [u8; 45]) -> Reception
         ensures received { Receives (Some (received_of self.old)) (Some (received_of self.new)) buffer.new result }
         ensures handed { Some (handed_of self.new) ≡ Some (handed_of self.old) }
         ensures failures { CountsReception result self.old.failures self.new.failures }
+        ensures receives { self.new.receives ≡ self.old.receives + 1 }
         ensures gives { Gives self.old self.new buffer.new result }
     {
         match self.next() {
             Some(ToReceive::Datagram(frame)) => {
                 let count = frame.give(buffer);
                 self.place += 1;
+                self.receives.raise();
                 Reception::Received(count)
             }
             Some(ToReceive::Nothing) => {
                 self.place += 1;
+                self.receives.raise();
                 Reception::Nothing
             }
             Some(ToReceive::Fault) => {
                 self.place += 1;
+                self.receives.raise();
                 self.faults.raise();
                 Reception::Fault
             }
-            None => Reception::Nothing,
+            None => {
+                self.receives.raise();
+                Reception::Nothing
+            }
         }
     }
 
@@ -135,6 +147,7 @@ impl DatagramLink for MemoryLink {
         ensures handed { Sends (Some (handed_of self.old)) (Some (handed_of self.new)) station datagram.now result }
         ensures received { Some (received_of self.new) ≡ Some (received_of self.old) }
         ensures failures { CountsSend result self.old.failures self.new.failures }
+        ensures receives { self.new.receives ≡ self.old.receives }
         ensures planned { IsTrue (is_planned self.old) → IsErr result }
         ensures takes { Takes self.old self.new station datagram.now result }
     {

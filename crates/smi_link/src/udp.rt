@@ -1,11 +1,12 @@
 use crate::link::{DatagramLink, LinkFault, Reception};
 use crate::patience::{MOST_PATIENCE, Patience};
+use crate::peer_socket::PeerSocket;
 use smi_base::Tally;
 use std::io;
 use std::io::ErrorKind;
 use std::marker::Model;
 use std::net::{Net, SocketAddr, UdpSocket};
-use std::time::{Clock, Duration, Instant};
+use std::time::{Clock, Instant};
 
 /// A link over a UDP socket (RFC 768), which tells nothing of its datagrams.
 ///
@@ -15,12 +16,14 @@ use std::time::{Clock, Duration, Instant};
 /// hundred times a second under load. Where the clock can't be read, a call waits as if it were the first. A datagram
 /// over 44 bytes is received as its first 45. A send to a station without an address is a fault.
 ///
-/// Contracts see the addresses, by station from 1, and how often the link failed.
+/// Contracts see the addresses, by station from 1, where the last datagram went, and how often the link was asked to
+/// receive and failed.
 #[derive(Drop)]
 pub struct UdpLink<C: Clock + Drop> {
-    socket: UdpSocket,
+    socket: PeerSocket,
     peers: Vec<SocketAddr>,
     faults: Tally,
+    receives: Tally,
     clock: C,
     patience: Patience,
     /// How long the socket itself waits, in milliseconds.
@@ -32,25 +35,34 @@ impl<C: Clock + Drop> Model for UdpLink<C> {
 
     ghost Value = { Peered };
 
-    ghost view = { λ l. record { peers = l.peers.items; failures = l.faults.count } };
+    ghost view = { λ l. record {
+      peers = l.peers.items;
+      went = l.socket;
+      failures = l.faults.count;
+      receives = l.receives.count;
+    } };
 }
 
 impl<C: Clock + Drop> UdpLink<C> {
     ghost use Rattle.std.specs.Prelude.{◌≡◌, OnOk, IfOk, IfSome, slice_get};
-    ghost use Rattle.smi_link.specs.Udp.{HasAddress, address_of};
+    ghost use Rattle.smi_link.specs.Udp.{HasAddress, address_of, unsent};
 
     /// A link over a socket, where the stations, by number from 1, are reached at these addresses.
     ///
     /// Its error is that of the socket, which then is closed.
     pub fn over(socket: UdpSocket, clock: C, peers: Vec<SocketAddr>) -> io::Result<UdpLink<C>>
         ensures peers { IfOk result (λ link. link.peers ≡ peers.items) }
+        ensures went { IfOk result (λ link. link.went ≡ unsent) }
         ensures failures { IfOk result (λ link. link.failures ≡ 0) }
+        ensures receives { IfOk result (λ link. link.receives ≡ 0) }
     {
-        socket.set_read_timeout(Some(Duration::from_millis(MOST_PATIENCE)))?;
+        let socket = PeerSocket::new(socket);
+        socket.wait_at_most(MOST_PATIENCE)?;
         Ok(UdpLink {
             socket,
             peers,
             faults: Tally::zero(),
+            receives: Tally::zero(),
             clock,
             patience: Patience::new(),
             waits: MOST_PATIENCE,
@@ -68,7 +80,9 @@ impl<C: Clock + Drop> UdpLink<C> {
     ) -> io::Result<UdpLink<C>>
         ensures own { OnOk result (HasAddress peers.items station) }
         ensures peers { IfOk result (λ link. link.peers ≡ peers.items) }
+        ensures went { IfOk result (λ link. link.went ≡ unsent) }
         ensures failures { IfOk result (λ link. link.failures ≡ 0) }
+        ensures receives { IfOk result (λ link. link.receives ≡ 0) }
     {
         let own = usize::from(station).checked_sub(1);
         let Some(address) = own.and_then(|place| peers.get(place)) else {
@@ -99,12 +113,7 @@ impl<C: Clock + Drop> UdpLink<C> {
     fn wait_at_most(&mut self, waits: u64)
         ensures { self.new ≡ self.old }
     {
-        if self.waits != waits
-            && self
-                .socket
-                .set_read_timeout(Some(Duration::from_millis(waits)))
-                .is_ok()
-        {
+        if self.waits != waits && self.socket.wait_at_most(waits).is_ok() {
             self.waits = waits;
         }
     }
@@ -120,9 +129,9 @@ impl<C: Clock + Drop> UdpLink<C> {
 }
 
 impl<C: Clock + Drop> DatagramLink for UdpLink<C> {
-    ghost use Rattle.std.specs.Prelude.{None, ℕ, List, ◌≡◌, OnOk};
+    ghost use Rattle.std.specs.Prelude.{None, ℕ, List, ◌≡◌, ◌+◌, OnOk};
     ghost use Rattle.smi_link.specs.Link.{Receives, Sends, CountsReception, CountsSend};
-    ghost use Rattle.smi_link.specs.Udp.{HasAddress};
+    ghost use Rattle.smi_link.specs.Udp.{HasAddress, address_of, went_to};
 
     ghost received = { λ _. None };
 
@@ -130,18 +139,23 @@ impl<C: Clock + Drop> DatagramLink for UdpLink<C> {
 
     ghost failures = { λ l. l.failures };
 
+    ghost receives = { λ l. l.receives };
+
     fn receive(&mut self, buffer: &mut [u8; 45]) -> Reception
         ensures received { Receives None None buffer.new result }
         ensures failures { CountsReception result self.old.failures self.new.failures }
+        ensures receives { self.new.receives ≡ self.old.receives + 1 }
         ensures peers { self.new.peers ≡ self.old.peers }
+        ensures went { self.new.went ≡ self.old.went }
     {
+        self.receives.raise();
         let patience = self.patience();
         if patience == 0 {
             return self.nothing();
         }
         self.wait_at_most(patience);
-        match self.socket.recv_from(buffer) {
-            Ok((count, _)) => Reception::Received(count),
+        match self.socket.receive(buffer) {
+            Ok(count) => Reception::Received(count),
             Err(error) if error.kind() == ErrorKind::WouldBlock => self.nothing(),
             Err(_) => {
                 self.faults.raise();
@@ -152,11 +166,14 @@ impl<C: Clock + Drop> DatagramLink for UdpLink<C> {
 
     fn send(&mut self, station: u16, datagram: &[u8; 44]) -> Result<(), LinkFault>
         ensures failures { CountsSend result self.old.failures self.new.failures }
+        ensures receives { self.new.receives ≡ self.old.receives }
+        // A datagram goes to the address of the station that it is for, and nowhere else.
+        ensures went { self.new.went ≡ went_to (address_of self.old.peers station) self.old.went }
         ensures peers { self.new.peers ≡ self.old.peers }
         ensures known { OnOk result (HasAddress self.old.peers station) }
     {
         let sent = match self.address_of(station) {
-            Some(address) => self.socket.send_to(datagram, address).is_ok(),
+            Some(address) => self.socket.send_to(datagram, address),
             None => false,
         };
         if sent {
