@@ -18,12 +18,13 @@ use Rattle.smi_node.specs.Carried.{Edges, Follows, FollowsStep, Node, Tells, cod
 use Rattle.smi_node.specs.Linked.{LinkShows, Sends}
 use Rattle.smi_node.specs.Served.{Obeys, ObeysGiven, ServesSeat, carrying, event_of, with_desk}
 use Rattle.smi_node.specs.Told.{EndsAt, MarksAt, MarksNewest, TellsAll, TellsAt, TellsNewest, seat_of, work_at}
-use Rattle.smi_node.specs.declared.carrying.CarryFault.{CarryFault}
-use Rattle.smi_node.specs.declared.carrying.CarryFault.TheVariants.{Stopped, Memory}
+use Rattle.smi_node.specs.declared.node.CarryFault.{CarryFault}
+use Rattle.smi_node.specs.declared.node.CarryFault.TheVariants.{Stopped, Memory}
 
 pub record IsKept (before after : Edges) : Type 0 where
   pub seats : seat_count after.desk ≡ seat_count before.desk
   pub received : after.link.received ≡ before.link.received
+  pub receives : after.link.receives ≡ before.link.receives
   pub failures : before.link.failures ≤ after.link.failures
 
 -- The seats.
@@ -76,12 +77,14 @@ follows operators seat code handed a b None all = record {
   seats = tells operators seat code handed.answers all.marked b.desk all.tells
       ∙ marks seat handed.issued a.desk all.marked all.marks;
   received = all.sent.received;
+  receives = all.sent.receives;
   failures = sends_on handed.datagrams a.link b.link all.sent;
 }
 follows operators seat code handed a b (Some Stopped) wrong = absurd wrong
 follows operators seat code handed a b (Some Memory) most = record {
   seats = marks seat handed.issued a.desk b.desk most.marks;
   received = most.sent.received;
+  receives = most.sent.receives;
   failures = sends_on handed.datagrams a.link b.link most.sent;
 }
 
@@ -89,6 +92,7 @@ all_kept : (a b : Edges) → b ≡ a → IsKept a b
 all_kept a b same = record {
   seats = ap (λ (e : Edges). seat_count e.desk) same;
   received = ap (λ (e : Edges). e.link.received) same;
+  receives = ap (λ (e : Edges). e.link.receives) same;
   failures = (let n = ap (λ (e : Edges). e.link.failures) same in omega (arith, n));
 }
 
@@ -110,6 +114,7 @@ pub kept_twice : (a b c : Edges) → IsKept a b → IsKept b c → IsKept a c
 kept_twice a b c x y = record {
   seats = y.seats ∙ x.seats;
   received = y.received ∙ x.received;
+  receives = y.receives ∙ x.receives;
   failures = (let m = x.failures in let n = y.failures in omega (arith, m, n));
 }
 
@@ -120,6 +125,7 @@ obeys StepsBy operators seat (Some e) a b f carried = carry_keeps StepsBy operat
 obeys {T} StepsBy operators seat None a b f told = record {
   seats = ap (λ (n : Node T). seat_count n.edges.desk) told.3 ∙ tells_newest (Some seat) 26 a.edges.desk told.1 told.2;
   received = ap (λ (n : Node T). n.edges.link.received) told.3;
+  receives = ap (λ (n : Node T). n.edges.link.receives) told.3;
   failures = (let n = ap (λ (n : Node T). n.edges.link.failures) told.3 in omega (arith, n));
 }
 
@@ -136,5 +142,10 @@ pub seat_keeps : {T : Type 0} (StepsBy : T → Event → T → Out → Result He
     (who : Option ℕ) (seat : ℕ) (a b : Node T) (f : Option CarryFault)
     → ServesSeat (carrying StepsBy operators) who seat a b f → IsKept a.edges b.edges
 seat_keeps StepsBy operators who seat a b f served =
-    let rest = obeys_given StepsBy operators who seat served.0 (with_desk a served.1) b f served.3 in
-    record { seats = rest.seats ∙ served.2.count; received = rest.received; failures = rest.failures }
+    let rest = obeys_given StepsBy operators who seat served.0 (with_desk a served.1) b f served.4 in
+    record {
+      seats = rest.seats ∙ served.2.count;
+      received = rest.received;
+      receives = rest.receives;
+      failures = rest.failures;
+    }

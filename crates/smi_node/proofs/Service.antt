@@ -1,6 +1,6 @@
 -- Turn after turn, up to the end of the service.
-use Rattle.std.proofs.Common.{◌≡◌, ℕ, suc, ◌+◌, ◌<◌, Bool, true, false, List, [], ◌∷◌, length, Result, Ok, Err, refl}
-use Rattle.std.proofs.Common.{sym, subst, ◌∙◌, arith}
+use Rattle.std.proofs.Common.{◌≡◌, ℕ, suc, ◌+◌, ◌<◌, Bool, true, false, List, [], ◌∷◌, length, Some, Result, Ok, Err}
+use Rattle.std.proofs.Common.{refl, sym, subst, ◌∙◌, arith}
 use Rattle.smi_protocol.specs.Step.{Out}
 use Rattle.smi_protocol.specs.declared.event.Event.{Event}
 use Rattle.smi_protocol.specs.declared.event.Heard.{Heard}
@@ -9,10 +9,10 @@ use Rattle.smi_node.specs.Carried.{Node}
 use Rattle.smi_node.specs.Served.{AreFailed, Carrying, Coming, Came, Quiet, Failed, Serves, TakesTurns, carrying}
 use Rattle.smi_node.specs.Served.{is_failed, most_faults}
 use Rattle.smi_node.specs.Turning.{MadeTurns, TurnsSo, ended_by, in_a_row}
-use Rattle.smi_node.specs.declared.carrying.CarryFault.{CarryFault}
-use Rattle.smi_node.specs.declared.carrying.CarryFault.TheVariants.{Stopped, Memory}
-use Rattle.smi_node.specs.declared.serving.ServeFault.TheVariants as serve
-use Rattle.smi_node.proofs.Counted.{failed_in_a_row, turns_count}
+use Rattle.smi_node.specs.declared.node.CarryFault.{CarryFault}
+use Rattle.smi_node.specs.declared.node.CarryFault.TheVariants.{Stopped, Memory}
+use Rattle.smi_node.specs.declared.turns.ServeFault.TheVariants as serve
+use Rattle.smi_node.proofs.Counted.{failed_in_a_row, turn_asks, turns_ask, turns_count}
 
 pub none_made : {T : Type 0} (C : Carrying T) (operators : List ℕ) (a : Node T) → MadeTurns C operators 0 0 a a
 none_made C operators a = record { comings = []; count = refl; path = refl; row = tt; few = omega arith }
@@ -73,6 +73,7 @@ served S operators n turns k a b made is =
       ends = (made.count ∙ is, made.path);
       received = counts.received;
       failures = counts.failures;
+      receives = turns_ask S operators made.comings a b made.path;
       spent = tt;
     }
 
@@ -90,6 +91,7 @@ link_failed S operators n turns k j a b c failed made one within is all =
       ends = ((let count = next.1 in omega (arith, count, within)), next.2, row);
       received = counts.received;
       failures = counts.failures;
+      receives = turns_ask S operators next.0 a c next.2;
       spent = (let many = failed_in_a_row most_faults next.0 row in let p = counts.failures in omega (arith, many, p));
     }
 
@@ -103,6 +105,8 @@ broken S operators n turns k a b c Stopped made one within = record {
   ends = ((let count = made.count in omega (arith, count, within)), b, made.path, one.0, one.1);
   received = tt;
   failures = tt;
+  receives = (let whole = turns_ask S operators made.comings a b made.path in
+      let one_more = turn_asks S operators one.0 b c (Some Stopped) one.1 in omega (arith, whole, one_more));
   spent = tt;
 }
 broken S operators n turns k a b c Memory made one within = record {
@@ -110,5 +114,7 @@ broken S operators n turns k a b c Memory made one within = record {
   ends = ((let count = made.count in omega (arith, count, within)), b, made.path, one.0, one.1);
   received = tt;
   failures = tt;
+  receives = (let whole = turns_ask S operators made.comings a b made.path in
+      let one_more = turn_asks S operators one.0 b c (Some Memory) one.1 in omega (arith, whole, one_more));
   spent = tt;
 }

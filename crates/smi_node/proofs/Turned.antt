@@ -4,12 +4,13 @@ use Rattle.std.proofs.Common.{subst, ◌∙◌, arith}
 use Rattle.std.specs.Prelude.{IfOk}
 use Rattle.smi_protocol.specs.declared.event.Event.{Event}
 use Rattle.smi_operator.specs.Sides.{seat_count}
-use Rattle.smi_node.specs.Carried.{Node, fault_in}
+use Rattle.smi_node.specs.Carried.{Edges, Node, fault_in, node}
 use Rattle.smi_node.specs.Linked.{LinkShows}
 use Rattle.smi_node.specs.Served.{Carrying, Coming, Came, Hears, IsDelivery, ReceivesOne, ServesAll, ServesSeat}
-use Rattle.smi_node.specs.Served.{ServesSeats, is_failed, speaker, with_link}
+use Rattle.smi_node.specs.Served.{ServesSeats, is_failed, operator_of_seat, with_link}
+use Rattle.smi_node.specs.Observed.{Stepped}
 use Rattle.smi_node.specs.Turning.{HearsSo, TurnsSo}
-use Rattle.smi_node.specs.declared.carrying.CarryFault.{CarryFault}
+use Rattle.smi_node.specs.declared.node.CarryFault.{CarryFault}
 
 -- what came was carried, and was no fault of the link
 pub heard_so : {T X : Type 0} (C : Carrying T) (coming : Coming) (a b : Node T) (carried : Result X CarryFault)
@@ -29,7 +30,7 @@ datagram_heard C bytes e a b link f received is carried = (link, received, e, is
 
 -- one seat more is served
 pub next_seat : {T : Type 0} (C : Carrying T) (operators : List ℕ) (seats seat : ℕ) (who : Option ℕ) (a b c : Node T)
-    → who ≡ speaker operators seats seat
+    → who ≡ operator_of_seat operators seats seat
     → ServesSeats C operators seats seat a b → ServesSeat C who seat b c None
     → ServesSeats C operators seats (seat + 1) a c
 next_seat C operators seats seat who a b c is before one =
@@ -41,7 +42,7 @@ next_seat C operators seats seat who a b c is before one =
 
 -- or ends in a fault
 pub broken_seat : {T : Type 0} (C : Carrying T) (operators : List ℕ) (seats seat all : ℕ) (who : Option ℕ)
-    (a b c : Node T) (f : CarryFault) → who ≡ speaker operators seats seat
+    (a b c : Node T) (f : CarryFault) → who ≡ operator_of_seat operators seats seat
     → seats ≡ all → seat < seats → ServesSeats C operators seats seat a b → ServesSeat C who seat b c (Some f)
     → ServesAll C operators all a c (Some f)
 broken_seat C operators seats seat all who a b c f is same within before one =
@@ -53,3 +54,12 @@ pub broken_turn : {T : Type 0} (C : Carrying T) (operators : List ℕ) (a b c : 
     → HearsSo C a b (Ok failed) → ServesAll C operators (seat_count b.edges.desk) b c (Some f)
     → TurnsSo C operators a c (Err f)
 broken_turn C operators a b c failed f heard served = (heard.0, inr (b, heard.2, served))
+
+-- or is whole, and its observer, who is told that it is over, has still been told the same steps
+pub whole_turn : {T : Type 0} (C : Carrying T) (operators : List ℕ) (a b : Node T) (station : T) (e : Edges)
+    (t u : Option (List Stepped)) (failed : Bool)
+    → HearsSo C a b (Ok failed) → ServesAll C operators (seat_count b.edges.desk) b (node station e t) None → u ≡ t
+    → TurnsSo C operators a (node station e u) (Ok failed)
+whole_turn C operators a b station e t u failed heard served same =
+    subst (λ (x : Option (List Stepped)). TurnsSo C operators a (node station e x) (Ok failed)) (sym same)
+    (heard.0, heard.1, (b, heard.2, served))

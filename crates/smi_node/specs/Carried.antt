@@ -1,4 +1,4 @@
--- What one event leaves of a node: of its station, its link, its desk and its board.
+-- What one event leaves of a node: of its station, its link, its desk and its board, and of what its observer was told.
 use Rattle.std.specs.Prelude.{ℕ, ◌≡◌, Bool, true, false, List, Option, Some, None, Result, Ok, Err, OnOk}
 use Rattle.smi_rows.specs.Store.{Rows}
 use Rattle.smi_station_grants.specs.Save.{IfKept, IfMemory, IfStopped}
@@ -16,10 +16,13 @@ use Rattle.smi_station.specs.Core.{Core, IsStoredIn, MaySendAll, Steps, is_stopp
 use Rattle.smi_station_grants.specs.Leaving.{Leaves}
 use Rattle.smi_station.specs.Readers.{Whole}
 use Rattle.smi_station.specs.Wanting.{adds_by, wants_memory}
+use Rattle.smi_link.specs.Link.{Grows}
+use Rattle.smi_message.specs.Message.{Message}
 use Rattle.smi_view.specs.Shows.{BoardShows}
-use Rattle.smi_node.specs.declared.carrying.CarryFault.{CarryFault}
-use Rattle.smi_node.specs.declared.carrying.CarryFault.TheVariants.{Stopped, Memory}
+use Rattle.smi_node.specs.declared.node.CarryFault.{CarryFault}
+use Rattle.smi_node.specs.declared.node.CarryFault.TheVariants.{Stopped, Memory}
 use Rattle.smi_node.specs.Linked.{LinkShows, Sends}
+use Rattle.smi_node.specs.Observed.{Stepped, stepped}
 use Rattle.smi_node.specs.Shown.{Publishes, Refuses}
 use Rattle.smi_node.specs.Told.{MarksNewest, TellsAll, TellsNewest}
 
@@ -55,13 +58,14 @@ pub record Edges : Type 0 where
 abbrev pub edges : LinkShows → Desk → BoardShows → Edges
 edges link desk board = record { link = link; desk = desk; board = board }
 
--- a node: a station and its edges
+-- a node: a station, its edges, and what its observer was told, if it tells that
 pub record Node (T : Type 0) : Type 0 where
   pub station : T
   pub edges : Edges
+  pub told : Option (List Stepped)
 
-abbrev pub node : {T : Type 0} → T → Edges → Node T
-node station edges = record { station = station; edges = edges }
+abbrev pub node : {T : Type 0} → T → Edges → Option (List Stepped) → Node T
+node station edges told = record { station = station; edges = edges; told = told }
 
 -- the event is a report
 abbrev pub is_report : Event → Bool
@@ -109,12 +113,17 @@ Follows operators seat code handed before after None = FollowsWhole operators se
 Follows operators seat code handed before after (Some Stopped) = ⊥
 Follows operators seat code handed before after (Some Memory) = FollowsRefused seat handed before after
 
+-- what a step hands out is sent, unless it has stopped the station
+abbrev pub SendsStep : Bool → List Message → LinkShows → LinkShows → Type 0
+SendsStep true datagrams before after = after ≡ before
+SendsStep false datagrams before after = Sends datagrams before after
+
 -- a step that stopped the station is followed by nothing, and any other by what is said above
 abbrev pub FollowsStep : Bool → List ℕ → Option ℕ → Option ℕ → Out → Edges → Edges → Option CarryFault → Type 0
 FollowsStep true operators seat code handed before after f = (f ≡ Some Stopped) × (after ≡ before)
 FollowsStep false operators seat code handed before after f = Follows operators seat code handed before after f
 
--- An event is carried: it steps the station, and what follows the step does.
+-- An event is carried: it steps the station, the observer is told, and what follows the step is done.
 pub record Carries {T : Type 0} (StepsBy : T → Event → T → Out → Result Heard StepFault → Type 0)
     (operators : List ℕ) (e : Event) (seat : Option ℕ) (handed : Out) (before after : Node T) (f : Option CarryFault)
     : Type 0 where
@@ -122,3 +131,4 @@ pub record Carries {T : Type 0} (StepsBy : T → Event → T → Out → Result 
   pub steps : StepsBy before.station e after.station handed made
   pub follows : FollowsStep (is_stopped_by made) operators seat (code_of (is_report e) made) handed before.edges
       after.edges f
+  pub told : Grows before.told after.told (stepped e made handed)

@@ -1,5 +1,7 @@
 pub mod Carried
 pub mod Linked
+pub mod Observed
+pub mod Rising
 pub mod Served
 pub mod Shown
 pub mod Told

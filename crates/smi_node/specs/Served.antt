@@ -9,15 +9,17 @@ use Rattle.smi_protocol.specs.declared.event.StepFault.{StepFault}
 use Rattle.smi_protocol.specs.declared.order.Order.{Order}
 use Rattle.smi_protocol.specs.declared.order.Order.TheVariants as order
 use Rattle.smi_link.specs.Link.{Grows}
-use Rattle.smi_operator.specs.Sides.{Gives, Steps, seat_count}
+use Rattle.smi_operator.specs.Sides.{Gives, Steps, left, room, seat_count, seat_end, work_of}
+use Rattle.smi_operator.specs.Working.{may_join}
 use Rattle.smi_operator.specs.declared.ends.Desk.{Desk}
+use Rattle.smi_operator.specs.declared.ends.SeatEnd.{SeatEnd}
 use Rattle.smi_node.specs.Carried.{Carries, Node, edges, node}
 use Rattle.smi_node.specs.Linked.{LinkShows}
 use Rattle.smi_node.specs.Told.{TellsNewest}
-use Rattle.smi_node.specs.declared.carrying.CarryFault.{CarryFault}
-use Rattle.smi_node.specs.declared.carrying.CarryFault.TheVariants as carry
-use Rattle.smi_node.specs.declared.serving.ServeFault.{ServeFault}
-use Rattle.smi_node.specs.declared.serving.ServeFault.TheVariants as serve
+use Rattle.smi_node.specs.declared.node.CarryFault.{CarryFault}
+use Rattle.smi_node.specs.declared.node.CarryFault.TheVariants as carry
+use Rattle.smi_node.specs.declared.turns.ServeFault.{ServeFault}
+use Rattle.smi_node.specs.declared.turns.ServeFault.TheVariants as serve
 
 -- How an event of a seat, or of none, may be carried from one node to another, and with which fault.
 abbrev pub Carrying : Type 0 → Type 1
@@ -29,10 +31,10 @@ carrying StepsBy operators e seat before after f =
     (handed : Out) × Carries StepsBy operators e seat handed before after f
 
 abbrev pub with_link : {T : Type 0} → Node T → LinkShows → Node T
-with_link n link = node n.station (edges link n.edges.desk n.edges.board)
+with_link n link = node n.station (edges link n.edges.desk n.edges.board) n.told
 
 abbrev pub with_desk : {T : Type 0} → Node T → Desk → Node T
-with_desk n desk = node n.station (edges n.edges.link desk n.edges.board)
+with_desk n desk = node n.station (edges n.edges.link desk n.edges.board) n.told
 
 -- What comes over the link.
 
@@ -47,10 +49,19 @@ is_failed (Came bytes) = false
 is_failed Quiet = false
 is_failed Failed = true
 
--- what is received is a datagram that the link gave and tells
+-- the link is asked once: what it gives is a datagram, which it tells
 abbrev pub ReceivesOne : List ℕ → LinkShows → LinkShows → Type 0
 ReceivesOne bytes before after = Grows before.received after.received bytes × (after.handed ≡ before.handed)
-    × (after.failures ≡ before.failures)
+    × (after.failures ≡ before.failures) × (after.receives ≡ before.receives + 1)
+
+-- it is asked once, and nothing has come; or it fails once more
+abbrev pub ReceivesNone : LinkShows → LinkShows → Type 0
+ReceivesNone before after = (after.received ≡ before.received) × (after.handed ≡ before.handed)
+    × (after.failures ≡ before.failures) × (after.receives ≡ before.receives + 1)
+
+abbrev pub FailsOnce : LinkShows → LinkShows → Type 0
+FailsOnce before after = (after.received ≡ before.received) × (after.handed ≡ before.handed)
+    × (after.failures ≡ before.failures + 1) × (after.receives ≡ before.receives + 1)
 
 -- the event is the delivery of these bytes
 abbrev pub IsDelivery : List ℕ → Event → Type 0
@@ -59,20 +70,21 @@ IsDelivery bytes (event.Order o what) = ⊥
 IsDelivery bytes (event.Report device state) = ⊥
 IsDelivery bytes event.Tick = ⊥
 
--- a datagram is carried as its delivery, nothing as a tick; of a fault the link has one more
+-- the link is asked once, and a datagram is carried as its delivery, nothing as a tick; a fault is not carried
 abbrev pub Hears : {T : Type 0} → Carrying T → Coming → Node T → Node T → Option CarryFault → Type 0
 Hears C (Came bytes) before after f =
     (link : LinkShows) × ReceivesOne bytes before.edges.link link × (e : Event) × IsDelivery bytes e
     × C e None (with_link before link) after f
-Hears C Quiet before after f = C event.Tick None before after f
+Hears C Quiet before after f =
+    (link : LinkShows) × ReceivesNone before.edges.link link × C event.Tick None (with_link before link) after f
 Hears C Failed before after f =
-    (f ≡ None) × (after ≡ with_link before (record before.edges.link { failures = before.edges.link.failures + 1 }))
+    (link : LinkShows) × FailsOnce before.edges.link link × (f ≡ None) × (after ≡ with_link before link)
 
 -- What the seats give.
 
 -- the operator of a seat: of so many seats the last one is nobody's
-abbrev pub speaker : List ℕ → ℕ → ℕ → Option ℕ
-speaker operators seats seat = if seat + 1 == seats then None else slice_get operators seat
+abbrev pub operator_of_seat : List ℕ → ℕ → ℕ → Option ℕ
+operator_of_seat operators seats seat = if seat + 1 == seats then None else slice_get operators seat
 
 -- the event that an order of this operator, or of nobody, is; nobody may order, and everybody may report
 abbrev pub event_of : Option ℕ → Order → Option Event
@@ -97,25 +109,30 @@ abbrev pub ObeysGiven : {T : Type 0} → Carrying T → Option ℕ → ℕ → O
 ObeysGiven C who seat (Some what) before after f = Obeys C seat (event_of who what) before after f
 ObeysGiven C who seat None before after f = (f ≡ None) × (after ≡ before)
 
+-- the seat is asked: an order that it is known to have, that may be given and has a place for its answer, is given
+abbrev pub IsAsked : Option SeatEnd → Option Order → Type 0
+IsAsked p given = IfSome p (λ a. IfSome (slice_get (left a) 0)
+    (λ o. may_join (work_of a) o ≡ true → length (work_of a) < room a → given ≡ Some o))
+
 -- a seat is served
 abbrev pub ServesSeat : {T : Type 0} → Carrying T → Option ℕ → ℕ → Node T → Node T → Option CarryFault → Type 0
 ServesSeat C who seat before after f =
     (given : Option Order) × (desk : Desk) × Steps before.edges.desk desk seat (Gives given)
-    × ObeysGiven C who seat given (with_desk before desk) after f
+    × IsAsked (seat_end before.edges.desk seat) given × ObeysGiven C who seat given (with_desk before desk) after f
 
 -- so many seats are served, one after the other from 0
 abbrev pub ServesSeats : {T : Type 0} → Carrying T → List ℕ → (seats many : ℕ) → Node T → Node T → Type 0
 ServesSeats C operators seats zero before after = after ≡ before
 ServesSeats {T} C operators seats (suc seat) before after =
     (between : Node T) × ServesSeats C operators seats seat before between
-    × ServesSeat C (speaker operators seats seat) seat between after None
+    × ServesSeat C (operator_of_seat operators seats seat) seat between after None
 
 -- all seats are served, or those up to one that ends in a fault
 abbrev pub ServesAll : {T : Type 0} → Carrying T → List ℕ → (seats : ℕ) → Node T → Node T → Option CarryFault → Type 0
 ServesAll C operators seats before after None = ServesSeats C operators seats seats before after
 ServesAll {T} C operators seats before after (Some f) =
     (seat : ℕ) × (seat < seats) × (between : Node T) × ServesSeats C operators seats seat before between
-    × ServesSeat C (speaker operators seats seat) seat between after (Some f)
+    × ServesSeat C (operator_of_seat operators seats seat) seat between after (Some f)
 
 -- Turns.
 
@@ -197,8 +214,15 @@ IfLinkFailed (Err serve.Stopped) P = Unit {0}
 IfLinkFailed (Err serve.Memory) P = Unit {0}
 IfLinkFailed (Err serve.Link) P = P
 
+-- how many turns were begun: the whole ones, and then one that ended in a fault, if one did
+abbrev pub begun_in : {X : Type 0} → Result X ServeFault → List Coming → ℕ
+begun_in (Ok x) comings = length comings
+begun_in (Err serve.Stopped) comings = length comings + 1
+begun_in (Err serve.Memory) comings = length comings + 1
+begun_in (Err serve.Link) comings = length comings
+
 -- A node serves so many turns, in which, as far as they are whole, this came, the newest first: what the link tells
--- as received is what came, and it counts each of its faults.
+-- as received is what came, it counts each of its faults, and it was asked once in each turn that was begun.
 pub record Serves {T : Type 0} (C : Carrying T) (operators : List ℕ) (turns : ℕ) (before after : Node T)
     (r : Result (Unit {0}) ServeFault) : Type 0 where
   pub comings : List Coming
@@ -206,4 +230,5 @@ pub record Serves {T : Type 0} (C : Carrying T) (operators : List ℕ) (turns : 
   pub received
       : IfWhole r (IfSome before.edges.link.received (λ xs. after.edges.link.received ≡ Some (xs ++ came_in comings)))
   pub failures : IfWhole r (before.edges.link.failures + failed_in comings ≤ after.edges.link.failures)
+  pub receives : after.edges.link.receives ≡ before.edges.link.receives + begun_in r comings
   pub spent : IfLinkFailed r (before.edges.link.failures + most_faults ≤ after.edges.link.failures)

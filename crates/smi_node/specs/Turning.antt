@@ -1,11 +1,11 @@
 -- What the parts of a turn answer.
 use Rattle.std.specs.Prelude.{ℕ, ◌≡◌, ◌+◌, ◌<◌, Bool, true, false, List, length, Some, None, Result, Ok, Err}
-use Rattle.smi_node.specs.declared.carrying.CarryFault.{CarryFault}
+use Rattle.smi_node.specs.declared.node.CarryFault.{CarryFault}
 use Rattle.smi_node.specs.Carried.{Node}
 use Rattle.smi_node.specs.Served.{AreFailed, Carrying, Coming, Hears, TakesTurns, Turns, is_failed, most_faults}
-use Rattle.smi_node.specs.declared.carrying.CarryFault.TheVariants as carry
-use Rattle.smi_node.specs.declared.serving.ServeFault.{ServeFault}
-use Rattle.smi_node.specs.declared.serving.ServeFault.TheVariants as serve
+use Rattle.smi_node.specs.declared.node.CarryFault.TheVariants as carry
+use Rattle.smi_node.specs.declared.turns.ServeFault.{ServeFault}
+use Rattle.smi_node.specs.declared.turns.ServeFault.TheVariants as serve
 
 -- something came and was carried; the answer is whether it was a fault of the link
 abbrev pub HearsSo : {T : Type 0} → Carrying T → Node T → Node T → Result Bool CarryFault → Type 0

@@ -1,0 +1,55 @@
+//! Who is told of each step of a node, and when a turn is over.
+
+ghost use Rattle.std.specs.Prelude.{◌≡◌, List, None, Option};
+ghost use Rattle.smi_link.specs.Link.{Grows};
+ghost use Rattle.smi_node.specs.Observed.{Stepped, stepped};
+
+use smi_protocol::{Event, Heard, StepFault};
+use smi_rows::Stable;
+use smi_station::Station;
+use smi_station_output::Out;
+
+/// Observes a node: it is told of each step, in the order in which they are made, and when each turn is over.
+///
+/// What a step handed out is the list of its effects: the state that it showed and those that it passed through, the
+/// orders that it answered, and the entries of its save. An observer reads them and has no say in what follows.
+///
+/// Contracts see the list of steps that an observer was *told*. One that does not tell them has none.
+pub trait StepObserver {
+    ghost told: { Self → Option (List Stepped) };
+
+    /// Is told the event of a step, what the step answered, and what it handed out.
+    ///
+    /// The datagrams of the step were sent; nothing of it was published or answered yet. The station is as the step
+    /// left it.
+    fn on_step<S: Stable>(
+        &mut self,
+        station: &Station<'_, S>,
+        event: &Event<'_>,
+        made: &Result<Heard, StepFault>,
+        out: &Out,
+    )
+        ensures { Grows (told self.old) (told self.new) (stepped event.now made.now out.now) };
+
+    /// Is told that a turn is over: what it brought about is on the board and in the seats.
+    fn on_turn(&mut self)
+        ensures { told self.new ≡ told self.old };
+}
+
+/// Ignores every step.
+#[derive(Clone, Copy, Debug, Drop)]
+pub struct NoObserver;
+
+impl StepObserver for NoObserver {
+    ghost told = { λ _. None };
+
+    fn on_step<S: Stable>(
+        &mut self,
+        _station: &Station<'_, S>,
+        _event: &Event<'_>,
+        _made: &Result<Heard, StepFault>,
+        _out: &Out,
+    ) {}
+
+    fn on_turn(&mut self) {}
+}

@@ -1,0 +1,266 @@
+//! A node, and one event at it.
+
+ghost use Rattle.std.specs.Prelude.{◌≡◌, None};
+ghost use Rattle.smi_station.specs.Core.{is_stopped_by};
+ghost use Rattle.smi_station.specs.Readers.{operators_in};
+ghost use Rattle.smi_node.specs.Carried.{Carries, Follows, SendsStep, StepsTo, Tells, code_of, edges, fault_in};
+ghost use Rattle.smi_node.specs.Carried.{is_report, node};
+ghost use Rattle.smi_node.specs.Linked.{LinkShows, Sends, shown_by};
+
+use crate::answers::{mark_newest, tell_all, tell_newest};
+use crate::event::{NoObserver, StepObserver};
+use crate::publish::publish;
+use crate::send::send_all;
+use crate::stats::NodeStats;
+use smi_link::DatagramLink;
+use smi_operator::Desk;
+use smi_protocol::{Answer, Event, Heard, Order, OrderCode, StepFault};
+use smi_rows::Stable;
+use smi_station::Station;
+use smi_station_output::Out;
+use smi_view::{Board, BoardId};
+use std::sync::Wait;
+use thiserror::Error;
+
+/// Why an event was not carried, or not to its end.
+#[derive(Clone, Copy, Debug, PartialEq, Eq, Error)]
+pub enum CarryFault {
+    /// The station has stopped: nothing was sent, published or answered.
+    #[error("the station has stopped")]
+    Stopped,
+    /// Memory was refused to the board: nothing was published or answered, and all else was done.
+    #[error("out of memory")]
+    Memory,
+}
+
+/// A station that is served: with the desk of its seats, its board, and what its last step handed out.
+#[derive(Drop)]
+pub struct Node<'s, 't, 'd, S, J: BoardId> {
+    pub station: &'s mut Station<'t, S>,
+    pub desk: &'d mut Desk,
+    pub board: &'d mut Board<J>,
+    /// What the last step handed out.
+    pub out: &'d mut Out,
+    /// The operators of the station, by number: seat i is that of the i-th, from 0.
+    pub operators: &'t [u16],
+    /// Counts what the node does.
+    pub stats: &'d NodeStats,
+}
+
+/// What a node is handed: an event, and the seat whose newest order in work it is, if it is one.
+#[derive(Clone, Copy)]
+pub struct NodeInput<'a> {
+    pub event: Event<'a>,
+    pub seat: Option<usize>,
+}
+
+/// Whether an event is a report, which is told its code by its step alone.
+fn is_report(event: &Event<'_>) -> bool
+    ensures { result ≡ is_report event.now }
+{
+    match event {
+        Event::Report(_, _) => true,
+        Event::Order(_, Order::Report(_, _)) => true,
+        _ => false,
+    }
+}
+
+/// The code that a step has for whoever gave it its event: a refusal, a fault, or that a report was taken.
+fn code_of(is_report: bool, made: &Result<Heard, StepFault>) -> Option<u16>
+    ensures { result ≡ code_of is_report made.now }
+{
+    match made {
+        Ok(Heard::Refused(code)) => Some(*code),
+        Ok(Heard::Same | Heard::Done) => { if is_report { Some(0) } else { None } }
+        Err(StepFault::NotStored) => Some(OrderCode::NotStored.code()),
+        Err(StepFault::Stopped) => None,
+        Err(StepFault::Memory) => Some(OrderCode::NoMemory.code()),
+    }
+}
+
+/// Returns whether a step has stopped its station.
+pub fn is_stopped_by(made: &Result<Heard, StepFault>) -> bool
+    ensures { result ≡ is_stopped_by made.now }
+{
+    match made {
+        Err(StepFault::Stopped) => true,
+        _ => false,
+    }
+}
+
+fn step<S: Stable>(
+    station: &mut Station<'_, S>,
+    event: Event<'_>,
+    out: &mut Out,
+) -> Result<Heard, StepFault>
+    ensures { StepsTo S.is_honest S.is_open S.rows S.may_find S.saves S.failures S.doubts station.old event.entry
+        station.new
+        out.new result }
+{
+    station.step(event, out)
+}
+
+/// Sends what a step handed out, unless it has stopped its station.
+fn send_of<L: DatagramLink>(
+    made: &Result<Heard, StepFault>,
+    out: &Out,
+    link: &mut L,
+    stats: Option<&NodeStats>,
+)
+    ensures { SendsStep (is_stopped_by made.now) out.now.datagrams
+        (shown_by L.received L.handed L.failures L.receives link.old)
+        (shown_by L.received L.handed L.failures L.receives link.new) }
+{
+    if !is_stopped_by(made) {
+        send_all(link, out.datagrams(), stats);
+    }
+}
+
+/// Steps a station, and sends the datagrams that the step hands out, each to its receiver; one that the link does not
+/// take is lost. After a step that has stopped the station nothing is sent.
+///
+/// `out` then has what the step handed out. The sends are counted, if anybody reads the counts.
+pub fn step_and_send<S: Stable, L: DatagramLink>(
+    station: &mut Station<'_, S>,
+    event: Event<'_>,
+    out: &mut Out,
+    link: &mut L,
+    stats: Option<&NodeStats>,
+) -> Result<Heard, StepFault>
+    ensures steps { StepsTo S.is_honest S.is_open S.rows S.may_find S.saves S.failures S.doubts station.old event.entry
+        station.new
+        out.new result }
+    ensures sends { SendsStep (is_stopped_by result) out.new.datagrams
+        (shown_by L.received L.handed L.failures L.receives link.old)
+        (shown_by L.received L.handed L.failures L.receives link.new) }
+{
+    let made = step(station, event, out);
+    send_of(&made, out, link, stats);
+    made
+}
+
+/// Who is told of a step: the seat that gave its event, by the code that the step has for it, if it has one; else the
+/// orders of these operators that its answers are of.
+#[derive(Clone, Copy)]
+struct StepReply<'a> {
+    operators: &'a [u16],
+    seat: Option<usize>,
+    code: Option<u16>,
+}
+
+/// Tells the code of a step to the seat that gave it its event; if it has none, tells its answers to their orders.
+fn answer_orders(desk: &mut Desk, reply: StepReply<'_>, answers: &[Answer])
+    ensures { Tells reply.entry.operators.now reply.entry.seat reply.entry.code answers.now desk.old desk.new }
+{
+    match reply.code {
+        Some(code) => tell_newest(desk, reply.seat, code),
+        None => tell_all(desk, reply.operators, answers),
+    }
+}
+
+/// Marks the command of a step, publishes what it showed, and tells its code or its answers.
+fn follow<J: BoardId, R: Wait>(
+    rt: &R,
+    reply: StepReply<'_>,
+    out: &Out,
+    desk: &mut Desk,
+    board: &mut Board<J>,
+) -> Result<(), CarryFault>
+    // Over whatever link its datagrams were sent.
+    ensures { (before after : LinkShows) → Sends out.now.datagrams before after
+        → Follows reply.entry.operators.now reply.entry.seat reply.entry.code out.now
+        (edges before desk.old board.old) (edges after desk.new board.new) (fault_in result) }
+{
+    mark_newest(desk, reply.seat, out.issued());
+    match publish(rt, board, out.shown()) {
+        Ok(()) => {
+            answer_orders(desk, reply, out.answers());
+            Ok(())
+        }
+        Err(_) => Err(CarryFault::Memory),
+    }
+}
+
+impl<S: Stable, J: BoardId> Node<'_, '_, '_, S, J> {
+    ghost use Rattle.std.specs.Prelude.{◌≡◌};
+    ghost use Rattle.smi_node.specs.Carried.{Carries, StepsTo, edges, fault_in, node};
+    ghost use Rattle.smi_node.specs.Linked.{shown_by};
+
+    /// Carries an event to the station and what follows it from there, as [`carry`] does, and by the same contract.
+    ///
+    /// The observer is told the step once its datagrams were sent, and before anything of it is published or answered.
+    pub fn carry<L: DatagramLink, V: StepObserver, R: Wait>(
+        &mut self,
+        rt: &R,
+        input: NodeInput<'_>,
+        link: &mut L,
+        observer: &mut V,
+    ) -> Result<(), CarryFault>
+        ensures carries { Carries (StepsTo S.is_honest S.is_open S.rows S.may_find S.saves S.failures S.doubts)
+            self.old.operators.now input.entry.event input.entry.seat self.new.out.now
+            (node self.old.station.now (edges (shown_by L.received L.handed L.failures L.receives link.old)
+            self.old.desk.now self.old.board.now) (V.told observer.old))
+            (node self.new.station.now (edges (shown_by L.received L.handed L.failures L.receives link.new)
+            self.new.desk.now self.new.board.now) (V.told observer.new)) (fault_in result) }
+        ensures station { self.new.station.ghost_name ≡ self.old.station.ghost_name }
+        ensures desk { self.new.desk.ghost_name ≡ self.old.desk.ghost_name }
+        ensures board { self.new.board.ghost_name ≡ self.old.board.ghost_name }
+        ensures out { self.new.out.ghost_name ≡ self.old.out.ghost_name }
+        ensures operators { self.new.operators.now ≡ self.old.operators.now }
+    {
+        let NodeInput { event, seat } = input;
+        let is_report = is_report(&event);
+        let made = step_and_send(self.station, event, self.out, link, Some(self.stats));
+        self.stats.count_step(&made);
+        observer.on_step(self.station, &event, &made, self.out);
+        if is_stopped_by(&made) {
+            return Err(CarryFault::Stopped);
+        }
+        let reply = StepReply {
+            operators: self.operators,
+            seat,
+            code: code_of(is_report, &made),
+        };
+        follow(rt, reply, self.out, self.desk, self.board)
+    }
+}
+
+/// Carries an event to a station and what follows it from there: the datagrams of the step are sent, each to its
+/// receiver, where one that the link does not take is lost; a shown state is published; and answers go to the orders
+/// in work that they are of, while one that is of none is dropped.
+///
+/// `seat` is the seat whose newest order in work the event is, if it is one. That order becomes the command that the
+/// step issued, and is told the code of a report, of a refusal, and of a step that was not made (31 not stored, 33 no
+/// memory); such a datagram is lost. `out` then has what the step handed out.
+///
+/// `Stopped` comes exactly where the step answered that the station has stopped, and then nothing is sent, published
+/// or answered. `Memory` comes only where the board refused, and leaves what success would but for the publication
+/// and the answers.
+pub fn carry<S: Stable, L: DatagramLink, J: BoardId, R: Wait>(
+    rt: &R,
+    station: &mut Station<'_, S>,
+    event: Event<'_>,
+    seat: Option<usize>,
+    out: &mut Out,
+    link: &mut L,
+    desk: &mut Desk,
+    board: &mut Board<J>,
+) -> Result<(), CarryFault>
+    ensures { Carries (StepsTo S.is_honest S.is_open S.rows S.may_find S.saves S.failures S.doubts)
+        (operators_in station.old.core) event.entry seat out.new
+        (node station.old (edges (shown_by L.received L.handed L.failures L.receives link.old) desk.old board.old) None)
+        (node station.new (edges (shown_by L.received L.handed L.failures L.receives link.new) desk.new board.new) None)
+        (fault_in result) }
+{
+    let operators = station.operators();
+    let stats = NodeStats::new();
+    let mut node = Node {
+        station,
+        desk,
+        board,
+        out,
+        operators,
+        stats: &stats,
+    };
+    node.carry(rt, NodeInput { event, seat }, link, &mut NoObserver)
+}
