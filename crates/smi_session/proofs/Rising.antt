@@ -42,7 +42,8 @@ told (v ∷ []) (Some seen) s new h =
 told (v ∷ w ∷ more) had s new h = (h.0, told (w ∷ more) had s new h.1)
 
 -- the versions of one event more
-versions_append : (o : ℕ) (es more : List StationEvent) → versions_of o (es ++ more) ≡ versions_of o es ++ versions_of o more
+versions_append : (o : ℕ) (es more : List StationEvent)
+    → versions_of o (es ++ more) ≡ versions_of o es ++ versions_of o more
 versions_append o [] more = refl
 versions_append o (event.StateChanged s ∷ es) more = by (s.object == o) (versions_append o es more)
   where

@@ -1,6 +1,7 @@
 -- Whose seat an operator's orders go to.
-use Rattle.std.proofs.Common.{◌≡◌, ◌≢◌, ◌⊎◌, inl, inr, ◌<◌, ◌+◌, ℕ, Bool, true, false, cond, find, List, [], ◌∷◌, ◌++◌, length, map, take}
-use Rattle.std.proofs.Common.{Option, Some, None, slice_get, if◌then◌else◌, refl, sym, ap, ◌∙◌, arith, true≢false, take_all, append-nil}
+use Rattle.std.proofs.Common.{◌≡◌, ◌≢◌, ◌⊎◌, inl, inr, ◌<◌, ◌+◌, ℕ, Bool, true, false, cond, List, [], ◌∷◌, ◌++◌}
+use Rattle.std.proofs.Common.{take, Option, Some, None, slice_get, if◌then◌else◌, refl, sym, ap, ◌∙◌, arith, true≢false}
+use Rattle.std.proofs.Common.{find, length, map, take_all, append-nil}
 use Rattle.std.specs.Prelude.{◌==◌, ◌||◌}
 use Rattle.std.specs.List.{list_any, position_or_len}
 use Rattle.std.proofs.lemmas.Bool.{eqb-true}
@@ -8,7 +9,7 @@ use Rattle.std.proofs.lemmas.Bool.Decides.{nat_tests, eqb_tells}
 use Rattle.std.proofs.lemmas.List.{map-append}
 use Rattle.std.proofs.lemmas.List.Folds.{find_at}
 use Rattle.std.proofs.lemmas.Option.{slice_get_within}
-use Rattle.smi_node.specs.Served.{speaker}
+use Rattle.smi_node.specs.Served.{operator_of_seat}
 use Rattle.smi_operator.specs.declared.ends.Seat.{Seat}
 use Rattle.smi_session.specs.SeatTable.{IsOpened, SeatTableState, place_of, queues_over}
 use Rattle.smi_session.specs.SeatQueue.{SeatQueueState, new_queue}
@@ -25,7 +26,7 @@ found (o ∷ ops) op h = by (eqb_tells o op) (found ops op) h
     by (inr e) rest h = rw e.0 (rest (rw e.0 at h))
 
 pub speaks : (ops : List ℕ) (op : ℕ) → list_any (λ o. o == op) ops ≡ true
-    → speaker ops (length ops + 1) (place_of ops (Some op)) ≡ Some op
+    → operator_of_seat ops (length ops + 1) (place_of ops (Some op)) ≡ Some op
 speaks ops op h =
     let at : slice_get ops (position_or_len (λ o. o == op) ops) ≡ Some op
     = sym (find_at (λ o. o == op) ops) ∙ found ops op h in
@@ -34,7 +35,7 @@ speaks ops op h =
     let inner : (position_or_len (λ o. o == op) ops + 1 == length ops + 1) ≡ false = grind (arith, nat_tests, within) in
     rw inner at
 
-pub nobody : (ops : List ℕ) → speaker ops (length ops + 1) (place_of ops None) ≡ None
+pub nobody : (ops : List ℕ) → operator_of_seat ops (length ops + 1) (place_of ops None) ≡ None
 nobody ops =
     let last : (length ops + 1 == length ops + 1) ≡ true = grind (arith, nat_tests) in
     rw last refl
@@ -63,7 +64,8 @@ no_seats [] = refl
 no_seats (op ∷ ops) = refl
 
 -- no seat or no operator is left
-pub all_opened : (ops own left_ops : List ℕ) (seats left : List Seat) (reports : Seat) (queues all : List SeatQueueState)
+pub all_opened : (ops own left_ops : List ℕ) (seats left : List Seat) (reports : Seat)
+    (queues all : List SeatQueueState)
     → own ++ take (length left) left_ops ≡ take (length seats) ops
     → queues ++ queues_over left_ops left ≡ queues_over ops seats → all ≡ queues ++ new_queue None reports ∷ []
     → (left_ops ≡ []) ⊎ (left ≡ [])

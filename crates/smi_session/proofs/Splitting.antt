@@ -6,7 +6,8 @@ use Rattle.std.proofs.Common.{refl, sym, ap, ◌∙◌, arith, true≢false, app
 use Rattle.std.proofs.lemmas.Bool.Decides.{nat_tests}
 use Rattle.std.proofs.lemmas.List.{length-append}
 use Rattle.smi_tree.specs.Text.{is_line_feed}
-use Rattle.smi_session.specs.LineSplitter.{SplitterState, TakesLine, behind_first, first_line, kept, left_in, left_of, line_end}
+use Rattle.smi_session.specs.LineSplitter.{SplitterState, TakesLine, behind_first, first_line, kept, left_in, left_of}
+use Rattle.smi_session.specs.LineSplitter.{line_end}
 use Rattle.smi_session.specs.LineSplitter.{lines_in, lines_of, lines_of_blocks, trimmed, with_byte}
 
 -- one more byte of a line

@@ -19,8 +19,8 @@ use Rattle.smi_session.specs.Session.{LineAt, SessionState, beginning, counted, 
 use Rattle.smi_session.specs.Session.{with_reply}
 use Rattle.smi_session.specs.Tag.{tag_of, tag_text}
 use Rattle.smi_session.specs.Trust.{admitted, judged}
-use Rattle.smi_session.specs.declared.request.Request.{Request}
-use Rattle.smi_session.specs.declared.request.Request.TheVariants as request
+use Rattle.smi_session.specs.declared.request.SessionRequest.{SessionRequest}
+use Rattle.smi_session.specs.declared.request.SessionRequest.TheVariants as request
 use Rattle.smi_session.specs.declared.tag.Tag.{Tag}
 
 -- a session is told what the board shows of an object, or that it gives no reading of it
@@ -31,7 +31,7 @@ Shows h tag object a c b d = (shown : Option Shown) × ((shown ≡ None) ⊎ (sh
 
 -- what is asked is done: an order is given once, at its operator's seat, as this session's and with this tag; any other
 -- question gives no order, and is answered to this session
-abbrev pub Does : Hierarchy → Option Instant → Option Tag → List ℕ → Option Request → ServiceState → SessionState
+abbrev pub Does : Hierarchy → Option Instant → Option Tag → List ℕ → Option SessionRequest → ServiceState → SessionState
     → ServiceState → SessionState → Type 0
 Does h now tag text (Some (request.Order operator order)) a c b d =
     Gives operator (record { session = c.number; tag = tag; order = order; since = now }) a.seats (beginning tag c)
@@ -46,7 +46,7 @@ abbrev pub Refuses : Hierarchy → Option Tag → ℕ → List ℕ → Fault →
 Refuses h tag number text fault a c b d =
     (d ≡ with_fault h a.seats.operators tag number text fault c) × (b ≡ a)
 
-abbrev pub HandlesSo : Hierarchy → Option Instant → Option Tag → ℕ → List ℕ → Result (Option Request) Fault
+abbrev pub HandlesSo : Hierarchy → Option Instant → Option Tag → ℕ → List ℕ → Result (Option SessionRequest) Fault
     → ServiceState → SessionState → ServiceState → SessionState → Type 0
 HandlesSo h now tag number text (Ok asked) a c b d = Does h now tag text asked a (admitted asked c) b d
 HandlesSo h now tag number text (Err fault) a c b d =

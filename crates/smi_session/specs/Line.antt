@@ -19,8 +19,8 @@ use Rattle.smi_protocol.specs.declared.order.Order.TheVariants as order
 use Rattle.smi_schedule.specs.Line.{item_in}
 use Rattle.smi_session.specs.declared.line.LineKind.{LineKind}
 use Rattle.smi_session.specs.declared.line.LineKind.TheVariants as kind
-use Rattle.smi_session.specs.declared.request.Request.{Request}
-use Rattle.smi_session.specs.declared.request.Request.TheVariants as request
+use Rattle.smi_session.specs.declared.request.SessionRequest.{SessionRequest}
+use Rattle.smi_session.specs.declared.request.SessionRequest.TheVariants as request
 
 -- the operator is one of these
 abbrev pub is_of : List ℕ → ℕ → Bool
@@ -28,7 +28,7 @@ is_of operators operator = list_any (λ o. o == operator) operators
 
 -- what an item of a schedule asks of a node with these operators: no other operator is known there, and nothing else
 -- than an order or a report is asked so
-abbrev pub asked : List ℕ → Item → Result Request Fault
+abbrev pub asked : List ℕ → Item → Result SessionRequest Fault
 asked operators (item.Do (deed.Order operator what)) =
     if is_of operators operator then Ok (request.Order (Some operator) what) else Err UnknownName
 asked operators (item.Do (deed.Report device state)) = Ok (request.Order None (order.Report device state))
@@ -39,20 +39,20 @@ asked operators (item.Restart station) = Err UnknownWord
 asked operators (item.Stop station moment what) = Err UnknownWord
 asked operators (item.Fail station plan what) = Err UnknownWord
 
-abbrev pub request_so : List ℕ → Option Item → Result (Option Request) Fault
+abbrev pub request_so : List ℕ → Option Item → Result (Option SessionRequest) Fault
 request_so operators None = Ok None
 request_so operators (Some what) = do
   it ← asked operators what
   Ok (Some it)
 
 -- an order or a report is spelled as in a schedule
-unfoldable pub request_as_item : Hierarchy → List ℕ → List ℕ → Result (Option Request) Fault
+unfoldable pub request_as_item : Hierarchy → List ℕ → List ℕ → Result (Option SessionRequest) Fault
 request_as_item h operators line = do
   what ← item_in h line
   request_so operators what
 
 -- after `show` stands an object
-unfoldable pub shown : Hierarchy → List (List ℕ) → Result Request Fault
+unfoldable pub shown : Hierarchy → List (List ℕ) → Result SessionRequest Fault
 shown h more = do
   name ← declaration.one_name more
   object ← ok_or (object_named h name) UnknownName
@@ -66,14 +66,15 @@ kind_of word =
     else (if bytes_eq word (codes "report") then Some kind.Report
     else None))
 
-unfoldable pub request_of : Hierarchy → List ℕ → LineKind → List ℕ → List (List ℕ) → Result (Option Request) Fault
+unfoldable pub request_of : Hierarchy → List ℕ → LineKind → List ℕ → List (List ℕ)
+    → Result (Option SessionRequest) Fault
 request_of h operators kind.Show line more = do
   it ← shown h more
   Ok (Some it)
 request_of h operators kind.Order line more = request_as_item h operators line
 request_of h operators kind.Report line more = request_as_item h operators line
 
-abbrev pub request_by : Hierarchy → List ℕ → List ℕ → List (List ℕ) → Result (Option Request) Fault
+abbrev pub request_by : Hierarchy → List ℕ → List ℕ → List (List ℕ) → Result (Option SessionRequest) Fault
 request_by h operators line [] = Ok None
 request_by h operators line (word ∷ more) =
     if is_comment word then Ok None
@@ -82,6 +83,6 @@ request_by h operators line (word ∷ more) =
       request_of h operators which line more)
 
 -- a line of over 200 bytes is refused first; one without words, or that begins with #, is skipped
-unfoldable pub request_in : Hierarchy → List ℕ → List ℕ → Result (Option Request) Fault
+unfoldable pub request_in : Hierarchy → List ℕ → List ℕ → Result (Option SessionRequest) Fault
 request_in h operators line = if nat_lt MOST_BYTES_OF_A_LINE (length line) then Err LineTooLong
     else request_by h operators line (words line)

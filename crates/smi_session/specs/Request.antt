@@ -14,8 +14,8 @@ use Rattle.smi_session.specs.Line.{request_in}
 use Rattle.smi_session.specs.Query.{query_in}
 use Rattle.smi_session.specs.declared.query.Query.{Query}
 use Rattle.smi_session.specs.declared.query.Query.TheVariants.{Counts, UnderWay, States, Follow, Actions, Help}
-use Rattle.smi_session.specs.declared.request.Request.{Request}
-use Rattle.smi_session.specs.declared.request.Request.TheVariants as request
+use Rattle.smi_session.specs.declared.request.SessionRequest.{SessionRequest}
+use Rattle.smi_session.specs.declared.request.SessionRequest.TheVariants as request
 use Rattle.smi_session.specs.declared.session.ReplyStyle.{ReplyStyle}
 use Rattle.smi_session.specs.declared.session.ReplyStyle.TheVariants.{Script, Human}
 
@@ -46,10 +46,10 @@ behind_first [] = []
 behind_first (word ∷ more) = more
 
 -- what a query names has to be there
-abbrev pub named_request : Hierarchy → Query → List (List ℕ) → Result Request Fault
+abbrev pub named_request : Hierarchy → Query → List (List ℕ) → Result SessionRequest Fault
 named_request h query names = if may_name_all h query names then Ok (request.Query query) else Err UnknownName
 
-abbrev pub query_request : Hierarchy → Query → List (List ℕ) → Result Request Fault
+abbrev pub query_request : Hierarchy → Query → List (List ℕ) → Result SessionRequest Fault
 query_request h Follow line = named_request h Follow (behind_first line)
 query_request h Actions line = named_request h Actions (behind_first line)
 query_request h Counts line = Ok (request.Query Counts)
@@ -58,11 +58,11 @@ query_request h States line = Ok (request.Query States)
 query_request h Help line = Ok (request.Query Help)
 
 -- nothing is asked by a line that is skipped, which one with a tag can't be
-abbrev pub line_request : Bool → Option Request → Result (Option Request) Fault
+abbrev pub line_request : Bool → Option SessionRequest → Result (Option SessionRequest) Fault
 line_request has_tag (Some what) = Ok (Some what)
 line_request has_tag None = if has_tag then Err WordCount else Ok None
 
-abbrev pub request_so : Hierarchy → List ℕ → Bool → List ℕ → Option Query → Result (Option Request) Fault
+abbrev pub request_so : Hierarchy → List ℕ → Bool → List ℕ → Option Query → Result (Option SessionRequest) Fault
 request_so h operators has_tag text (Some query) = do
   what ← query_request h query (words text)
   Ok (Some what)
@@ -71,7 +71,7 @@ request_so h operators has_tag text None = do
   line_request has_tag what
 
 -- what a line asks of a station with these operators: a query, or an order, a report or a state
-abbrev pub request_of_line : Hierarchy → List ℕ → ReplyStyle → Bool → List ℕ → Result (Option Request) Fault
+abbrev pub request_of_line : Hierarchy → List ℕ → ReplyStyle → Bool → List ℕ → Result (Option SessionRequest) Fault
 request_of_line h operators style has_tag text = do
   query ← query_of style has_tag text
   request_so h operators has_tag text query

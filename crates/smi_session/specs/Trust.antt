@@ -5,7 +5,7 @@ use Rattle.smi_tree.specs.File.{is_comment}
 use Rattle.smi_session.specs.Line.{kind_of}
 use Rattle.smi_session.specs.Query.{query_named}
 use Rattle.smi_session.specs.Session.{SessionState}
-use Rattle.smi_session.specs.declared.request.Request.{Request}
+use Rattle.smi_session.specs.declared.request.SessionRequest.{SessionRequest}
 use Rattle.smi_session.specs.declared.session.ReplyStyle.{ReplyStyle}
 use Rattle.smi_session.specs.declared.session.ReplyStyle.TheVariants.{Script, Human}
 use Rattle.smi_session.specs.declared.trust.Trust.{Trust}
@@ -26,7 +26,7 @@ is_strange Script has_tag text = false
 is_strange Human has_tag text = not has_tag && is_foreign text
 
 -- a session is accepted from its first line that asks anything
-abbrev pub admitted : Option Request → SessionState → SessionState
+abbrev pub admitted : Option SessionRequest → SessionState → SessionState
 admitted (Some request) s = record s { trust = Accepted }
 admitted None s = s
 

@@ -103,8 +103,8 @@ pub(crate) fn push_fault(
     line: TaggedLine<'_>,
     fault: Fault,
 ) -> Result<(), AllocError>
-    ensures { OnOk result (session.new ≡ spec.with_fault tree.now operators.now line.entry.tag line.entry.number line.entry.text.now fault
-        session.old) }
+    ensures { OnOk result (session.new ≡ spec.with_fault tree.now operators.now line.entry.tag line.entry.number
+        line.entry.text.now fault session.old) }
 {
     write_fault(text, line.tag.is_some(), line.number, fault)?;
     end_fault(text, tree, operators, session.style(), line.text, fault)?;

@@ -4,7 +4,7 @@ ghost use Rattle.std.specs.Prelude.{ℕ, ◌≡◌, ◌+◌, ◌==◌, ◌++◌,
 ghost use Rattle.std.specs.Prelude.{None};
 ghost use Rattle.std.specs.List.{concat, list_any};
 ghost use Rattle.smi_grant.specs.declared.state.Shown.{Shown};
-ghost use Rattle.smi_node.specs.Served.{speaker};
+ghost use Rattle.smi_node.specs.Served.{operator_of_seat};
 ghost use Rattle.smi_operator.specs.declared.ends.Seat.{Seat};
 ghost use Rattle.smi_operator.specs.Sides.{submitted, told_to};
 ghost use Rattle.smi_protocol.specs.declared.order.Told.{Told};
@@ -20,9 +20,9 @@ ghost use Rattle.smi_session.specs.declared.station_event.StationEvent.{StationE
 /// The queues of a table that was opened are over its seats, in their order.
 pub fn orders_go_to_their_operators_seat()
     ensures operator { (operators : List ℕ) (operator : ℕ) → list_any (λ o. o == operator) operators ≡ true
-        → speaker operators (length operators + 1) (place_of operators (Some operator)) ≡ Some operator }
+        → operator_of_seat operators (length operators + 1) (place_of operators (Some operator)) ≡ Some operator }
     ensures nobody { (operators : List ℕ)
-        → speaker operators (length operators + 1) (place_of operators None) ≡ None }
+        → operator_of_seat operators (length operators + 1) (place_of operators None) ≡ None }
     ensures seats { (operators : List ℕ) (seats : List Seat) (reports : Seat) (t : SeatTableState)
         → IsOpened operators seats reports t → length operators ≡ length seats
         → map (λ q. q.seat) t.queues ≡ seats ++ reports ∷ [] }
@@ -30,8 +30,8 @@ pub fn orders_go_to_their_operators_seat()
         → IsOpened operators seats reports t → length operators ≡ length seats → t.operators ≡ operators }
 {}
 
-/// The answer of a seat that is told is that of the order with its number: the first answer that of the first order, and
-/// so on.
+/// The answer of a seat that is told is that of the order with its number: the first answer that of the first order,
+/// and so on.
 pub fn answers_are_of_their_orders()
     ensures { (a b : SeatQueueState) (p : PendingOrder) (told : Told) → IsInStep a → TellsOldest p told a b
         → slice_get (submitted a.seat) (length (told_to a.seat)) ≡ Some p.order }

@@ -22,7 +22,7 @@
 //!
 //! - `request_of_line` (`specs/Request`) says what a line asks. It stands over `request_in` (`specs/Line`), which says
 //!   it by what the same line is in a schedule, over `query_in` (`specs/Query`), and over `tag_of` (`specs/Tag`).
-//! - `ReceivesLine` (`specs/Handling`) says what a line does to the service and to its session. A line with a tag is
+//! - `Receives` (`specs/Handling`) says what a line does to the service and to its session. A line with a tag is
 //!   handled at once. Any other waits behind those before it, and `Resumes` handles those that wait one after the
 //!   other, until one holds up the others or 64 were handled.
 //! - `Trust` (`specs/Trust`) is what the lines of a session have shown of it.
@@ -49,13 +49,13 @@
 //!
 //! ## Events
 //!
-//! `Records` (`specs/Service`) keeps an event unless it is a state that is no newer than one that was recorded before. So
-//! the states of one object that a session is told of rise (`law::recorded_states_rise`).
+//! `Records` (`specs/Service`) keeps an event unless it is a state that is no newer than one that was recorded before.
+//! So the states of one object that a session is told of rise (`law::recorded_states_rise`).
 //!
 //! ## Answers to queries
 //!
-//! `Answers` (`specs/Reply`) is the whole text that a query is answered with: the states of the picture, the orders that
-//! are pending, how many they are. The numbers of a node and the list of what a line may ask are only tested.
+//! `Answers` (`specs/Reply`) is the whole text that a query is answered with: the states of the picture, the orders
+//! that are pending, how many they are. The numbers of a node and the list of what a line may ask are only tested.
 //!
 //! What is left to the code that calls this, and only tested: that the bytes of [`Session::output`] are what a socket
 //! writes, that each answer is offered to all sessions, that no two of them have one number, and that `next_answer`,
@@ -63,7 +63,6 @@
 #![tactic(auto)]
 
 mod action;
-mod board_reader;
 mod boxes;
 mod fault_reply;
 pub mod law;
@@ -76,6 +75,7 @@ mod seat_queue;
 mod seat_table;
 mod service;
 mod session;
+mod state_reader;
 mod station_event;
 mod subscription;
 mod tag;
@@ -83,16 +83,16 @@ mod trust;
 mod unknown_name;
 
 pub use action::{StepAction, step_action};
-pub use board_reader::BoardReader;
 pub use boxes::boxed;
 pub use line::request_in;
 pub use line_splitter::LineSplitter;
 pub use query::{Query, query_in};
-pub use request::{Request, request_of_line};
+pub use request::{SessionRequest, request_of_line};
 pub use seat_queue::{MOST_PENDING, PendingOrder, SeatQueue};
 pub use seat_table::{SeatAnswer, SeatTable};
 pub use service::SessionService;
 pub use session::{Deferred, MOST_UNSENT, NumberedLine, ReplyStyle, Session};
+pub use state_reader::StateReader;
 pub use station_event::{ActionDone, StationEvent};
 pub use subscription::Subscription;
 pub use tag::{Tag, tagged};

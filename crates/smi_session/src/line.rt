@@ -5,7 +5,7 @@ ghost use Rattle.smi_tree.specs.Lookups.{operators_of, station_count};
 ghost use Rattle.smi_tree.specs.Text.{words};
 ghost use Rattle.smi_session.specs.Line as spec;
 
-use crate::request::Request;
+use crate::request::SessionRequest;
 use smi_base::MOST_BYTES_OF_A_LINE;
 use smi_protocol::{Deed, Item, Order};
 use smi_schedule::read_item;
@@ -19,19 +19,19 @@ fn is_of(operators: &[u16], operator: u16) -> bool
 }
 
 /// Returns what an item of a schedule asks of a node with these operators.
-fn asked(operators: &[u16], item: Item) -> Result<Request, Fault>
+fn asked(operators: &[u16], item: Item) -> Result<SessionRequest, Fault>
     ensures { result ≡ spec.asked operators.now item }
 {
     match item {
         Item::Do(Deed::Order(operator, order)) => {
             if is_of(operators, operator) {
-                Ok(Request::Order(Some(operator), order))
+                Ok(SessionRequest::Order(Some(operator), order))
             } else {
                 Err(Fault::UnknownName)
             }
         }
         Item::Do(Deed::Report(device, state)) => {
-            Ok(Request::Order(None, Order::Report(device, state)))
+            Ok(SessionRequest::Order(None, Order::Report(device, state)))
         }
         _ => Err(Fault::UnknownWord),
     }
@@ -39,17 +39,21 @@ fn asked(operators: &[u16], item: Item) -> Result<Request, Fault>
 
 /// Returns what the words after `show` ask.
 #[tactic(auto, unfolding(crate::specs::Line::shown))]
-fn shown(tree: &Tree, text: &[u8]) -> Result<Request, Fault>
+fn shown(tree: &Tree, text: &[u8]) -> Result<SessionRequest, Fault>
     ensures { result ≡ spec.shown tree.now (words text.now) }
 {
     let name = one_name(text)?;
     let object = tree.object_named(name.text()).ok_or(Fault::UnknownName)?;
-    Ok(Request::Show(object))
+    Ok(SessionRequest::Show(object))
 }
 
 /// Returns what an `order` or a `report` asks, as a schedule has it.
 #[tactic(auto, unfolding(crate::specs::Line::request_as_item))]
-fn request_as_item(tree: &Tree, operators: &[u16], line: &[u8]) -> Result<Option<Request>, Fault>
+fn request_as_item(
+    tree: &Tree,
+    operators: &[u16],
+    line: &[u8],
+) -> Result<Option<SessionRequest>, Fault>
     ensures { result ≡ spec.request_as_item tree.now operators.now line.now }
 {
     match read_item(tree, line)? {
@@ -89,7 +93,7 @@ fn request_of(
     kind: LineKind,
     line: &[u8],
     rest: &[u8],
-) -> Result<Option<Request>, Fault>
+) -> Result<Option<SessionRequest>, Fault>
     ensures { result ≡ spec.request_of tree.now operators.now kind line.now (words rest.now) }
 {
     match kind {
@@ -105,7 +109,11 @@ fn request_of(
 /// and `show` is followed by an object's name. The faults are those of schedules, in their order. An operator of
 /// another station is unknown here. It takes no memory.
 #[tactic(auto, unfolding(crate::specs::Line::request_in))]
-pub fn request_in(tree: &Tree, operators: &[u16], line: &[u8]) -> Result<Option<Request>, Fault>
+pub fn request_in(
+    tree: &Tree,
+    operators: &[u16],
+    line: &[u8],
+) -> Result<Option<SessionRequest>, Fault>
     ensures { result ≡ spec.request_in tree.now operators.now line.now }
 {
     if line.len() > MOST_BYTES_OF_A_LINE {

@@ -6,12 +6,12 @@ ghost use Rattle.smi_session.specs.Service.{told_by};
 ghost use Rattle.smi_session.specs.Session.{OnlyReplies};
 ghost use Rattle.smi_tree.specs.Text.{words};
 
-use crate::board_reader::BoardReader;
 use crate::query::Query;
 use crate::request::behind_first;
 use crate::seat_queue::SeatQueue;
 use crate::service::SessionService;
 use crate::session::Session;
+use crate::state_reader::StateReader;
 use crate::subscription::{Subscription, subscription_in};
 use crate::tag::{Tag, TaggedLine};
 use smi_protocol::{Entry, Line, Told};
@@ -105,7 +105,8 @@ fn push_pending(
     tag: Option<Tag>,
     listed: (u16, &SeatQueue),
 ) -> Result<(), AllocError>
-    ensures { OnOk result (session.new ≡ spec.with_pending tree.now tag now listed.entry.0 listed.entry.1.now.pending session.old) }
+    ensures { OnOk result (session.new ≡ spec.with_pending tree.now tag now listed.entry.0
+        listed.entry.1.now.pending session.old) }
 {
     let (operator, queue) = listed;
     for pending in queue.pending().iter() {
@@ -238,7 +239,7 @@ fn followed_count(tree: &Tree, subscription: &Subscription) -> usize
     }
 }
 
-impl<G: BoardReader + Drop> SessionService<G> {
+impl<G: StateReader + Drop> SessionService<G> {
     ghost use Rattle.std.specs.Prelude.{◌≡◌, OnOk};
     ghost use Rattle.smi_tree.specs.Text.{words};
     ghost use Rattle.smi_session.specs.Reply.{Answers};
@@ -254,8 +255,8 @@ impl<G: BoardReader + Drop> SessionService<G> {
         line: TaggedLine<'_>,
         query: Query,
     ) -> Result<(), AllocError>
-        ensures told { OnOk result (Answers tree.now now line.entry.tag (words line.entry.text.now) query self.old session.old
-            session.new) }
+        ensures told { OnOk result (Answers tree.now now line.entry.tag (words line.entry.text.now) query self.old
+            session.old session.new) }
         ensures same { self.new ≡ self.old }
     {
         let (text, tag) = (&mut self.text, line.tag);

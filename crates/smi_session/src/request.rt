@@ -13,7 +13,7 @@ use smi_tree::{Fault, Tree, first_word};
 
 /// What a line asks.
 #[derive(Clone, Copy)]
-pub enum Request {
+pub enum SessionRequest {
     /// An order of an operator. A report is nobody's.
     Order(Option<u16>, Order),
     /// What the board shows of an object.
@@ -79,31 +79,34 @@ pub(crate) fn behind_first(text: &[u8]) -> &[u8]
 }
 
 /// Returns a query with these names. A name that it may not have is a fault.
-fn named_request(tree: &Tree, query: Query, names: &[u8]) -> Result<Request, Fault>
+fn named_request(tree: &Tree, query: Query, names: &[u8]) -> Result<SessionRequest, Fault>
     ensures { result ≡ spec.named_request tree.now query (words names.now) }
 {
     if may_name_all(tree, query, names) {
-        Ok(Request::Query(query))
+        Ok(SessionRequest::Query(query))
     } else {
         Err(Fault::UnknownName)
     }
 }
 
 /// Returns what a line asks that is a query.
-fn query_request(tree: &Tree, query: Query, text: &[u8]) -> Result<Request, Fault>
+fn query_request(tree: &Tree, query: Query, text: &[u8]) -> Result<SessionRequest, Fault>
     ensures { result ≡ spec.query_request tree.now query (words text.now) }
 {
     match query {
         Query::Follow => named_request(tree, Query::Follow, behind_first(text)),
         Query::Actions => named_request(tree, Query::Actions, behind_first(text)),
         Query::Counts | Query::UnderWay | Query::States | Query::Help => {
-            Ok(Request::Query(query))
+            Ok(SessionRequest::Query(query))
         }
     }
 }
 
 /// Returns what a line asks that is no query. A line that asks nothing has a fault if it has a tag.
-fn line_request(has_tag: bool, request: Option<Request>) -> Result<Option<Request>, Fault>
+fn line_request(
+    has_tag: bool,
+    request: Option<SessionRequest>,
+) -> Result<Option<SessionRequest>, Fault>
     ensures { result ≡ spec.line_request has_tag request }
 {
     match request {
@@ -122,7 +125,7 @@ pub fn request_of_line(
     style: ReplyStyle,
     has_tag: bool,
     text: &[u8],
-) -> Result<Option<Request>, Fault>
+) -> Result<Option<SessionRequest>, Fault>
     ensures { result ≡ spec.request_of_line tree.now operators.now style has_tag text.now }
 {
     match query_of(style, has_tag, text)? {

@@ -3,18 +3,18 @@
 ghost use Rattle.std.specs.Prelude.{◌≡◌, OnOk};
 ghost use Rattle.smi_session.specs.StationEvent.{after_event};
 
-use crate::board_reader::BoardReader;
 use crate::boxes::boxed;
 use crate::fault_reply::push_fault;
 use crate::reply::write_told;
-use crate::request::{Request, request_of_line};
+use crate::request::{SessionRequest, request_of_line};
 use crate::seat_table::{SeatAnswer, SeatTable};
 use crate::session::Session;
+use crate::state_reader::StateReader;
 use crate::station_event::{StationEvent, write_event};
 use crate::tag::{TaggedLine, tagged};
 use smi_base::MOST_BYTES_OF_A_LINE;
 use smi_grant::Shown;
-use smi_node::Counts;
+use smi_node::NodeStats;
 use smi_schedule::spell_board;
 use smi_tree::{Fault, Tree};
 use smi_view::{Picture, is_newer};
@@ -30,10 +30,10 @@ const LINES_AT_ONCE: usize = 64;
 ///
 /// Contracts see the seats, what the board has shown, the newest states, and the events that are to be told.
 #[derive(Drop)]
-pub struct SessionService<G: BoardReader + Drop> {
+pub struct SessionService<G: StateReader + Drop> {
     pub(crate) seats: SeatTable,
     board: G,
-    pub(crate) counts: Arc<Counts, Global>,
+    pub(crate) counts: Arc<NodeStats, Global>,
     pub(crate) picture: Picture,
     /// How many datagrams to the node the system has dropped. None if it does not tell.
     pub(crate) drops: Option<u64>,
@@ -43,7 +43,7 @@ pub struct SessionService<G: BoardReader + Drop> {
     pub(crate) alloc: Global,
 }
 
-impl<G: BoardReader + Drop> Model for SessionService<G> {
+impl<G: StateReader + Drop> Model for SessionService<G> {
     ghost use Rattle.smi_session.specs.Service.{ServiceState};
     ghost use Rattle.smi_session.specs.StationEvent.{AreInOrder};
 
@@ -82,7 +82,7 @@ fn deliver_event(
     }
 }
 
-impl<G: BoardReader + Drop> SessionService<G> {
+impl<G: StateReader + Drop> SessionService<G> {
     ghost use Rattle.std.specs.Prelude.{◌≡◌, ◌≢◌, [], true, false, length, Ok, IfOk, IfSome, IfNone, OnOk, OnErr};
     ghost use Rattle.smi_session.specs.Handling.{Does, Handles, HandlesLine, HandlesNext, HandlesSome, HandlesWaiting};
     ghost use Rattle.smi_session.specs.Handling.{Receives, ReceivesPart, Refuses, Resumes, ResumesPart};
@@ -102,7 +102,7 @@ impl<G: BoardReader + Drop> SessionService<G> {
         alloc: Global,
         seats: SeatTable,
         board: G,
-        counts: Arc<Counts, Global>,
+        counts: Arc<NodeStats, Global>,
         picture: Picture,
     ) -> Result<Box<SessionService<G>>, AllocError>
         ensures { IfOk result (λ s. s.value ≡ new_service seats (G.shows board) picture) }
@@ -163,7 +163,7 @@ impl<G: BoardReader + Drop> SessionService<G> {
         session: &Session,
         has_tag: bool,
         text: &[u8],
-    ) -> Result<Option<Request>, Fault>
+    ) -> Result<Option<SessionRequest>, Fault>
         ensures { result ≡ request_of_line tree.now self.now.seats.operators session.now.style has_tag text.now }
     {
         let operators = self.seats.operators();
@@ -179,23 +179,25 @@ impl<G: BoardReader + Drop> SessionService<G> {
         now: Option<Instant>,
         session: &mut Session,
         line: TaggedLine<'_>,
-        request: Option<Request>,
+        request: Option<SessionRequest>,
     ) -> Result<(), AllocError>
-        ensures ok { OnOk result (Does tree.now now line.entry.tag line.entry.text.now request self.old session.old self.new
-            session.new) }
+        ensures ok { OnOk result (Does tree.now now line.entry.tag line.entry.text.now request self.old session.old
+            self.new session.new) }
         ensures err { OnErr result (self.new.seats ≡ self.old.seats) }
     {
         match request {
-            Some(Request::Order(operator, order)) => {
+            Some(SessionRequest::Order(operator, order)) => {
                 self.seats.order(now, session, line.tag, operator, order);
                 Ok(())
             }
-            Some(Request::Show(object)) => {
+            Some(SessionRequest::Show(object)) => {
                 let shown = self.board.shown(object);
                 spell_board(&mut self.text, tree, object, shown)?;
                 session.push_reply(line.tag, self.text.as_slice())
             }
-            Some(Request::Query(query)) => self.answer_query(tree, now, session, line, query),
+            Some(SessionRequest::Query(query)) => self.answer_query(
+                tree, now, session, line, query,
+            ),
             None => Ok(()),
         }
     }
@@ -210,8 +212,8 @@ impl<G: BoardReader + Drop> SessionService<G> {
         line: TaggedLine<'_>,
         fault: Fault,
     ) -> Result<(), AllocError>
-        ensures ok { OnOk result (Refuses tree.now line.entry.tag line.entry.number line.entry.text.now fault self.old session.old
-            self.new session.new) }
+        ensures ok { OnOk result (Refuses tree.now line.entry.tag line.entry.number line.entry.text.now fault self.old
+            session.old self.new session.new) }
         ensures err { self.new.seats ≡ self.old.seats }
     {
         let operators = self.seats.operators();
@@ -228,8 +230,8 @@ impl<G: BoardReader + Drop> SessionService<G> {
         session: &mut Session,
         line: TaggedLine<'_>,
     ) -> Result<(), AllocError>
-        ensures ok { OnOk result (Handles tree.now now line.entry.tag line.entry.number line.entry.text.now self.old session.old self.new
-            session.new) }
+        ensures ok { OnOk result (Handles tree.now now line.entry.tag line.entry.number line.entry.text.now self.old
+            session.old self.new session.new) }
         ensures err { OnErr result (self.new.seats ≡ self.old.seats) }
     {
         match self.request(tree, session, line.tag.is_some(), line.text) {

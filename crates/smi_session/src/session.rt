@@ -2,7 +2,7 @@
 
 ghost use Rattle.std.specs.Prelude.{◌≡◌};
 
-use crate::request::Request;
+use crate::request::SessionRequest;
 use crate::seat_queue::PendingOrder;
 use crate::subscription::Subscription;
 use crate::tag::Tag;
@@ -149,7 +149,7 @@ impl Session {
     }
 
     /// Accepts the session if a line of it asks something.
-    pub(crate) fn admit(&mut self, request: Option<Request>)
+    pub(crate) fn admit(&mut self, request: Option<SessionRequest>)
         ensures { self.new ≡ admitted request self.old }
     {
         if request.is_some() {

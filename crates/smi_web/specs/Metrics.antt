@@ -1,4 +1,4 @@
--- How a picture reads to a monitor: Prometheus' text format, each figure with what it is and all its samples below.
+-- How a picture reads to a monitor: Prometheus' text format, each metric with what it is and all its samples below.
 use Rattle.std.specs.Prelude.{ℕ, ◌+◌, ◌-◌, ◌/◌, ◌%◌, ◌++◌, List, [], Option, Some, None, codes}
 use Rattle.std.specs.Fmt.{decimal}
 use Rattle.smi_grant.specs.declared.Holder.{Holder}
@@ -11,8 +11,8 @@ use Rattle.smi_schedule.specs.TraceWords.{domain_word, object_word, state_word}
 use Rattle.smi_view.specs.Pictured.{Pictured, domain_of, object_of}
 use Rattle.smi_view.specs.declared.Hearing.{Hearing}
 use Rattle.smi_view.specs.declared.Sight.{Sight}
-use Rattle.smi_web.specs.declared.metrics.Figure.{Figure}
-use Rattle.smi_web.specs.declared.metrics.Figure.TheVariants as figure
+use Rattle.smi_web.specs.declared.metrics.Metric.{Metric}
+use Rattle.smi_web.specs.declared.metrics.Metric.TheVariants as metric
 use Rattle.smi_web.specs.Json.{listed, quoted}
 
 -- milliseconds as seconds with three places
@@ -30,28 +30,28 @@ abbrev pub busy_number : Phase → ℕ
 busy_number phase.Settled = 0
 busy_number phase.Busy = 1
 
-abbrev pub value_text : Figure → ℕ → Hearing → List ℕ
-value_text figure.Held now had = decimal (held_number had.«record».holder)
-value_text figure.Busy now had = decimal (busy_number had.«record».phase)
-value_text figure.Epoch now had = decimal had.«record».epoch
-value_text figure.Outcome now had = decimal had.«record».outcome
-value_text figure.Age now had = seconds_text (now - had.heard)
+abbrev pub value_text : Metric → ℕ → Hearing → List ℕ
+value_text metric.Held now had = decimal (held_number had.«record».holder)
+value_text metric.Busy now had = decimal (busy_number had.«record».phase)
+value_text metric.Epoch now had = decimal had.«record».epoch
+value_text metric.Outcome now had = decimal had.«record».outcome
+value_text metric.Age now had = seconds_text (now - had.heard)
 
-abbrev pub name_text : Figure → List ℕ
-name_text figure.Held = codes "smi_domain_held"
-name_text figure.Busy = codes "smi_domain_busy"
-name_text figure.Epoch = codes "smi_domain_epoch"
-name_text figure.Outcome = codes "smi_domain_outcome"
-name_text figure.Age = codes "smi_domain_heard_age_seconds"
+abbrev pub name_text : Metric → List ℕ
+name_text metric.Held = codes "smi_domain_held"
+name_text metric.Busy = codes "smi_domain_busy"
+name_text metric.Epoch = codes "smi_domain_epoch"
+name_text metric.Outcome = codes "smi_domain_outcome"
+name_text metric.Age = codes "smi_domain_heard_age_seconds"
 
-abbrev pub help_text : Figure → List ℕ
-help_text figure.Held = codes "1 where somebody holds the domain, 0 where it is free."
-help_text figure.Busy = codes "1 while the domain works on a command, else 0."
-help_text figure.Epoch = codes "How often the domain has changed hands."
-help_text figure.Outcome = codes "How the last command of the domain ended, 0 where it was done or is not settled."
-help_text figure.Age = codes "How long ago the keeper of the domain was last heard."
+abbrev pub help_text : Metric → List ℕ
+help_text metric.Held = codes "1 where somebody holds the domain, 0 where it is free."
+help_text metric.Busy = codes "1 while the domain works on a command, else 0."
+help_text metric.Epoch = codes "How often the domain has changed hands."
+help_text metric.Outcome = codes "How the last command of the domain ended, 0 where it was done or is not settled."
+help_text metric.Age = codes "How long ago the keeper of the domain was last heard."
 
--- what stands above the samples of a figure
+-- what stands above the samples of a metric
 unfoldable pub head_text : List ℕ → List ℕ → List ℕ → List ℕ
 head_text name help kind =
     codes "# HELP " ++ name ++ codes " " ++ help ++ codes "\n# TYPE " ++ name ++ codes " " ++ kind ++ codes "\n"
@@ -66,23 +66,23 @@ seen_sample h x (Some seen) =
 abbrev pub state_sample : Hierarchy → Pictured → ℕ → List ℕ
 state_sample h p x = seen_sample h x (object_of p x)
 
--- the figure of a domain; nothing where it was never heard
-abbrev pub heard_sample : Hierarchy → Figure → ℕ → ℕ → Option Hearing → List ℕ
-heard_sample h figure now d None = []
-heard_sample h figure now d (Some had) =
-    name_text figure ++ codes "{domain=" ++ quoted (domain_word h d) ++ codes "} " ++ value_text figure now had
+-- the metric of a domain; nothing where it was never heard
+abbrev pub heard_sample : Hierarchy → Metric → ℕ → ℕ → Option Hearing → List ℕ
+heard_sample h metric now d None = []
+heard_sample h metric now d (Some had) =
+    name_text metric ++ codes "{domain=" ++ quoted (domain_word h d) ++ codes "} " ++ value_text metric now had
     ++ codes "\n"
 
-abbrev pub figure_sample : Hierarchy → Pictured → Figure → ℕ → ℕ → List ℕ
-figure_sample h p figure now d = heard_sample h figure now d (domain_of p d)
+abbrev pub metric_sample : Hierarchy → Pictured → Metric → ℕ → ℕ → List ℕ
+metric_sample h p metric now d = heard_sample h metric now d (domain_of p d)
 
--- a figure with its samples
-unfoldable pub figure_text : Hierarchy → Pictured → Figure → ℕ → List ℕ
-figure_text h p figure now =
-    head_text (name_text figure) (help_text figure) (codes "gauge")
-    ++ listed [] (figure_sample h p figure now) (domain_count h)
+-- a metric with its samples
+unfoldable pub metric_text : Hierarchy → Pictured → Metric → ℕ → List ℕ
+metric_text h p metric now =
+    head_text (name_text metric) (help_text metric) (codes "gauge")
+    ++ listed [] (metric_sample h p metric now) (domain_count h)
 
--- a figure of the whole screen
+-- a metric of the whole screen
 unfoldable pub whole_text : List ℕ → List ℕ → List ℕ → ℕ → List ℕ
 whole_text name help kind number = head_text name help kind ++ name ++ codes " " ++ decimal number ++ codes "\n"
 
@@ -101,11 +101,11 @@ states_text h p =
 -- the metrics of all domains
 abbrev pub domains_text : Hierarchy → Pictured → ℕ → List ℕ
 domains_text h p now =
-    figure_text h p figure.Held now
-    ++ figure_text h p figure.Busy now
-    ++ figure_text h p figure.Epoch now
-    ++ figure_text h p figure.Outcome now
-    ++ figure_text h p figure.Age now
+    metric_text h p metric.Held now
+    ++ metric_text h p metric.Busy now
+    ++ metric_text h p metric.Epoch now
+    ++ metric_text h p metric.Outcome now
+    ++ metric_text h p metric.Age now
 
 -- all metrics of a picture, which has this number and is looked at at this time
 abbrev pub metrics_text : Hierarchy → Pictured → (number now : ℕ) → List ℕ

@@ -1,7 +1,7 @@
 //! What a screen answers over HTTP: a function of a request and a snapshot, without socket or clock.
 //!
-//! - A [`Snapshot`] has the texts that are served: the page, the tree, and a picture as it was at one moment. It is made
-//!   once for many requests ([`Snapshot::renew`]). A copy of a text shares its bytes.
+//! - A [`Snapshot`] has the texts that are served: the page, the tree, and a picture as it was at one moment. It is
+//!   made once for many requests ([`Snapshot::renew`]). A copy of a text shares its bytes.
 //! - [`WebService`] answers requests from a snapshot. [`route_request`] says which text a request gets. No other bytes
 //!   are ever served. Nothing changes by a request but for one kind: if orders may be given ([`PageOrders`]), an order
 //!   that comes from the page itself, which shows the key that is in it, is given to the relay.

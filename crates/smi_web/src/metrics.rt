@@ -4,7 +4,7 @@ ghost use Rattle.std.specs.Prelude.{◌≡◌, ◌++◌, IfOk, OnOk};
 ghost use Rattle.smi_web.specs.Metrics.{
   busy_number,
   domains_text,
-  figure_text,
+  metric_text,
   metrics_text,
   head_text,
   heard_sample,
@@ -29,7 +29,7 @@ use std::alloc::{AllocError, Global};
 
 /// What is told of each domain in a number of its own.
 #[derive(Clone, Copy, Debug, PartialEq, Eq)]
-enum Figure {
+enum Metric {
     Held,
     Busy,
     Epoch,
@@ -38,16 +38,16 @@ enum Figure {
     Age,
 }
 
-impl Figure {
+impl Metric {
     fn name(self) -> &'static [u8]
         ensures { result.now ≡ name_text self }
     {
         match self {
-            Figure::Held => b"smi_domain_held",
-            Figure::Busy => b"smi_domain_busy",
-            Figure::Epoch => b"smi_domain_epoch",
-            Figure::Outcome => b"smi_domain_outcome",
-            Figure::Age => b"smi_domain_heard_age_seconds",
+            Metric::Held => b"smi_domain_held",
+            Metric::Busy => b"smi_domain_busy",
+            Metric::Epoch => b"smi_domain_epoch",
+            Metric::Outcome => b"smi_domain_outcome",
+            Metric::Age => b"smi_domain_heard_age_seconds",
         }
     }
 
@@ -55,13 +55,13 @@ impl Figure {
         ensures { result.now ≡ help_text self }
     {
         match self {
-            Figure::Held => b"1 where somebody holds the domain, 0 where it is free.",
-            Figure::Busy => b"1 while the domain works on a command, else 0.",
-            Figure::Epoch => b"How often the domain has changed hands.",
-            Figure::Outcome => {
+            Metric::Held => b"1 where somebody holds the domain, 0 where it is free.",
+            Metric::Busy => b"1 while the domain works on a command, else 0.",
+            Metric::Epoch => b"How often the domain has changed hands.",
+            Metric::Outcome => {
                 b"How the last command of the domain ended, 0 where it was done or is not settled."
             }
-            Figure::Age => b"How long ago the keeper of the domain was last heard.",
+            Metric::Age => b"How long ago the keeper of the domain was last heard.",
         }
     }
 }
@@ -95,20 +95,20 @@ fn put_seconds(text: &mut Vec<u8>, ms: u64) -> Result<(), AllocError>
     put_number(text, b"", ms % 10)
 }
 
-fn put_value(text: &mut Vec<u8>, figure: Figure, now: u64, had: &Hearing) -> Result<(), AllocError>
-    ensures { OnOk result (text.new.items ≡ text.old.items ++ value_text figure now had.now) }
+fn put_value(text: &mut Vec<u8>, metric: Metric, now: u64, had: &Hearing) -> Result<(), AllocError>
+    ensures { OnOk result (text.new.items ≡ text.old.items ++ value_text metric now had.now) }
 {
     let record = &had.record;
-    match figure {
-        Figure::Held => put_number(text, b"", held_number(record.holder)),
-        Figure::Busy => put_number(text, b"", busy_number(record.phase)),
-        Figure::Epoch => put_number(text, b"", record.epoch),
-        Figure::Outcome => put_number(text, b"", u64::from(record.outcome)),
-        Figure::Age => put_seconds(text, now.saturating_sub(had.heard)),
+    match metric {
+        Metric::Held => put_number(text, b"", held_number(record.holder)),
+        Metric::Busy => put_number(text, b"", busy_number(record.phase)),
+        Metric::Epoch => put_number(text, b"", record.epoch),
+        Metric::Outcome => put_number(text, b"", u64::from(record.outcome)),
+        Metric::Age => put_seconds(text, now.saturating_sub(had.heard)),
     }
 }
 
-/// What stands above the samples of a figure.
+/// What stands above the samples of a metric.
 #[tactic(auto, unfolding(crate::specs::Metrics::head_text))]
 fn put_head(text: &mut Vec<u8>, name: &[u8], help: &[u8], kind: &[u8]) -> Result<(), AllocError>
     ensures { OnOk result (text.new.items ≡ text.old.items ++ head_text name.now help.now kind.now) }
@@ -124,7 +124,7 @@ fn put_head(text: &mut Vec<u8>, name: &[u8], help: &[u8], kind: &[u8]) -> Result
     put(text, b"\n")
 }
 
-/// A figure of the whole screen.
+/// A metric of the whole screen.
 #[tactic(auto, unfolding(crate::specs::Metrics::whole_text))]
 fn put_whole(
     text: &mut Vec<u8>,
@@ -166,20 +166,20 @@ fn put_seen(
 fn put_heard(
     text: &mut Vec<u8>,
     tree: &Tree,
-    figure: Figure,
+    metric: Metric,
     now: u64,
     domain: u16,
     hearing: &Option<Hearing>,
 ) -> Result<(), AllocError>
-    ensures { OnOk result (text.new.items ≡ text.old.items ++ heard_sample tree.now figure now domain hearing.now) }
+    ensures { OnOk result (text.new.items ≡ text.old.items ++ heard_sample tree.now metric now domain hearing.now) }
 {
     let Some(had) = hearing else {
         return Ok(());
     };
-    put(text, figure.name())?;
+    put(text, metric.name())?;
     put_quoted(text, b"{domain=", names::domain(tree, domain), domain)?;
     put(text, b"} ")?;
-    put_value(text, figure, now, had)?;
+    put_value(text, metric, now, had)?;
     put(text, b"\n")
 }
 
@@ -201,42 +201,42 @@ impl<'a> Listing for States<'a> {
     }
 }
 
-/// A figure of a picture's domains.
+/// A metric of a picture's domains.
 #[derive(Clone, Copy)]
 struct Metrics<'a> {
     tree: &'a Tree,
     picture: &'a Picture,
-    figure: Figure,
+    metric: Metric,
     now: u64,
 }
 
 impl<'a> Listing for Metrics<'a> {
-    ghost use Rattle.smi_web.specs.Metrics.{figure_sample};
+    ghost use Rattle.smi_web.specs.Metrics.{metric_sample};
 
-    ghost text = { λ s d. figure_sample s.tree.now s.picture.now s.figure s.now d };
+    ghost text = { λ s d. metric_sample s.tree.now s.picture.now s.metric s.now d };
 
     fn put(&self, into: &mut Vec<u8>, number: u16) -> Result<(), AllocError> {
         let hearing = self.picture.domain(number);
-        put_heard(into, self.tree, self.figure, self.now, number, &hearing)
+        put_heard(into, self.tree, self.metric, self.now, number, &hearing)
     }
 }
 
-/// A figure with its samples.
-#[tactic(auto, unfolding(crate::specs::Metrics::figure_text))]
-fn put_figure(
+/// A metric with its samples.
+#[tactic(auto, unfolding(crate::specs::Metrics::metric_text))]
+fn put_metric(
     text: &mut Vec<u8>,
     tree: &Tree,
     picture: &Picture,
-    figure: Figure,
+    metric: Metric,
     now: u64,
 ) -> Result<(), AllocError>
-    ensures { OnOk result (text.new.items ≡ text.old.items ++ figure_text tree.now picture.now figure now) }
+    ensures { OnOk result (text.new.items ≡ text.old.items ++ metric_text tree.now picture.now metric now) }
 {
-    put_head(text, figure.name(), figure.help(), b"gauge")?;
+    put_head(text, metric.name(), metric.help(), b"gauge")?;
     let metrics = Metrics {
         tree,
         picture,
-        figure,
+        metric,
         now,
     };
     put_listed(text, b"", &metrics, tree.domain_count())
@@ -278,7 +278,7 @@ fn put_states(text: &mut Vec<u8>, tree: &Tree, picture: &Picture) -> Result<(), 
 }
 
 /// The metrics of all domains.
-fn put_figures(
+fn put_metrics(
     text: &mut Vec<u8>,
     tree: &Tree,
     picture: &Picture,
@@ -286,11 +286,11 @@ fn put_figures(
 ) -> Result<(), AllocError>
     ensures { OnOk result (text.new.items ≡ text.old.items ++ domains_text tree.now picture.now now) }
 {
-    put_figure(text, tree, picture, Figure::Held, now)?;
-    put_figure(text, tree, picture, Figure::Busy, now)?;
-    put_figure(text, tree, picture, Figure::Epoch, now)?;
-    put_figure(text, tree, picture, Figure::Outcome, now)?;
-    put_figure(text, tree, picture, Figure::Age, now)?;
+    put_metric(text, tree, picture, Metric::Held, now)?;
+    put_metric(text, tree, picture, Metric::Busy, now)?;
+    put_metric(text, tree, picture, Metric::Epoch, now)?;
+    put_metric(text, tree, picture, Metric::Outcome, now)?;
+    put_metric(text, tree, picture, Metric::Age, now)?;
     Ok(())
 }
 
@@ -309,6 +309,6 @@ pub fn write_metrics(
     let mut text = Vec::new(alloc);
     put_screen(&mut text, tree, number)?;
     put_states(&mut text, tree, picture)?;
-    put_figures(&mut text, tree, picture, now)?;
+    put_metrics(&mut text, tree, picture, now)?;
     Ok(text)
 }

@@ -10,5 +10,5 @@ returns-clause-step c =
     = c.pop_front.ensures.value _ some ∙ ap Some (sym c.in_ok-oldest.ensures.lookup) in
     let left : c.self.inside.pending.items ≡ c.in_ok-oldest.field-0.now ∷ c.pop_front.new.self.items
     = rw is at c.pop_front.ensures.items in
-    rw (← c.self.view_is) (tells_next _ _ c.in_ok-oldest.field-0.now c.in_ok-told.told left c.in_ok-told.ensures.submitted
-    c.in_ok-told.ensures.some)
+    rw (← c.self.view_is) (tells_next _ _ c.in_ok-oldest.field-0.now c.in_ok-told.told left
+    c.in_ok-told.ensures.submitted c.in_ok-told.ensures.some)

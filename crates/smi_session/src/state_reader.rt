@@ -11,7 +11,7 @@ use smi_view::{BoardId, Glance};
 ///
 /// Contracts see what a glance of that board has seen and was told. The service is over any such reader, because a
 /// function that names the board of its glance is expensive to prove.
-pub trait BoardReader {
+pub trait StateReader {
     ghost use Rattle.smi_view.specs.Shows.{GlanceShows};
 
     ghost shows: { Self → GlanceShows };
@@ -22,7 +22,7 @@ pub trait BoardReader {
         ensures rises { IsPrefix (shows self.old).seen (shows self.new).seen };
 }
 
-impl<J: BoardId> BoardReader for Glance<J> {
+impl<J: BoardId> StateReader for Glance<J> {
     ghost shows = { λ g. g };
 
     fn shown(&mut self, object: u16) -> Option<Shown> {
