@@ -39,8 +39,8 @@ does S operator now (Comes bytes) a b stopped h =
     keeps_both a.picture delivered.3.picture b.picture
     (carries S delivered.0 now delivered.2 (with_link a h.0) delivered.3 stopped delivered.4)
     (taken (is_taken delivered.2) bytes now delivered.3 b delivered.5)
-does S operator now Waits a b stopped h = keeps_same a.picture b.picture (ap (λ v. v.picture) h.1)
-does S operator now Fails a b stopped h = keeps_same a.picture b.picture (ap (λ v. v.picture) h.1)
+does S operator now Waits a b stopped h = keeps_same a.picture b.picture (ap (λ v. v.picture) h.3)
+does S operator now Fails a b stopped h = keeps_same a.picture b.picture (ap (λ v. v.picture) h.3)
 does S operator now (Watches x) a b stopped h =
     carried S (event.Order operator (order.Watch x)) now a b stopped h
 does S operator now (Asks d) a b stopped h = carried S (event.Order operator (order.Ask d)) now a b stopped h

@@ -1,11 +1,11 @@
 -- Deeds of an observer, put together.
-use Rattle.std.proofs.Common.{◌≡◌, ◌+◌, ℕ, Bool, true, false, List, [], ◌∷◌, ◌++◌, Option, ◌∙◌, refl, sym, ap, subst}
+use Rattle.std.proofs.Common.{◌≡◌, ℕ, Bool, true, false, List, [], ◌∷◌, ◌++◌, refl, sym, ap, subst}
 use Rattle.smi_node.specs.Linked.{LinkShows}
-use Rattle.smi_node.specs.Served.{ReceivesOne}
+use Rattle.smi_node.specs.Served.{FailsOnce, ReceivesNone, ReceivesOne}
 use Rattle.smi_view.specs.Pictured.{Pictured}
 use Rattle.smi_screen.specs.Carrying.{NotesSo}
 use Rattle.smi_screen.specs.Looking.{Comes, Deed, Delivers, Does, DoesAll, Fails, Looks, NotesTaken, Stepping, View}
-use Rattle.smi_screen.specs.Looking.{view, with_link}
+use Rattle.smi_screen.specs.Looking.{Waits, view, with_link}
 
 pub none : {T : Type 0} (S : Stepping T) (operator : ℕ) (a : View T) → Looks S operator a a false
 none S operator a = ([], refl)
@@ -37,21 +37,16 @@ pub delivered_one : {T : Type 0} (S : Stepping T) (operator now : ℕ) (bytes : 
 delivered_one S operator now bytes a b link stopped received delivered =
     one S operator now (Comes bytes) a b stopped (link, received, delivered)
 
--- the link failed once more
-pub failed_once : {T : Type 0} (S : Stepping T) (operator now : ℕ) (a : View T) (link : LinkShows)
-    → link.received ≡ a.link.received → link.handed ≡ a.link.handed → link.failures ≡ a.link.failures + 1
-    → Looks S operator a (with_link a link) false
-failed_once S operator now a link received handed failures =
-    let same : link ≡ record a.link { failures = a.link.failures + 1 } = alike link.received a.link.received link.handed
-    a.link.handed link.failures (a.link.failures + 1) received handed failures in
-    one S operator now Fails a (with_link a link) false (refl, ap (λ l. with_link a l) same)
-  where
-    shows : Option (List (List ℕ)) → Option (List (ℕ × List ℕ)) → ℕ → LinkShows
-    shows r h f = record { received = r; handed = h; failures = f }
+-- nothing came, or the link failed once more
+pub waited_once : {T : Type 0} (S : Stepping T) (operator now : ℕ) (a : View T) (link : LinkShows)
+    → ReceivesNone a.link link → Looks S operator a (with_link a link) false
+waited_once S operator now a link received = one S operator now Waits a (with_link a link) false
+    (link, received, refl, refl)
 
-    alike : (r r' : Option (List (List ℕ))) (h h' : Option (List (ℕ × List ℕ))) (f f' : ℕ) → r ≡ r' → h ≡ h' → f ≡ f'
-        → shows r h f ≡ shows r' h' f'
-    alike r r' h h' f f' x y z = ap (λ q. shows q h f) x ∙ ap (λ q. shows r' q f) y ∙ ap (λ q. shows r' h' q) z
+pub failed_once : {T : Type 0} (S : Stepping T) (operator now : ℕ) (a : View T) (link : LinkShows)
+    → FailsOnce a.link link → Looks S operator a (with_link a link) false
+failed_once S operator now a link failed = one S operator now Fails a (with_link a link) false
+    (link, failed, refl, refl)
 
 -- what a datagram tells is noted, and nothing else is changed
 pub taken_so : {T : Type 0} (is : Bool) (bytes : List ℕ) (now : ℕ) (station : T) (link : LinkShows) (p q : Pictured)

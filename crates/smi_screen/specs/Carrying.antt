@@ -8,7 +8,7 @@ use Rattle.smi_view.specs.Noted.{TakesIn}
 use Rattle.smi_view.specs.Pictured.{Pictured}
 use Rattle.smi_screen.specs.Looking.{Carries, Stepping, View}
 use Rattle.smi_screen.specs.Noting.{datagram_notes}
-use Rattle.smi_screen.specs.declared.carrying.Stopped.{Stopped}
+use Rattle.smi_screen.specs.declared.observer.Stopped.{Stopped}
 
 -- an event was carried, and the answer is that of its step, unless the station has stopped
 abbrev pub CarriesSo : {T : Type 0} → Stepping T → Event → ℕ → View T → View T → Result (Result Heard StepFault) Stopped

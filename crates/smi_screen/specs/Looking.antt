@@ -8,7 +8,7 @@ use Rattle.smi_protocol.specs.declared.event.StepFault.{StepFault}
 use Rattle.smi_protocol.specs.declared.order.Order.TheVariants as order
 use Rattle.smi_station.specs.Core.{is_stopped_by}
 use Rattle.smi_node.specs.Linked.{LinkShows, Sends}
-use Rattle.smi_node.specs.Served.{IsDelivery, ReceivesOne}
+use Rattle.smi_node.specs.Served.{FailsOnce, IsDelivery, ReceivesNone, ReceivesOne}
 use Rattle.smi_view.specs.Noted.{TakesIn}
 use Rattle.smi_view.specs.Pictured.{Pictured}
 use Rattle.smi_screen.specs.Noting.{datagram_notes, handed_notes, is_taken}
@@ -62,8 +62,8 @@ Delivers {T} S bytes now before after stopped =
     (e : Event) × IsDelivery bytes e × (made : Result Heard StepFault) × (between : View T)
     × Carries S e now made before between stopped × NotesTaken (is_taken made) bytes now between after
 
--- What an observer does: a datagram comes, or nothing does, or the link fails; it watches an object, asks about a
--- domain, or lets its station send again.
+-- What an observer does: it asks the link, and a datagram comes, or nothing does, or the link fails; it watches an
+-- object, asks about a domain, or lets its station send again.
 pub data Deed : Type 0 where
   Comes : List ℕ → Deed
   Waits : Deed
@@ -76,9 +76,10 @@ abbrev pub Does : {T : Type 0} → Stepping T → ℕ → Deed → ℕ → View 
 Does S operator (Comes bytes) now before after stopped =
     (link : LinkShows) × ReceivesOne bytes before.link link
     × Delivers S bytes now (with_link before link) after stopped
-Does S operator Waits now before after stopped = (stopped ≡ false) × (after ≡ before)
+Does S operator Waits now before after stopped =
+    (link : LinkShows) × ReceivesNone before.link link × (stopped ≡ false) × (after ≡ with_link before link)
 Does S operator Fails now before after stopped =
-    (stopped ≡ false) × (after ≡ with_link before (record before.link { failures = before.link.failures + 1 }))
+    (link : LinkShows) × FailsOnce before.link link × (stopped ≡ false) × (after ≡ with_link before link)
 Does S operator (Watches x) now before after stopped =
     Carried S (event.Order operator (order.Watch x)) now before after stopped
 Does S operator (Asks d) now before after stopped =

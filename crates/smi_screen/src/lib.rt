@@ -1,8 +1,8 @@
 //! A screen: an observer of a detector, and a window on what it has seen.
 //!
 //! [`run`] is the whole of it, on one thread. Its station is opened on its store as any other; then it looks, turn
-//! after turn ([`look`]), a new frame is made of the picture five times a second (`smi_web`), and the guests
-//! at the gate have their turn, none of whom is waited for (`gate`). So a guest can hold up nothing but itself,
+//! after turn ([`Observer::poll`]), a new frame is made of the picture five times a second (`smi_web`), and the
+//! guests at the gate have their turn, none of whom is waited for (`gate`). So a guest can hold up nothing but itself,
 //! and there is neither a lock nor a second thread. What a page elsewhere could ask is nothing: [`hosts_of`] says
 //! which names of hosts are answered.
 //!
@@ -17,11 +17,12 @@
 //! the service answers.
 //!
 //! Its station is an observer: its operator watches every object and asks about every domain, again and again, and
-//! orders nothing. [`look`] is a turn of it. What comes over the link is carried to the station (`carrying`); then
-//! the next objects are watched, the next domains asked about, and a tick is made, each where it is time ([`Pace`]).
-//! What a step hands out is sent, and what it shows and answers is noted in a picture. So a turn is a list of deeds,
-//! each a receive, a watch, a question or a tick, each from where the one before left all, and nothing else
-//! (`specs/Looking.antt`); nothing in the picture ever goes back, and no domain is ordered anything.
+//! orders nothing. [`Observer::poll`] is a turn of it. What comes over the link is carried to the station as a node
+//! carries it (`step_and_send` of `smi_node`); then the next objects are watched, the next domains asked about, and a
+//! tick is made, each where it is time ([`Pace`]). What a step hands out is sent, and what it shows and answers is
+//! noted in a picture. So a turn is a list of deeds, each a receive, a watch, a question or a tick, each from where the
+//! one before left all, and nothing else (`specs/Looking.antt`); nothing in the picture ever goes back, and no domain
+//! is ordered anything. Each receive is asked of the link, also where nothing comes.
 //!
 //! # How it is proved
 //!
@@ -35,24 +36,22 @@
 //!   `KeepsUp` of `smi_view`).
 #![tactic(auto)]
 
-mod carrying;
 mod console;
 mod gate;
 mod guest;
 mod hosts;
 mod house;
-mod looking;
 mod noting;
+mod observer;
 mod pace;
 mod running;
 mod server;
 mod stage;
 
-pub use carrying::{Stopped, carry};
 pub use console::{ConsoleAddress, NodeConsole};
 pub use gate::{Gate, MOST_GUESTS};
 pub use guest::Guest;
 pub use hosts::hosts_of;
-pub use looking::{Came, look};
+pub use observer::{Observer, ReceiveOutcome, Stopped};
 pub use pace::Pace;
 pub use running::{Ended, Giving, ScreenSetup, run};

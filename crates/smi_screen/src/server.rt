@@ -7,13 +7,12 @@ ghost use Rattle.smi_screen.specs.Looking.{Looks, view};
 ghost use Rattle.smi_screen.specs.Ending.{has_stopped};
 
 use crate::house::House;
-use crate::looking::{Came, look};
+use crate::observer::{Observer, ReceiveOutcome};
 use crate::pace::Pace;
 use crate::running::Ended;
 use smi_link::DatagramLink;
 use smi_rows::Stable;
 use smi_station::Station;
-use smi_station_output::Out;
 use smi_tree::Tree;
 use smi_view::Picture;
 use std::net::Net;
@@ -32,12 +31,10 @@ pub(crate) struct ScreenServer {
     /// The operator in whose name it looks.
     operator: u16,
     start: Instant,
-    /// How many milliseconds have passed since then.
-    now: u64,
     faults: u32,
     pace: Pace,
-    out: Out,
-    picture: Picture,
+    /// Its time is how many milliseconds have passed since the start.
+    observer: Observer,
     // Behind a box, so that whatever has a server is not dear to prove.
     house: Box<House>,
 }
@@ -54,35 +51,34 @@ impl ScreenServer {
         ScreenServer {
             operator,
             start,
-            now: 0,
             faults: 0,
             pace,
-            out: Out::new(),
-            picture,
+            observer: Observer::new(picture),
             house,
         }
     }
 
     /// Looks at the clock. Where it can't be read, no time has passed.
     fn tell_time<C: Clock>(&mut self, clock: &C)
-        ensures picture { self.new.picture ≡ self.old.picture }
+        ensures picture { self.new.observer.picture ≡ self.old.observer.picture }
         ensures operator { self.new.operator ≡ self.old.operator }
     {
         if let Ok(passed) = self.start.elapsed(clock) {
-            let passed = u64::try_from(passed.as_millis()).unwrap_or(self.now);
-            self.now = self.now.max(passed);
+            let now = self.observer.now;
+            let passed = u64::try_from(passed.as_millis()).unwrap_or(now);
+            self.observer.now = now.max(passed);
         }
     }
 
     /// Counts the turns in a row that ended in a fault of the link; an error where they are too many.
-    fn count(&mut self, came: Came) -> Result<(), Ended>
-        ensures picture { self.new.picture ≡ self.old.picture }
+    fn count(&mut self, came: ReceiveOutcome) -> Result<(), Ended>
+        ensures picture { self.new.observer.picture ≡ self.old.observer.picture }
         ensures operator { self.new.operator ≡ self.old.operator }
         ensures goes_on { has_stopped result ≡ false }
     {
         self.faults = match came {
-            Came::Fault => self.faults.saturating_add(1),
-            Came::Something | Came::Nothing => 0,
+            ReceiveOutcome::Fault => self.faults.saturating_add(1),
+            ReceiveOutcome::Something | ReceiveOutcome::Nothing => 0,
         };
         if self.faults >= MOST_FAULTS {
             return Err(Ended::Link);
@@ -95,24 +91,16 @@ impl ScreenServer {
         &mut self,
         station: &mut Station<'_, S>,
         link: &mut L,
-    ) -> Result<Came, Ended>
+    ) -> Result<ReceiveOutcome, Ended>
         ensures looks { Looks (StepsTo S.is_honest S.is_open S.rows S.may_find S.saves S.failures S.doubts)
             self.old.operator
-            (view station.old (shown_by L.received L.handed L.failures link.old) self.old.picture)
-            (view station.new (shown_by L.received L.handed L.failures link.new) self.new.picture)
+            (view station.old (shown_by L.received L.handed L.failures L.receives link.old) self.old.observer.picture)
+            (view station.new (shown_by L.received L.handed L.failures L.receives link.new) self.new.observer.picture)
             (has_stopped result) }
         ensures operator { self.new.operator ≡ self.old.operator }
     {
         let operator = self.operator;
-        match look(
-            station,
-            operator,
-            &mut self.pace,
-            &mut self.out,
-            link,
-            &mut self.picture,
-            self.now,
-        ) {
+        match self.observer.poll(station, operator, &mut self.pace, link) {
             Ok(came) => Ok(came),
             Err(_) => Err(Ended::Stopped),
         }
@@ -120,12 +108,18 @@ impl ScreenServer {
 
     /// What follows a look that went well: orders go on, a frame is made, the guests have their turn, and faults are
     /// counted.
-    fn go_on<R: Net + Clock>(&mut self, rt: &R, tree: &Tree, came: Came) -> Result<(), Ended>
-        ensures picture { self.new.picture ≡ self.old.picture }
+    fn go_on<R: Net + Clock>(
+        &mut self,
+        rt: &R,
+        tree: &Tree,
+        came: ReceiveOutcome,
+    ) -> Result<(), Ended>
+        ensures picture { self.new.observer.picture ≡ self.old.observer.picture }
         ensures operator { self.new.operator ≡ self.old.operator }
         ensures goes_on { has_stopped result ≡ false }
     {
-        self.house.turn(rt, tree, &self.picture, self.now);
+        self.house
+            .turn(rt, tree, &self.observer.picture, self.observer.now);
         self.count(came)
     }
 
@@ -134,9 +128,9 @@ impl ScreenServer {
         &mut self,
         rt: &R,
         tree: &Tree,
-        looked: Result<Came, Ended>,
+        looked: Result<ReceiveOutcome, Ended>,
     ) -> Result<(), Ended>
-        ensures picture { self.new.picture ≡ self.old.picture }
+        ensures picture { self.new.observer.picture ≡ self.old.observer.picture }
         ensures operator { self.new.operator ≡ self.old.operator }
         ensures stopped { has_stopped result ≡ has_stopped looked }
     {
@@ -157,8 +151,8 @@ impl ScreenServer {
     ) -> Result<(), Ended>
         ensures looks { Looks (StepsTo S.is_honest S.is_open S.rows S.may_find S.saves S.failures S.doubts)
             self.old.operator
-            (view station.old (shown_by L.received L.handed L.failures link.old) self.old.picture)
-            (view station.new (shown_by L.received L.handed L.failures link.new) self.new.picture)
+            (view station.old (shown_by L.received L.handed L.failures L.receives link.old) self.old.observer.picture)
+            (view station.new (shown_by L.received L.handed L.failures L.receives link.new) self.new.observer.picture)
             (has_stopped result) }
         ensures operator { self.new.operator ≡ self.old.operator }
     {
@@ -178,8 +172,8 @@ impl ScreenServer {
     ) -> Result<(), Ended>
         ensures looks { Looks (StepsTo S.is_honest S.is_open S.rows S.may_find S.saves S.failures S.doubts)
             self.old.operator
-            (view station.old (shown_by L.received L.handed L.failures link.old) self.old.picture)
-            (view station.new (shown_by L.received L.handed L.failures link.new) self.new.picture)
+            (view station.old (shown_by L.received L.handed L.failures L.receives link.old) self.old.observer.picture)
+            (view station.new (shown_by L.received L.handed L.failures L.receives link.new) self.new.observer.picture)
             (has_stopped result) }
         ensures operator { self.new.operator ≡ self.old.operator }
     {
@@ -202,8 +196,8 @@ impl ScreenServer {
         turns: Option<u32>,
     ) -> Result<(), Ended>
         ensures { Looks (StepsTo S.is_honest S.is_open S.rows S.may_find S.saves S.failures S.doubts) self.old.operator
-            (view station.old (shown_by L.received L.handed L.failures link.old) self.old.picture)
-            (view station.new (shown_by L.received L.handed L.failures link.new) self.new.picture)
+            (view station.old (shown_by L.received L.handed L.failures L.receives link.old) self.old.observer.picture)
+            (view station.new (shown_by L.received L.handed L.failures L.receives link.new) self.new.observer.picture)
             (has_stopped result) }
     {
         let Some(turns) = turns else {

@@ -5,7 +5,7 @@ use crate::running::{Giving, ScreenSetup};
 use bytes::Bytes;
 use smi_tree::Tree;
 use smi_view::Picture;
-use smi_web::{Snapshot, PageOrders, OrderRelay, WebService};
+use smi_web::{OrderRelay, PageOrders, Snapshot, WebService};
 use std::alloc::{AllocError, Global};
 use std::mem::replace;
 

@@ -8,10 +8,11 @@ use Rattle.smi_screen.proofs.server.ScreenServer.serve.Given as goal
 abbrev pub invariant-loop : goal.invariant-loop
 invariant-loop g l =
     let s = g.S.Stable in
-    let shows = shown_by g.L.DatagramLink.received g.L.DatagramLink.handed g.L.DatagramLink.failures in
+    let shows = shown_by g.L.DatagramLink.received g.L.DatagramLink.handed g.L.DatagramLink.failures
+    g.L.DatagramLink.receives in
     record {
       looks : Looks (StepsTo {S = g.row.S.Denot} s.is_honest s.is_open s.rows s.may_find s.saves s.failures s.doubts)
-          l.initial.self.operator (view l.initial.station (shows l.initial.link) l.initial.self.picture)
-          (view l.station (shows l.link) l.self.picture) false;
+          l.initial.self.operator (view l.initial.station (shows l.initial.link) l.initial.self.observer.picture)
+          (view l.station (shows l.link) l.self.observer.picture) false;
       operator : l.self.operator ≡ l.initial.self.operator;
     }

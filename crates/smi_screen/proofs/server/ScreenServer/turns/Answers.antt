@@ -11,11 +11,13 @@ pub loop-preserved : goal.loop-preserved
 loop-preserved g c =
     let s = g.S.Stable in
     let steps = StepsTo {S = g.row.S.Denot} s.is_honest s.is_open s.rows s.may_find s.saves s.failures s.doubts in
-    let shows = shown_by g.L.DatagramLink.received g.L.DatagramLink.handed g.L.DatagramLink.failures in
-    let first : View (Whole g.row.S.Denot) = view c.args.station.now (shows c.args.link.now) c.args.self.now.picture in
-    let before : View (Whole g.row.S.Denot) = view c.loop.station (shows c.loop.link) c.loop.self.picture in
+    let shows = shown_by g.L.DatagramLink.received g.L.DatagramLink.handed g.L.DatagramLink.failures
+    g.L.DatagramLink.receives in
+    let first : View (Whole g.row.S.Denot)
+    = view c.args.station.now (shows c.args.link.now) c.args.self.now.observer.picture in
+    let before : View (Whole g.row.S.Denot) = view c.loop.station (shows c.loop.link) c.loop.self.observer.picture in
     let after : View (Whole g.row.S.Denot)
-    = view c.turn.new.station (shows c.turn.new.link) c.turn.new.self.picture in
+    = view c.turn.new.station (shows c.turn.new.link) c.turn.new.self.observer.picture in
     record {
       looks = both steps c.args.self.now.operator first before after false c.loop.invariant.looks
           (subst (λ o. Looks steps o before after false) c.loop.invariant.operator c.in-Ok.ensures.looks);
@@ -26,11 +28,13 @@ pub returns-in-Err-clause-looks : goal.returns-in-Err-clause-looks
 returns-in-Err-clause-looks g c =
     let s = g.S.Stable in
     let steps = StepsTo {S = g.row.S.Denot} s.is_honest s.is_open s.rows s.may_find s.saves s.failures s.doubts in
-    let shows = shown_by g.L.DatagramLink.received g.L.DatagramLink.handed g.L.DatagramLink.failures in
-    let first : View (Whole g.row.S.Denot) = view c.args.station.now (shows c.args.link.now) c.args.self.now.picture in
-    let before : View (Whole g.row.S.Denot) = view c.loop.station (shows c.loop.link) c.loop.self.picture in
+    let shows = shown_by g.L.DatagramLink.received g.L.DatagramLink.handed g.L.DatagramLink.failures
+    g.L.DatagramLink.receives in
+    let first : View (Whole g.row.S.Denot)
+    = view c.args.station.now (shows c.args.link.now) c.args.self.now.observer.picture in
+    let before : View (Whole g.row.S.Denot) = view c.loop.station (shows c.loop.link) c.loop.self.observer.picture in
     let after : View (Whole g.row.S.Denot)
-    = view c.turn.new.station (shows c.turn.new.link) c.turn.new.self.picture in
+    = view c.turn.new.station (shows c.turn.new.link) c.turn.new.self.observer.picture in
     let stopped = is_stopped c.in-Err.ended in
     both steps c.args.self.now.operator first before after stopped c.loop.invariant.looks
     (subst (λ o. Looks steps o before after stopped) c.loop.invariant.operator c.in-Err.ensures.looks)

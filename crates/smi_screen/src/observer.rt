@@ -1,0 +1,389 @@
+//! An observer, and its turns.
+
+ghost use Rattle.std.specs.Prelude.{◌≡◌};
+ghost use Rattle.smi_screen.specs.Carrying.{NotesSo};
+ghost use Rattle.smi_screen.specs.Looking.{has_stopped};
+ghost use Rattle.smi_screen.specs.Noting.{is_taken};
+
+use crate::noting::{note_datagram, note_handed};
+use crate::pace::Pace;
+use smi_link::{DatagramLink, Reception};
+use smi_node::{is_stopped_by, step_and_send};
+use smi_protocol::{Event, Heard, Order, StepFault};
+use smi_rows::Stable;
+use smi_station::Station;
+use smi_station_output::Out;
+use smi_view::Picture;
+use thiserror::Error;
+
+/// How many datagrams are carried in a turn at most, how many objects watched, and how many domains asked about.
+const MOST_HEARD: u32 = 16;
+
+const MOST_WATCHED: u32 = 16;
+
+const MOST_ASKED: u32 = 8;
+
+/// The station has stopped: its last event was not carried, and none can be.
+#[derive(Clone, Copy, Debug, PartialEq, Eq, Error)]
+#[error("the station has stopped")]
+pub struct Stopped;
+
+/// What came of a turn's receives.
+#[derive(Clone, Copy, Debug, PartialEq, Eq)]
+pub enum ReceiveOutcome {
+    /// Something, and perhaps there is more.
+    Something,
+    /// At last nothing.
+    Nothing,
+    /// At last a fault of the link.
+    Fault,
+}
+
+/// What an observer works with, beside its station and its link.
+#[derive(Drop)]
+pub struct Observer {
+    /// What the last step handed out.
+    pub out: Out,
+    /// What was seen so far.
+    pub picture: Picture,
+    /// The time of a turn, in milliseconds, with which what is seen in it is noted.
+    pub now: u64,
+}
+
+/// Returns whether a station took an event and did not refuse it.
+fn is_taken(made: &Result<Heard, StepFault>) -> bool
+    ensures { result ≡ is_taken made.now }
+{
+    match made {
+        Ok(Heard::Same) => true,
+        Ok(Heard::Done) => true,
+        _ => false,
+    }
+}
+
+/// Notes the record in a datagram, if the station took it.
+fn note_taken(picture: &mut Picture, bytes: &[u8], is_taken: bool, now: u64)
+    ensures { NotesSo is_taken bytes.now now picture.old picture.new }
+{
+    if is_taken {
+        note_datagram(picture, bytes, now);
+    }
+}
+
+/// Turns what a delivery answered into what its receive came to.
+fn something(delivered: Result<(), Stopped>) -> Result<ReceiveOutcome, Stopped>
+    ensures { has_stopped result ≡ has_stopped delivered }
+{
+    match delivered {
+        Ok(()) => Ok(ReceiveOutcome::Something),
+        Err(stopped) => Err(stopped),
+    }
+}
+
+impl Observer {
+    ghost use Rattle.std.specs.Prelude.{◌≡◌};
+    ghost use Rattle.smi_node.specs.Carried.{StepsTo};
+    ghost use Rattle.smi_node.specs.Linked.{shown_by};
+    ghost use Rattle.smi_view.specs.Keeping.{KeepsUp};
+    ghost use Rattle.smi_screen.specs.Carrying.{CarriesSo};
+    ghost use Rattle.smi_screen.specs.Looking.{Carried, Delivers, Looks, has_stopped, view};
+
+    /// Makes an observer that has seen no more than this picture.
+    pub fn new(picture: Picture) -> Observer
+        ensures { result.picture ≡ picture }
+    {
+        Observer {
+            out: Out::new(),
+            picture,
+            now: 0,
+        }
+    }
+
+    /// Carries an event to a station and what follows it from there: the datagrams of its step are sent, each to its
+    /// receiver, where one that the link does not take is lost; and what the step showed and answered is noted in the
+    /// picture, at this time. Returns what the step answered. A step that was not made, for which there was no memory
+    /// or no store, is as if the event had been lost.
+    ///
+    /// `Stopped` comes exactly if the step answered that the station has stopped, and then nothing is sent or noted.
+    fn carry<S: Stable, L: DatagramLink>(
+        &mut self,
+        station: &mut Station<'_, S>,
+        event: Event<'_>,
+        link: &mut L,
+    ) -> Result<Result<Heard, StepFault>, Stopped>
+        ensures { CarriesSo (StepsTo S.is_honest S.is_open S.rows S.may_find S.saves S.failures S.doubts) event.entry
+            self.old.now
+            (view station.old (shown_by L.received L.handed L.failures L.receives link.old) self.old.picture)
+            (view station.new (shown_by L.received L.handed L.failures L.receives link.new) self.new.picture) result }
+    {
+        let made = step_and_send(station, event, &mut self.out, link, None);
+        if is_stopped_by(&made) {
+            return Err(Stopped);
+        }
+        note_handed(&mut self.picture, &self.out, self.now);
+        Ok(made)
+    }
+
+    /// Carries a datagram that has come, and notes its record if the station took it.
+    fn deliver<S: Stable, L: DatagramLink>(
+        &mut self,
+        station: &mut Station<'_, S>,
+        bytes: &[u8],
+        link: &mut L,
+    ) -> Result<(), Stopped>
+        ensures { Delivers (StepsTo S.is_honest S.is_open S.rows S.may_find S.saves S.failures S.doubts) bytes.now
+            self.old.now
+            (view station.old (shown_by L.received L.handed L.failures L.receives link.old) self.old.picture)
+            (view station.new (shown_by L.received L.handed L.failures L.receives link.new) self.new.picture)
+            (has_stopped result) }
+    {
+        let now = self.now;
+        match self.carry(station, Event::Datagram(bytes), link) {
+            Ok(made) => {
+                note_taken(&mut self.picture, bytes, is_taken(&made), now);
+                Ok(())
+            }
+            Err(stopped) => Err(stopped),
+        }
+    }
+
+    /// Carries what comes over the link: a datagram, or nothing.
+    fn hear<S: Stable, L: DatagramLink>(
+        &mut self,
+        station: &mut Station<'_, S>,
+        operator: u16,
+        link: &mut L,
+    ) -> Result<ReceiveOutcome, Stopped>
+        ensures { Looks (StepsTo S.is_honest S.is_open S.rows S.may_find S.saves S.failures S.doubts) operator
+            (view station.old (shown_by L.received L.handed L.failures L.receives link.old) self.old.picture)
+            (view station.new (shown_by L.received L.handed L.failures L.receives link.new) self.new.picture)
+            (has_stopped result) }
+    {
+        let mut buffer = [0u8; 45];
+        match link.receive(&mut buffer) {
+            Reception::Received(count) => {
+                let delivered = self.deliver(station, &buffer[..count], link);
+                something(delivered)
+            }
+            Reception::Nothing => Ok(ReceiveOutcome::Nothing),
+            Reception::Fault => Ok(ReceiveOutcome::Fault),
+        }
+    }
+
+    /// Carries what has come, up to so many datagrams.
+    fn hear_all<S: Stable, L: DatagramLink>(
+        &mut self,
+        station: &mut Station<'_, S>,
+        operator: u16,
+        link: &mut L,
+    ) -> Result<ReceiveOutcome, Stopped>
+        ensures { Looks (StepsTo S.is_honest S.is_open S.rows S.may_find S.saves S.failures S.doubts) operator
+            (view station.old (shown_by L.received L.handed L.failures L.receives link.old) self.old.picture)
+            (view station.new (shown_by L.received L.handed L.failures L.receives link.new) self.new.picture)
+            (has_stopped result) }
+    {
+        for _ in 0..MOST_HEARD {
+            match self.hear(station, operator, link) {
+                Ok(came) => {
+                    if came != ReceiveOutcome::Something {
+                        return Ok(came);
+                    }
+                }
+                Err(stopped) => return Err(stopped),
+            }
+        }
+        Ok(ReceiveOutcome::Something)
+    }
+
+    /// Carries an event, whatever its step answers.
+    fn carry_whatever<S: Stable, L: DatagramLink>(
+        &mut self,
+        station: &mut Station<'_, S>,
+        event: Event<'_>,
+        link: &mut L,
+    ) -> Result<(), Stopped>
+        ensures { Carried (StepsTo S.is_honest S.is_open S.rows S.may_find S.saves S.failures S.doubts) event.entry
+            self.old.now
+            (view station.old (shown_by L.received L.handed L.failures L.receives link.old) self.old.picture)
+            (view station.new (shown_by L.received L.handed L.failures L.receives link.new) self.new.picture)
+            (has_stopped result) }
+    {
+        match self.carry(station, event, link) {
+            Ok(_made) => Ok(()),
+            Err(stopped) => Err(stopped),
+        }
+    }
+
+    /// Watches an object, if one is to be watched.
+    fn watch<S: Stable, L: DatagramLink>(
+        &mut self,
+        station: &mut Station<'_, S>,
+        operator: u16,
+        object: Option<u16>,
+        link: &mut L,
+    ) -> Result<(), Stopped>
+        ensures { Looks (StepsTo S.is_honest S.is_open S.rows S.may_find S.saves S.failures S.doubts) operator
+            (view station.old (shown_by L.received L.handed L.failures L.receives link.old) self.old.picture)
+            (view station.new (shown_by L.received L.handed L.failures L.receives link.new) self.new.picture)
+            (has_stopped result) }
+    {
+        let Some(object) = object else {
+            return Ok(());
+        };
+        let event = Event::Order(operator, Order::Watch(object));
+        self.carry_whatever(station, event, link)
+    }
+
+    /// Asks about a domain, if one is to be asked about.
+    fn ask<S: Stable, L: DatagramLink>(
+        &mut self,
+        station: &mut Station<'_, S>,
+        operator: u16,
+        domain: Option<u16>,
+        link: &mut L,
+    ) -> Result<(), Stopped>
+        ensures { Looks (StepsTo S.is_honest S.is_open S.rows S.may_find S.saves S.failures S.doubts) operator
+            (view station.old (shown_by L.received L.handed L.failures L.receives link.old) self.old.picture)
+            (view station.new (shown_by L.received L.handed L.failures L.receives link.new) self.new.picture)
+            (has_stopped result) }
+    {
+        let Some(domain) = domain else {
+            return Ok(());
+        };
+        let event = Event::Order(operator, Order::Ask(domain));
+        self.carry_whatever(station, event, link)
+    }
+
+    /// Lets the station send again, if it is time.
+    fn tick<S: Stable, L: DatagramLink>(
+        &mut self,
+        station: &mut Station<'_, S>,
+        operator: u16,
+        is_time: bool,
+        link: &mut L,
+    ) -> Result<(), Stopped>
+        ensures { Looks (StepsTo S.is_honest S.is_open S.rows S.may_find S.saves S.failures S.doubts) operator
+            (view station.old (shown_by L.received L.handed L.failures L.receives link.old) self.old.picture)
+            (view station.new (shown_by L.received L.handed L.failures L.receives link.new) self.new.picture)
+            (has_stopped result) }
+    {
+        if is_time {
+            self.carry_whatever(station, Event::Tick, link)
+        } else {
+            Ok(())
+        }
+    }
+
+    /// Watches the next objects, so many at once.
+    fn watch_next<S: Stable, L: DatagramLink>(
+        &mut self,
+        station: &mut Station<'_, S>,
+        operator: u16,
+        pace: &mut Pace,
+        link: &mut L,
+    ) -> Result<(), Stopped>
+        ensures { Looks (StepsTo S.is_honest S.is_open S.rows S.may_find S.saves S.failures S.doubts) operator
+            (view station.old (shown_by L.received L.handed L.failures L.receives link.old) self.old.picture)
+            (view station.new (shown_by L.received L.handed L.failures L.receives link.new) self.new.picture)
+            (has_stopped result) }
+    {
+        for _ in 0..MOST_WATCHED {
+            match self.watch(station, operator, pace.next_watch(), link) {
+                Ok(()) => {}
+                Err(stopped) => return Err(stopped),
+            }
+        }
+        Ok(())
+    }
+
+    /// Asks about the next domains, as many as the time that has passed is worth.
+    fn ask_next<S: Stable, L: DatagramLink>(
+        &mut self,
+        station: &mut Station<'_, S>,
+        operator: u16,
+        pace: &mut Pace,
+        link: &mut L,
+    ) -> Result<(), Stopped>
+        ensures { Looks (StepsTo S.is_honest S.is_open S.rows S.may_find S.saves S.failures S.doubts) operator
+            (view station.old (shown_by L.received L.handed L.failures L.receives link.old) self.old.picture)
+            (view station.new (shown_by L.received L.handed L.failures L.receives link.new) self.new.picture)
+            (has_stopped result) }
+    {
+        for _ in 0..MOST_ASKED {
+            let domain = pace.next_question(self.now);
+            match self.ask(station, operator, domain, link) {
+                Ok(()) => {}
+                Err(stopped) => return Err(stopped),
+            }
+        }
+        Ok(())
+    }
+
+    /// Does what an observer does of itself in a turn: it watches, asks, and lets its station send again.
+    fn act<S: Stable, L: DatagramLink>(
+        &mut self,
+        station: &mut Station<'_, S>,
+        operator: u16,
+        pace: &mut Pace,
+        link: &mut L,
+    ) -> Result<(), Stopped>
+        ensures { Looks (StepsTo S.is_honest S.is_open S.rows S.may_find S.saves S.failures S.doubts) operator
+            (view station.old (shown_by L.received L.handed L.failures L.receives link.old) self.old.picture)
+            (view station.new (shown_by L.received L.handed L.failures L.receives link.new) self.new.picture)
+            (has_stopped result) }
+    {
+        match self.watch_next(station, operator, pace, link) {
+            Ok(()) => match self.ask_next(station, operator, pace, link) {
+                Ok(()) => {
+                    let is_time = pace.is_tick(self.now);
+                    self.tick(station, operator, is_time, link)
+                }
+                Err(stopped) => Err(stopped),
+            },
+            Err(stopped) => Err(stopped),
+        }
+    }
+
+    /// Carries what has come, and then does what the observer does of itself.
+    fn hear_and_act<S: Stable, L: DatagramLink>(
+        &mut self,
+        station: &mut Station<'_, S>,
+        operator: u16,
+        pace: &mut Pace,
+        link: &mut L,
+    ) -> Result<ReceiveOutcome, Stopped>
+        ensures { Looks (StepsTo S.is_honest S.is_open S.rows S.may_find S.saves S.failures S.doubts) operator
+            (view station.old (shown_by L.received L.handed L.failures L.receives link.old) self.old.picture)
+            (view station.new (shown_by L.received L.handed L.failures L.receives link.new) self.new.picture)
+            (has_stopped result) }
+    {
+        match self.hear_all(station, operator, link) {
+            Ok(came) => match self.act(station, operator, pace, link) {
+                Ok(()) => Ok(came),
+                Err(stopped) => Err(stopped),
+            },
+            Err(stopped) => Err(stopped),
+        }
+    }
+
+    /// Makes a turn of an observer, in the name of an operator of its station: what has come over the link is carried,
+    /// up to sixteen datagrams; then the next objects are watched and the next domains asked about, and a tick is made,
+    /// each if it is time. Returns what came at last.
+    ///
+    /// It waits for the link alone, and ends early only if the station has stopped. Nothing in the picture goes back.
+    pub fn poll<S: Stable, L: DatagramLink>(
+        &mut self,
+        station: &mut Station<'_, S>,
+        operator: u16,
+        pace: &mut Pace,
+        link: &mut L,
+    ) -> Result<ReceiveOutcome, Stopped>
+        ensures looks { Looks (StepsTo S.is_honest S.is_open S.rows S.may_find S.saves S.failures S.doubts) operator
+            (view station.old (shown_by L.received L.handed L.failures L.receives link.old) self.old.picture)
+            (view station.new (shown_by L.received L.handed L.failures L.receives link.new) self.new.picture)
+            (has_stopped result) }
+        ensures keeps { KeepsUp self.old.picture self.new.picture }
+    {
+        self.hear_and_act(station, operator, pace, link)
+    }
+}
