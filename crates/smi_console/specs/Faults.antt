@@ -2,8 +2,8 @@
 use Rattle.std.specs.Prelude.{Result, Ok, Err}
 use Rattle.smi_commands.specs.declared.status.Status.{Status}
 use Rattle.smi_commands.specs.declared.status.Status.TheVariants as status
-use Rattle.smi_node.specs.declared.serving.ServeFault.{ServeFault}
-use Rattle.smi_node.specs.declared.serving.ServeFault.TheVariants as serve
+use Rattle.smi_node.specs.declared.turns.ServeFault.{ServeFault}
+use Rattle.smi_node.specs.declared.turns.ServeFault.TheVariants as serve
 use Rattle.smi_protocol.specs.declared.fault.OpenFault.{OpenFault}
 use Rattle.smi_protocol.specs.declared.fault.OpenFault.TheVariants as fault
 use Rattle.smi_console.specs.declared.ending.Halt.{Halt}

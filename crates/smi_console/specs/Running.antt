@@ -1,5 +1,5 @@
 -- What a node does to its store, and how it ends.
-use Rattle.std.specs.Prelude.{ℕ, ◌≡◌, ◌<◌, ◌≤◌, ◌+◌, ◌⊎◌, false, Result, Ok, Err, IfOk, IfErr, OnOk}
+use Rattle.std.specs.Prelude.{ℕ, ◌≡◌, ◌<◌, ◌≤◌, ◌+◌, ◌⊎◌, false, List, Result, Ok, Err, IfOk, IfErr, OnOk}
 use Rattle.smi_tree.specs.Hierarchy.{Hierarchy}
 use Rattle.smi_commands.specs.declared.status.Status.{Status}
 use Rattle.smi_rows.specs.Store.{IsSame, Rows}
@@ -10,8 +10,8 @@ use Rattle.smi_station_grants.specs.Migrating.{Counts, IfRefused, IsPartly, Migr
 use Rattle.smi_station_grants.specs.Starting.{IfCertain, IfInDoubt, IfStoreFailed, IfStoreUnfailed, IfUnchanged}
 use Rattle.smi_station_grants.specs.Starting.{IsToldAsMemory, after_start}
 use Rattle.smi_station.specs.Core.{IsOf, IsStoredIn, begun}
-use Rattle.smi_station.specs.Readers.{Whole, core_in, store_in}
-use Rattle.smi_node.specs.declared.serving.ServeFault.{ServeFault}
+use Rattle.smi_station.specs.Readers.{Whole, core_in, operators_in, store_in}
+use Rattle.smi_node.specs.declared.turns.ServeFault.{ServeFault}
 use Rattle.smi_console.specs.declared.ending.Halt.{Halt}
 use Rattle.smi_console.specs.declared.service.Turns.{Turns}
 use Rattle.smi_console.specs.Faults.{status_in, status_of}
@@ -67,10 +67,11 @@ pub record OpensOn {S : Type 0} (is_honest is_open : S → Type 0) (rows : S →
   pub fault : IfErr (core_in r) IsToldAsMemory
 
 -- with its status a node gives back the store of its station, which was served or not; or that on which none opened
-abbrev pub EndsWith : {S : Type 0} → Serving (Whole S) → Turns → Result (Whole S) (OpenFault × S) → Status × S
-    → Type 0
+abbrev pub EndsWith : {S : Type 0} → (List ℕ → Serving (Whole S)) → Turns → Result (Whole S) (OpenFault × S)
+    → Status × S → Type 0
 EndsWith {S} V turns (Ok station) r =
-    (last : Whole S) × (how : Result (Result (Unit {0}) ServeFault) Halt) × IsCrewed V turns station last how
+    (last : Whole S) × (how : Result (Result (Unit {0}) ServeFault) Halt)
+    × IsCrewed (V (operators_in station.core)) turns station last how
     × (r.0 ≡ status_in how) × (r.1 ≡ last.store)
 EndsWith V turns (Err e) r = (r.0 ≡ status_of e.0) × (r.1 ≡ e.1)
 

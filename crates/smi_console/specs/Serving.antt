@@ -1,10 +1,11 @@
 -- How long a node serves, and what that comes to.
-use Rattle.std.specs.Prelude.{ℕ, zero, suc, ◌≡◌, Result, Ok, Err}
+use Rattle.std.specs.Prelude.{ℕ, zero, suc, ◌≡◌, List, Option, Result, Ok, Err}
 use Rattle.smi_rows.specs.Store.{Rows}
-use Rattle.smi_station.specs.Readers.{Whole, operators_in}
+use Rattle.smi_station.specs.Readers.{Whole}
 use Rattle.smi_node.specs.Carried.{Edges, Node, StepsTo, node}
+use Rattle.smi_node.specs.Observed.{Stepped}
 use Rattle.smi_node.specs.Served.{Serves, carrying}
-use Rattle.smi_node.specs.declared.serving.ServeFault.{ServeFault}
+use Rattle.smi_node.specs.declared.turns.ServeFault.{ServeFault}
 use Rattle.smi_console.specs.declared.ending.Halt.{Halt}
 use Rattle.smi_console.specs.declared.service.TheConstants.{TURNS_AT_ONCE}
 use Rattle.smi_console.specs.declared.service.Turns.{Turns}
@@ -14,12 +15,12 @@ use Rattle.smi_console.specs.declared.service.Turns.TheVariants.{Count, Endless}
 abbrev pub Serving : Type 0 → Type 1
 Serving T = ℕ → Node T → Node T → Result (Unit {0}) ServeFault → Type 0
 
--- as a station on a store is served
+-- as a station on a store is served for these operators
 abbrev pub serving : {S : Type 0} (is_honest is_open : S → Type 0) (rows : S → Rows) (may_find : S → Rows → Type 0)
-    (saves failures doubts : S → ℕ) → Serving (Whole S)
-serving is_honest is_open rows may_find saves failures doubts turns before after r =
-    Serves (carrying (StepsTo is_honest is_open rows may_find saves failures doubts) (operators_in before.station.core))
-    (operators_in before.station.core) turns before after r
+    (saves failures doubts : S → ℕ) (operators : List ℕ) → Serving (Whole S)
+serving is_honest is_open rows may_find saves failures doubts operators turns before after r =
+    Serves (carrying (StepsTo is_honest is_open rows may_find saves failures doubts) operators) operators turns before
+    after r
 
 -- as many turns as are made at once, so often, and each time all of them
 abbrev pub ServesOn : {T : Type 0} → Serving T → ℕ → Node T → Node T → Type 0
@@ -34,10 +35,11 @@ ServesFor V Endless before after (Ok u) = ⊥
 ServesFor {T} V Endless before after (Err f) =
     (times : ℕ) × (between : Node T) × ServesOn V times before between × V TURNS_AT_ONCE between after (Err f)
 
--- a station is served so, with some link, some seats and some board
+-- a station is served so, with some link, some seats and some board, before some observer
 abbrev pub IsServed : {T : Type 0} → Serving T → Turns → T → T → Result (Unit {0}) ServeFault → Type 0
 IsServed V turns before after r =
-    (first : Edges) × (last : Edges) × ServesFor V turns (node before first) (node after last) r
+    (first : Edges) × (last : Edges) × (told : Option (List Stepped)) × (tells : Option (List Stepped))
+    × ServesFor V turns (node before first told) (node after last tells) r
 
 -- a station is served, or left as it is
 abbrev pub IsCrewed : {T : Type 0} → Serving T → Turns → T → T → Result (Result (Unit {0}) ServeFault) Halt → Type 0

@@ -9,7 +9,7 @@ use crossbeam_channel::Receiver;
 use smi_base::write_whole;
 use smi_commands::status::{no_memory, read_fault, write_fault};
 use smi_schedule::Unwritten;
-use smi_session::{BoardReader, MOST_PENDING, SessionService, StationEvent};
+use smi_session::{MOST_PENDING, SessionService, StateReader, StationEvent};
 use smi_tree::Tree;
 use std::io::Write;
 use std::sync::Wait;
@@ -24,7 +24,7 @@ const NEWS: usize = 512;
 
 /// What the thread has beside its outputs.
 #[derive(Drop)]
-pub(crate) struct Attendant<G: BoardReader + Drop> {
+pub(crate) struct Attendant<G: StateReader + Drop> {
     pub(crate) front: Box<SessionService<G>>,
     pub(crate) hall: Box<Hall>,
     pub(crate) bell: Bell,
@@ -39,7 +39,7 @@ pub(crate) struct Attendant<G: BoardReader + Drop> {
     pub(crate) drops: SocketDrops,
 }
 
-impl<G: BoardReader + Drop> Attendant<G> {
+impl<G: StateReader + Drop> Attendant<G> {
     /// What the station has told is noted. Whether there may be more.
     fn note_news<R: Wait>(&mut self, rt: &R) -> bool {
         for _ in 0..NEWS {
@@ -119,7 +119,7 @@ fn tell_ending<F: Write>(ending: Result<InputEnd, Unwritten>, faults: &mut F) {
 }
 
 /// Hands on what the caller at the standard input is to be told, and tells its faults.
-fn print<G: BoardReader + Drop, R: Wait, F: Write>(
+fn print<G: StateReader + Drop, R: Wait, F: Write>(
     rt: &R,
     attendant: &mut Attendant<G>,
     faults: &mut F,
@@ -133,7 +133,7 @@ fn print<G: BoardReader + Drop, R: Wait, F: Write>(
 }
 
 /// The standard input is heard, line by line, and told. Whether it has more.
-fn serve_plain<G: BoardReader + Drop, R: Wait, F: Write>(
+fn serve_plain<G: StateReader + Drop, R: Wait, F: Write>(
     rt: &R,
     tree: &Tree,
     now: Option<Instant>,
@@ -165,7 +165,7 @@ fn serve_plain<G: BoardReader + Drop, R: Wait, F: Write>(
 }
 
 /// The standard input is heard and told, and where it ends, that is told too. Whether it has more.
-fn attend_plain<G: BoardReader + Drop, R: Wait, F: Write>(
+fn attend_plain<G: StateReader + Drop, R: Wait, F: Write>(
     rt: &R,
     tree: &Tree,
     now: Option<Instant>,
@@ -188,7 +188,7 @@ fn attend_plain<G: BoardReader + Drop, R: Wait, F: Write>(
 }
 
 /// Everybody is heard and told once, as far as nothing waits. Whether the standard input, or the station, has more.
-fn round<G: BoardReader + Drop, R: Wait + Clock, F: Write>(
+fn round<G: StateReader + Drop, R: Wait + Clock, F: Write>(
     rt: &R,
     tree: &Tree,
     attendant: &mut Attendant<G>,
@@ -209,7 +209,7 @@ fn round<G: BoardReader + Drop, R: Wait + Clock, F: Write>(
 }
 
 /// Hears and tells, round after round, until the standard input has ended where nobody else can talk to the node.
-pub(crate) fn attend<G: BoardReader + Drop, R: Wait + Clock, F: Write>(
+pub(crate) fn attend<G: StateReader + Drop, R: Wait + Clock, F: Write>(
     rt: &R,
     tree: &Tree,
     attendant: &mut Attendant<G>,

@@ -4,22 +4,22 @@ ghost use Rattle.std.specs.Prelude.{◌≡◌, ◌++◌, ◌∷◌, [], IfOk, le
 ghost use Rattle.smi_operator.specs.Sides.{IsDeskOf};
 
 use crate::bell::Bell;
-use crate::chime::Chime;
-use crate::dispatch::Dispatch;
+use crate::console_waker::ConsoleWaker;
 use crate::ending::Halt;
+use crate::event_forwarder::{EventForwarder, Keeps};
+use crate::event_queue::EventQueue;
 use crate::hall::Hall;
-use crate::herald::{Herald, Keeps};
 use crate::peers::{Linking, UdpLinking};
 use crate::running::NodeSetup;
 use crate::service::Service;
-use crate::side::{Chimed, StationSide};
+use crate::side::StationSide;
 use crate::starting::{Console, Lobby, begin_console};
 use crossbeam_channel::Sender;
 use smi_base::MOST_OPERATORS_OF_A_STATION;
 use smi_link::{DatagramLink, UdpLink};
-use smi_node::{Counter, Counts};
+use smi_node::NodeStats;
 use smi_operator::{Desk, Seat, open_seats};
-use smi_session::{BoardReader, SeatTable, SessionService, StationEvent, boxed};
+use smi_session::{SeatTable, SessionService, StateReader, StationEvent, boxed};
 use smi_view::Picture;
 use std::alloc::{AllocError, Global};
 use std::fs::Files;
@@ -57,32 +57,30 @@ fn seated(alloc: Global, operators: &[u16]) -> Result<Seats, AllocError>
     })
 }
 
-/// The front desk of a node, over the seats of its operators and behind them nobody's.
-fn front_of<G: BoardReader + Drop>(
+/// Makes the front desk of a node, over the seats in its office.
+fn front_of<G: StateReader + Drop>(
     alloc: Global,
     setup: &NodeSetup,
-    operators: &[u16],
-    own: Vec<Seat>,
-    reports: Seat,
+    office: SeatTable,
     glance: G,
-    counts: &Arc<Counts, Global>,
+    stats: &Arc<NodeStats, Global>,
 ) -> Result<Box<SessionService<G>>, AllocError> {
-    let office = SeatTable::open(alloc, operators, own, reports)?;
     let picture = Picture::new(alloc, setup.tree.object_count(), 0)?;
-    let counts = Arc::try_clone(counts)?;
-    SessionService::open(alloc, office, glance, counts, picture)
+    let stats = Arc::try_clone(stats)?;
+    SessionService::open(alloc, office, glance, stats, picture)
 }
 
 /// The seats of a station's operators and one for reports, at the front, and their desk.
-fn seated_front<G: BoardReader + Drop>(
+fn seated_front<G: StateReader + Drop>(
     alloc: Global,
     setup: &NodeSetup,
     operators: &[u16],
     glance: G,
-    counts: &Arc<Counts, Global>,
+    stats: &Arc<NodeStats, Global>,
 ) -> Result<(Box<SessionService<G>>, Box<Desk>), AllocError> {
     let Seats { own, reports, desk } = seated(alloc, operators)?;
-    match front_of(alloc, setup, operators, own, reports, glance, counts) {
+    let office = SeatTable::open(alloc, operators, own, reports)?;
+    match front_of(alloc, setup, office, glance, stats) {
         Ok(front) => Ok((front, desk)),
         Err(refused) => Err(refused),
     }
@@ -91,35 +89,35 @@ fn seated_front<G: BoardReader + Drop>(
 /// What a node has before its consoles begin: the station's side, the front desk over its seats, and a bell to the
 /// station.
 #[derive(Drop)]
-struct Ends<L: Drop, G: BoardReader + Drop> {
+struct Ends<L: Drop, G: StateReader + Drop> {
     side: StationSide<L>,
     front: Box<SessionService<G>>,
     bell: Bell,
 }
 
 /// The seats of a station's operators and one for reports, at the front, their desk, and last the station's link.
-fn posted<K: Linking, G: BoardReader + Drop>(
+fn posted<K: Linking, G: StateReader + Drop>(
     alloc: Global,
     setup: &NodeSetup,
     operators: &[u16],
     glance: G,
     linking: &K,
 ) -> Result<Ends<K::Link, G>, Halt> {
-    let counts = counted(alloc)?;
-    let (front, desk) = seated_front(alloc, setup, operators, glance, &counts)?;
+    let stats = new_stats(alloc)?;
+    let (front, desk) = seated_front(alloc, setup, operators, glance, &stats)?;
     let (link, bell) = linking.linked(&setup.tree, setup.station)?;
-    let side = StationSide::new(alloc, link, desk, counts)?;
+    let side = StationSide::new(alloc, link, desk, stats)?;
     Ok(Ends { side, front, bell })
 }
 
-/// The hall of a node, with its doors, and a chime to it.
+/// The hall of a node, with its doors, and a waker to it.
 fn hall_of<H: Files + Net + AllocGlobal>(
     rt: &H,
     setup: &NodeSetup,
-) -> Result<(Box<Hall>, Arc<Chime, Global>), Halt> {
+) -> Result<(Box<Hall>, Arc<ConsoleWaker, Global>), Halt> {
     match Hall::open(rt, rt.alloc(), setup.consoles.as_slice()) {
-        Ok((hall, waker)) => match Arc::new(rt.alloc(), Chime::new(waker)) {
-            Ok(chime) => Ok((hall, chime)),
+        Ok((hall, waker)) => match Arc::new(rt.alloc(), ConsoleWaker::new(waker)) {
+            Ok(waker) => Ok((hall, waker)),
             Err(_) => Err(Halt::Memory),
         },
         Err(e) if e.kind() == ErrorKind::OutOfMemory => Err(Halt::Memory),
@@ -127,16 +125,16 @@ fn hall_of<H: Files + Net + AllocGlobal>(
     }
 }
 
-/// What a node has before its threads begin: the station's side, what stands at the front, and a chime to it.
+/// What a node has before its threads begin: the station's side, what stands at the front, and a waker to it.
 #[derive(Drop)]
-struct BothSides<L: Drop, G: BoardReader + Drop> {
+struct BothSides<L: Drop, G: StateReader + Drop> {
     side: StationSide<L>,
     lobby: Lobby<G>,
-    chime: Arc<Chime, Global>,
+    waker: Arc<ConsoleWaker, Global>,
 }
 
 /// The seats of a station and its link, and then the hall of its node.
-fn both_sides<K: Linking, G: BoardReader + Drop, H: Files + Net + AllocGlobal>(
+fn both_sides<K: Linking, G: StateReader + Drop, H: Files + Net + AllocGlobal>(
     rt: &H,
     setup: &NodeSetup,
     operators: &[u16],
@@ -144,65 +142,51 @@ fn both_sides<K: Linking, G: BoardReader + Drop, H: Files + Net + AllocGlobal>(
     linking: &K,
 ) -> Result<BothSides<K::Link, G>, Halt> {
     let ends = posted(rt.alloc(), setup, operators, glance, linking)?;
-    let (hall, chime) = hall_of(rt, setup)?;
+    let (hall, waker) = hall_of(rt, setup)?;
     let Ends { side, front, bell } = ends;
     Ok(BothSides {
         side,
         lobby: Lobby { front, hall, bell },
-        chime,
+        waker,
     })
 }
 
-/// Counts that both sides share.
-fn counted(alloc: Global) -> Result<Arc<Counts, Global>, Halt> {
-    match Arc::new(alloc, Counts::new()) {
-        Ok(counts) => Ok(counts),
+/// Makes the statistics that both sides share.
+fn new_stats(alloc: Global) -> Result<Arc<NodeStats, Global>, Halt> {
+    match Arc::new(alloc, NodeStats::new()) {
+        Ok(stats) => Ok(stats),
         Err(_refused) => Err(Halt::Memory),
     }
 }
 
-/// What hands on news to the thread at the front, by this way, and wakes it.
-fn dispatch_of<H: Wait + AllocGlobal + Clone + Drop>(
+/// Makes the queue that hands on news to the thread at the front, by this way, and wakes it.
+fn queue_of<H: Wait + AllocGlobal + Clone + Drop>(
     rt: &H,
-    chime: &Arc<Chime, Global>,
+    waker: &Arc<ConsoleWaker, Global>,
     news: Sender<StationEvent>,
-) -> Result<Dispatch<H>, AllocError> {
-    let chime = Arc::try_clone(chime)?;
+) -> Result<EventQueue<H>, AllocError> {
+    let waker = Arc::try_clone(waker)?;
     let there = rt.clone()?;
-    Dispatch::new(rt.alloc(), there, chime, news)
+    EventQueue::new(rt.alloc(), there, waker, news)
 }
 
-/// Who tells the thread at the front of what a station does, and counts.
-fn herald_of<T: Keeps, H: Wait + Drop>(
-    alloc: Global,
-    setup: &NodeSetup,
-    station: &T,
-    counts: &Arc<Counts, Global>,
-    dispatch: Dispatch<H>,
-) -> Result<Herald<H>, AllocError> {
-    let tree = Arc::try_clone(&setup.tree)?;
-    let counts = Arc::try_clone(counts)?;
-    Herald::new(alloc, tree, station, Counter::new(counts), dispatch)
-}
-
-/// The station's side is what it is served with, over any link.
-fn service_of<L: DatagramLink + Drop, T: Keeps, H: Wait + AllocGlobal + Clone + Drop>(
+/// Makes what forwards the events of a station to the thread at the front.
+fn forwarder_of<T: Keeps, H: Wait + AllocGlobal + Clone + Drop>(
     rt: &H,
     setup: &NodeSetup,
     station: &T,
-    side: StationSide<L>,
-    chime: Arc<Chime, Global>,
+    waker: &Arc<ConsoleWaker, Global>,
     news: Sender<StationEvent>,
-) -> Result<Service<Chimed<L>, Herald<H>>, AllocError> {
-    let dispatch = dispatch_of(rt, &chime, news)?;
-    let herald = herald_of(rt.alloc(), setup, station, side.counts(), dispatch)?;
-    side.into_service(rt.alloc(), chime, herald)
+) -> Result<EventForwarder<H>, AllocError> {
+    let queue = queue_of(rt, waker, news)?;
+    let tree = Arc::try_clone(&setup.tree)?;
+    EventForwarder::new(rt.alloc(), tree, station, queue)
 }
 
 /// The station's seats and its link are made, and the threads of its consoles begin, in this order.
 fn manned<
     K: Linking,
-    G: BoardReader + Drop + Send + 'static,
+    G: StateReader + Drop + Send + 'static,
     T: Keeps,
     H: Files + Net + Wait + Threads + Clock + AllocGlobal + Clone + Drop + Send + 'static,
     I: Read + Drop + Send + 'static,
@@ -215,11 +199,12 @@ fn manned<
     glance: G,
     linking: &K,
     console: Console<I, O, E>,
-) -> Result<Service<Chimed<K::Link>, Herald<H>>, Halt> {
-    let sides = both_sides(rt, setup, station.sitting(), glance, linking)?;
-    let BothSides { side, lobby, chime } = sides;
-    let news = begin_console(rt, setup, lobby, &chime, console)?;
-    Ok(service_of(rt, setup, station, side, chime, news)?)
+) -> Result<Service<K::Link, EventForwarder<H>>, Halt> {
+    let sides = both_sides(rt, setup, station.operators(), glance, linking)?;
+    let BothSides { side, lobby, waker } = sides;
+    let news = begin_console(rt, setup, lobby, &waker, console)?;
+    let forwarder = forwarder_of(rt, setup, station, &waker, news)?;
+    Ok(side.into_service(rt.alloc(), forwarder)?)
 }
 
 /// The only one of these glances.
@@ -229,13 +214,13 @@ fn only<G: Drop>(glances: Vec<G>) -> Result<G, Halt> {
 }
 
 /// What a station is served with by a node.
-pub(crate) type Fitted<'a, H> = Service<Chimed<UdpLink<&'a H>>, Herald<H>>;
+pub(crate) type Fitted<'a, H> = Service<UdpLink<&'a H>, EventForwarder<H>>;
 
 /// What an open station is served with by a node whose front has the only one of these glances: its seats, its link,
 /// and the threads of its consoles, in this order.
 pub(crate) fn fitted<
     'a,
-    G: BoardReader + Drop + Send + 'static,
+    G: StateReader + Drop + Send + 'static,
     T: Keeps,
     H: Files + Net + Wait + Threads + Clock + AllocGlobal + Clone + Drop + Send + 'static,
     I: Read + Drop + Send + 'static,

@@ -3,7 +3,7 @@
 use crate::doors::Stream;
 use mio::event::Event;
 use smi_session::{
-    BoardReader, LineSplitter, MOST_UNSENT, ReplyStyle, SeatAnswer, Session, SessionService,
+    LineSplitter, MOST_UNSENT, ReplyStyle, SeatAnswer, Session, SessionService, StateReader,
 };
 use smi_tree::Tree;
 use std::alloc::{AllocError, Global};
@@ -132,7 +132,7 @@ impl ConsoleGuest {
     }
 
     /// Its lines are heard.
-    fn talk<G: BoardReader + Drop>(
+    fn talk<G: StateReader + Drop>(
         &mut self,
         front: &mut SessionService<G>,
         tree: &Tree,
@@ -187,7 +187,7 @@ impl ConsoleGuest {
     }
 
     /// An answer is told to it, where it is of its order. Whether it is; one that can't be told it leaves.
-    pub(crate) fn is_answered<G: BoardReader + Drop>(
+    pub(crate) fn is_answered<G: StateReader + Drop>(
         &mut self,
         front: &mut SessionService<G>,
         tree: &Tree,
@@ -220,7 +220,7 @@ impl ConsoleGuest {
     }
 
     /// Whether all that it typed is answered, or nobody is there to be answered.
-    fn is_done<G: BoardReader + Drop>(&self, front: &SessionService<G>) -> bool {
+    fn is_done<G: StateReader + Drop>(&self, front: &SessionService<G>) -> bool {
         self.is_over
             && self.splitter.is_empty()
             && self.caller.is_idle()
@@ -230,7 +230,7 @@ impl ConsoleGuest {
     }
 
     /// Its lines are heard, and what it is to be told is written, as far as nothing waits.
-    pub(crate) fn turn<G: BoardReader + Drop>(
+    pub(crate) fn turn<G: StateReader + Drop>(
         &mut self,
         front: &mut SessionService<G>,
         tree: &Tree,

@@ -5,7 +5,7 @@ use crate::guest::ConsoleGuest;
 use crate::reading::InputEnd;
 use mio::event::Event;
 use mio::{Events, Poll, Registry, Token, Waker};
-use smi_session::{BoardReader, ReplyStyle, SeatAnswer, Session, SessionService, boxed};
+use smi_session::{ReplyStyle, SeatAnswer, Session, SessionService, StateReader, boxed};
 use smi_tree::Tree;
 use std::alloc::{AllocError, Global};
 use std::fs::Files;
@@ -102,7 +102,7 @@ fn hear_of(entrances: &mut [Entrance], guests: &mut [ConsoleGuest], event: &Even
 }
 
 /// An answer is told to the guest who gave its order, where that is one of these.
-fn tell_guests<G: BoardReader + Drop>(
+fn tell_guests<G: StateReader + Drop>(
     guests: &mut [ConsoleGuest],
     front: &mut SessionService<G>,
     tree: &Tree,
@@ -158,7 +158,7 @@ impl Hall {
     }
 
     /// An answer is told to its caller, where that has not left.
-    pub(crate) fn tell_answer<G: BoardReader + Drop>(
+    pub(crate) fn tell_answer<G: StateReader + Drop>(
         &mut self,
         front: &mut SessionService<G>,
         tree: &Tree,
@@ -234,7 +234,7 @@ impl Hall {
     }
 
     /// Each connection is heard and told, as far as nothing waits; those that are done leave.
-    pub(crate) fn serve_guests<G: BoardReader + Drop>(
+    pub(crate) fn serve_guests<G: StateReader + Drop>(
         &mut self,
         front: &mut SessionService<G>,
         tree: &Tree,
@@ -247,7 +247,7 @@ impl Hall {
     }
 
     /// How long to wait at most for something to come.
-    fn patience<G: BoardReader + Drop>(
+    fn patience<G: StateReader + Drop>(
         &self,
         front: &SessionService<G>,
         has_more: bool,
@@ -267,7 +267,7 @@ impl Hall {
     }
 
     /// Waits until something comes, or until it is time to look again. Whether it could wait.
-    pub(crate) fn wait<G: BoardReader + Drop>(
+    pub(crate) fn wait<G: StateReader + Drop>(
         &mut self,
         front: &SessionService<G>,
         has_more: bool,

@@ -3,18 +3,18 @@
 //! [`run`] begins it. It brings the store's rows into their newest schema, opens the station, makes a seat for each
 //! of its operators and one for reports, a board with one glance, and its socket, in this order (`fitting`), so that
 //! the first fault is told (`faults`, `ending`). Its link reaches the stations at their addresses (`peers`); until the
-//! threads have begun it stands on the station's side, with the desk (`side`). Then the node serves the station in its
-//! own thread (`service`), with `serve_before` of `smi_node`, which is told each step that it makes, and counts
-//! (`smi_node`). What that does to the store is the contract of [`run`].
+//! threads have begun it is on the station's side, with the desk (`side`). Then the node serves the station in its
+//! own thread (`service`), as a `Node` of `smi_node`, which counts what it does, before an observer. What that does to
+//! the store is the contract of [`run`].
 //!
 //! Three threads, which nobody joins, have the consoles (`starting`). One reads the lines of the standard input and
 //! hands them on (`reading`); one writes what the standard input is told (`outlet`). The third stands at the front
 //! (`attending`): it has the front desk of `smi_session`, hears the standard input and the connections (`hall`,
 //! `guest`) that come in at the doors (`doors`), and tells each what it asked for. It waits for all of them at
-//! once, for none of them alone, and is woken by the thread that serves (`chime`) once a turn has brought an
-//! answer, a state or an action (`herald`, `dispatch`). Orders that were given are followed by a datagram to the
-//! node's own socket, an empty one that every station refuses, so that a station at rest looks at its seats at once
-//! (`bell`).
+//! once, for none of them alone, and is woken by the thread that serves (`console_waker`) once a turn has brought an
+//! answer, a state or an action: the node's observer forwards them (`event_forwarder`, `event_queue`). Orders that
+//! were given are followed by a datagram to the node's own socket, an empty one that every station refuses, so that a
+//! station at rest looks at its seats at once (`bell`).
 //!
 //! The lines, the statuses and what is printed stand in docs/FORMATS.md, "A node's lines".
 //!
@@ -25,25 +25,26 @@
 //!
 //! - `ServesFor` (`specs/Serving`) says of an endless node that it was served a million turns, so often, and then
 //!   ended with a fault. The loop's invariant counts the rounds.
-//! - `IsServed` hides the link, the desk and the board behind "some", so that no caller has to name the node's own.
+//! - `IsServed` hides the link, the desk, the board and the observer behind "some", so that no caller has to name the
+//!   node's own.
 //! - Where the station is open and no service begins, it is left unchanged.
 //!
-//! Seen by tests alone: that `run` serves over its own socket and seats (`tests/full.py`, `tests/nodes.py`), and the
-//! threads. The channels between them promise no order, so no clause says that a line which is read is heard once and
-//! in its turn (`tests/consoles.py`).
+//! Seen by tests alone: that `run` serves over its own socket and seats (`tests/full_test.py`,
+//! `tests/nodes_test.py`), and the threads. The channels between them promise no order, so no clause says that a line
+//! which is read is heard once and in its turn (`tests/consoles_test.py`).
 #![tactic(auto)]
 
 mod attending;
 mod bell;
-mod chime;
-mod dispatch;
+mod console_waker;
 mod doors;
 mod ending;
+mod event_forwarder;
+mod event_queue;
 mod faults;
 mod fitting;
 mod guest;
 mod hall;
-mod herald;
 mod outlet;
 mod peers;
 mod reading;

@@ -1,6 +1,6 @@
 //! How the standard output is written without holding up the front.
 
-use crate::chime::Chime;
+use crate::console_waker::ConsoleWaker;
 use crossbeam_channel::{Receiver, Sender, TrySendError, bounded};
 use smi_base::write_whole;
 use smi_schedule::Unwritten;
@@ -123,7 +123,12 @@ fn write_block<W: Write>(writer: &mut W, block: &[u8]) -> bool {
 }
 
 /// Writes block after block, until nobody hands on more, or a write fails; after each the front is woken.
-pub(crate) fn write_all<W: Write, R: Wait>(rt: &R, inflow: &Inflow, chime: &Chime, writer: &mut W) {
+pub(crate) fn write_all<W: Write, R: Wait>(
+    rt: &R,
+    inflow: &Inflow,
+    waker: &ConsoleWaker,
+    writer: &mut W,
+) {
     for _ in 0..MOST {
         let Ok(block) = inflow.blocks.recv(rt) else {
             return;
@@ -132,8 +137,8 @@ pub(crate) fn write_all<W: Write, R: Wait>(rt: &R, inflow: &Inflow, chime: &Chim
             break;
         }
         inflow.progress.unwritten.fetch_sub(1, Ordering::SeqCst);
-        chime.ring();
+        waker.wake();
     }
     inflow.progress.has_failed.store(true, Ordering::SeqCst);
-    chime.ring();
+    waker.wake();
 }

@@ -1,6 +1,6 @@
 //! The thread that reads lines, and hands them on.
 
-use crate::chime::Chime;
+use crate::console_waker::ConsoleWaker;
 use crossbeam_channel::Sender;
 use smi_session::LineSplitter;
 use std::alloc::{AllocError, Global};
@@ -78,9 +78,14 @@ fn next_input<I: Read>(reader: &mut I, splitter: &mut LineSplitter) -> Input {
 }
 
 /// Hands on what the input gives, and wakes the thread at the front. Whether that takes it.
-pub(crate) fn hand_on<R: Wait>(rt: &R, input: Input, lines: &Sender<Input>, chime: &Chime) -> bool {
+pub(crate) fn hand_on<R: Wait>(
+    rt: &R,
+    input: Input,
+    lines: &Sender<Input>,
+    waker: &ConsoleWaker,
+) -> bool {
     let is_taken = lines.send(rt, input).is_ok();
-    chime.ring();
+    waker.wake();
     is_taken
 }
 
@@ -90,15 +95,15 @@ pub(crate) fn read_all<I: Read, R: Wait>(
     alloc: Global,
     reader: &mut I,
     lines: &Sender<Input>,
-    chime: &Chime,
+    waker: &ConsoleWaker,
 ) {
     let mut splitter = LineSplitter::new(alloc);
     for _ in 0..MOST {
         let input = next_input(reader, &mut splitter);
         let is_last = matches!(input, Input::Ended(_));
-        if !hand_on(rt, input, lines, chime) || is_last {
+        if !hand_on(rt, input, lines, waker) || is_last {
             return;
         }
     }
-    hand_on(rt, Input::Ended(InputEnd::ReadFault), lines, chime);
+    hand_on(rt, Input::Ended(InputEnd::ReadFault), lines, waker);
 }

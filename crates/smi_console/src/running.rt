@@ -2,6 +2,7 @@
 
 ghost use Rattle.std.specs.Prelude.{◌≡◌};
 ghost use Rattle.std.specs.Arc.{arc_value};
+ghost use Rattle.smi_station.specs.Readers.{operators_in};
 ghost use Rattle.smi_console.specs.Running.{Begins, Runs};
 ghost use Rattle.smi_console.specs.Serving.{IsCrewed, serving};
 
@@ -13,7 +14,7 @@ use crate::service::{Service, Turns};
 use crate::starting::Console;
 use smi_commands::status::Status;
 use smi_link::DatagramLink;
-use smi_node::{ServeFault, Witness};
+use smi_node::{ServeFault, StepObserver};
 use smi_rows::Stable;
 use smi_station::{Station, migrate};
 use smi_tree::Tree;
@@ -40,15 +41,15 @@ pub struct NodeSetup {
 }
 
 /// Serves a station that is open, with a board that is, where all is there that it is served with.
-fn crewed<S: Stable, L: DatagramLink + Drop, V: Witness + Drop, J: BoardId, R: Wait>(
+fn crewed<S: Stable, L: DatagramLink + Drop, V: StepObserver + Drop, J: BoardId, R: Wait>(
     rt: &R,
     setup: &NodeSetup,
     station: &mut Station<'_, S>,
     board: &mut Board<J>,
     fitted: Result<Service<L, V>, Halt>,
 ) -> Result<Result<(), ServeFault>, Halt>
-    ensures { IsCrewed (serving S.is_honest S.is_open S.rows S.may_find S.saves S.failures S.doubts) setup.now.turns
-        station.old station.new result }
+    ensures { IsCrewed (serving S.is_honest S.is_open S.rows S.may_find S.saves S.failures S.doubts
+        (operators_in station.old.core)) setup.now.turns station.old station.new result }
 {
     match fitted {
         Ok(service) => {
@@ -75,8 +76,8 @@ where
     O: Write + Drop + Send + 'static,
     E: Write + Drop + Send + 'static,
     requires { blank.seen.book ≡ J.book }
-    ensures { IsCrewed (serving S.is_honest S.is_open S.rows S.may_find S.saves S.failures S.doubts) setup.now.turns
-        station.old station.new result }
+    ensures { IsCrewed (serving S.is_honest S.is_open S.rows S.may_find S.saves S.failures S.doubts
+        (operators_in station.old.core)) setup.now.turns station.old station.new result }
 {
     let (mut board, glances) = open_board::<J, H>(rt, rt.alloc(), blank, 1)?;
     let fitted = fitted(rt, setup, station, glances, console);
@@ -128,8 +129,8 @@ where
 /// their own faults on those of the console, and these end the console alone.
 ///
 /// Nothing but the opening and the steps of the station changes the store. That it serves over its own socket and its
-/// own seats no clause says, and none what the threads of the console do: tests/full.py, tests/nodes.py and
-/// tests/consoles.py see that.
+/// own seats no clause says, and none what the threads of the console do:
+/// tests/full_test.py, tests/nodes_test.py and tests/consoles_test.py see that.
 pub fn run<S, H, I, O, E, F>(
     rt: &H,
     setup: &NodeSetup,

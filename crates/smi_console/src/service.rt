@@ -1,18 +1,21 @@
 //! What a station is served with, and how long.
 
-ghost use Rattle.smi_node.specs.Carried.{edges, node};
+ghost use Rattle.std.specs.Prelude.{◌≡◌};
+ghost use Rattle.smi_station.specs.Readers.{operators_in};
+ghost use Rattle.smi_node.specs.Carried as carried;
 ghost use Rattle.smi_node.specs.Linked.{shown_by};
 ghost use Rattle.smi_console.specs.Serving.{IsServed, ServesFor, serving};
 
 use smi_link::DatagramLink;
-use smi_node::{ServeFault, Witness, serve_before};
+use smi_node::{Node, NodeStats, ServeFault, StepObserver};
 use smi_operator::Desk;
 use smi_rows::Stable;
 use smi_session::boxed;
 use smi_station::Station;
+use smi_station_output::Out;
 use smi_view::{Board, BoardId};
 use std::alloc::{AllocError, Global};
-use std::sync::Wait;
+use std::sync::{Arc, Wait};
 
 /// How long a node serves.
 #[derive(Clone, Copy)]
@@ -27,24 +30,32 @@ pub enum Turns {
 pub(crate) const TURNS_AT_ONCE: u32 = 1_000_000;
 
 /// Serves so many turns, or until a fault ends it.
-fn served<S: Stable, L: DatagramLink, J: BoardId, V: Witness, R: Wait>(
+fn served<S: Stable, L: DatagramLink, J: BoardId, V: StepObserver, R: Wait>(
     rt: &R,
     turns: Turns,
-    station: &mut Station<'_, S>,
+    node: &mut Node<'_, '_, '_, S, J>,
     link: &mut L,
-    desk: &mut Desk,
-    board: &mut Board<J>,
-    witness: &mut V,
+    observer: &mut V,
 ) -> Result<(), ServeFault>
-    ensures { ServesFor (serving S.is_honest S.is_open S.rows S.may_find S.saves S.failures S.doubts) turns
-        (node station.old (edges (shown_by L.received L.handed L.failures link.old) desk.old board.old))
-        (node station.new (edges (shown_by L.received L.handed L.failures link.new) desk.new board.new)) result }
+    ensures serves { ServesFor
+        (serving S.is_honest S.is_open S.rows S.may_find S.saves S.failures S.doubts node.old.operators.now) turns
+        (carried.node node.old.station.now (carried.edges
+        (shown_by L.received L.handed L.failures L.receives link.old) node.old.desk.now node.old.board.now)
+        (V.told observer.old))
+        (carried.node node.new.station.now (carried.edges
+        (shown_by L.received L.handed L.failures L.receives link.new) node.new.desk.now node.new.board.now)
+        (V.told observer.new)) result }
+    ensures station { node.new.station.ghost_name ≡ node.old.station.ghost_name }
+    ensures desk { node.new.desk.ghost_name ≡ node.old.desk.ghost_name }
+    ensures board { node.new.board.ghost_name ≡ node.old.board.ghost_name }
+    ensures out { node.new.out.ghost_name ≡ node.old.out.ghost_name }
+    ensures operators { node.new.operators.now ≡ node.old.operators.now }
 {
     match turns {
-        Turns::Count(turns) => serve_before(rt, station, link, desk, board, witness, turns),
+        Turns::Count(turns) => node.serve(rt, link, observer, turns),
         Turns::Endless => {
             for _ in rt.forever() {
-                match serve_before(rt, station, link, desk, board, witness, TURNS_AT_ONCE) {
+                match node.serve(rt, link, observer, TURNS_AT_ONCE) {
                     Ok(()) => {}
                     Err(fault) => return Err(fault),
                 }
@@ -54,33 +65,70 @@ fn served<S: Stable, L: DatagramLink, J: BoardId, V: Witness, R: Wait>(
     }
 }
 
+/// Makes a node of a station and its parts, and serves it.
+// The parts come one by one: the prover loses what becomes of a station whose node is made of a larger value.
+fn serve_parts<S: Stable, L: DatagramLink, J: BoardId, V: StepObserver, R: Wait>(
+    rt: &R,
+    turns: Turns,
+    station: &mut Station<'_, S>,
+    link: &mut L,
+    desk: &mut Desk,
+    board: &mut Board<J>,
+    stats: &NodeStats,
+    observer: &mut V,
+) -> Result<(), ServeFault>
+    ensures { ServesFor
+        (serving S.is_honest S.is_open S.rows S.may_find S.saves S.failures S.doubts (operators_in station.old.core))
+        turns
+        (carried.node station.old (carried.edges (shown_by L.received L.handed L.failures L.receives link.old) desk.old
+        board.old) (V.told observer.old))
+        (carried.node station.new (carried.edges (shown_by L.received L.handed L.failures L.receives link.new) desk.new
+        board.new) (V.told observer.new)) result }
+{
+    let operators = station.operators();
+    let mut out = Out::new();
+    let mut node = Node {
+        station,
+        desk,
+        board,
+        out: &mut out,
+        operators,
+        stats,
+    };
+    served(rt, turns, &mut node, link, observer)
+}
+
 /// What a station is served with.
 #[derive(Drop)]
 struct ServiceParts<L: Drop, V: Drop> {
     link: L,
-    desk: Box<Desk>,
-    witness: V,
+    desk: Desk,
+    stats: Arc<NodeStats, Global>,
+    observer: V,
 }
 
-/// What a station is served with, beside its board: its link, the desk of its seats, and who is told of its steps.
+/// What a station is served with, beside its board: its link, the desk of its seats, its statistics, and who observes
+/// its steps.
 #[derive(Drop)]
 pub(crate) struct Service<L: Drop, V: Drop> {
-    // Behind a box, so that a place that drops a service is not dear to prove.
+    // Behind a box, so that a place that drops a service is not expensive to prove.
     parts: Box<ServiceParts<L, V>>,
 }
 
-impl<L: DatagramLink + Drop, V: Witness + Drop> Service<L, V> {
-    /// A service with this link, at this desk, and before this witness.
+impl<L: DatagramLink + Drop, V: StepObserver + Drop> Service<L, V> {
+    /// Makes a service with this link, at this desk, with these statistics, and before this observer.
     pub(crate) fn new(
         alloc: Global,
         link: L,
         desk: Box<Desk>,
-        witness: V,
+        stats: Arc<NodeStats, Global>,
+        observer: V,
     ) -> Result<Service<L, V>, AllocError> {
         let parts = ServiceParts {
             link,
-            desk,
-            witness,
+            desk: Box::into_inner(desk),
+            stats,
+            observer,
         };
         let parts = boxed(alloc, parts)?;
         Ok(Service { parts })
@@ -94,14 +142,15 @@ impl<L: DatagramLink + Drop, V: Witness + Drop> Service<L, V> {
         station: &mut Station<'_, S>,
         board: &mut Board<J>,
     ) -> Result<(), ServeFault>
-        ensures { IsServed (serving S.is_honest S.is_open S.rows S.may_find S.saves S.failures S.doubts) turns
-            station.old station.new result }
+        ensures { IsServed (serving S.is_honest S.is_open S.rows S.may_find S.saves S.failures S.doubts
+            (operators_in station.old.core)) turns station.old station.new result }
     {
         let ServiceParts {
             link,
             desk,
-            witness,
+            stats,
+            observer,
         } = &mut *self.parts;
-        served(rt, turns, station, link, desk, board, witness)
+        serve_parts(rt, turns, station, link, desk, board, stats, observer)
     }
 }

@@ -2,14 +2,14 @@
 
 use crate::attending::{Attendant, attend};
 use crate::bell::Bell;
-use crate::chime::Chime;
+use crate::console_waker::ConsoleWaker;
 use crate::hall::Hall;
 use crate::outlet::{Outlet, open_outlet, write_all};
 use crate::reading::{Input, read_all};
 use crate::running::NodeSetup;
 use crate::socket_drops::SocketDrops;
 use crossbeam_channel::{Receiver, Sender, bounded};
-use smi_session::{BoardReader, SessionService, StationEvent, boxed};
+use smi_session::{SessionService, StateReader, StationEvent, boxed};
 use std::alloc::{AllocError, Global};
 use std::io::{Read, Write};
 use std::sync::{Arc, Wait};
@@ -34,13 +34,18 @@ const NEWS: usize = 4_096;
 fn begin_reading<
     H: Wait + Threads + AllocGlobal + Clone + Drop + Send + 'static,
     I: Read + Drop + Send + 'static,
->(rt: &H, input: I, lines: Sender<Input>, chime: &Arc<Chime, Global>) -> Result<(), AllocError> {
+>(
+    rt: &H,
+    input: I,
+    lines: Sender<Input>,
+    waker: &Arc<ConsoleWaker, Global>,
+) -> Result<(), AllocError> {
     let there = rt.clone()?;
-    let chime = Arc::try_clone(chime)?;
+    let waker = Arc::try_clone(waker)?;
     let alloc = rt.alloc();
     let begun = spawn(rt, move || {
         let mut input = input;
-        read_all(&there, alloc, &mut input, &lines, &chime)
+        read_all(&there, alloc, &mut input, &lines, &waker)
     });
     match begun {
         Ok(_thread) => Ok(()),
@@ -53,13 +58,13 @@ fn begin_reading<
 fn begin_writing<
     H: Wait + Threads + AllocGlobal + Clone + Drop + Send + 'static,
     O: Write + Drop + Send + 'static,
->(rt: &H, output: O, chime: &Arc<Chime, Global>) -> Result<Outlet, AllocError> {
+>(rt: &H, output: O, waker: &Arc<ConsoleWaker, Global>) -> Result<Outlet, AllocError> {
     let there = rt.clone()?;
-    let chime = Arc::try_clone(chime)?;
+    let waker = Arc::try_clone(waker)?;
     let (outlet, inflow) = open_outlet(rt.alloc())?;
     let begun = spawn(rt, move || {
         let mut output = output;
-        write_all(&there, &inflow, &chime, &mut output)
+        write_all(&there, &inflow, &waker, &mut output)
     });
     match begun {
         Ok(_thread) => Ok(outlet),
@@ -69,7 +74,7 @@ fn begin_writing<
 
 /// Starts the thread at the front. Nobody joins it: it ends with the program, or before.
 fn begin_attending<
-    G: BoardReader + Drop + Send + 'static,
+    G: StateReader + Drop + Send + 'static,
     H: Wait + Threads + Clock + AllocGlobal + Clone + Drop + Send + 'static,
     E: Write + Drop + Send + 'static,
 >(rt: &H, setup: &NodeSetup, attendant: Box<Attendant<G>>, faults: E) -> Result<(), AllocError> {
@@ -87,14 +92,14 @@ fn begin_attending<
 
 /// What stands at the front beside its threads.
 #[derive(Drop)]
-pub(crate) struct Lobby<G: BoardReader + Drop> {
+pub(crate) struct Lobby<G: StateReader + Drop> {
     pub(crate) front: Box<SessionService<G>>,
     pub(crate) hall: Box<Hall>,
     pub(crate) bell: Bell,
 }
 
 /// What the thread at the front has of this lobby.
-fn attendant_of<G: BoardReader + Drop>(
+fn attendant_of<G: StateReader + Drop>(
     alloc: Global,
     lobby: Lobby<G>,
     outlet: Outlet,
@@ -118,7 +123,7 @@ fn attendant_of<G: BoardReader + Drop>(
 
 /// Starts the thread at the front of this lobby, and answers the way by which it is told news.
 fn begin_front<
-    G: BoardReader + Drop + Send + 'static,
+    G: StateReader + Drop + Send + 'static,
     H: Wait + Threads + Clock + AllocGlobal + Clone + Drop + Send + 'static,
     E: Write + Drop + Send + 'static,
 >(
@@ -138,7 +143,7 @@ fn begin_front<
 
 /// Starts the threads of a node's consoles, and answers the way by which they are told news.
 pub(crate) fn begin_console<
-    G: BoardReader + Drop + Send + 'static,
+    G: StateReader + Drop + Send + 'static,
     H: Wait + Threads + Clock + AllocGlobal + Clone + Drop + Send + 'static,
     I: Read + Drop + Send + 'static,
     O: Write + Drop + Send + 'static,
@@ -147,7 +152,7 @@ pub(crate) fn begin_console<
     rt: &H,
     setup: &NodeSetup,
     lobby: Lobby<G>,
-    chime: &Arc<Chime, Global>,
+    waker: &Arc<ConsoleWaker, Global>,
     console: Console<I, O, E>,
 ) -> Result<Sender<StationEvent>, AllocError> {
     let Console {
@@ -155,9 +160,9 @@ pub(crate) fn begin_console<
         output,
         faults,
     } = console;
-    let outlet = begin_writing(rt, output, chime)?;
+    let outlet = begin_writing(rt, output, waker)?;
     let (line_sender, lines) = bounded(rt.alloc(), LINES)?;
     let news = begin_front(rt, setup, lobby, outlet, lines, faults)?;
-    begin_reading(rt, input, line_sender, chime)?;
+    begin_reading(rt, input, line_sender, waker)?;
     Ok(news)
 }

@@ -1,5 +1,9 @@
 //! A node: its tree file is read, its station found, its store opened, and then it is run.
 
+ghost use Rattle.std.specs.Prelude.{IfOk};
+ghost use Rattle.std.specs.Arc.{arc_value};
+ghost use Rattle.smi_program.specs.Named.{IsStationNamed};
+
 use crate::line::{ConsolePlace, NodeLine};
 use crate::tree::read_marked;
 use crate::words::{Words, bytes_of};
@@ -59,13 +63,16 @@ fn listen_addresses_of(
     Ok(places)
 }
 
-/// What a node of this line is run with, as far as its words say it, and the mark of its tree.
+/// Makes what a node of this line is run with, as far as its words say it, and the mark of its tree. Its station is the
+/// one that the line names.
 fn setup_of<H: Files + AllocGlobal, F: Write>(
     host: &H,
     words: &Words,
     line: NodeLine<'_>,
     faults: &mut F,
-) -> Result<(NodeSetup, TreeMark), Status> {
+) -> Result<(NodeSetup, TreeMark), Status>
+    ensures { IfOk result (λ s. IsStationNamed (arc_value s.0.tree) line.entry.station.now s.0.station) }
+{
     let (tree, mark) = read_marked(host, bytes_of(words, line.tree), faults)?;
     let tree = shared(host.alloc(), tree, faults)?;
     let Some(station) = tree.station_named(line.station.as_bytes()) else {

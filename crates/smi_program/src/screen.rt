@@ -1,5 +1,7 @@
 //! A screen: its tree file is read, its station found, its store opened, and then it looks.
 
+ghost use Rattle.std.specs.Prelude.{◌≡◌, IfOk};
+
 use crate::line::{ConsolePlace, ScreenLine};
 use crate::node::{Opening, opened};
 use crate::tree::{read_marked, read_tree};
@@ -123,13 +125,15 @@ fn with_orders<H: Files + RandomSource + AllocGlobal, F: Write>(
     }
 }
 
-/// What the screen of a station is run with, whose page gives no orders.
+/// Makes what the screen of a station is run with, whose page gives no orders.
 fn setup_of(
     alloc: Global,
     tree: &Tree,
     station: u16,
     line: ScreenLine<'_>,
-) -> Result<ScreenSetup, AllocError> {
+) -> Result<ScreenSetup, AllocError>
+    ensures { IfOk result (λ s. s.station ≡ station) }
+{
     let peers = addresses(alloc, tree)?;
     Ok(ScreenSetup {
         station,

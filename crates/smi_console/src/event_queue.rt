@@ -1,6 +1,6 @@
 //! The way of news from the thread that serves to the one at the front.
 
-use crate::chime::Chime;
+use crate::console_waker::ConsoleWaker;
 use crossbeam_channel::Sender;
 use smi_session::{ActionDone, StationEvent, boxed};
 use std::alloc::{AllocError, Global};
@@ -12,45 +12,56 @@ const MOST_WAITING: usize = 4_096;
 
 /// The way of news, and what waits for it.
 #[derive(Drop)]
-struct DispatchParts<H: Drop> {
+struct EventQueueParts<H: Drop> {
     rt: H,
-    chime: Arc<Chime, Global>,
+    waker: Arc<ConsoleWaker, Global>,
     way: Sender<StationEvent>,
     waiting: VecDeque<StationEvent>,
     /// How many actions there was no room for.
-    missed: u32,
+    dropped: u32,
+    /// The thread at the front is to be woken once the turn is over.
+    is_due: bool,
 }
 
 /// Hands on news in their order, and never waits. What the way has no room for waits here, up to a bound; actions
 /// beyond it are counted, and their count is told before any later action.
 #[derive(Drop)]
-pub(crate) struct Dispatch<H: Drop> {
-    // Behind a box, so that a place that drops it is not dear to prove.
-    parts: Box<DispatchParts<H>>,
+pub(crate) struct EventQueue<H: Drop> {
+    // Behind a box, so that a place that drops it is not expensive to prove.
+    parts: Box<EventQueueParts<H>>,
 }
 
-impl<H: Wait + Drop> Dispatch<H> {
-    /// Nothing was handed on.
+impl<H: Wait + Drop> EventQueue<H> {
+    /// Makes a queue from which nothing was handed on.
     pub(crate) fn new(
         alloc: Global,
         rt: H,
-        chime: Arc<Chime, Global>,
+        waker: Arc<ConsoleWaker, Global>,
         way: Sender<StationEvent>,
-    ) -> Result<Dispatch<H>, AllocError> {
-        let parts = DispatchParts {
+    ) -> Result<EventQueue<H>, AllocError> {
+        let parts = EventQueueParts {
             rt,
-            chime,
+            waker,
             way,
             waiting: VecDeque::new(alloc),
-            missed: 0,
+            dropped: 0,
+            is_due: false,
         };
         let parts = boxed(alloc, parts)?;
-        Ok(Dispatch { parts })
+        Ok(EventQueue { parts })
     }
 
-    /// The front is to be woken once this turn is over.
-    pub(crate) fn wake(&self) {
-        self.parts.chime.set();
+    /// Lets the front be woken once the turn is over.
+    pub(crate) fn wake(&mut self) {
+        self.parts.is_due = true;
+    }
+
+    /// Wakes the front, if it is to be woken: what a turn brought about is on the board and in the seats by now.
+    pub(crate) fn end_turn(&mut self) {
+        if self.parts.is_due {
+            self.parts.is_due = false;
+            self.parts.waker.wake();
+        }
     }
 
     /// Hands on what waits, as far as the way has room.
@@ -64,11 +75,11 @@ impl<H: Wait + Drop> Dispatch<H> {
                 return;
             }
             let _ = parts.waiting.pop_front();
-            parts.chime.set();
+            parts.is_due = true;
         }
     }
 
-    /// Tells news. Whether there was room.
+    /// Tells news. Returns whether there was room.
     pub(crate) fn tell(&mut self, news: StationEvent) -> bool {
         let waiting = &mut self.parts.waiting;
         if waiting.len() >= MOST_WAITING || waiting.push_back(news).is_err() {
@@ -81,16 +92,16 @@ impl<H: Wait + Drop> Dispatch<H> {
     /// Hands on what waits, and how many actions there was no room for.
     pub(crate) fn go_on(&mut self) {
         self.hand_on();
-        let missed = self.parts.missed;
-        if missed > 0 && self.tell(StationEvent::Lagged(missed)) {
-            self.parts.missed = 0;
+        let dropped = self.parts.dropped;
+        if dropped > 0 && self.tell(StationEvent::Lagged(dropped)) {
+            self.parts.dropped = 0;
         }
     }
 
     /// Tells of an action, or counts it.
     pub(crate) fn tell_act(&mut self, act: ActionDone) {
-        if self.parts.missed > 0 || !self.tell(StationEvent::ActionDone(act)) {
-            self.parts.missed = self.parts.missed.saturating_add(1);
+        if self.parts.dropped > 0 || !self.tell(StationEvent::ActionDone(act)) {
+            self.parts.dropped = self.parts.dropped.saturating_add(1);
         }
     }
 }

@@ -1,0 +1,21 @@
+//! How other threads wake the one at the front.
+
+use mio::Waker;
+
+/// Wakes the thread at the front.
+#[derive(Drop)]
+pub(crate) struct ConsoleWaker {
+    waker: Waker,
+}
+
+impl ConsoleWaker {
+    /// Wakes over this waker.
+    pub(crate) fn new(waker: Waker) -> ConsoleWaker {
+        ConsoleWaker { waker }
+    }
+
+    /// Wakes the thread. If that fails, it wakes by itself within a tenth of a second while an order is under way.
+    pub(crate) fn wake(&self) {
+        let _ = self.waker.wake();
+    }
+}

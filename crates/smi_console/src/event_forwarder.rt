@@ -1,0 +1,159 @@
+//! What forwards the answers, the states and the actions of a node's steps to its front desk.
+
+ghost use Rattle.std.specs.Prelude.{None};
+
+use crate::event_queue::EventQueue;
+use smi_grant::Shown;
+use smi_node::StepObserver;
+use smi_protocol::{Event, Heard, StepFault};
+use smi_rows::Stable;
+use smi_session::{ActionDone, StationEvent, step_action};
+use smi_station::Station;
+use smi_station_output::Out;
+use smi_tree::Tree;
+use std::alloc::{AllocError, Global};
+use std::sync::{Arc, Wait};
+
+/// What a forwarder asks of a station.
+///
+/// A function over a station is expensive to prove, and these two are all that is asked of it before it is served.
+pub(crate) trait Keeps {
+    /// The operators of the station.
+    fn operators(&self) -> &[u16];
+
+    /// The newest state of an object that it keeps.
+    fn state_of(&self, object: u16) -> Option<Shown>;
+}
+
+impl<'a, S: Stable> Keeps for Station<'a, S> {
+    fn operators(&self) -> &[u16] {
+        Station::operators(self)
+    }
+
+    fn state_of(&self, object: u16) -> Option<Shown> {
+        self.current(object)
+    }
+}
+
+/// Forwards the states that the objects of its station pass through, those that the station takes, and the actions that
+/// it does, and wakes the front at the end of a turn that brought it an answer or news.
+///
+/// A state for which there is no room is told at a later step, as the newest of its object by then.
+#[derive(Drop)]
+pub(crate) struct EventForwarder<H: Drop> {
+    tree: Arc<Tree, Global>,
+    queue: EventQueue<H>,
+    /// The states that are not told yet, by object, and whether there are any.
+    coalesced: Vec<Option<Shown>>,
+    has_coalesced: bool,
+}
+
+impl<H: Wait + Drop> EventForwarder<H> {
+    /// Makes a forwarder that has told nothing but the states of what a station keeps.
+    ///
+    /// Fails if memory was refused.
+    pub(crate) fn new<T: Keeps>(
+        alloc: Global,
+        tree: Arc<Tree, Global>,
+        station: &T,
+        queue: EventQueue<H>,
+    ) -> Result<EventForwarder<H>, AllocError> {
+        let mut coalesced = Vec::new(alloc);
+        for object in 1..=tree.object_count() {
+            coalesced.push(station.state_of(object))?;
+        }
+        let mut forwarder = EventForwarder {
+            tree,
+            queue,
+            coalesced,
+            has_coalesced: true,
+        };
+        forwarder.send_coalesced();
+        Ok(forwarder)
+    }
+
+    /// Tells a state, or coalesces it if there is no room for it, or if others are to be told before it.
+    fn send_or_coalesce(&mut self, shown: Shown) {
+        if self.has_coalesced || !self.queue.tell(StationEvent::StateChanged(shown)) {
+            self.coalesce(shown);
+        }
+    }
+
+    /// Keeps a state to be told later, in place of an older one of its object.
+    fn coalesce(&mut self, shown: Shown) {
+        let Some(place) = usize::from(shown.object).checked_sub(1) else {
+            return;
+        };
+        if let Some(coalesced) = self.coalesced.get_mut(place) {
+            *coalesced = Some(shown);
+            self.has_coalesced = true;
+        }
+    }
+
+    /// Tells the states that are not told yet, as far as there is room.
+    fn send_coalesced(&mut self) {
+        if !self.has_coalesced {
+            return;
+        }
+        self.has_coalesced = false;
+        for coalesced in self.coalesced.iter_mut() {
+            if let Some(shown) = *coalesced {
+                if self.queue.tell(StationEvent::StateChanged(shown)) {
+                    *coalesced = None;
+                } else {
+                    self.has_coalesced = true;
+                }
+            }
+        }
+    }
+
+    /// Tells the action that a step did, at each of its devices.
+    fn tell_done<S: Stable>(
+        &mut self,
+        station: &Station<'_, S>,
+        event: &Event<'_>,
+        made: &Result<Heard, StepFault>,
+    ) {
+        let Some(done) = step_action(&self.tree, event, made) else {
+            return;
+        };
+        for device in done.devices {
+            let object = self.tree.domain_count().saturating_add(*device);
+            if let Some(shown) = station.current(object) {
+                self.queue.tell_act(ActionDone {
+                    action: done.action,
+                    shown,
+                });
+            }
+        }
+    }
+}
+
+impl<H: Wait + Drop> StepObserver for EventForwarder<H> {
+    ghost told = { λ _. None };
+
+    fn on_step<S: Stable>(
+        &mut self,
+        station: &Station<'_, S>,
+        event: &Event<'_>,
+        made: &Result<Heard, StepFault>,
+        out: &Out,
+    ) {
+        if matches!(event, Event::Order(_, _) | Event::Report(_, _)) || !out.answers().is_empty() {
+            self.queue.wake();
+        }
+        self.queue.go_on();
+        self.send_coalesced();
+        if let Some(shown) = out.shown() {
+            self.send_or_coalesce(shown);
+        }
+        for shown in out.transitions().as_slice() {
+            self.send_or_coalesce(*shown);
+        }
+        self.tell_done(station, event, made);
+    }
+
+    fn on_turn(&mut self) {
+        self.queue.end_turn();
+    }
+}
