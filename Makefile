@@ -5,7 +5,12 @@ SOURCES := crates.txt $(shell find crates -path '*/out' -prune -o -type f \( -na
 # So many crates are proved side by side: one for each processor, and 4 GB for each.
 LANES := $(shell awk -v most=$$(nproc) '/^MemAvailable/ { fit = int($$2 / 4000000); print fit < 1 ? 1 : fit < most ? fit : most }' /proc/meminfo)
 
-.PHONY: smi run try test gate record check cases nodes marks full consoles soak crowd shift screen browser bridge demo tools documents pictures edits edits-test tools-test bench
+# The tests run under Debian's python3, because its packages have pytest. As many run side by side as there are processors.
+# ONLY chooses some by their names, as `-k` of pytest does: make nodes ONLY='store or killed'.
+PYTHON := /usr/bin/python3
+tests = $(PYTHON) -m pytest -n auto $(if $(ONLY),-k '$(ONLY)') $(1:%=tests/%_test.py)
+
+.PHONY: smi run try test gate record check needs cases nodes marks full consoles soak crowd shift screen browser bridge demo tools documents pictures edits edits-test tools-test bench
 .PHONY: install deb package
 
 # The program, proved and built, at bin/smi.
@@ -49,8 +54,8 @@ deb: bin/smi
 	@python3 tools/deb.py package/out
 
 # What is installed and packed, the page, the unit and completion; the last line is 'N passed, M failed'.
-package: bin/smi
-	@python3 tests/package.py $(if $(ONLY),'$(ONLY)')
+package: needs bin/smi
+	@$(call tests,package)
 
 # The main job on a real input: each datagram and its answer, in hexadecimal beside what they say. By the proved program
 # where it is built of these sources, and else by an unproved one, in some minutes.
@@ -63,14 +68,18 @@ try:
 	cd crates/smi && python3 ../../tools/show.py ../../examples/one-domain.datagrams rt try -- answer
 	@echo 'Nothing of this was proved before it ran. make smi proves the program and builds bin/smi, in about an hour.'
 
-# What each change has to pass: every proof and test from nothing, the scripts of tests, and mutants of crates over changed
+# What each change has to pass: every proof and test from nothing, the tests of tests/, and mutants of crates over changed
 # ones. Mutants of changed crates have to be recorded before (make record). The last line is 'N passed, M failed'.
-test:
+test: needs
 	@python3 tools/gate.py
 
 # The same with the mutants of every crate, which it then writes into edits.ok.
-gate:
+gate: needs
 	@python3 tools/gate.py --all
+
+# What the tests need of Debian: says what is missing, and fails.
+needs:
+	@$(PYTHON) tests/needs.py
 
 # Tries the mutants that edits.ok has no valid line for, or those of some crates, and writes the lines; or takes the lines
 # that a gate has printed: make record, make record CRATE='smi_grant smi_tree', make record LOG=gate.log
@@ -81,50 +90,49 @@ record:
 check:
 	@python3 tools/libraries.py --check $(CRATE) --lanes $(LANES)
 
-# The command lines alone, or those whose name has a text: make cases ONLY='a take'. The last line is 'N passed, M failed'.
-cases: bin/smi
-	@python3 tests/command_lines.py bin/smi $(if $(ONLY),'$(ONLY)')
+# The command lines alone, or some: make cases ONLY=take. The last line is 'N passed, M failed'.
+cases: needs bin/smi
+	@$(call tests,command_lines growths growths_node interrupts limits paths schedules settling terminals)
 
-# Nodes as processes, three of them over UDP among them, or the cases whose name has a text: make nodes ONLY=store.
-nodes: bin/smi
-	@python3 tests/nodes.py bin/smi $(if $(ONLY),'$(ONLY)')
+# Nodes as processes, three of them over UDP among them, or some tests: make nodes ONLY=store.
+nodes: needs bin/smi
+	@$(call tests,nodes node_load pages)
 
-# What tree a store is of, or the cases whose name has a text: make marks ONLY=removed.
-marks: bin/smi
-	@python3 tests/marks.py bin/smi $(if $(ONLY),'$(ONLY)')
+# What tree a store is of, or some tests: make marks ONLY=removed.
+marks: needs bin/smi
+	@$(call tests,marks)
 
-# Nodes over a full tree, at addresses of their own, or the cases whose name has a text: make full ONLY=shown.
-full: bin/smi
-	@python3 tests/full.py bin/smi $(if $(ONLY),'$(ONLY)')
+# Nodes over a full tree, at addresses of their own.
+full: needs bin/smi
+	@$(call tests,full)
 
-# Many consoles at one node, or the cases whose name has a word: make consoles ONLY=rude.
-consoles: bin/smi
-	@python3 tests/consoles.py bin/smi $(if $(ONLY),'$(ONLY)')
+# Many consoles at one node, and their clients, or some tests: make consoles ONLY=rude.
+consoles: needs bin/smi
+	@$(call tests,consoles actions clients)
 
 # Three nodes behind a proxy that loses, repeats, delays and reorders, with kills: make soak WORDS='--seconds 3600 --seed 7'.
 soak: bin/smi
-	@python3 tests/soak.py bin/smi $(WORDS)
+	@$(PYTHON) tests/soak.py bin/smi $(WORDS)
 
 # A crowd of nodes, 16 or as many as are asked for: what they cost and how soon they answer: make crowd WORDS='--stations 128'.
 crowd: bin/smi
-	@python3 tests/crowd.py bin/smi $(WORDS)
+	@$(PYTHON) tests/crowd.py bin/smi $(WORDS)
 
-# The shift of examples/shift.schedule over the whole detector: what must hold at each place, or at those with a text.
-shift: bin/smi
-	@python3 tests/shift.py bin/smi $(if $(ONLY),'$(ONLY)')
+# The shift of examples/shift.schedule over the whole detector: what must hold at each place, or at some of them.
+shift: needs bin/smi
+	@$(call tests,shift)
 
-# The screen over HTTP, or the cases whose name has a text: make screen ONLY=hostile.
-screen: bin/smi
-	@python3 tests/screen.py bin/smi $(if $(ONLY),'$(ONLY)')
+# The screen over HTTP, the orders that it gives, and tools/status.py, or some tests: make screen ONLY=hostile.
+screen: needs bin/smi
+	@$(call tests,screen orders standing)
 
-# The page of the screen in headless Chromium, while the crew's shift is played: skipped where there is none.
-browser: bin/smi
-	@python3 tests/browser.py bin/smi $(if $(ONLY),'$(ONLY)')
+# The page of the screen in headless Chromium, while the crew's shift is played: skipped if there is none.
+browser: needs bin/smi
+	@$(call tests,browser)
 
-# The bridge to TANGO between a node and real device servers, or the cases whose name has a text: skipped where there is
-# no PyTango.
-bridge: bin/smi
-	@python3 tests/bridge.py bin/smi $(if $(ONLY),'$(ONLY)')
+# The bridge to TANGO between a node and real device servers: skipped if there is no PyTango.
+bridge: needs bin/smi
+	@$(call tests,bridge)
 
 # The example detector on this machine, with a screen and the crew's shift: it prints the address to open, and Ctrl-C
 # ends all.
@@ -132,16 +140,16 @@ demo: bin/smi
 	@python3 tools/demo.py bin/smi $(WORDS)
 
 # The tools beside the program, and the pictures that they draw.
-tools: bin/smi
-	@python3 tests/pictures.py bin/smi $(if $(ONLY),'$(ONLY)')
+tools: needs bin/smi
+	@$(call tests,pictures)
 
-# The documents: what they name, and the commands in them.
-documents: bin/smi
-	@python3 tests/documents.py bin/smi $(if $(ONLY),'$(ONLY)')
+# The documents: what they name, the commands in them, and their words.
+documents: needs bin/smi
+	@$(call tests,documents numbers played words)
 
 # The pictures of docs/pictures/, made anew from the examples.
 pictures: bin/smi
-	@python3 tests/pictures.py bin/smi --write
+	@$(PYTHON) tests/pictures.py bin/smi --write
 
 # The mutants that the prover must refuse, of all crates or of some: make edits CRATE='smi_grant smi_tree' ONLY=take JOBS=2.
 # The last line is 'N refused, M not'.
@@ -150,12 +158,11 @@ edits:
 
 # Whether that tells a mutant that is refused from one that is not.
 edits-test:
-	@python3 tests/edits_test.py
+	@$(PYTHON) tests/edits_test.py
 
-# The gate itself and the judges of the tests, or the tests whose name has a text: make tools-test ONLY=Soak.
-tools-test:
-	@python3 tests/gate_test.py $(ONLY)
-	@python3 tests/tools_test.py $(ONLY)
+# The gate itself and the judges of the tests, or some tests: make tools-test ONLY=Soak.
+tools-test: needs
+	@$(call tests,gate tools)
 
 bench: bin/smi bin/smi_bench
 	python3 tests/bench.py bin/smi bin/smi_bench

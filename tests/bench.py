@@ -22,8 +22,8 @@ import tempfile
 import time
 
 import trees as tree_files
+from running import HERE
 
-HERE = os.path.dirname(os.path.abspath(__file__))
 ROUNDS = 5
 # How many items are drawn: as many as the program takes.
 ITEMS = 1_000_000

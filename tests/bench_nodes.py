@@ -19,12 +19,12 @@ import tempfile
 import threading
 import time
 
-sys.path.insert(0, os.path.join(os.path.dirname(os.path.abspath(__file__)), os.pardir, "tools"))
-
-import lunskaf
 import nodes
+from running import HERE
 
-HERE = os.path.dirname(os.path.abspath(__file__))
+# this is in tools/, which running.py puts on the path
+import lunskaf
+
 ROUNDS = 5
 PAIRS = 300
 # Of a take and a drop: saves, and datagrams with those that wake the station.

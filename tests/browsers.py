@@ -4,64 +4,21 @@ import base64
 import json
 import os
 import shutil
-import socket
-import struct
 import subprocess
 import tempfile
 import time
 import urllib.request
 
+import websocket
+
+from running import DEADLINE
+
 NAMES = ("chromium", "chromium-browser", "google-chrome")
-PATIENCE = 30
 
 
 def program():
-    """The browser, if one is here."""
+    """Returns the path of the browser, or None if there is none."""
     return next((path for path in map(shutil.which, NAMES) if path), None)
-
-
-class Wire:
-    """A WebSocket on which texts go both ways."""
-
-    def __init__(self, url):
-        host, _, path = url.partition("://")[2].partition("/")
-        name, _, port = host.partition(":")
-        self.socket = socket.create_connection((name, int(port)), timeout=PATIENCE)
-        key = base64.b64encode(os.urandom(16)).decode()
-        self.socket.sendall(("GET /%s HTTP/1.1\r\nHost: %s\r\nUpgrade: websocket\r\nConnection: Upgrade\r\n"
-                             "Sec-WebSocket-Key: %s\r\nSec-WebSocket-Version: 13\r\n\r\n" % (path, host, key)).encode())
-        self.rest = b""
-        while b"\r\n\r\n" not in self.rest:
-            self.rest += self.socket.recv(65536)
-        self.rest = self.rest.partition(b"\r\n\r\n")[2]
-
-    def send(self, text):
-        sent, mask = text.encode(), os.urandom(4)
-        size = len(sent)
-        head = b"\x81" + (bytes([128 | size]) if size < 126 else struct.pack(">BH", 254, size) if size < 65536
-                          else struct.pack(">BQ", 255, size))
-        self.socket.sendall(head + mask + bytes(byte ^ mask[at % 4] for at, byte in enumerate(sent)))
-
-    def take(self, count):
-        while len(self.rest) < count:
-            got = self.socket.recv(1 << 20)
-            if not got:
-                raise OSError("the browser has closed")
-            self.rest += got
-        taken, self.rest = self.rest[:count], self.rest[count:]
-        return taken
-
-    def receive(self):
-        """The next text, in one part or in several."""
-        text = b""
-        while True:
-            first, second = self.take(2)
-            size = second & 127
-            if size > 125:
-                size = int.from_bytes(self.take(2 if size == 126 else 8), "big")
-            text += self.take(size)
-            if first & 128:
-                return text.decode()
 
 
 class Gone(ValueError):
@@ -78,19 +35,21 @@ class Browser:
                  "--window-size=%d,%d" % (width, height), "about:blank"]
         self.child = subprocess.Popen(words, stdin=subprocess.DEVNULL, stdout=subprocess.DEVNULL,
                                       stderr=subprocess.DEVNULL)
-        self.wire, self.number, self.errors = Wire(self.page()), 0, []
+        # (Chromium refuses a client that says where it comes from)
+        self.wire = websocket.create_connection(self.page(), timeout=DEADLINE, suppress_origin=True)
+        self.number, self.errors = 0, []
         for domain in ("Page", "Runtime", "Log"):
             self.call(domain + ".enable")
         self.size(width, height)
 
     def page(self):
-        """The debugging socket of its page."""
-        end, place = time.monotonic() + PATIENCE, os.path.join(self.folder, "DevToolsActivePort")
+        """Returns the debugging socket of its page."""
+        end, place = time.monotonic() + DEADLINE, os.path.join(self.folder, "DevToolsActivePort")
         while time.monotonic() < end:
             try:
                 with open(place, encoding="ascii") as file:
                     port = int(file.readline())
-                with urllib.request.urlopen("http://127.0.0.1:%d/json/list" % port, timeout=PATIENCE) as answer:
+                with urllib.request.urlopen("http://127.0.0.1:%d/json/list" % port, timeout=DEADLINE) as answer:
                     pages = [it for it in json.load(answer) if it["type"] == "page"]
                 if pages:
                     return pages[0]["webSocketDebuggerUrl"]
@@ -100,11 +59,11 @@ class Browser:
         raise OSError("the browser did not start")
 
     def call(self, method, **given):
-        """What the browser answers to a call. Errors that the page tells meanwhile are kept."""
+        """Returns what the browser answers to a call. Errors that the page tells meanwhile are kept."""
         self.number += 1
         self.wire.send(json.dumps({"id": self.number, "method": method, "params": given}))
         while True:
-            told = json.loads(self.wire.receive())
+            told = json.loads(self.wire.recv())
             if told.get("id") == self.number:
                 return told.get("result", {})
             self.hear(told)
@@ -124,7 +83,7 @@ class Browser:
         self.waits_for("location.href !== 'about:blank' && document.readyState === 'complete'")
 
     def run(self, script):
-        """What an expression is worth on the page."""
+        """Returns the value of an expression on the page."""
         told = self.call("Runtime.evaluate", expression=script, returnByValue=True, awaitPromise=True)
         if "result" not in told:
             raise Gone(script)
@@ -132,8 +91,8 @@ class Browser:
             raise ValueError(told["exceptionDetails"].get("exception", {}).get("description", script))
         return told["result"].get("value")
 
-    def waits_for(self, script, patience=PATIENCE):
-        """How many seconds pass until an expression is true; nothing where they are too many."""
+    def waits_for(self, script, patience=DEADLINE):
+        """Returns how many seconds pass until an expression is true, or None if they are too many."""
         begun = time.monotonic()
         while time.monotonic() - begun < patience:
             try:
@@ -145,7 +104,7 @@ class Browser:
         return None
 
     def key(self, name, code=None):
-        """A key is pressed and let go."""
+        """Presses a key and lets it go."""
         codes = {"Tab": 9, "Enter": 13, "Escape": 27, "ArrowDown": 40, "ArrowUp": 38}
         given = {"key": name, "code": code or name, "windowsVirtualKeyCode": codes.get(name, ord(name[0].upper()))}
         text = {"text": "\r"} if name == "Enter" else {"text": name} if len(name) == 1 else {}
@@ -160,7 +119,7 @@ class Browser:
         self.call("Emulation.setEmulatedMedia", features=[{"name": "prefers-color-scheme", "value": name}])
 
     def picture(self, path):
-        """What it shows, as a PNG file."""
+        """Writes what it shows, as a PNG file."""
         with open(path, "wb") as file:
             file.write(base64.b64decode(self.call("Page.captureScreenshot", format="png")["data"]))
 

@@ -29,9 +29,9 @@ import time
 
 import layout
 import nodes
+import running
 import soak
 import stores
-import verdict
 import wires
 
 TREE = 17
@@ -80,7 +80,7 @@ class Table:
         self.cases, self.slack = [], slack
 
     def add(self, name, figure, limit, held):
-        self.cases.append((name, held))
+        self.cases.append((name, held, figure))
         print("%-64s %-30s %-24s %s" % (name, figure, limit, "passed" if held else "FAILED"), flush=True)
 
     def add_count(self, name, found, most, unit=""):
@@ -118,49 +118,47 @@ class Console:
             pass
 
     def answer(self):
-        """The next line that the node prints, an empty one where none comes in time."""
+        """Returns the next line that the node prints, or an empty one if none comes in time."""
         try:
             return self.node.lines.get(timeout=self.patience)
         except nodes.queue.Empty:
             return ""
 
     def hears(self, wanted):
-        """Whether the order that was typed is answered so."""
+        """Returns true if the order that was typed is answered so."""
         told = self.answer() if self.given > self.answered else ""
         self.answered += bool(told)
         return told == wanted
 
     def shows(self, name):
-        """The state that the node shows of an object."""
+        """Returns the state that the node shows of an object."""
         self.type("show " + name)
         return self.answer().split(" ")[-1]
 
     def order(self, order):
-        """How long an order took that is answered with 0."""
+        """Returns how long an order took that is answered with 0."""
         begun = time.monotonic()
         self.say("order ANN " + order)
         return time.monotonic() - begun if self.hears("told ANN %s 0" % order) else None
 
 
 def processor_seconds(node):
-    """How long a process has had a processor."""
+    """Returns how long a process has had a processor."""
     total = 0
     for path in glob.glob("/proc/%d/task/*/schedstat" % node.child.pid):
-        with open(path, encoding="ascii") as file:
-            total += int(file.read().split()[0])
+        total += int(running.text_of(path).split()[0])
     return total / 1e9
 
 
 def memory(node):
-    """How much of a process stands in memory, in MiB; nothing of one that has ended."""
-    with open("/proc/%d/status" % node.child.pid, encoding="ascii") as file:
-        return sum(int(line.split()[1]) for line in file if line.startswith("VmRSS:")) / 1024
+    """Returns how much memory a process holds, in MiB."""
+    return running.memory_of(node.child) / 1024
 
 
 # A crowd
 
 def parent_of(place, fan_out):
-    """The domain above one, both by their numbers, 0 for the root."""
+    """Returns the domain above one, both by their numbers, 0 for the root."""
     return (place - 2) // fan_out + 1 if place > 1 else 0
 
 
@@ -169,7 +167,7 @@ def depth_of(place, fan_out):
 
 
 def crowd_lines(said, ports):
-    """A tree file in which station K has the K-th port, domain K and its devices."""
+    """Returns a tree file in which station K has the K-th port, domain K and its devices."""
     places = range(1, said.stations + 1)
     lines = ["tree %d" % TREE, HEAD]
     lines += ["station S%d 127.0.0.1:%d" % it for it in zip(places, ports)]
@@ -228,8 +226,10 @@ class Crowd:
         return self.consoles[-1].order(order)
 
     def orders_to_include(self):
-        """All orders by which one operator includes every domain, from below: each parent is taken, includes its
-        children, which bring theirs along, and is given back, but for the root."""
+        """Yields all orders by which one operator includes every domain, from below.
+
+        Each parent is taken, includes its children, which bring theirs along, and is given back, but for the root.
+        """
         children = {}
         for place in self.places[1:]:
             children.setdefault(parent_of(place, self.said.fan_out), []).append(place)
@@ -239,7 +239,7 @@ class Crowd:
             yield from [] if above == 1 else ["drop D%d" % above]
 
     def state_seconds(self, state):
-        """How long it takes until the root's station is shown the units of all its children in a state."""
+        """Returns how long it takes until the root's station is shown the units of all its children in a state."""
         begun, console = time.monotonic(), self.consoles[-1]
         for place in self.places[1:self.said.fan_out + 1]:
             while console.shows("D%d" % place) != state:
@@ -263,7 +263,7 @@ class Crowd:
         return max(0, time.monotonic() - up) if told else None
 
     def rows(self):
-        """The rows of all stores, by key."""
+        """Returns the rows of all stores, by key."""
         return {key: bytes.fromhex(text) for place in self.places for key, text in stores.rows_in(self.store(place))}
 
 
@@ -283,7 +283,7 @@ def commands(table, crowd, what):
 
 
 def rest(table, crowd):
-    """What the nodes cost at rest."""
+    """Measures what the nodes cost at rest."""
     before = sum(map(processor_seconds, crowd.running.values()))
     begun = time.monotonic()
     time.sleep(REST)
@@ -296,7 +296,7 @@ def rest(table, crowd):
 
 
 def directly(table, crowd):
-    """The crowd without a proxy, from empty stores on."""
+    """Measures the crowd without a proxy, from empty stores on."""
     crowd.write_trees(crowd.ports)
     table.add_times("all stations started on empty stores, until they are up", [crowd.start_all()], UP)
     table.add_times("the root taken", [crowd.order("take D1")])
@@ -312,7 +312,7 @@ def directly(table, crowd):
 
 
 def behind_proxy(table, crowd):
-    """The crowd behind a proxy, on the stores that it has left."""
+    """Measures the crowd behind a proxy, on the stores that it has left."""
     ports = nodes.free_ports(crowd.said.stations)
     proxy = wires.Proxy(zip(ports, crowd.ports))
     try:
@@ -334,7 +334,7 @@ def behind_proxy(table, crowd):
 
 
 def afterwards(table, crowd):
-    """What has to hold of all that was done."""
+    """Checks what has to hold of all that was done."""
     given, answered = (sum(getattr(it, what) for it in crowd.consoles) for what in ("given", "answered"))
     table.add("orders answered", "%d of %d" % (answered, given), "all", 0 < given == answered)
     table.add_count("nodes that ended by themselves", crowd.ended, 0)
@@ -344,14 +344,14 @@ def afterwards(table, crowd):
 # A late station
 
 def late_lines(ports):
-    """A tree file with a hub, a station that comes up late, and stations that watch the hub."""
+    """Returns a tree file with a hub, a station that comes up late, and stations that watch the hub."""
     names = ["HUB", "FAR"] + ["W%d" % number for number in range(1, len(ports) - 1)]
     lines = ["tree %d" % TREE, HEAD] + ["station %s 127.0.0.1:%d" % it for it in zip(names, ports)]
     return lines + ["operator ANN HUB", CLASSES, "domain TOP HUB UNIT -", "domain END FAR UNIT TOP"]
 
 
 def watch_of(station):
-    """A WATCH of the hub's unit by a station in its first boot."""
+    """Returns a WATCH of the hub's unit by a station in its first boot."""
     data = bytearray(44)
     data[:4] = b"SM" + bytes([1, layout.WATCH])
     for name, value in [("from", station), ("to", 1), ("subject", 1), ("tree", TREE), ("echo", 1)]:
@@ -361,21 +361,21 @@ def watch_of(station):
 
 
 def late_order(program, folder, ports, sender, patience):
-    """How long an order takes from the moment at which the station comes up that it is for."""
+    """Returns how long an order takes from the moment at which the station comes up that it is for."""
     tree = nodes.write_tree(folder, ports, late_lines(ports))
-    running = [nodes.Node(program, [tree, "HUB", os.path.join(folder, "hub"), "--endless"])]
+    begun = [nodes.Node(program, [tree, "HUB", os.path.join(folder, "hub"), "--endless"])]
     try:
         wires.when_bound(ports[0], UP)
-        beside, console = sender(ports), Console(running[0], patience)
+        beside, console = sender(ports), Console(begun[0], patience)
         console.say("order ANN take END")
         time.sleep(AWAY)
-        running.append(nodes.Node(program, [tree, "FAR", os.path.join(folder, "far"), "--endless"]))
+        begun.append(nodes.Node(program, [tree, "FAR", os.path.join(folder, "far"), "--endless"]))
         up = wires.when_bound(ports[1], UP)
         took = max(0, time.monotonic() - up) if console.hears("told ANN take END 0") else None
-        is_whole = beside.is_running() and all(node.child.poll() is None for node in running)
+        is_whole = beside.is_running() and all(node.child.poll() is None for node in begun)
         return took if is_whole else None, beside.end()
     finally:
-        for node in running:
+        for node in begun:
             node.kill()
 
 
@@ -397,7 +397,7 @@ def late_orders(table, program, folder, said, name, count, rate, datagrams):
 
 
 def watches(ports):
-    """A WATCH of each watching station, from its port."""
+    """Returns a WATCH of each watching station, from its port."""
     return [(port, watch_of(station)) for station, port in enumerate(ports[2:], 3)]
 
 
@@ -406,7 +406,7 @@ def single_bytes(_ports):
 
 
 def late(table, program, folder, said):
-    """Orders for a late station beside watchers, and beside floods."""
+    """Measures orders for a late station beside watchers, and beside floods."""
     for count in said.watchers:
         late_orders(table, program, folder, said, "%d stations watch" % count, count, int(count / PERIOD), watches)
     late_orders(table, program, folder, said, "a flood of single bytes", 1, FLOOD, single_bytes)
@@ -435,7 +435,7 @@ def arguments(given):
 
 
 def crowd_cases(table, program, folder, said):
-    """The crowd, directly and then behind a proxy."""
+    """Measures the crowd, directly and then behind a proxy."""
     print("%d stations, %d levels, up to %d children, %d devices each"
           % (said.stations, depth_of(said.stations, said.fan_out), said.fan_out, said.devices))
     crowd = Crowd(program, folder, said)
@@ -459,7 +459,7 @@ def main():
     finally:
         shutil.rmtree(folder, ignore_errors=True)
     print("load %.1f at the end" % os.getloadavg()[0])
-    verdict.end(table.cases)
+    running.end(table.cases)
 
 
 if __name__ == "__main__":

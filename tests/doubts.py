@@ -23,7 +23,7 @@ class Declared:
 
 
 def place_of(address):
-    """An address by its numbers."""
+    """Returns an address by its numbers."""
     host, port = address.split(":")
     return tuple(map(int, host.split("."))), int(port)
 
@@ -38,7 +38,7 @@ def same(tree):
 
 
 def with_all_above(tree):
-    """Each domain, with its class and those of all above it."""
+    """Returns each domain, with its class and those of all above it."""
     found = {}
     for name, _, class_, parent in tree.of("domain"):
         found[name] = {class_} | found.get(parent, set())
@@ -61,7 +61,7 @@ def idle(tree):
 
 
 def led_to(rules):
-    """The targets of rules that can be the first that holds."""
+    """Yields the targets of rules that can be the first that holds."""
     before = set()
     for how, state, target in rules:
         # over members in this state alone, or beside one that was not shown yet, which no rule names
@@ -71,7 +71,7 @@ def led_to(rules):
 
 
 def reached(tree):
-    """The states in which something begins, or to which a move or a rule of a class that is used leads."""
+    """Returns the states in which something begins, or to which a move or a rule of a class that is used leads."""
     kinds, units = {line[2] for line in tree.of("device")}, {line[2] for line in tree.of("domain")}
     found = {first for word, used in (("devclass", kinds), ("unitclass", units))
              for class_, first in tree.of(word) if class_ in used}
@@ -83,7 +83,7 @@ def reached(tree):
 
 
 def told(text):
-    """What is told of a lawful tree file."""
+    """Returns what is told of a lawful tree file."""
     tree = Declared(text)
     there = reached(tree)
     unreached = [UNREACHED % state for state in tree.names("state") if state not in there]

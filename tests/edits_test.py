@@ -9,12 +9,11 @@ usage: edits_test.py [SINCE]: a gate has proved all crates from nothing since th
 import os
 import sys
 
-HERE = os.path.dirname(os.path.abspath(__file__))
-sys.path.insert(0, os.path.join(HERE, "..", "tools"))
+import running
 
-import edits  # noqa: E402 (these are in tools/)
-import kit  # noqa: E402
-import verdict  # noqa: E402
+# these are in tools/, which running.py puts on the path
+import edits
+import kit
 
 WANTED = {"refused_argument": edits.REFUSED, "caller_of_a_refused_one": edits.PASSED, "harmless": edits.PASSED,
           "names_another_function": edits.PASSED, "does_not_compile": edits.BAD, "text_that_is_not_there": edits.BAD}
@@ -23,12 +22,12 @@ WANTED = {"refused_argument": edits.REFUSED, "caller_of_a_refused_one": edits.PA
 def main():
     os.chdir(kit.ROOT)
     since = float(sys.argv[1]) if len(sys.argv) > 1 else None
-    tried = edits.try_all(kit.crates(["smi_grant"]), folder=os.path.join(HERE, "edits"), since=since)
+    tried = edits.try_all(kit.crates(["smi_grant"]), folder=os.path.join(running.HERE, "edits"), since=since)
     how = {edit.name: edit.how for edit in tried["smi_grant"] or []}
-    done = [verdict.case(name, how.get(name), WANTED.get(name)) for name in sorted({*WANTED, *how})]
+    done = [(name, how.get(name) == WANTED.get(name), how.get(name)) for name in sorted({*WANTED, *how})]
     # what was told of them has to end in a failed run
-    done.append(verdict.case("how many are refused", edits.summary(tried), (1, len(WANTED) - 1, 0)))
-    verdict.end(done)
+    summary = edits.summary(tried)
+    running.end([*done, ("how many are refused", summary == (1, len(WANTED) - 1, 0), summary)])
 
 
 if __name__ == "__main__":

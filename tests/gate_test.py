@@ -1,7 +1,5 @@
 """Tests of the gate: what it reads off a command, what sums rest on, the record, and the order in which libraries are
 built. Nothing is proved.
-
-usage: gate_test.py [TEXT]: only the tests whose name has it. The last line is 'N passed, M failed'.
 """
 
 import collections
@@ -15,17 +13,12 @@ import time
 import unittest
 from unittest import mock
 
-HERE = os.path.dirname(os.path.abspath(__file__))
-ROOT = os.path.dirname(HERE)
-sys.path.insert(0, os.path.join(ROOT, "tools"))
-
-import edits  # noqa: E402 (these are in tools/)
-import gate  # noqa: E402
-import kit  # noqa: E402
-import libraries  # noqa: E402
-import refusals  # noqa: E402
-import verdict  # noqa: E402
-from verdict import printed  # noqa: E402
+import edits
+import gate
+import kit
+import libraries
+import refusals
+from running import ROOT, printed, text_of
 
 
 class Crate(collections.namedtuple("Crate", "name deps folder lines", defaults=((), "", 60))):
@@ -98,15 +91,20 @@ class Gates(Patched):
         lines, status, ran = self.gate([])
         self.assertEqual((lines[-1], status), ("%d passed, 0 failed" % (2 * len(ran) + 5), 0))
         self.assertIn("mutants: 5 passed, 0 failed; 7 not tried again", "\n".join(lines))
-        for name in ran[1:]:
+        for name in ran[3:]:
             self.assertTrue(os.path.isfile(os.path.join(ROOT, name.split()[0])), name)
 
-    def test_a_script_that_fails_is_run_once_more(self):
+    def test_what_fails_is_run_once_more(self):
         for times, wanted, said in [(1, 0, "2 passed, 0 failed"), (2, 1, "1 passed, 1 failed")]:
-            lines, status, ran = self.gate(["nodes.py"], times=times)
-            self.assertEqual((status, sum("nodes.py" in it for it in ran)), (wanted, 2))
-            self.assertIn("tests/nodes.py: %s, at the second try" % said, "\n".join(lines))
-            self.assertIn("tests/soak.py bin/smi --seconds 40", ran)
+            lines, status, ran = self.gate(["soak.py"], times=times)
+            self.assertEqual((status, ran.count("tests/soak.py bin/smi --seconds 40")), (wanted, 2))
+            self.assertIn("tests/soak.py: %s, at the second try" % said, "\n".join(lines))
+
+    def test_of_the_tests_only_those_that_failed_are_run_once_more(self):
+        for times, wanted, said in [(1, 0, "3 passed, 0 failed"), (2, 1, "2 passed, 1 failed")]:
+            lines, status, ran = self.gate(["-m alone"], times=times)
+            self.assertEqual((status, ran[2:4]), (wanted, ["-m pytest tests -m alone", ran[2] + " --last-failed"]))
+            self.assertIn("tests alone: %s, at the second try" % said, "\n".join(lines))
 
     def test_if_the_proofs_fail_nothing_else_runs(self):
         self.assertEqual(self.gate(["ci"])[1:], (1, ["ci"]))
@@ -378,14 +376,9 @@ class Borrowed(unittest.TestCase):
     def test_each_is_there(self):
         taken, holders = {}, {"rt": kit.rt, "rtlib": kit.rtlib, "crate": kit.crates()[0]}
         for path in glob.glob(os.path.join(ROOT, "tools", "*.py")):
-            with open(path, encoding="utf-8") as file:
-                text = file.read()
+            text = text_of(path)
             if re.search(r"^import kit$", text, flags=re.M) or path.endswith("kit.py"):
                 for of, name in re.findall(r"\b(rt|rtlib|crate)\.([A-Za-z_]\w*)", text):
                     taken[of, name] = holders[of]
         self.assertGreater(len(taken), 15)
         self.assertEqual([it for it, of in taken.items() if not hasattr(of, it[1])], [])
-
-
-if __name__ == "__main__":
-    verdict.run_tests(sys.modules[__name__])

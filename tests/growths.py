@@ -9,7 +9,6 @@ SQL `rows` and the nodes; of stations, views, publishers and watcher lists `sim`
 store in memory `sim`; of links, the board and seats the nodes.
 """
 
-import concurrent.futures
 import os
 import shutil
 import subprocess
@@ -17,22 +16,21 @@ import sys
 
 import nodes
 import stores
-import verdict
+from running import HERE, example
 
-HERE = os.path.dirname(os.path.abspath(__file__))
-EXAMPLES = os.path.join(HERE, "..", "examples")
-WORKED = os.path.join(EXAMPLES, "worked.tree")
+WORKED = example("worked.tree")
 
 # The command's words, and the file of its standard input.
 RUNS = [
     (["check", WORKED], os.devnull),
-    (["check", os.path.join(EXAMPLES, "detector.tree")], os.devnull),
-    (["answer"], os.path.join(EXAMPLES, "one-domain.datagrams")),
-    (["sim", WORKED, os.path.join(EXAMPLES, "worked.schedule")], os.devnull),
+    (["check", example("detector.tree")], os.devnull),
+    (["answer"], example("one-domain.datagrams")),
+    (["sim", WORKED, example("worked.schedule")], os.devnull),
     (["sim", WORKED, "--seed", "1", "--steps", "100"], os.devnull),
+    (["sim", WORKED, "stops.schedule"], os.devnull),
 ]
 
-# What takes, hands on, watches, stops and fails.
+# What takes, hands on, watches, stops and fails: the text of stops.schedule.
 SCHEDULE = """order ANN take DCS
 deliver 1
 deliver 2
@@ -85,14 +83,12 @@ device HV TPC DEV
 ORDERS = ["take DCS", "include DCS TPC", "watch HV", "do DCS CONFIGURE", "drop DCS"]
 # An order for which there was no memory is told this code.
 REFUSED = 33
-# How many turns a node serves, and how many where it was too busy to print all in those.
+# How many turns a node serves, and how many if it was too busy to print all in those.
 FEW, MANY = 60, 600
-# How many nodes run side by side: nearly all of their time they wait.
-NODES = 12
 
 
 def library(folder):
-    """The library that refuses a growth."""
+    """Builds the library that refuses a growth, and returns its path."""
     path = os.path.join(folder, "refuse.so")
     subprocess.run(["cc", "-shared", "-fPIC", "-O1", "-o", path, os.path.join(HERE, "refuse.c")], check=True)
     return path
@@ -106,7 +102,7 @@ def run(program, words, source, settings):
 
 
 def counted(program, words, source, refusing, folder):
-    """How many growths a run has, and what it does."""
+    """Returns how many growths a run has, and what it does."""
     path = os.path.join(folder, "growths")
     whole = run(program, words, source, {"LD_PRELOAD": refusing, "COUNT": path})
     with open(path, "rb") as file:
@@ -114,70 +110,18 @@ def counted(program, words, source, refusing, folder):
 
 
 def is_told(whole, refused):
-    """Whether a run says that a growth was refused: it writes no more than a part of what the whole run writes."""
+    """Returns true if a run says that a growth was refused: it writes at most a part of what the whole run writes."""
     out, err, status = refused
     return (whole[0].startswith(out), err, status) == (True, b"no memory\n", 4)
 
 
-def runs(folder):
-    path = os.path.join(folder, "stops.schedule")
-    with open(path, "w", encoding="ascii") as file:
-        file.write(SCHEDULE)
-    return RUNS + [(["sim", WORKED, path], os.devnull)]
-
-
-def refused_cases(program, folder, only=""):
-    """Of each run and each of its growths: a name, and whether the program did as it should; of those alone in whose
-    name the word is."""
-    refusing = library(folder)
-    for words, source in runs(folder):
-        name = "growths of " + " ".join([words[0]] + [os.path.basename(word) for word in words[1:]])
-        if only not in name:
-            continue
-        growths, whole = counted(program, words, source, refusing, folder)
-        told = 0
-        for growth in range(1, growths + 1):
-            refused = run(program, words, source, {"LD_PRELOAD": refusing, "REFUSE": str(growth)})
-            told += refused != whole
-            yield verdict.case("%s: %d" % (name, growth), whole if is_told(whole, refused) else refused, whole)
-        yield verdict.case("%s: all %d, %d of them needed" % (name, growths, told), [whole[2], told > 0], [0, True])
-
-
-def store_cases(program, folder, only=""):
-    """Of a listing of a store, and of a file in which the table is still to be made, and of each of their growths: a
-    name, and whether the program did as it should and left the rows as they were."""
-    refusing = library(folder)
-    kept, path = os.path.join(folder, "kept"), os.path.join(folder, "listed")
-    for name, rows in [("growths of rows", stores.ROWS), ("growths of rows to come", None)]:
-        if only not in name:
-            continue
-        if os.path.exists(kept):
-            os.remove(kept)
-        if rows is None:
-            open(kept, "wb").close()
-        else:
-            stores.store(kept, stores.TABLE, rows)
-        wanted = stores.rows_in(kept)
-        growths, whole = counted(program, ["rows", kept], os.devnull, refusing, folder)
-        yield verdict.case(
-            "%s: all %d" % (name, growths), [growths > 0, whole], [True, (stores.listing(rows or []).encode(), b"", 0)])
-        for growth in range(1, growths + 1):
-            for left in [path, path + "-wal", path + "-shm"]:
-                if os.path.exists(left):
-                    os.remove(left)
-            shutil.copyfile(kept, path)
-            refused = run(program, ["rows", path], os.devnull, {"LD_PRELOAD": refusing, "REFUSE": str(growth)})
-            come = whole if is_told(whole, refused) else refused
-            yield verdict.case("%s: %d" % (name, growth), (come, stores.rows_in(path)), (whole, wanted))
-
-
 def link(domain, form, epoch, number=0, command=(0, 0)):
-    """A link in a row."""
+    """Returns a link in a row."""
     return "%04x%02x00%016x%08x%04x%04x" % (domain, form, epoch, number, *command)
 
 
 def domain_row(holder, epoch, last, phase=0, links=""):
-    """The row of a domain, none of whose commands has failed."""
+    """Returns the row of a domain, none of whose commands has failed."""
     return "02%02x%04x%016x%08x%02x0000000000%04x%s" % (*holder, epoch, last, phase, len(links) // 40, links)
 
 
@@ -193,7 +137,7 @@ OUT, TAKING, HELD, PENDING, DROPPING = range(5)
 
 
 def saved():
-    """The rows that the orders save one after the other, by docs/FORMATS.md."""
+    """Returns the rows that the orders save one after the other, by docs/FORMATS.md."""
     ann, dcs, tpc = (1, 0, 1), (1, DCS, 0), (1, TPC, 0)
     return [
         ((1, 0, 0), "0200000000000001"),
@@ -217,7 +161,7 @@ def saved():
 
 
 def moments(rows, saves):
-    """The rows of a store before the first of these saves and after each of them."""
+    """Returns the rows of a store before the first of these saves and after each of them."""
     found = [sorted(rows)]
     for key, row in saves:
         found.append(sorted({**dict(found[-1]), key: row}.items()))
@@ -227,12 +171,11 @@ def moments(rows, saves):
 class Nodes:
     """Nodes that are given some orders, each on a store and at a port of its own."""
 
-    def __init__(self, program, folder, kept=None):
-        self.program, self.folder, self.kept = program, folder, kept
-        self.refusing = library(folder)
+    def __init__(self, program, folder, refusing, kept=None):
+        self.program, self.folder, self.refusing, self.kept = program, folder, refusing, kept
 
     def run(self, place, orders, turns=FEW, **settings):
-        """What a node printed and how it ended, and the rows that it has left."""
+        """Returns what a node printed and how it ended, and the rows that it has left."""
         room = os.path.join(self.folder, "%s-%d" % (place, turns))
         os.mkdir(room)
         tree, given, store = (os.path.join(room, name) for name in ("tree", "given", "store"))
@@ -250,7 +193,7 @@ class Nodes:
         return ended, rows
 
     def count(self, orders):
-        """How many growths a node has that serves many turns."""
+        """Returns how many growths a node has that serves many turns."""
         path = os.path.join(self.folder, "count")
         self.run("counted", orders, MANY, COUNT=path)
         with open(path, "rb") as file:
@@ -258,7 +201,7 @@ class Nodes:
 
 
 def with_refused(orders, without):
-    """What a node prints and leaves that tells one order that it was refused: all else is as if it was not given."""
+    """Yields what a node prints and leaves that refuses one order: all else is as if that order was not given."""
     for place, ((out, err, status), rows) in enumerate(without):
         lines = out.decode().splitlines()
         lines.insert(place, "told ANN %s %d" % (orders[place], REFUSED))
@@ -266,55 +209,20 @@ def with_refused(orders, without):
 
 
 def is_sound(came, whole, refused, found):
-    """Whether a node to which one growth was refused did all the same; or told one order so, which changed nothing; or
-    said so, or its console did, and its rows are those of some moment."""
+    """Returns true if a node to which one growth was refused did one of these things.
+
+    It did all that it does otherwise, or refused one order, which changed nothing, or it or its console said that there
+    was no memory, and its rows are those of some moment.
+    """
     (out, err, status), rows = came
     said = whole[0][0].startswith(out) and err == b"no memory\n" and status in (0, 4) and rows in found
     return came == whole or came in refused or said
 
 
 def tried(made, place, orders, whole, refused, found):
-    """What a node came to whose growth of this number was refused: at the second try where it was too busy."""
+    """Returns how a node ended whose growth of this number was refused: at the second try if it was too busy."""
     for turns in (FEW, MANY):
         came = made.run("refused%d" % place, orders, turns, REFUSE=str(place))
         if is_sound(came, whole, refused, found):
             break
     return came
-
-
-def node_cases(program, folder, only=""):
-    """Of a node on a new store, and of one on the store that it has left, and of each of their growths: a name, and
-    whether it did as it should, and left the rows of some moment."""
-    left = None
-    for name, orders, answers, saves in [
-            ("growths of a node", ORDERS, ["%s 0" % it for it in ORDERS], saved()),
-            ("growths of a node that starts again", ["ask DCS"], ["ask DCS free 2 0 settled 0"],
-             [((1, 0, 0), "0200000000000002")])]:
-        if only not in name:
-            continue
-        room = os.path.join(folder, name.replace(" ", "-"))
-        os.mkdir(room)
-        if left is None and orders != ORDERS:
-            left = first_store(program, room)
-        made = Nodes(program, room, left)
-        found = moments(stores.rows_in(left) if left else [], saves)
-        whole = made.run("whole", orders, MANY)
-        wanted = ("".join("told ANN %s\n" % it for it in answers).encode(), b"", 0), found[-1]
-        yield verdict.case("%s: what it does" % name, whole, wanted)
-        without = [made.run("without%d" % it, orders[:it] + orders[it + 1:], MANY) for it in range(len(orders))]
-        refused = list(with_refused(orders, without))
-        growths = made.count(orders)
-        with concurrent.futures.ThreadPoolExecutor(NODES) as pool:
-            ends = list(pool.map(lambda it: tried(made, it, orders, whole, refused, found), range(1, growths + 1)))
-        for growth, came in enumerate(ends, 1):
-            yield verdict.case("%s: %d" % (name, growth),
-                               whole if is_sound(came, whole, refused, found) else came, whole)
-        needed = sum(came != whole for came in ends)
-        yield verdict.case("%s: all %d, %d of them needed" % (name, growths, needed), needed, 0, ">")
-        left = os.path.join(room, "whole-%d" % MANY, "store")
-
-
-def first_store(program, folder):
-    """The store that a node leaves which was given the orders."""
-    Nodes(program, folder).run("first", ORDERS, MANY)
-    return os.path.join(folder, "first-%d" % MANY, "store")

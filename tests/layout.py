@@ -34,7 +34,7 @@ FIELDS = {
 
 
 def values(data):
-    """The number at each field's place."""
+    """Returns the number at each field's place."""
     return {name: int.from_bytes(data[at:at + size], "big") for name, (at, size, _) in FIELDS.items()}
 
 
@@ -43,7 +43,7 @@ def holder_fits(kind, number):
 
 
 def is_record(field):
-    """Whether the fields of a TELL are a record together."""
+    """Returns true if the fields of a TELL are a record together."""
     free = field["holder kind"] == 0
     settled = field["phase"] == 0
     if free != (field["epoch"] % 2 == 0) or (free and field["number"] != 0):
@@ -54,7 +54,7 @@ def is_record(field):
 
 
 def refusal(data):
-    """The first of the tests 1 to 6 that the bytes fail, or 0."""
+    """Returns the first of the tests 1 to 6 that the bytes fail, or 0."""
     if len(data) != 44:
         return 1
     if data[:2] != b"SM":
@@ -83,7 +83,7 @@ def refusal(data):
 
 
 def refusal_of_answer(data):
-    """The first of the tests 1 to 9 of `smi answer` that the bytes fail, or 0."""
+    """Returns the first of the tests 1 to 9 of `smi answer` that the bytes fail, or 0."""
     code = refusal(data)
     if code:
         return code
@@ -98,7 +98,7 @@ def refusal_of_answer(data):
 
 
 def take_answered(data):
-    """What `smi answer` says to a take that it accepts, on a fresh domain."""
+    """Returns what `smi answer` says to a take that it accepts, on a fresh domain."""
     field = values(data)
     holder = field["holder"] if field["epoch"] == 0 else 0
     return (b"SM\x01\x05" + (1).to_bytes(2, "big") + field["from"].to_bytes(2, "big") + b"\x00\x01"

@@ -5,24 +5,23 @@ import os
 import re
 import socket
 import subprocess
-import time
 
 import nodes
-import verdict
+import running
 
 # The station of a screen and its operator, who asks and watches.
 STATION, OPERATOR = "SCREEN", "WATCHER"
 
 
 def tcp_port():
-    """A port at which nobody listens."""
+    """Returns a port at which no program listens."""
     with socket.socket() as one:
         one.bind(("127.0.0.1", 0))
         return one.getsockname()[1]
 
 
 def with_screen(lines, port):
-    """The lines of a tree file, with a screen's station as the last of its stations and its operator as the last."""
+    """Returns the lines of a tree file with a screen's station after its stations, and with the screen's operator."""
     lines = list(lines)
     for word, line in [("operator", "operator %s %s" % (OPERATOR, STATION)),
                        ("station", "station %s 127.0.0.1:%d" % (STATION, port))]:
@@ -32,7 +31,7 @@ def with_screen(lines, port):
 
 
 def at_home(lines):
-    """The lines of a tree file, with the address of each station on this machine, at ports that nobody uses."""
+    """Returns the lines of a tree file with the address of each station on this machine, at ports of its own."""
     count = sum(line.startswith("station ") for line in lines)
     ports = iter(nodes.free_ports(count))
     return [re.sub(r"^(station \S+) .*", lambda found: "%s 127.0.0.1:%d" % (found[1], next(ports)), line)
@@ -40,7 +39,7 @@ def at_home(lines):
 
 
 class Screen:
-    """A screen that runs."""
+    """A running screen."""
 
     def __init__(self, program, tree, store, more=("--endless",), port=None, **how):
         self.port = port or tcp_port()
@@ -49,23 +48,23 @@ class Screen:
         self.child = subprocess.Popen(list(map(str, words)), stdin=subprocess.DEVNULL, stdout=subprocess.PIPE,
                                       stderr=subprocess.PIPE, text=True, **how)
 
-    def is_up(self, patience=nodes.PATIENCE):
-        """Whether it answers, within so many seconds."""
-        end = time.monotonic() + patience
-        while time.monotonic() < end and self.child.poll() is None:
-            try:
-                return self.get("/metrics")[0] == 200
-            except OSError:
-                time.sleep(0.05)
-        return False
+    def is_up(self):
+        """Returns true once it answers, or false if it does not in time."""
+        return running.is_so(lambda: self.child.poll() is not None or self.is_answering()) and self.child.poll() is None
+
+    def is_answering(self):
+        try:
+            return self.get("/metrics")[0] == 200
+        except OSError:
+            return False
 
     def get(self, target, method="GET", host=None, patience=10):
-        """The status and the body of an answer."""
+        """Returns the status and the body of an answer."""
         head = "%s %s HTTP/1.1\r\nHost: %s\r\nConnection: close\r\n\r\n" % (method, target, host or self.host)
         return answers(self.exchange(head.encode(), patience))[0]
 
     def exchange(self, sent, patience=10):
-        """All that comes back for these bytes, until the screen closes or nothing comes."""
+        """Returns all that comes back for these bytes, until the screen closes or nothing comes."""
         with socket.create_connection(("127.0.0.1", self.port), timeout=patience) as one:
             try:
                 one.sendall(sent)
@@ -77,29 +76,26 @@ class Screen:
         status, body = self.get("/api/picture")
         return json.loads(body) if status == 200 else None
 
-    def waits_for(self, holds, patience=nodes.PATIENCE):
-        """Whether something comes to hold of the picture, within so many seconds."""
-        end = time.monotonic() + patience
-        while time.monotonic() < end:
+    def waits_for(self, holds):
+        """Returns true once something holds of the picture, or false if it does not in time."""
+        def is_so():
             picture = self.picture()
-            if picture and holds(picture):
-                return True
-            time.sleep(0.05)
-        return False
+            return picture and holds(picture)
+        return running.is_so(is_so)
 
-    def comes(self, name, look, wanted):
-        """A case: that what is looked at in the picture comes to be what is wanted."""
+    def comes(self, look, wanted):
+        """Returns what is looked at in the picture, once it is what is wanted or too late."""
         def seen():
             picture = self.picture()
             return look(picture) if picture else "no picture"
-        return verdict.comes(name, seen, wanted, nodes.PATIENCE)
+        return running.at_last(seen, wanted)
 
     def key(self):
-        """The key that stands in its page, for orders."""
+        """Returns the key that is in its page, for orders."""
         return re.search(rb'const KEY = "([^"]*)"', self.get("/")[1])[1].decode()
 
     def give(self, line, method="POST", target="/api/orders", host=None, origin="own", key="own", more=None):
-        """The status and the body of what is answered to an order, which the page gives if nothing else is said."""
+        """Gives an order, as the page does unless told otherwise, and returns the status and the body of the answer."""
         host = host or self.host
         fields = [("Host", host), ("Origin", "http://" + host if origin == "own" else origin),
                   ("Authorization", self.key() if key == "own" else key)]
@@ -109,27 +105,18 @@ class Screen:
         return answers(self.exchange(("\r\n".join(lines) + "\r\n\r\n").encode() + body))[0]
 
     def told_orders(self):
-        """What it tells of the orders that were given."""
+        """Returns what it tells of the orders that were given."""
         return json.loads(self.get("/api/orders")[1])
 
     def orders(self):
         return self.told_orders()["orders"]
 
-    def waits_for_orders(self, holds, patience=nodes.PATIENCE):
-        """Whether something comes to hold, within so many seconds."""
-        end = time.monotonic() + patience
-        while time.monotonic() < end:
-            if holds():
-                return True
-            time.sleep(0.1)
-        return False
-
     def has_console(self):
-        """Whether it comes to have a connection with its console."""
-        return self.waits_for_orders(lambda: self.told_orders()["console"])
+        """Returns true once it has a connection with its console, or false if it has none in time."""
+        return running.is_so(lambda: self.told_orders()["console"])
 
     def order(self, text):
-        """The code with which an order ends that is given now; nothing where it does not end."""
+        """Gives an order, and returns the code with which it ends, or None if it does not end."""
         line, before = "order " + text, max([it["number"] for it in self.orders()], default=0)
         if self.give(line)[0] != 202:
             return None
@@ -137,12 +124,11 @@ class Screen:
         def ended():
             return [it for it in self.orders() if it["number"] > before and it["line"] == line and not it["waits"]]
 
-        return ended()[0]["code"] if self.waits_for_orders(ended) else None
+        return ended()[0]["code"] if running.is_so(ended) else None
 
     def memory(self):
-        """How much memory it holds, in KiB."""
-        with open("/proc/%d/status" % self.child.pid, encoding="ascii") as file:
-            return int(re.search(r"VmRSS:\s+(\d+)", file.read())[1])
+        """Returns how much memory it holds, in KiB."""
+        return running.memory_of(self.child)
 
     def end(self):
         self.child.kill()
@@ -150,7 +136,7 @@ class Screen:
 
 
 def drained(one):
-    """What a connection gives until it ends, or nothing comes any more."""
+    """Returns what a connection gives until it ends, or nothing comes any more."""
     found = b""
     try:
         while True:
@@ -163,7 +149,7 @@ def drained(one):
 
 
 def answers(text):
-    """The answers in a text, one after the other: the status and the body of each."""
+    """Returns the status and the body of each answer in a text."""
     found = []
     while text:
         head, _, rest = text.partition(b"\r\n\r\n")
@@ -182,25 +168,19 @@ def by_name(rows):
 
 
 def states_of(picture):
-    """The state of each object that was shown, by name."""
+    """Returns the state of each object that was shown, by name."""
     rows = picture["domains"] + picture["devices"]
     return {row["name"]: row["shown"]["state"] for row in rows if row["shown"]}
 
 
 def holders_of(picture):
-    """Who holds each domain that was told: a name, or `free`."""
+    """Returns who holds each domain that was told: a name, or `free`."""
     found = {}
     for row in picture["domains"]:
         if row["told"]:
             holder = row["told"]["holder"] or {"nobody": "free"}
             found[row["name"]] = next(iter(holder.values()))
     return found
-
-
-def write_lines(path, lines):
-    with open(path, "w", encoding="ascii") as file:
-        file.write("\n".join(lines) + "\n")
-    return path
 
 
 def store_of(folder, name):

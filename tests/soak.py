@@ -29,7 +29,7 @@ import threading
 import time
 
 import nodes
-import verdict
+import running
 
 STATIONS = "ABC"
 OPERATORS = {"A": ["ANN", "DAN"], "B": ["BOB"], "C": ["CAT"]}
@@ -40,8 +40,7 @@ LATEST = 0.3
 
 
 def tree_lines(ports, of):
-    """The tree as the node of a station reads it: its own port, and for each other one the proxy's port between the
-    two."""
+    """Returns the tree as the node of a station reads it: its own port, and the proxy's port for each other one."""
     lines = nodes.tree_lines([of(name) for name in STATIONS])
     at = lines.index("operator BOB B")
     middle = ["operator DAN A"] + lines[at:at + 1] + ["operator CAT C"]
@@ -143,7 +142,7 @@ class Soak:
             self.events.append((time.monotonic(), *event))
 
     def order(self, draw, operator):
-        """A random order of an operator, as it is written."""
+        """Returns a random order of an operator, as it is written."""
         domain = draw.choice(list(DOMAINS))
         kind = draw.choice(["take", "take", "take", "drop", "drop", "do", "do", "do", "include", "exclude", "manual",
                             "ignore", "ask",
@@ -218,7 +217,7 @@ class Soak:
                 self.kills += 1
 
     def rows(self, name):
-        """The rows of a store, by key, as `smi rows` lists them; nothing where it can't be read just then."""
+        """Returns the rows of a store, by key, as `smi rows` lists them, or None if it can't be read just then."""
         if not os.path.exists(self.path("store", name)):
             return {}
         done = subprocess.run([self.program, "rows", self.path("store", name)], stdout=subprocess.PIPE,
@@ -232,7 +231,7 @@ class Soak:
                 self.look_at(self.rows(name))
 
     def look_at(self, rows):
-        """No row goes back."""
+        """Checks that no row goes back."""
         self.samples += 1
         for key, value in rows.items():
             for what, rank in ranks(key, value):
@@ -271,7 +270,7 @@ class Soak:
 
 
 def links_of(data):
-    """The links in a row: domain, form, epoch, number, how many commands are pending."""
+    """Returns the links in a row: domain, form, epoch, number, how many commands are pending."""
     found, at = {}, 0
     while at < len(data):
         domain, form = int.from_bytes(data[at:at + 2], "big"), data[at + 2]
@@ -287,13 +286,13 @@ def links_of(data):
 
 
 def record_of(value):
-    """Holder kind, holder, epoch, last, whether it is busy, and the links of a domain's row."""
+    """Returns holder kind, holder, epoch, last, whether it is busy, and the links of a domain's row."""
     return (value[1], int.from_bytes(value[2:4], "big"), int.from_bytes(value[4:12], "big"),
             int.from_bytes(value[12:16], "big"), value[16], links_of(value[24:]))
 
 
 def ranks(key, value):
-    """What never goes back in a row."""
+    """Yields what never goes back in a row."""
     if key[1]:
         _, _, epoch, last, busy, links = record_of(value)
         yield "the record of domain %d" % key[1], (epoch, 2 * last + 1 - busy)
@@ -348,16 +347,15 @@ def unknown_grants(rows):
 
 
 def cases(soak):
-    """What is to be seen of a soak: a name, and whether it was so."""
-    seconds = soak.said.seconds
-    yield verdict.case("soak: violations", soak.violations, [])
-    yield verdict.case("soak: orders were told", soak.told, seconds, ">")
-    yield verdict.case("soak: nodes were killed", soak.kills, seconds // 10 if soak.said.kills else -1, ">")
-    yield verdict.case("soak: datagrams were passed on", soak.proxy.count["passed on"], seconds, ">")
+    """Returns what has to hold of a soak: a name, whether it does, and what came."""
+    seconds, count = soak.said.seconds, soak.proxy.count
+    found = [("violations", not soak.violations, soak.violations), ("orders were told", soak.told > seconds, soak.told),
+             ("nodes were killed", soak.kills > (seconds // 10 if soak.said.kills else -1), soak.kills),
+             ("datagrams were passed on", count["passed on"] > seconds, count["passed on"])]
     for what, rate in [("lost", "loss"), ("repeated", "repeat"), ("delayed", "delay")]:
         most = seconds // 10 if soak.proxy.rates[rate] else -1
-        yield verdict.case("soak: datagrams were " + what, soak.proxy.count[what], most, ">")
-    yield verdict.case("soak: rows were read", soak.samples, seconds, ">")
+        found.append(("datagrams were " + what, count[what] > most, count[what]))
+    return [*found, ("rows were read", soak.samples > seconds, soak.samples)]
 
 
 def arguments(given):
@@ -382,7 +380,7 @@ def main():
         soak.report()
     finally:
         shutil.rmtree(folder, ignore_errors=True)
-    verdict.end(list(cases(soak)))
+    running.end(cases(soak))
 
 
 if __name__ == "__main__":

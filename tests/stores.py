@@ -1,10 +1,7 @@
 """Stores of stable rows and what `smi rows` says of them, written down from docs/FORMATS.md, "Stable rows"."""
 
 import os
-import shutil
 import sqlite3
-import subprocess
-import verdict
 
 TABLE = ("CREATE TABLE stable_rows (station INTEGER NOT NULL, domain INTEGER NOT NULL, operator INTEGER NOT NULL, "
          "bytes BLOB NOT NULL, PRIMARY KEY (station, domain, operator)) STRICT")
@@ -18,7 +15,7 @@ ROWS = [
 
 
 def store(path, table, rows):
-    """A file with a table and rows in it."""
+    """Writes a file with a table and rows in it, and returns its path."""
     with sqlite3.connect(path) as file:
         file.execute(table)
         file.executemany("INSERT INTO stable_rows VALUES (?, ?, ?, ?)",
@@ -28,11 +25,12 @@ def store(path, table, rows):
 
 
 def listing(rows):
+    """Returns what `smi rows` prints of these rows."""
     return "".join("%d %d %d %s\n" % (key + (text,)) for key, text in sorted(rows))
 
 
 def rows_in(path):
-    """The rows of a store that the other program finds whole, none where there is no table."""
+    """Returns the rows of a store that SQLite finds whole. If there is no table, there are none."""
     with sqlite3.connect(path) as file:
         assert file.execute("PRAGMA integrity_check").fetchall() == [("ok",)]
         tables = file.execute("SELECT name FROM sqlite_master WHERE type = 'table'").fetchall()
@@ -49,25 +47,8 @@ OURS = [
 ]
 
 
-def ours(program, tree, folder):
-    """A store that a node over the worked tree saved: whether that was told, and whether others read the rows there."""
-    path = os.path.join(folder, "ours")
-    done = subprocess.run([program, "node", tree, "B", path, "--turns", "100"], input=b"order BOB take TPC\n",
-                          stdout=subprocess.PIPE, check=False)
-    yield verdict.case("our store: saved", (done.stdout, done.returncode), (b"told BOB take TPC 0\n", 0))
-    listed = subprocess.run([program, "rows", path], stdout=subprocess.PIPE, check=False).stdout.decode()
-    yield verdict.case("our store: listed", listed, listing(OURS))
-    yield verdict.case("our store: read by Python's sqlite3", rows_in(path), OURS)
-    line = shutil.which("sqlite3")
-    if line:
-        query = "SELECT station, domain, operator, lower(hex(bytes)) FROM stable_rows ORDER BY 1, 2, 3"
-        read = subprocess.run([line, "-separator", " ", path, query], stdout=subprocess.PIPE,
-                              check=False).stdout.decode()
-        yield verdict.case("our store: read by the command line of sqlite3", read, listing(OURS))
-
-
 def all_stores(folder):
-    """Each store: its name, its path, standard output, standard error and status."""
+    """Yields each store: its name, its path, standard output, standard error and status."""
     def path(name):
         return os.path.join(folder, name)
 

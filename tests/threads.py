@@ -24,7 +24,7 @@ def trace(request, thread):
 
 @contextlib.contextmanager
 def held(process):
-    """All threads of a process but the first stand still. To be left in the thread that has begun it."""
+    """Stops all threads of a process but the first. It has to be left in the thread that has begun it."""
     others = [int(it) for it in os.listdir("/proc/%d/task" % process) if int(it) != process]
     stopped = []
     try:

@@ -1,9 +1,4 @@
-"""Tests of the judges: what the soak sees in rows and answers, and how a test script ends. No node runs.
-
-usage: tools_test.py [TEXT]
-
-With a TEXT only the tests are run whose name has it. The last line is 'N passed, M failed'.
-"""
+"""Tests of the judges: what the soak sees in rows and answers, and what a run of tests counts. No node runs."""
 
 import ast
 import glob
@@ -13,22 +8,21 @@ import threading
 import unittest
 from unittest import mock
 
-HERE = os.path.dirname(os.path.abspath(__file__))
-ROOT = os.path.dirname(HERE)
+import pytest
 
+import running
 import soak
-import verdict
-from verdict import printed
+from running import HERE, ROOT, text_of
 
 
 def record_row(kind, holder, epoch, last, busy, links=b""):
-    """The row of a domain (docs/FORMATS.md, "Stable rows")."""
+    """Returns the row of a domain (docs/FORMATS.md, "Stable rows")."""
     return (bytes([2, kind]) + holder.to_bytes(2, "big") + epoch.to_bytes(8, "big") + last.to_bytes(4, "big")
             + bytes([busy]) + bytes(5) + (1 if links else 0).to_bytes(2, "big") + links)
 
 
 def link_of(domain, form, epoch, number=0, pending=0):
-    """A link in a row, with so many commands pending."""
+    """Returns a link in a row, with this many commands pending."""
     more = (pending - 1).to_bytes(2, "big") + bytes(4 * (pending - 1)) if form == 5 else b""
     return domain.to_bytes(2, "big") + bytes([form, 0]) + epoch.to_bytes(8, "big") + number.to_bytes(4, "big") \
         + bytes(4) + more
@@ -64,7 +58,7 @@ class Soak(unittest.TestCase):
         self.assertEqual(soak.commanders(late), [])
 
     def gone_back(self, key, before, after):
-        """What a reading of a row finds after another one."""
+        """Returns what a reading of a row finds after another one."""
         seen = eyes()
         soak.Soak.look_at(seen, {key: before})
         soak.Soak.look_at(seen, {key: after})
@@ -106,71 +100,97 @@ class Soak(unittest.TestCase):
 
 
 def eyes():
-    """What a soak has seen, and its violations, without nodes."""
+    """Returns what a soak has seen, and its violations, without nodes."""
     made = mock.Mock(spec=["samples", "seen", "lock", "violations", "violated"])
     made.samples, made.seen, made.lock, made.violations = 0, {}, threading.Lock(), []
     made.violated = made.violations.append
     return made
 
 
-class Verdicts(unittest.TestCase):
-    """How a test script ends, and what it says of a case that failed."""
-
-    def test_ends(self):
-        for done, only, wanted in [
-                ([("one", True), ("two", 1)], "", ("2 passed, 0 failed\n", 0)),
-                ([("one", True), ("two", None)], "", ("FAILED two\n1 passed, 1 failed\n", 1)),
-                ([("one", True), ("two", False)], "one", ("1 passed, 0 failed\n", 0)),
-                ([("one", True)], "three", ("0 passed, 0 failed\n", 1)), ([], "", ("0 passed, 0 failed\n", 1))]:
-            self.assertEqual(printed(verdict.end, done, only), wanted)
-
-    def test_wanted_and_came(self):
-        said, status = printed(verdict.end, [verdict.case("one", [1, 2], [1, 3]), verdict.case("two", 2, 2)])
-        self.assertEqual((said, status), (
-            "FAILED one\n    wanted [1, 3]\n    came   [1, 2]\n1 passed, 1 failed\n", 1))
-
-    def test_how(self):
-        for came, how, wanted, holds in [
-                (1, "<", 2, True), (2, "<", 2, False), (2, "<=", 2, True), (1, ">=", 2, False), (3, ">", 2, True),
-                (1, "in", [1], True), (2, "in", [1], False), (2, "not in", [1], True), (None, "is", None, True),
-                (0, "is not", None, True), (1, "!=", 1, False)]:
-            self.assertEqual(verdict.case("one", came, wanted, how), ("one", holds), (came, how, wanted))
-        self.assertEqual(verdict.told(verdict.case("one", 3, 2, "<")), "FAILED one\n    wanted < 2\n    came     3")
-
-    def test_long_values_are_told_where_they_differ(self):
-        long = "x" * 1000
-        said = verdict.told(verdict.case("one", long + "a" + long, long + "b" + long))
-        self.assertIn("xbx", said)
-        self.assertIn("xax", said)
-        self.assertLess(len(said), 3 * verdict.TOLD)
-
-    def test_what_comes_in_time(self):
-        seen = iter([1, 2, 3, 4])
-        self.assertEqual(verdict.comes("one", lambda: next(seen), 3, 10), ("one", True))
-        late = verdict.comes("one", lambda: 1, 2, 0)
-        self.assertEqual((late, late.came), (("one", False), 1))
-
-
 class Scripts(unittest.TestCase):
-    """No script does anything where it is imported, and each tells of its end in one way."""
+    """No script does anything when it is imported, and each tells of its end in one way."""
 
     def paths(self):
         return sorted(glob.glob(os.path.join(ROOT, "tools", "*.py")) + glob.glob(os.path.join(HERE, "*.py")))
 
-    def test_nothing_runs_where_it_is_imported(self):
+    def test_nothing_runs_at_an_import(self):
         for path in self.paths():
-            with open(path, encoding="utf-8") as file:
-                body = ast.parse(file.read()).body
+            body = ast.parse(text_of(path)).body
             calls = [ast.unparse(it) for it in body if isinstance(it, ast.Expr) and isinstance(it.value, ast.Call)]
             self.assertEqual([it for it in calls if not it.startswith("sys.path.insert(")], [], path)
 
     def test_one_way_to_end(self):
         for path in self.paths():
-            with open(path, encoding="utf-8") as file:
-                own = "passed, %d failed" in file.read()
+            own = "passed, %d failed" in text_of(path)
             if path.startswith(HERE) and path != __file__:
-                self.assertEqual(own, os.path.basename(path) == "verdict.py", path)
+                self.assertEqual(own, os.path.basename(path) in ("conftest.py", "running.py"), path)
 
 
-if __name__ == "__main__":
-    verdict.run_tests(sys.modules[__name__])
+@pytest.mark.parametrize("cases, told", [
+    ([("one", True, 1), ("two", 1, 2)], ("2 passed, 0 failed\n", 0)),
+    ([("one", True, 1), ("two", None, [2, 3])], ("FAILED two: [2, 3]\n1 passed, 1 failed\n", 1)),
+    ([], ("0 passed, 0 failed\n", 1))], ids=["well", "wrong", "nothing"])
+def test_an_end(cases, told):
+    """A script tells what failed and what came of it. One without a case has failed."""
+    assert running.printed(running.end, cases) == told
+
+
+def test_what_comes_in_time():
+    came = iter(range(10))
+    assert [running.at_last(lambda: next(came), 3, pause=0), running.at_last(lambda: 1, 2, 0)] == [3, 1]
+    assert [running.is_so(lambda: next(came) == 6, pause=0), running.is_so(lambda: False, 0)] == [True, False]
+
+
+TESTS = """
+import pytest
+
+def test_well():
+    pass
+
+def test_wrong():
+    assert 1 == 2
+
+def test_checks(subtests):
+    for name in ("one", "two", "three"):
+        with subtests.test(name):
+            assert name != "two"
+
+def test_sound_checks(subtests):
+    for name in ("one", "two"):
+        with subtests.test(name):
+            pass
+
+@pytest.mark.skip(reason="it is not here")
+def test_skipped():
+    pass
+"""
+
+
+@pytest.fixture
+def counted(folder):
+    """Returns a function that runs pytest with tests/conftest.py on these tests, and returns its last line and status.
+    """
+    running.write(os.path.join(folder, "small_test.py"), TESTS)
+
+    def run(*words):
+        words = [sys.executable, "-m", "pytest", "-c", os.path.join(ROOT, "pytest.ini"), "--rootdir", folder,
+                 "--confcutdir", HERE, "-p", "conftest", "small_test.py", *words]
+        out, _, status = running.run(words, cwd=folder, env={**os.environ, "PYTHONPATH": HERE})
+        return out.decode().splitlines()[-1], status
+    return run
+
+
+@pytest.mark.parametrize("words, last, status", [
+    # three checks and their test pass, and one test without checks; of a test that fails only its failures count
+    ([], "4 passed, 2 failed", 1), (["-n", "2"], "4 passed, 2 failed", 1),
+    (["-k", "test_well"], "1 passed, 0 failed", 0), (["-k", "checks"], "3 passed, 1 failed", 1),
+    (["-k", "skipped"], "0 passed, 0 failed", 0),
+    (["-k", "nothing"], "0 passed, 0 failed", 5)], ids=str)
+def test_what_is_counted(counted, words, last, status):
+    assert counted(*words) == (last, status)
+
+
+def test_what_failed_is_run_again(counted):
+    """`--lf` runs a test again of which one check failed, because pytest alone takes it for passed."""
+    counted()
+    assert counted("--lf") == ("0 passed, 2 failed", 1)

@@ -39,7 +39,7 @@ AND_NO_RULE = ", and no rule or move leads to it"
 
 
 def numbered(form, first, last):
-    """One line for each number."""
+    """Returns one line for each number."""
     return [form % n for n in range(first, last + 1)]
 
 
@@ -55,7 +55,7 @@ def refused(name, lines, line, fault):
 
 
 def with_line(number, text):
-    """The worked file with another line at that place."""
+    """Returns the worked file with another line at that place."""
     lines = WORKED.splitlines()
     lines[number - 1] = text
     return lines
@@ -165,7 +165,7 @@ def limits():
 
 
 def doubtful():
-    """Lawful files of which something is surely not meant: what is told is written down here."""
+    """Yields lawful files of which something is surely not meant, with what is told of them."""
     same = WORKED.replace("127.0.0.1:9002", "127.0.0.1:9001")
     idle = WORKED.replace("accept UNIT START", "accept UNIT START\naccept UNIT STOP")
     unreached = WORKED.replace("state ERROR", "state ERROR\nstate PURPLE")
@@ -204,7 +204,10 @@ def doubtful():
 
 
 def full():
-    """A tree at every limit but those of a domain alone, and domain 1 at these; tests/limits.py knows it."""
+    """Returns a tree at every limit but those of a domain alone, and domain 1 at these.
+
+    tests/limits_test.py knows what is in it.
+    """
     lines = ["tree 17"] + numbered("state S%d", 1, 64) + numbered("action A%d", 1, 64)
     lines += ["station W%d 10.0.0.%d:%d" % (n, n, 9000 + n) for n in range(1, 129)]
     lines += ["operator O%d W%d" % (n, (n + 7) // 8) for n in range(1, 33)]
@@ -223,7 +226,7 @@ def full():
 
 
 def pairs():
-    """Lines with two faults: the one that is tested first is answered."""
+    """Yields lines with two faults, of which the one that is tested first is answered."""
     begun = ["tree 1", "state S", "state T", "action A", "station P 10.0.0.1:1", "operator O P", "devclass D S",
              "move D S A T",
              "unitclass U S", "accept U A", "domain M P U -"]
@@ -268,7 +271,7 @@ def pairs():
 
 
 def all_trees():
-    """Each tree file: its name, its bytes, standard output, standard error and status."""
+    """Yields each tree file: its name, its bytes, standard output, standard error and status."""
     yield from worked()
     yield from faults()
     yield from limits()

@@ -33,13 +33,13 @@ AT_ONCE = 32
 
 
 def is_bound(port):
-    """Whether a program has this port of the machine."""
+    """Returns true if a program has this port of the machine."""
     with open("/proc/net/udp", encoding="ascii") as file:
         return any(line.split()[1].endswith(":%04X" % port) for line in file.readlines()[1:])
 
 
 def when_bound(port, patience=PATIENCE):
-    """The moment at which a program was seen to have this port."""
+    """Returns the moment at which a program was seen to have this port."""
     until = time.monotonic() + patience
     while not is_bound(port) and time.monotonic() < until:
         time.sleep(0.0005)
@@ -47,7 +47,7 @@ def when_bound(port, patience=PATIENCE):
 
 
 def socket_at(port):
-    """A socket at a port of this machine, which never waits."""
+    """Returns a socket at a port of this machine, which never waits."""
     made = socket.socket(socket.AF_INET, socket.SOCK_DGRAM)
     made.bind((HOST, port))
     made.setblocking(False)
@@ -89,7 +89,7 @@ class Sender(Beside):
         super().__init__(["send", port, rate, seconds], ["%d %s" % (own, data.hex()) for own, data in datagrams])
 
     def end(self):
-        """How many datagrams it sent, how many came back to it, and how many it sent a second."""
+        """Returns how many datagrams it sent, how many came back to it, and how many it sent a second."""
         sent, answered, seconds = super().end()
         return int(sent), int(answered), int(sent) / float(seconds)
 
@@ -107,13 +107,13 @@ class Proxy(Beside):
 
 
 def is_input_over():
-    """Whether the input of this process has ended."""
+    """Returns true if the input of this process has ended."""
     ready, _, _ = select.select([sys.stdin], [], [], 0)
     return bool(ready) and not sys.stdin.readline()
 
 
 def answers_at(made):
-    """How many datagrams of 44 bytes wait in a socket, of the next two."""
+    """Returns how many datagrams of 44 bytes wait in a socket, of the next two."""
     count = 0
     try:
         for _ in range(2):
@@ -147,7 +147,7 @@ def send(port, rate, seconds, datagrams):
 
 
 def lines_before_gap():
-    """The lines of the input up to an empty one, each as its words."""
+    """Returns the lines of the input up to an empty one, each as its words."""
     return list(iter(lambda: sys.stdin.readline().split(), []))
 
 

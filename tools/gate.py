@@ -7,7 +7,7 @@ prints the command that records them. Mutants of crates over changed ones are tr
 first, for at most BUDGET processor seconds; the rest is counted as not tried again. --all reads no record, tries the
 mutants of every crate, and writes the record. --recorded only looks whether the gate would end at once.
 
-A script of tests that fails is run once more, and its line says so. The last line is 'N passed, M failed'.
+Tests that fail are run once more, and their line says so. The last line is 'N passed, M failed'.
 """
 
 import os
@@ -24,15 +24,15 @@ import refusals
 # How long mutants of crates over changed ones are tried at most, in processor seconds.
 BUDGET = 50 * 60
 PROGRAM = os.path.join("bin", "smi")
-# The scripts of tests, each with its words. Nothing is known of the machine, so the crowd's limits of time are twenty
-# times as wide as in `make crowd`, and it waits 30 seconds for an answer.
-SCRIPTS = [["tests/words.py"], ["tests/gate_test.py"], ["tests/tools_test.py"], ["tools/page.py"],
-           *([script, PROGRAM] for script in (
-               "tests/command_lines.py", "tests/nodes.py", "tests/marks.py", "tests/full.py", "tests/consoles.py",
-               "tests/shift.py", "tests/screen.py", "tests/standing.py", "tests/browser.py", "tests/pictures.py",
-               "tests/bridge.py", "tests/documents.py")),
-           ["tests/package.py"], ["tests/crowd.py", PROGRAM, "--slack", "20", "--patience", "30"],
-           ["tests/soak.py", PROGRAM, "--seconds", "40"]]
+# Debian's python3 is the one that has pytest.
+PYTHON = "/usr/bin/python3"
+# The tests side by side, those that measure time one after the other, and scripts. Nothing is known of the machine, so
+# the crowd's limits of time are twenty times as wide as in `make crowd`, and it waits 30 seconds for an answer.
+PYTEST = ["-m", "pytest", "tests", "-m"]
+SCRIPTS = {"tests": [*PYTEST, "not alone", "-n", "auto", "--dist", "loadfile"], "tests alone": [*PYTEST, "alone"],
+           "tools/page.py": ["tools/page.py"],
+           "tests/crowd.py": ["tests/crowd.py", PROGRAM, "--slack", "20", "--patience", "30"],
+           "tests/soak.py": ["tests/soak.py", PROGRAM, "--seconds", "40"]}
 
 
 def run(words):
@@ -49,13 +49,15 @@ def run(words):
     return passed, failed or (1 if child.returncode else 0)
 
 
-def script(words):
-    """Runs a script of tests, and once more if it fails."""
-    passed, failed = run([sys.executable, *words])
+def script(name):
+    """Runs the tests or a script, and once more if it fails: of the tests those that failed, which count only then."""
+    passed, failed = run([PYTHON, *SCRIPTS[name]])
     if not failed:
         return passed, 0
-    print("%s failed, and is run once more" % words[0], flush=True)
-    return (*run([sys.executable, *words]), ", at the second try")
+    print("%s failed, and is run once more" % name, flush=True)
+    others, again = (passed, ["--last-failed"]) if "pytest" in SCRIPTS[name] else (0, [])
+    passed, failed = run([PYTHON, *SCRIPTS[name], *again])
+    return others + passed, failed, ", at the second try"
 
 
 def take_program(since):
@@ -78,7 +80,7 @@ def try_mutants(is_whole, since):
     """Tries the mutants of all crates, or of those over changed ones as far as the budget goes."""
     trying = refusals.with_mutants() if is_whole else refusals.over_changed()
     rest = [it for it in refusals.with_mutants() if it.name not in {of.name for of in trying}]
-    passed, failed = run([sys.executable, "tests/edits_test.py", str(since)]) if trying else (0, 0)
+    passed, failed = run([PYTHON, "tests/edits_test.py", str(since)]) if trying else (0, 0)
     tried = edits.try_all(trying, since=since, seconds=None if is_whole else BUDGET)
     refused, others, untried = edits.summary(tried)
     lines = refusals.lines_of(tried)
@@ -131,8 +133,8 @@ def main():
     gate.part("proofs and tests", run, ["rt", "ci"])
     if not gate.failed:
         take_program(since)
-        for words in SCRIPTS:
-            gate.part(words[0], script, words)
+        for name in SCRIPTS:
+            gate.part(name, script, name)
         gate.part("mutants", try_mutants, is_whole, since)
     gate.end()
 

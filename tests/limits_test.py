@@ -3,36 +3,30 @@
 import os
 import subprocess
 
+import running
 import stores
 import trees
-import verdict
+from command_lines_test import TAKE, TAKEN
 
-# How many datagrams are answered in one run.
-MANY = 5_000_000
+# How many datagrams are answered in one run, and how many are written at once.
+MANY, BLOCK = 5_000_000, 1000
 
 
-def answer_case(program, folder, take, answered, only=""):
-    """Many times the same datagram: a name, and whether each was answered."""
-    name = "%d datagrams are answered" % MANY
-    if only not in name:
-        return
+def test_many_answers(program, folder):
+    """Many copies of one datagram are all answered."""
     source, result = os.path.join(folder, "many"), os.path.join(folder, "answers")
-    block = 1000
     with open(source, "wb") as file:
-        for _ in range(MANY // block):
-            file.write(take * block)
+        for _ in range(MANY // BLOCK):
+            file.write(TAKE * BLOCK)
     with open(source, "rb") as file, open(result, "wb") as out:
         done = subprocess.run([program, "answer"], stdin=file, stdout=out, stderr=subprocess.PIPE, check=False)
+    assert (done.stderr, done.returncode) == (b"", 0)
     with open(result, "rb") as file:
-        whole = all(file.read(block * len(answered)) == answered * block
-                    for _ in range(MANY // block)) and not file.read(1)
-    os.remove(source)
-    os.remove(result)
-    yield verdict.case(name, (whole, done.stderr, done.returncode), (True, b"", 0))
+        assert all(file.read(BLOCK * len(TAKEN)) == TAKEN * BLOCK for _ in range(MANY // BLOCK)) and not file.read(1)
 
 
-def rows_case(program, folder, only=""):
-    """A store of all rows that a tree at every limit has, and more: a name, and whether it is listed."""
+def test_many_rows(smi, folder):
+    """A store of all rows that a tree at every limit has, and more, is listed."""
     path = os.path.join(folder, "full")
     rows = [((station, 0, 0), "02000000ee6b2800") for station in range(1, 129)]
     rows += [((domain, domain, 0), "020100010000000000000001" + "00000001" + 16 * "0") for domain in range(1, 129)]
@@ -40,13 +34,9 @@ def rows_case(program, folder, only=""):
     rows += [(((operator + 7) // 8, 0, operator), "03000010" + "".join("%04x" % n + link for n in range(1, 17)))
              for operator in range(1, 33)]
     rows += [((129, domain, 0), "07" * domain) for domain in range(1, 713)]
-    name = "%d rows are listed" % len(rows)
-    if only not in name:
-        return
+    assert len(rows) == 1000
     stores.store(path, stores.TABLE, rows)
-    done = subprocess.run([program, "rows", path], stdout=subprocess.PIPE, stderr=subprocess.PIPE, check=False)
-    wanted = stores.listing(rows).encode()
-    yield verdict.case(name, (done.stdout, done.stderr, done.returncode), (wanted, b"", 0))
+    assert smi("rows", path) == (stores.listing(rows).encode(), b"", 0)
 
 
 # The states in which all devices of the full tree are reported, one after the other.
@@ -70,14 +60,14 @@ class Full:
         self.count = dict.fromkeys(self.state, 0)
 
     def show(self, name, state):
-        """The line of an object that comes to another state."""
+        """Yields the line of an object that comes to another state."""
         if state != self.state[name]:
             self.state[name] = state
             self.count[name] += 1
             yield "passed %s 1.%d %s" % (name, self.count[name], state)
 
     def follow(self, domain):
-        """The line of a unit that follows the devices of its domain, by the first rule that holds of them."""
+        """Yields the line of a unit that follows the devices of its domain, by the first rule that holds of them."""
         seen = {self.state[it] for it in self.below[domain]}
         held = (target for how, state, target in self.rules[self.units[domain]]
                 if (state in seen if how == "any" else seen == {state}))
@@ -93,15 +83,12 @@ class Full:
         yield from self.follow(domain)
 
 
-def full_case(program, folder, only=""):
-    """Every device of the tree at every limit is reported in some states, and each action is run at its first domain: a
-    name, and whether the devices and units of all stations pass through the states that the file says."""
-    name = "limits: each move, and the units of 512 devices"
-    if only not in name:
-        return
-    tree, schedule = os.path.join(folder, "full.tree"), os.path.join(folder, "schedule")
-    model = Full(trees.full())
-    lines, wanted = [], []
+def test_full(smi, folder):
+    """Each device of the tree at every limit is reported in some states, and each action is run at its first domain.
+
+    The devices and units of all stations pass through the states that the file says.
+    """
+    model, lines, wanted = Full(trees.full()), [], []
     for state in REPORTED:
         for device in range(1, 513):
             lines.append("report V%d S%d" % (device, state))
@@ -110,11 +97,8 @@ def full_case(program, folder, only=""):
     for action in range(1, 65):
         lines += ["order O1 do D1 A%d" % action, "recent 0", "recent 0"]
         wanted += model.act("D1", "A%d" % action)
-    for path, text in [(tree, trees.full()), (schedule, "\n".join(lines) + "\n")]:
-        with open(path, "w", encoding="ascii") as file:
-            file.write(text)
-    begun, done = (subprocess.run([program, "sim", tree, it], stdout=subprocess.PIPE, stderr=subprocess.PIPE,
-                                  check=False) for it in (os.devnull, schedule))
-    came = done.stdout.decode().splitlines()[len(begun.stdout.splitlines()):]
-    yield verdict.case(name, ([it for it in came if it.startswith("passed")], done.stderr, done.returncode),
-                       (wanted, b"", 0))
+    tree = running.write(os.path.join(folder, "full.tree"), trees.full())
+    schedule = running.write(os.path.join(folder, "schedule"), "\n".join(lines) + "\n")
+    begun, done = (smi("sim", tree, it) for it in (os.devnull, schedule))
+    came = done[0].decode().splitlines()[len(begun[0].splitlines()):]
+    assert ([it for it in came if it.startswith("passed")], *done[1:]) == (wanted, b"", 0)

@@ -1,0 +1,268 @@
+"""Orders by the screen: what comes from its page goes to the console, once, and nothing else does."""
+
+import os
+import socket
+import time
+
+import pytest
+
+import nodes
+import screens
+from running import DEADLINE, at_last, is_so
+
+
+class FakeConsole:
+    """A console that the test plays: it says what the test says, and its lines are read one by one."""
+
+    def __init__(self):
+        self.door = socket.create_server(("127.0.0.1", 0))
+        self.door.settimeout(DEADLINE)
+        self.place, self.line, self.rest = "127.0.0.1:%d" % self.door.getsockname()[1], None, b""
+
+    def meet(self):
+        if self.door is None:
+            name, _, port = self.place.partition(":")
+            self.door = socket.create_server((name, int(port)))
+            self.door.settimeout(DEADLINE)
+        self.line, self.rest = self.door.accept()[0], b""
+        self.line.settimeout(DEADLINE)
+
+    def hear(self):
+        """Returns the next line, or what has come of it if the connection ends."""
+        while b"\n" not in self.rest:
+            got = self.line.recv(4096)
+            if not got:
+                return self.rest.decode()
+            self.rest += got
+        line, _, self.rest = self.rest.partition(b"\n")
+        return line.decode()
+
+    def hears_nothing(self, seconds=1.0):
+        """Returns true if nothing comes for this many seconds."""
+        self.line.settimeout(seconds)
+        try:
+            self.rest += self.line.recv(4096)
+        except socket.timeout:
+            pass
+        self.line.settimeout(DEADLINE)
+        return not self.rest
+
+    def say(self, text):
+        self.line.sendall((text + "\n").encode())
+
+    def leave(self):
+        """Closes the door too, because at an open one the system takes a connection that the test has not met."""
+        self.door.close()
+        self.door = None
+        self.line.close()
+
+    def end(self):
+        if self.line:
+            self.line.close()
+        self.door.close()
+
+
+@pytest.fixture
+def tree(folder):
+    """Returns the path of the worked tree with a screen."""
+    *ports, port = nodes.free_ports(3)
+    return nodes.write_tree(folder, None, screens.with_screen(nodes.tree_lines(ports), port))
+
+
+@pytest.fixture
+def console():
+    made = FakeConsole()
+    yield made
+    made.end()
+
+
+GIVEN = (202, b"the order is on its way")
+STRANGER = (403, b"orders are given from the page alone")
+NO_ORDER = (400, b"this is no order of an operator of the tree")
+AWAY = (503, b"there is no connection with the console")
+SHOWN = (405, b"this screen only shows")
+# Lines that are no order of an operator of the worked tree, and are one line too little or too much.
+NO_ORDERS = [
+    b"", b"take DCS", b"order", b"order ANN", b"order EVE take DCS", b"order ANN take ABC", b"order ANN do DCS HOP",
+    b"report HV READY", b"show HV", b"under way", b"counts", b"@1 order ANN take DCS", b"# order ANN take DCS",
+    b"order ANN take DCS\n", b"order ANN take DCS\norder BOB take TPC", b"order ANN take DCS\r",
+    b"order ANN take DCS\0", b"order ANN take DCS x", b"\xff\xfe", b'order ANN take "DCS"', b"{\"order\":1}"]
+
+
+def check_refused(console, screen, key, subtests):
+    """What comes from elsewhere, or is no order, gives none."""
+    own, local = screen.host, "localhost:%d" % screen.port
+    give, good = screen.give, "order ANN take DCS"
+    for name, how in [("no Origin", {"origin": None}), ("a foreign Origin", {"origin": "http://evil.example"}),
+                      ("an Origin that begins so", {"origin": "http://%s.evil.example" % own}),
+                      ("an Origin at another port", {"origin": "http://127.0.0.1:80"}),
+                      ("an Origin of https", {"origin": "https://" + own}), ("Origin null", {"origin": "null"}),
+                      ("another name of its own", {"origin": "http://" + local}),
+                      ("no key", {"key": None}), ("a wrong key", {"key": "Bearer " + "0" * 32}),
+                      ("part of the key", {"key": key[:-1]}), ("an empty key", {"key": ""}),
+                      ("more than the key", {"key": key + "0"})]:
+        with subtests.test("%s, no" % name):
+            assert give(good, **how) == STRANGER
+    with subtests.test("the key in a cookie, no"):
+        assert give(good, key=None, more="Cookie: " + key) == STRANGER
+    with subtests.test("a foreign Host, no"):
+        assert give(good, host="evil.example", origin="http://evil.example") == (421, b"this is another host")
+    for line in NO_ORDERS:
+        with subtests.test("%r, no" % line):
+            assert give(line) == NO_ORDER
+    with subtests.test("a body too long, no"):
+        assert give("order ANN take DCS" + " " * 50)[0] == 413
+    with subtests.test("GET gives none"):
+        assert give(good, method="GET")[0] == 200
+    for method in ("PUT", "DELETE", "PATCH", "OPTIONS"):
+        with subtests.test("%s, no" % method):
+            assert give(good, method=method) == SHOWN
+    with subtests.test("nor at another place"):
+        assert give(good, target="/api/picture") == SHOWN
+    with subtests.test("nothing of all that was sent"):
+        assert [console.hears_nothing(), screen.orders()] == [True, []]
+
+
+def test_orders(folder, tree, console, start_screen, subtests):
+    """Who may give an order, which is one, and what goes to the console: that one line, once."""
+    screen = start_screen(tree, screens.store_of(folder, "screen"), more=("--endless", "--orders", console.place))
+    with subtests.test("it is up"):
+        assert screen.is_up()
+    console.meet()
+    with subtests.test("the console is there"):
+        assert screen.has_console()
+    key = screen.key()
+    page = screen.get("/")[1]
+    with subtests.test("the page has the key once"):
+        assert [page.count(key.encode()), len(key)] == [1, len("Bearer ") + 32]
+    check_refused(console, screen, key, subtests)
+    give, good, local = screen.give, "order ANN take DCS", "localhost:%d" % screen.port
+    with subtests.test("one that may be given"):
+        assert give(good) == GIVEN
+    with subtests.test("is sent behind a tag"):
+        assert console.hear() == "@1 " + good
+    with subtests.test("and once"):
+        assert console.hears_nothing()
+    with subtests.test("by the other name of the screen"):
+        assert [give("order BOB take TPC", host=local, origin="http://" + local), console.hear()] == [
+            GIVEN, "@2 order BOB take TPC"]
+    check_answered(console, screen, subtests)
+
+
+def fates(screen):
+    """Returns of each order its line, whether it waits, its answer, its code and what that means."""
+    return [(it["line"], it["waits"], it["answer"], it["code"], it["words"]) for it in screen.orders()]
+
+
+def check_answered(console, screen, subtests):
+    """Answers out of order go to their orders, and what answers none changes nothing."""
+    first, second = "order ANN take DCS", "order BOB take TPC"
+    waiting = [(first, True, None, None, None), (second, True, None, None, None)]
+    with subtests.test("both wait"):
+        assert at_last(lambda: fates(screen), waiting) == waiting
+    for text in ["@3 told ANN take DCS 0", "@12 told ANN take DCS 0", "@ told", "told ANN take DCS 0", "", "@1",
+                 "x" * 500, "@1told", "\xff"]:
+        console.say(text)
+    time.sleep(1)
+    with subtests.test("strange ones change nothing"):
+        assert fates(screen) == waiting
+    console.say("@2 told BOB take TPC 5")
+    ended = (second, False, "told BOB take TPC 5", 5, "another one holds the domain")
+    with subtests.test("the second first"):
+        assert at_last(lambda: fates(screen), [waiting[0], ended]) == [waiting[0], ended]
+    console.say("@2 told BOB take TPC 0")
+    console.say("@1 fault 5: \"a\\b\"")
+    odd = (first, False, "?", None, None)
+    with subtests.test("one with quotes"):
+        assert at_last(lambda: fates(screen), [odd, ended]) == [odd, ended]
+    check_broken(console, screen, [odd, ended], subtests)
+
+
+def check_broken(console, screen, before, subtests):
+    """A console that goes: what waits is lost, nothing is given meanwhile, and nothing is sent later."""
+    third, give = "order ANN do DCS CONFIGURE", screen.give
+    with subtests.test("one more is given"):
+        assert [give(third), console.hear()] == [GIVEN, "@3 " + third]
+    seconds = [it["seconds"] for it in screen.orders() if it["waits"]]
+    time.sleep(1.2)
+    with subtests.test("its seconds go on"):
+        assert [it["seconds"] for it in screen.orders() if it["waits"]] > seconds
+    console.leave()
+    lost = (third, False, None, None, None)
+    with subtests.test("it is told"):
+        assert is_so(lambda: not screen.told_orders()["console"])
+    with subtests.test("what waited is lost"):
+        assert fates(screen) == before + [lost]
+    with subtests.test("none is taken"):
+        assert give("order ANN drop DCS") == AWAY
+    console.meet()
+    with subtests.test("it comes back"):
+        assert screen.has_console()
+    with subtests.test("nothing is sent again"):
+        assert console.hears_nothing()
+    console.say("@3 told ANN do DCS CONFIGURE 0")
+    time.sleep(0.6)
+    with subtests.test("an answer of before is nobody's"):
+        assert fates(screen) == before + [lost]
+    lines = ["order ANN ask DCS", "order BOB ask TPC"] * 32
+    given = [give(line) for line in lines]
+    with subtests.test("as many as can wait"):
+        assert [given, [console.hear() for _ in lines]] == [
+            [GIVEN] * len(lines), ["@%d %s" % (number, line) for number, line in enumerate(lines, 4)]]
+    with subtests.test("one more, no"):
+        assert give("order ANN ask DCS") == (429, b"too many orders wait")
+    console.say("@20 told ANN ask DCS free 0 0 settled 0")
+    with subtests.test("where one has ended, one more"):
+        assert [is_so(lambda: give("order ANN drop DCS") == GIVEN), console.hear()] == [
+            True, "@68 order ANN drop DCS"]
+    with subtests.test("it still shows"):
+        assert screen.get("/api/tree")[0] == 200
+
+
+def test_shut(folder, tree, start_node, start_screen, subtests):
+    """Without a console none of this is there."""
+    node = start_node(tree, "A", screens.store_of(folder, "A"), "--endless")
+    screen = start_screen(tree, screens.store_of(folder, "screen"))
+    with subtests.test("it is up"):
+        assert screen.is_up()
+    own = "http://" + screen.host
+    with subtests.test("the page has no key"):
+        assert b"Bearer" not in screen.get("/")[1]
+    with subtests.test("no orders are told"):
+        assert screen.get("/api/orders") == (404, b"there is no such page")
+    for key in (None, "", "Bearer "):
+        told = screen.give("order ANN take DCS", key=key, origin=own)
+        with subtests.test("none is given with the key %r" % key):
+            assert told == SHOWN
+    with subtests.test("nor done"):
+        assert node.ask("order ANN ask DCS").startswith("told ANN ask DCS free")
+
+
+def test_a_real_console(folder, tree, start_node, start_screen, subtests):
+    """Orders by a real node's console, at a path: answered, refused, and as the picture shows."""
+    where = os.path.join(folder, "console")
+
+    def node(name, *more):
+        return start_node(tree, name, screens.store_of(folder, name), "--endless", *more)
+
+    crews = {"A": node("A", "--console", where), "B": node("B")}
+    screen = start_screen(tree, screens.store_of(folder, "screen"), more=("--endless", "--orders", where))
+    with subtests.test("the console is there"):
+        assert screen.is_up() and screen.has_console()
+    for order, code in [("ANN take DCS", 0), ("ANN take DCS", 23), ("ANN include DCS TPC", 0),
+                        ("ANN drop TPC", 21)]:
+        with subtests.test("%s ends with %d" % (order, code)):
+            assert screen.order(order) == code
+    with subtests.test("the picture has it"):
+        assert screen.comes(screens.holders_of, {"DCS": "ANN", "TPC": "DCS"}) == {"DCS": "ANN", "TPC": "DCS"}
+    screen.give("order BOB take TPC")
+    fault = "fault 5: BOB is no operator of this station"
+    with subtests.test("an operator of another"):
+        odd = ("order BOB take TPC", False, fault, None, None)
+        assert at_last(lambda: fates(screen)[-1], odd) == odd
+    crews["A"].kill()
+    with subtests.test("it goes"):
+        assert is_so(lambda: not screen.told_orders()["console"])
+    crews["A"] = node("A", "--console", where)
+    with subtests.test("it comes back"):
+        assert screen.has_console() and screen.order("ANN do DCS CONFIGURE") == 0
