@@ -30,7 +30,7 @@ SHARE := $(PREFIX)/share/smi
 DOC := $(PREFIX)/share/doc/lunskaf
 ZSH := $(PREFIX)/share/zsh/site-functions
 # What a crew and whoever runs the machines may want beside the program.
-TOOLS := console draw firewall hierarchy lines lunskaf play record rows show status tango_bridge
+TOOLS := console draw firewall hierarchy lines lunskaf play record rows show status tango_bridge tree tree_check tree_diff
 
 # The program, its page, completion, the unit and its user, the tools, examples and documents.
 install: bin/smi
@@ -139,9 +139,9 @@ bridge: needs bin/smi
 demo: bin/smi
 	@python3 tools/demo.py bin/smi $(WORDS)
 
-# The tools beside the program, and the pictures that they draw.
+# The tools beside the program, the pictures that they draw and the tree files that they make.
 tools: needs bin/smi
-	@$(call tests,pictures)
+	@$(call tests,pictures tree)
 
 # The documents: what they name, the commands in them, and their words.
 documents: needs bin/smi

@@ -5,7 +5,7 @@ class Hierarchy:
     """The names of a tree file in the order of their lines, so that a thing's number is its place, from 1."""
 
     def __init__(self):
-        self.number, self.states, self.actions = 0, [], []
+        self.number, self.states, self.actions, self.classes = 0, [], [], []
         # station: address; operator: station; domain: (station, class, parent); device: (domain, class)
         self.stations, self.operators, self.domains, self.devices = {}, {}, {}, {}
 
@@ -38,6 +38,8 @@ def of_lines(lines):
             made.stations[more[0]] = more[1]
         elif word == "operator":
             made.operators[more[0]] = more[1]
+        elif word in ("devclass", "unitclass"):
+            made.classes.append(more[0])
         elif word == "domain":
             made.domains[more[0]] = tuple(more[1:])
         elif word == "device":
