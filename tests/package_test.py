@@ -40,6 +40,11 @@ share/smi/tools/console.py
 share/smi/tools/lunskaf.py
 share/smi/examples/supply.py
 share/smi/tools/hierarchy.py
+share/smi/tools/tree.py
+share/smi/tools/tree_check.py
+share/smi/tools/tree_diff.py
+share/smi/examples/experiment.source
+share/smi/examples/experiment.tree
 share/smi/examples/detector.tree
 share/smi/examples/detector-local.tree""".splitlines()
 
