@@ -30,7 +30,7 @@ SHARE := $(PREFIX)/share/smi
 DOC := $(PREFIX)/share/doc/lunskaf
 ZSH := $(PREFIX)/share/zsh/site-functions
 # What a crew and whoever runs the machines may want beside the program.
-TOOLS := console draw firewall hierarchy lines lunskaf play record rows show status tango_bridge tree tree_check tree_diff
+TOOLS := console devices draw firewall hierarchy lines lunskaf mqtt_bridge play record rows show status tango_bridge tree tree_check tree_diff
 
 # The program, its page, completion, the unit and its user, the tools, examples and documents.
 install: bin/smi
@@ -44,7 +44,7 @@ install: bin/smi
 		> $(DESTDIR)$(PREFIX)/lib/systemd/system/$$UNIT.service; done
 	install -d $(DESTDIR)$(SHARE)/tools $(DESTDIR)$(SHARE)/examples $(DESTDIR)$(DOC)/docs/pictures
 	install -m 644 $(TOOLS:%=tools/%.py) $(DESTDIR)$(SHARE)/tools
-	install -m 644 $(filter-out %.service,$(wildcard examples/*)) $(DESTDIR)$(SHARE)/examples
+	install -m 644 $(filter-out %/smi-node@.service %/smi-screen.service,$(wildcard examples/*)) $(DESTDIR)$(SHARE)/examples
 	install -m 644 README.md SECURITY.md CHANGELOG.md LICENSE $(DESTDIR)$(DOC)
 	install -m 644 docs/*.md $(DESTDIR)$(DOC)/docs
 	install -m 644 docs/pictures/* $(DESTDIR)$(DOC)/docs/pictures
@@ -130,9 +130,9 @@ screen: needs bin/smi
 browser: needs bin/smi
 	@$(call tests,browser)
 
-# The bridge to TANGO between a node and real device servers: skipped if there is no PyTango.
+# The bridges to TANGO and MQTT between a node and real servers, each skipped if it is not there, and device programs.
 bridge: needs bin/smi
-	@$(call tests,bridge)
+	@$(call tests,bridge mqtt devices)
 
 # The example detector on this machine, with a screen and the crew's shift: it prints the address to open, and Ctrl-C
 # ends all.

@@ -18,10 +18,7 @@ of the node; an action that came to the device is run as a command of the TANGO 
     action STANDBY Off
     device PIXEL_HV tango://hvhost:10000/trk/hv/1
 
-After `kind` stand what its devices have in common: what state of the tree is reported for a State of TANGO, which is
-reported for one that does not answer or has a State that is not listed (`away`; where it is left out nothing is), and
-which command an action is. An action that is not listed does nothing in TANGO. A command that fails is told on standard
-error; what state the device is in then is for its State to say. Lines that begin with # are comments.
+tools/devices.py says what these lines mean. An action that is not listed does nothing in TANGO.
 
 `domains` serves each domain of a screen's tree as the TANGO device PREFIX/domain/NAME, without a database, at that
 port: the attributes smi_state, commander, busy, outcome and silent_seconds, and State: that of TANGO by the same name,
@@ -32,7 +29,6 @@ It needs PyTango (Debian: python3-tango).
 """
 
 import os
-import queue
 import re
 import sys
 import threading
@@ -43,7 +39,7 @@ sys.path.insert(0, os.path.dirname(os.path.abspath(__file__)))
 import tango
 import tango.server
 
-import lunskaf
+import devices
 import status
 
 PERIOD = 0.5
@@ -52,133 +48,41 @@ PATIENCE = 3000
 ALARM = re.compile(status.ALARM)
 
 
-class Wrong(Exception):
-    """A line of a map that is none."""
+class TangoDevice:
+    """A TANGO device, which is connected with again after it was away."""
 
+    def __init__(self, where):
+        self.where, self.proxy = where, None
 
-class Kind:
-    """What devices of one kind have in common."""
-
-    def __init__(self):
-        self.states, self.actions, self.away, self.period = {}, {}, None, PERIOD
-
-    def take(self, word, more):
-        """Whether the words are a line of a kind."""
-        if word == "state" and len(more) == 2:
-            self.states[more[0]] = more[1]
-        elif word == "action" and len(more) == 2:
-            self.actions[more[0]] = more[1]
-        elif word == "away" and len(more) == 1:
-            self.away = more[0]
-        elif word == "period" and len(more) == 1:
-            self.period = float(more[0])
-        else:
-            return False
-        return True
-
-
-def read_map(path):
-    """The devices of a map, each with its kind and the name of its TANGO device."""
-    kind, devices = None, []
-    with open(path, encoding="ascii") as file:
-        for number, line in enumerate(file, 1):
-            word, *more = line.split() or ["#"]
-            if word.startswith("#"):
-                continue
-            if word == "kind":
-                kind = Kind()
-            elif kind is None:
-                raise Wrong("line %d: a kind comes first" % number)
-            elif word == "device" and len(more) == 2:
-                devices.append((more[0], kind, more[1]))
-            elif not kind.take(word, more):
-                raise Wrong("line %d: %s" % (number, line.strip()))
-    return devices
-
-
-class Bridged:
-    """A device of the node that is a TANGO device. All that is done with it is done by one thread, one thing after the
-    other."""
-
-    def __init__(self, node, name, kind, where):
-        self.node, self.name, self.kind, self.where = node, name, kind, where
-        self.proxy, self.reported, self.asked = None, None, queue.Queue()
-        threading.Thread(target=self.run, daemon=True).start()
-
-    def run(self):
-        while True:
-            try:
-                deed, *words = self.asked.get(timeout=self.kind.period)
-            except queue.Empty:
-                deed, words = self.look, ()
-            deed(*words)
-
-    def begin(self):
-        """The node has begun: it does not know the state, whatever was reported before."""
-        self.asked.put([self.look_anew])
-
-    def act(self, action):
-        """An action was done at the device."""
-        self.asked.put([self.command, action])
-
-    def connected(self):
-        if self.proxy is None:
-            proxy = tango.DeviceProxy(self.where)
-            proxy.set_timeout_millis(PATIENCE)
-            self.proxy = proxy
-        return self.proxy
+    def called(self, call):
+        """Returns what a call of the device answers."""
+        try:
+            if self.proxy is None:
+                proxy = tango.DeviceProxy(self.where)
+                proxy.set_timeout_millis(PATIENCE)
+                self.proxy = proxy
+            return call(self.proxy)
+        except tango.DevFailed as failed:
+            raise Failed(failed.args[0].desc.strip()) from None
 
     def state(self):
-        """The state of the tree that the TANGO device is in; none where there is nothing to report."""
         try:
-            return self.kind.states.get(str(self.connected().state()), self.kind.away)
-        except tango.DevFailed:
+            return str(self.called(lambda proxy: proxy.state()))
+        except Failed:
             self.proxy = None
-            return self.kind.away
+            raise
 
-    def look(self):
-        """Reports the state, where it is another one than was reported last."""
-        state = self.state()
-        if state is None or state == self.reported:
-            return
-        try:
-            self.node.report(self.name, state)
-            self.reported = state
-        except (lunskaf.Lost, lunskaf.TimeOut, lunskaf.Refused, lunskaf.Fault) as error:
-            self.reported = None
-            print("%s: %s" % (self.name, error), file=sys.stderr, flush=True)
+    def command(self, word):
+        self.called(lambda proxy: proxy.command_inout(word))
 
-    def look_anew(self):
-        self.reported = None
-        self.look()
 
-    def command(self, action):
-        """The action is run as a command. The tree has moved the device, so its state is reported anew."""
-        command = self.kind.actions.get(action)
-        if command is None:
-            return
-        try:
-            self.connected().command_inout(command)
-        except tango.DevFailed as failed:
-            print("%s: %s: %s" % (self.name, command, failed.args[0].desc), file=sys.stderr, flush=True)
-        self.look_anew()
+class Failed(Exception):
+    """What TANGO says of a call that failed."""
 
 
 def bridge_devices(console, path):
-    """Runs until it is ended: hears of the actions at all devices, and hands each to the thread of its device."""
-    with lunskaf.Node(console) as node:
-        bridged = {name: Bridged(node, name, kind, where) for name, kind, where in read_map(path)}
-
-        def begin():
-            for one in bridged.values():
-                one.begin()
-
-        while True:
-            try:
-                for acted in node.actions(*bridged, on_start=begin):
-                    bridged[acted.device].act(acted.action)
-            except lunskaf.Missed as missed:
-                print(missed, file=sys.stderr, flush=True)
+    """Runs until it is ended."""
+    devices.keep(console, [(name, kind, TangoDevice(where)) for name, kind, where in devices.read_map(path)])
 
 
 def scene_of(where):
@@ -283,5 +187,5 @@ if __name__ == "__main__":
         main()
     except KeyboardInterrupt:
         pass
-    except Wrong as wrong:
+    except devices.Wrong as wrong:
         sys.exit(str(wrong))
