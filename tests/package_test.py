@@ -39,6 +39,11 @@ share/smi/tools/tango_bridge.py
 share/smi/tools/console.py
 share/smi/tools/lunskaf.py
 share/smi/examples/supply.py
+share/smi/tools/devices.py
+share/smi/tools/mqtt_bridge.py
+share/smi/examples/channel.py
+share/smi/examples/crate_device.py
+share/smi/examples/smi-device@.service
 share/smi/tools/hierarchy.py
 share/smi/tools/tree.py
 share/smi/tools/tree_check.py
