@@ -81,7 +81,7 @@
 //! - each fault, each limit at its last value and one past, and lines with two faults, of which the one that is
 //!   tested first is told (`tests/trees.py`);
 //! - that a refused allocation is answered as out of memory, which the contract leaves open: each allocation of a run
-//!   is refused in turn (`tests/growths.py`).
+//!   is refused in turn (`tests/growths_test.py`).
 #![tactic(auto)]
 
 mod actions;

@@ -66,9 +66,9 @@
 //! `Send` of `Cells` and of `Spot`; nothing beyond the toolchain is trusted.
 //!
 //! Not said by a contract: how many looks a body makes that it does not count. `make bench` shows that a leaving
-//! takes time by its entries and not by all cells. Only tested: that ample memory suffices (`tests/growths.py`).
+//! takes time by its entries and not by all cells. Only tested: that ample memory suffices (`tests/growths_test.py`).
 //! 1,000,000 random calls at 640 objects and 128 stations answer as plain lists do (`smi_part_tests`). Drawn schedules
-//! run with no error and no leak that valgrind sees (`tests/leaks.py`, where there is valgrind).
+//! run with no error and no leak that valgrind sees (`tests/schedules_test.py`, where there is valgrind).
 #![tactic(auto)]
 
 mod answer;
