@@ -65,7 +65,7 @@ fn is_report(event: &Event<'_>) -> bool
     }
 }
 
-/// The code that a step has for whoever gave it its event: a refusal, a fault, or that a report was taken.
+/// Returns the code of a step for the seat that gave it its event: a refusal, a fault, or that a report was taken.
 fn code_of(is_report: bool, made: &Result<Heard, StepFault>) -> Option<u16>
     ensures { result ≡ code_of is_report made.now }
 {

@@ -36,7 +36,7 @@ pub enum ServeFault {
     Link,
 }
 
-/// So many faults in a row end the service.
+/// The number of faults in a row that end the service.
 const MOST_FAULTS: u32 = 100;
 
 /// Returns the operator of a seat: the last seat is nobody's.
@@ -275,7 +275,7 @@ impl<S: Stable, J: BoardId> Node<'_, '_, '_, S, J> {
         }
     }
 
-    /// Makes so many turns, or fewer if one ends in a fault.
+    /// Makes the given number of turns, or fewer if one ends in a fault.
     fn make_turns<L: DatagramLink, V: StepObserver, R: Wait>(
         &mut self,
         rt: &R,
