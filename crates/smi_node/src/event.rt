@@ -20,8 +20,8 @@ pub trait StepObserver {
 
     /// Is told the event of a step, what the step answered, and what it handed out.
     ///
-    /// The datagrams of the step were sent; nothing of it was published or answered yet. The station is as the step
-    /// left it.
+    /// The row of the step is saved; nothing of it was sent, published or answered yet. The station is as the step left
+    /// it.
     fn on_step<S: Stable>(
         &mut self,
         station: &Station<'_, S>,

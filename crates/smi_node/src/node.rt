@@ -188,7 +188,8 @@ impl<S: Stable, J: BoardId> Node<'_, '_, '_, S, J> {
 
     /// Carries an event to the station and what follows it from there, as [`carry`] does, and by the same contract.
     ///
-    /// The observer is told the step once its datagrams were sent, and before anything of it is published or answered.
+    /// The observer is told the step once its row is saved, and before anything of it is sent, published or answered: so
+    /// what others hear rests only on what the observer was told.
     pub fn carry<L: DatagramLink, V: StepObserver, R: Wait>(
         &mut self,
         rt: &R,
@@ -210,9 +211,10 @@ impl<S: Stable, J: BoardId> Node<'_, '_, '_, S, J> {
     {
         let NodeInput { event, seat } = input;
         let is_report = is_report(&event);
-        let made = step_and_send(self.station, event, self.out, link, Some(self.stats));
+        let made = step(self.station, event, self.out);
         self.stats.count_step(&made);
         observer.on_step(self.station, &event, &made, self.out);
+        send_of(&made, self.out, link, Some(self.stats));
         if is_stopped_by(&made) {
             return Err(CarryFault::Stopped);
         }
