@@ -1,0 +1,30 @@
+//! The journal of a station: what each of its steps left, as lines in files.
+//!
+//! A [`Journal`] is told each step of a node after its save and before anything of it is sent ([`Journal::note`]). So
+//! what others hear rests only on lines that are written, and what a kill loses is at most the step that was saved
+//! last, which the next start reads from its row: each file begins with what stands by then. The files, their names and
+//! their lines stand in docs/FORMATS.md, "Journals".
+//!
+//! [`push_step`] puts the lines of a step together, and [`write_step`] writes them at once: a prefix, which has the
+//! time, the station and the boot, and behind it the line of a trace. Their clauses say which text that is: the entries
+//! of the step by its definition, one line each, in their order (`specs/Text`).
+//!
+//! What a journal asks of a station is a trait of five questions ([`StationState`]), because a function over a station is
+//! expensive to prove.
+#![tactic(auto)]
+
+mod block;
+mod journal;
+mod line;
+mod opening;
+mod station;
+mod step;
+mod time;
+mod typed;
+
+pub use block::StationState;
+pub use journal::{Journal, JournalSetup, MOST_BYTES, Noted, PATIENCE};
+pub use line::Word;
+pub use step::{LineContext, is_silent, push_entry, push_step, write_step};
+pub use time::push_time;
+pub use typed::TypedLine;
