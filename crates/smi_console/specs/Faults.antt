@@ -29,6 +29,7 @@ abbrev pub status_at : Halt → Status
 status_at halt.Memory = status.NoMemory
 status_at halt.Link = status.Fault
 status_at halt.Console = status.Fault
+status_at halt.Journal = status.Fault
 
 -- an open station was served, or not
 abbrev pub status_in : Result (Result (Unit {0}) ServeFault) Halt → Status

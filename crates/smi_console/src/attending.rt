@@ -1,6 +1,7 @@
 //! The thread at the front: it hears all who talk to the node, and tells them what they asked for.
 
 use crate::bell::Bell;
+use crate::faults::journal_fault;
 use crate::hall::Hall;
 use crate::outlet::Outlet;
 use crate::reading::{Input, InputEnd};
@@ -8,6 +9,7 @@ use crate::socket_drops::SocketDrops;
 use crossbeam_channel::Receiver;
 use smi_base::write_whole;
 use smi_commands::status::{no_memory, read_fault, write_fault};
+use smi_journal::Noted;
 use smi_schedule::Unwritten;
 use smi_session::{MOST_PENDING, SessionService, StateReader, StationEvent};
 use smi_tree::Tree;
@@ -33,6 +35,8 @@ pub(crate) struct Attendant<G: StateReader + Drop> {
     /// What is typed at the standard input, and what the station tells.
     pub(crate) lines: Receiver<Input>,
     pub(crate) news: Receiver<StationEvent>,
+    /// What becomes of the journal of the node.
+    pub(crate) journal: Receiver<Noted>,
     /// Whether the standard input is heard no more.
     pub(crate) is_plain_over: bool,
     /// What the system drops of the datagrams to the node.
@@ -63,6 +67,22 @@ impl<G: StateReader + Drop> Attendant<G> {
                     Some(answered) => self.hall.tell_answer(&mut self.front, tree, &answered),
                     None => break,
                 }
+            }
+        }
+    }
+
+    /// Tells when the journal fails, and when it goes on.
+    fn tell_journal<R: Wait, F: Write>(&self, rt: &R, faults: &mut F) {
+        for _ in 0..NEWS {
+            match self.journal.try_recv(rt) {
+                Ok(Noted::Resumed(lost)) => {
+                    let _ = writeln!(faults, "journal goes on, {lost} steps are lost");
+                }
+                Ok(Noted::Failed) => {
+                    journal_fault(faults);
+                }
+                Ok(Noted::Written | Noted::Failing) => {}
+                Err(_) => return,
             }
         }
     }
@@ -153,6 +173,7 @@ fn serve_plain<G: StateReader + Drop, R: Wait, F: Write>(
     for _ in 0..LINES {
         match attendant.next_line(rt) {
             Some(line) => {
+                attendant.hall.tell_plain(rt, line.as_slice());
                 attendant
                     .front
                     .receive_line(tree, now, &mut attendant.hall.plain, line)?;
@@ -196,11 +217,14 @@ fn round<G: StateReader + Drop, R: Wait + Clock, F: Write>(
 ) -> bool {
     let now = Instant::now(rt).ok();
     attendant.note_drops(now);
+    attendant.tell_journal(rt, faults);
     let has_more_news = attendant.note_news(rt);
     attendant.tell_answers(tree);
     let has_more_lines = attend_plain(rt, tree, now, attendant, faults);
     attendant.hall.welcome_all();
-    attendant.hall.serve_guests(&mut attendant.front, tree, now);
+    attendant
+        .hall
+        .serve_guests(rt, &mut attendant.front, tree, now);
     attendant.front.clear_events();
     if attendant.front.has_given() {
         attendant.bell.ring();

@@ -3,7 +3,7 @@
 ghost use Rattle.std.specs.Prelude.{◌≡◌};
 ghost use Rattle.smi_console.specs.Faults.{status_at, status_by, status_in};
 
-use crate::faults::{console_fault, link_fault, stopped};
+use crate::faults::{console_fault, journal_fault, link_fault, stopped};
 use smi_commands::status::{Status, no_memory};
 use smi_node::ServeFault;
 use std::alloc::AllocError;
@@ -15,6 +15,7 @@ pub(crate) enum Halt {
     Memory,
     Link,
     Console,
+    Journal,
 }
 
 impl From<AllocError> for Halt {
@@ -53,6 +54,7 @@ fn halted<F: Write>(halt: Halt, faults: &mut F) -> Status
         Halt::Memory => no_memory(faults),
         Halt::Link => link_fault(faults),
         Halt::Console => console_fault(faults),
+        Halt::Journal => journal_fault(faults),
     }
 }
 

@@ -3,7 +3,9 @@
 ghost use Rattle.std.specs.Prelude.{None};
 
 use crate::event_queue::EventQueue;
+use crate::journal_keeper::JournalKeeper;
 use smi_grant::Shown;
+use smi_journal::StationState;
 use smi_node::StepObserver;
 use smi_protocol::{Event, Heard, StepFault};
 use smi_rows::Stable;
@@ -12,47 +14,31 @@ use smi_station::Station;
 use smi_station_output::Out;
 use smi_tree::Tree;
 use std::alloc::{AllocError, Global};
+use std::fs::Files;
 use std::sync::{Arc, Wait};
-
-/// What a forwarder asks of a station.
-///
-/// A function over a station is expensive to prove, and these two are all that is asked of it before it is served.
-pub(crate) trait Keeps {
-    /// The operators of the station.
-    fn operators(&self) -> &[u16];
-
-    /// The newest state of an object that it keeps.
-    fn state_of(&self, object: u16) -> Option<Shown>;
-}
-
-impl<'a, S: Stable> Keeps for Station<'a, S> {
-    fn operators(&self) -> &[u16] {
-        Station::operators(self)
-    }
-
-    fn state_of(&self, object: u16) -> Option<Shown> {
-        self.current(object)
-    }
-}
+use std::time::Clock;
 
 /// Forwards the states that the objects of its station pass through, those that the station takes, and the actions that
-/// it does, and wakes the front at the end of a turn that brought it an answer or news.
+/// it does, and wakes the front at the end of a turn that brought it an answer or news. Before that it notes the step in
+/// the journal of the node, if there is one.
 ///
 /// A state for which there is no room is told at a later step, as the newest of its object by then.
 #[derive(Drop)]
-pub(crate) struct EventForwarder<H: Drop> {
+pub(crate) struct EventForwarder<H: Files + Drop> {
     tree: Arc<Tree, Global>,
     queue: EventQueue<H>,
     /// The states that are not told yet, by object, and whether there are any.
     coalesced: Vec<Option<Shown>>,
     has_coalesced: bool,
+    /// The journal of the node, if it has one.
+    journal: Option<JournalKeeper<H>>,
 }
 
-impl<H: Wait + Drop> EventForwarder<H> {
+impl<H: Files + Wait + Clock + Drop> EventForwarder<H> {
     /// Makes a forwarder that has told nothing but the states of what a station keeps.
     ///
     /// Fails if memory was refused.
-    pub(crate) fn new<T: Keeps>(
+    pub(crate) fn new<T: StationState>(
         alloc: Global,
         tree: Arc<Tree, Global>,
         station: &T,
@@ -60,16 +46,22 @@ impl<H: Wait + Drop> EventForwarder<H> {
     ) -> Result<EventForwarder<H>, AllocError> {
         let mut coalesced = Vec::new(alloc);
         for object in 1..=tree.object_count() {
-            coalesced.push(station.state_of(object))?;
+            coalesced.push(station.current(object))?;
         }
         let mut forwarder = EventForwarder {
             tree,
             queue,
             coalesced,
             has_coalesced: true,
+            journal: None,
         };
         forwarder.send_coalesced();
         Ok(forwarder)
+    }
+
+    /// Lets each step be noted in a journal from now on.
+    pub(crate) fn keep_journal(&mut self, journal: JournalKeeper<H>) {
+        self.journal = Some(journal);
     }
 
     /// Tells a state, or coalesces it if there is no room for it, or if others are to be told before it.
@@ -129,7 +121,7 @@ impl<H: Wait + Drop> EventForwarder<H> {
     }
 }
 
-impl<H: Wait + Drop> StepObserver for EventForwarder<H> {
+impl<H: Files + Wait + Clock + Drop> StepObserver for EventForwarder<H> {
     ghost told = { λ _. None };
 
     fn on_step<S: Stable>(
@@ -139,6 +131,11 @@ impl<H: Wait + Drop> StepObserver for EventForwarder<H> {
         made: &Result<Heard, StepFault>,
         out: &Out,
     ) {
+        if let Some(journal) = &mut self.journal {
+            if journal.note(station, out) {
+                self.queue.wake();
+            }
+        }
         if matches!(event, Event::Order(_, _) | Event::Report(_, _)) || !out.answers().is_empty() {
             self.queue.wake();
         }

@@ -42,6 +42,13 @@ pub(crate) fn console_fault<F: Write>(faults: &mut F) -> Status
     print_fault("console fault", faults)
 }
 
+/// Tells that the node can't write its journal.
+pub(crate) fn journal_fault<F: Write>(faults: &mut F) -> Status
+    ensures { result ≡ status.Fault }
+{
+    print_fault("journal fault", faults)
+}
+
 /// Tells that the station has stopped.
 pub fn stopped<F: Write>(faults: &mut F) -> Status
     ensures { result ≡ status.Fault }

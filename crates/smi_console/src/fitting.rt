@@ -6,9 +6,10 @@ ghost use Rattle.smi_operator.specs.Sides.{IsDeskOf};
 use crate::bell::Bell;
 use crate::console_waker::ConsoleWaker;
 use crate::ending::Halt;
-use crate::event_forwarder::{EventForwarder, Keeps};
+use crate::event_forwarder::EventForwarder;
 use crate::event_queue::EventQueue;
 use crate::hall::Hall;
+use crate::journal_keeper::{KeeperWays, begin_journal, journal_ways};
 use crate::peers::{Linking, UdpLinking};
 use crate::running::NodeSetup;
 use crate::service::Service;
@@ -16,6 +17,7 @@ use crate::side::StationSide;
 use crate::starting::{Console, Lobby, begin_console};
 use crossbeam_channel::Sender;
 use smi_base::MOST_OPERATORS_OF_A_STATION;
+use smi_journal::StationState;
 use smi_link::{DatagramLink, UdpLink};
 use smi_node::NodeStats;
 use smi_operator::{Desk, Seat, open_seats};
@@ -131,6 +133,8 @@ struct BothSides<L: Drop, G: StateReader + Drop> {
     side: StationSide<L>,
     lobby: Lobby<G>,
     waker: Arc<ConsoleWaker, Global>,
+    /// The ways of the journal to the front.
+    journal_ways: KeeperWays,
 }
 
 /// The seats of a station and its link, and then the hall of its node.
@@ -143,11 +147,19 @@ fn both_sides<K: Linking, G: StateReader + Drop, H: Files + Net + AllocGlobal>(
 ) -> Result<BothSides<K::Link, G>, Halt> {
     let ends = posted(rt.alloc(), setup, operators, glance, linking)?;
     let (hall, waker) = hall_of(rt, setup)?;
+    let (journal_ways, journal) = journal_ways(rt.alloc(), setup.journal.is_some())?;
     let Ends { side, front, bell } = ends;
+    let lobby = Lobby {
+        front,
+        hall,
+        bell,
+        journal,
+    };
     Ok(BothSides {
         side,
-        lobby: Lobby { front, hall, bell },
+        lobby,
         waker,
+        journal_ways,
     })
 }
 
@@ -171,7 +183,7 @@ fn queue_of<H: Wait + AllocGlobal + Clone + Drop>(
 }
 
 /// Makes what forwards the events of a station to the thread at the front.
-fn forwarder_of<T: Keeps, H: Wait + AllocGlobal + Clone + Drop>(
+fn forwarder_of<T: StationState, H: Files + Wait + Clock + AllocGlobal + Clone + Drop>(
     rt: &H,
     setup: &NodeSetup,
     station: &T,
@@ -183,11 +195,35 @@ fn forwarder_of<T: Keeps, H: Wait + AllocGlobal + Clone + Drop>(
     EventForwarder::new(rt.alloc(), tree, station, queue)
 }
 
+/// Begins the journal of a node, if it is to have one, before its observer.
+fn keep_journal<
+    T: StationState,
+    H: Files + Wait + Threads + Clock + AllocGlobal + Clone + Drop + Send + 'static,
+>(
+    rt: &H,
+    setup: &NodeSetup,
+    station: &T,
+    ways: KeeperWays,
+    forwarder: &mut EventForwarder<H>,
+) -> Result<(), Halt> {
+    let Some(journal) = &setup.journal else {
+        return Ok(());
+    };
+    match begin_journal(rt, &setup.tree, journal, station, ways) {
+        Ok(keeper) => {
+            forwarder.keep_journal(keeper);
+            Ok(())
+        }
+        Err(e) if e.kind() == ErrorKind::OutOfMemory => Err(Halt::Memory),
+        Err(_) => Err(Halt::Journal),
+    }
+}
+
 /// The station's seats and its link are made, and the threads of its consoles begin, in this order.
 fn manned<
     K: Linking,
     G: StateReader + Drop + Send + 'static,
-    T: Keeps,
+    T: StationState,
     H: Files + Net + Wait + Threads + Clock + AllocGlobal + Clone + Drop + Send + 'static,
     I: Read + Drop + Send + 'static,
     O: Write + Drop + Send + 'static,
@@ -201,9 +237,15 @@ fn manned<
     console: Console<I, O, E>,
 ) -> Result<Service<K::Link, EventForwarder<H>>, Halt> {
     let sides = both_sides(rt, setup, station.operators(), glance, linking)?;
-    let BothSides { side, lobby, waker } = sides;
+    let BothSides {
+        side,
+        lobby,
+        waker,
+        journal_ways,
+    } = sides;
     let news = begin_console(rt, setup, lobby, &waker, console)?;
-    let forwarder = forwarder_of(rt, setup, station, &waker, news)?;
+    let mut forwarder = forwarder_of(rt, setup, station, &waker, news)?;
+    keep_journal(rt, setup, station, journal_ways, &mut forwarder)?;
     Ok(side.into_service(rt.alloc(), forwarder)?)
 }
 
@@ -221,7 +263,7 @@ pub(crate) type Fitted<'a, H> = Service<UdpLink<&'a H>, EventForwarder<H>>;
 pub(crate) fn fitted<
     'a,
     G: StateReader + Drop + Send + 'static,
-    T: Keeps,
+    T: StationState,
     H: Files + Net + Wait + Threads + Clock + AllocGlobal + Clone + Drop + Send + 'static,
     I: Read + Drop + Send + 'static,
     O: Write + Drop + Send + 'static,

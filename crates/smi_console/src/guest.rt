@@ -1,6 +1,7 @@
 //! A connection, and who types there.
 
 use crate::doors::Stream;
+use crate::typed_lines::TypedLines;
 use mio::event::Event;
 use smi_session::{
     LineSplitter, MOST_UNSENT, ReplyStyle, SeatAnswer, Session, SessionService, StateReader,
@@ -8,6 +9,7 @@ use smi_session::{
 use smi_tree::Tree;
 use std::alloc::{AllocError, Global};
 use std::io::ErrorKind;
+use std::sync::Wait;
 use std::time::Instant;
 
 /// How many bytes are read at once.
@@ -24,7 +26,9 @@ const PATIENCE: u64 = 2;
 /// A connection, and who types there.
 #[derive(Drop)]
 pub(crate) struct ConsoleGuest {
+    alloc: Global,
     stream: Stream,
+    typed: TypedLines,
     caller: Session,
     splitter: LineSplitter,
     /// Whether there may be something to read, and room to write.
@@ -53,9 +57,12 @@ impl ConsoleGuest {
         alloc: Global,
         number: u64,
         stream: Stream,
+        typed: TypedLines,
     ) -> Result<ConsoleGuest, AllocError> {
         Ok(ConsoleGuest {
+            alloc,
             stream,
+            typed,
             caller: Session::new(alloc, number, ReplyStyle::Human)?,
             splitter: LineSplitter::new(alloc),
             can_read: true,
@@ -132,8 +139,9 @@ impl ConsoleGuest {
     }
 
     /// Its lines are heard.
-    fn talk<G: StateReader + Drop>(
+    fn talk<G: StateReader + Drop, R: Wait>(
         &mut self,
+        rt: &R,
         front: &mut SessionService<G>,
         tree: &Tree,
         now: Option<Instant>,
@@ -145,7 +153,11 @@ impl ConsoleGuest {
                 return Ok(());
             }
             match self.next_line()? {
-                Some(line) => front.receive_line(tree, now, &mut self.caller, line)?,
+                Some(line) => {
+                    let session = self.caller.number();
+                    self.typed.tell(rt, self.alloc, session, line.as_slice());
+                    front.receive_line(tree, now, &mut self.caller, line)?;
+                }
                 None => return Ok(()),
             }
         }
@@ -230,13 +242,14 @@ impl ConsoleGuest {
     }
 
     /// Its lines are heard, and what it is to be told is written, as far as nothing waits.
-    pub(crate) fn turn<G: StateReader + Drop>(
+    pub(crate) fn turn<G: StateReader + Drop, R: Wait>(
         &mut self,
+        rt: &R,
         front: &mut SessionService<G>,
         tree: &Tree,
         now: Option<Instant>,
     ) {
-        if self.talk(front, tree, now).is_err() {
+        if self.talk(rt, front, tree, now).is_err() {
             self.leaves = true;
         }
         if self.caller.is_refused() {

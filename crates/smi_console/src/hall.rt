@@ -3,6 +3,7 @@
 use crate::doors::{Door, ListenAddress, Stream};
 use crate::guest::ConsoleGuest;
 use crate::reading::InputEnd;
+use crate::typed_lines::TypedLines;
 use mio::event::Event;
 use mio::{Events, Poll, Registry, Token, Waker};
 use smi_session::{ReplyStyle, SeatAnswer, Session, SessionService, StateReader, boxed};
@@ -11,6 +12,7 @@ use std::alloc::{AllocError, Global};
 use std::fs::Files;
 use std::io;
 use std::net::Net;
+use std::sync::Wait;
 use std::time::{Duration, Instant};
 
 /// The most connections at once.
@@ -53,6 +55,8 @@ pub(crate) struct Hall {
     guests: Vec<ConsoleGuest>,
     entrances: Vec<Entrance>,
     next: u64,
+    /// Where what is typed goes.
+    pub(crate) typed: TypedLines,
     poll: Poll,
     events: Events<Global>,
 }
@@ -128,6 +132,7 @@ impl Hall {
             guests: Vec::new(alloc),
             entrances,
             next: FIRST_GUEST,
+            typed: TypedLines::new(None),
             poll,
             events,
         };
@@ -150,6 +155,11 @@ impl Hall {
     /// Who types at the standard input.
     pub(crate) fn plain(&mut self) -> &mut Session {
         &mut self.plain
+    }
+
+    /// Tells a line of the standard input to the journal, before it is heard.
+    pub(crate) fn tell_plain<R: Wait>(&self, rt: &R, line: &[u8]) {
+        self.typed.tell(rt, self.alloc, self.plain.number(), line);
     }
 
     /// Whether nobody else than the standard input can talk to the node.
@@ -197,7 +207,7 @@ impl Hall {
         self.next = number.saturating_add(1);
         if let Ok(token) = usize::try_from(number) {
             if stream.register(self.poll.registry(), token).is_ok() {
-                let guest = ConsoleGuest::new(self.alloc, number, stream)?;
+                let guest = ConsoleGuest::new(self.alloc, number, stream, self.typed.try_clone()?)?;
                 self.guests.push(guest)?;
             }
         }
@@ -234,14 +244,15 @@ impl Hall {
     }
 
     /// Each connection is heard and told, as far as nothing waits; those that are done leave.
-    pub(crate) fn serve_guests<G: StateReader + Drop>(
+    pub(crate) fn serve_guests<G: StateReader + Drop, R: Wait>(
         &mut self,
+        rt: &R,
         front: &mut SessionService<G>,
         tree: &Tree,
         now: Option<Instant>,
     ) {
         for guest in self.guests.iter_mut() {
-            guest.turn(front, tree, now);
+            guest.turn(rt, front, tree, now);
         }
         self.guests.retain(|guest| !guest.leaves());
     }

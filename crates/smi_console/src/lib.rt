@@ -16,6 +16,9 @@
 //! were given are followed by a datagram to the node's own socket, an empty one that every station refuses, so that a
 //! station at rest looks at its seats at once (`bell`).
 //!
+//! A node that has a journal notes each step in it, before anything of the step is sent (`journal_keeper`); a fourth
+//! thread syncs its files once a second.
+//!
 //! The lines, the statuses and what is printed stand in docs/FORMATS.md, "A node's lines".
 //!
 //! # How it is proved
@@ -45,6 +48,7 @@ mod faults;
 mod fitting;
 mod guest;
 mod hall;
+mod journal_keeper;
 mod outlet;
 mod peers;
 mod reading;
@@ -53,6 +57,7 @@ mod service;
 mod side;
 mod socket_drops;
 mod starting;
+mod typed_lines;
 
 pub use doors::ListenAddress;
 pub use faults::{link_fault, opening_fault, print_fault, stopped};

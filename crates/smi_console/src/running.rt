@@ -13,6 +13,7 @@ use crate::fitting::fitted;
 use crate::service::{Service, Turns};
 use crate::starting::Console;
 use smi_commands::status::Status;
+use smi_journal::JournalSetup;
 use smi_link::DatagramLink;
 use smi_node::{ServeFault, StepObserver};
 use smi_rows::Stable;
@@ -38,6 +39,8 @@ pub struct NodeSetup {
     pub turns: Turns,
     /// Where it listens for consoles, beside the standard input.
     pub consoles: Vec<ListenAddress>,
+    /// Where its journal is written, if it has one.
+    pub journal: Option<Arc<JournalSetup, Global>>,
 }
 
 /// Serves a station that is open, with a board that is, where all is there that it is served with.

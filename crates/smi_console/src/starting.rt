@@ -8,7 +8,9 @@ use crate::outlet::{Outlet, open_outlet, write_all};
 use crate::reading::{Input, read_all};
 use crate::running::NodeSetup;
 use crate::socket_drops::SocketDrops;
+use crate::typed_lines::TypedLines;
 use crossbeam_channel::{Receiver, Sender, bounded};
+use smi_journal::{Noted, TypedLine};
 use smi_session::{SessionService, StateReader, StationEvent, boxed};
 use std::alloc::{AllocError, Global};
 use std::io::{Read, Write};
@@ -96,6 +98,16 @@ pub(crate) struct Lobby<G: StateReader + Drop> {
     pub(crate) front: Box<SessionService<G>>,
     pub(crate) hall: Box<Hall>,
     pub(crate) bell: Bell,
+    pub(crate) journal: JournalWays,
+}
+
+/// The ways between a journal and the thread at the front.
+#[derive(Drop)]
+pub(crate) struct JournalWays {
+    /// What becomes of the journal.
+    pub(crate) news: Receiver<Noted>,
+    /// Where what is typed goes, if there is a journal.
+    pub(crate) typed: Option<Sender<TypedLine>>,
 }
 
 /// What the thread at the front has of this lobby.
@@ -107,7 +119,14 @@ fn attendant_of<G: StateReader + Drop>(
     news: Receiver<StationEvent>,
     drops: SocketDrops,
 ) -> Result<Box<Attendant<G>>, AllocError> {
-    let Lobby { front, hall, bell } = lobby;
+    let Lobby {
+        front,
+        hall,
+        bell,
+        journal,
+    } = lobby;
+    let mut hall = hall;
+    hall.typed = TypedLines::new(journal.typed);
     let attendant = Attendant {
         front,
         hall,
@@ -115,6 +134,7 @@ fn attendant_of<G: StateReader + Drop>(
         outlet,
         lines,
         news,
+        journal: journal.news,
         is_plain_over: false,
         drops,
     };
