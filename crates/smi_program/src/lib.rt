@@ -30,7 +30,7 @@ mod words;
 
 pub use commands::program;
 pub use help::tell_help;
-pub use line::{CommandLine, NodeLine, Schedule, ScreenLine, SimLine, line_of};
+pub use line::{CommandLine, JournalLine, NodeLine, Schedule, ScreenLine, SimLine, line_of};
 pub use orders::ORDERS;
 pub use page::PAGE;
 pub use with_orders::{page_bytes, page_with_orders};

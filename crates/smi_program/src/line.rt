@@ -62,8 +62,15 @@ pub enum ConsolePlace<'a> {
     Path(&'a str),
 }
 
-/// A node: the path of its tree, the name of its station, the path of its store, how long it serves, and where it
-/// listens for consoles.
+/// Where a node writes its journal, and whether each step that saved is synced there before anything of it is sent.
+#[derive(Clone, Copy)]
+pub struct JournalLine<'a> {
+    pub folder: &'a str,
+    pub is_synced: bool,
+}
+
+/// A node: the path of its tree, the name of its station, the path of its store, how long it serves, where it listens
+/// for consoles, and where it writes its journal.
 #[derive(Clone, Copy)]
 pub struct NodeLine<'a> {
     pub tree: &'a str,
@@ -76,6 +83,8 @@ pub struct NodeLine<'a> {
     pub second_console: Option<ConsolePlace<'a>>,
     /// Whether it starts on a store that is older than its label.
     pub accepts_older: bool,
+    /// Where it writes its journal, if it has one.
+    pub journal: Option<JournalLine<'a>>,
 }
 
 /// A screen: the path of its tree, the name of its station, the path of its store, where its guests come, by what name
@@ -230,7 +239,9 @@ fn station_command<'a>(alloc: Global, name: &'a str) -> Result<Command<'a>, Erro
 }
 
 fn node_command<'a>(alloc: Global) -> Result<Command<'a>, Error> {
-    station_command(alloc, "node")
+    let form = station_command(alloc, "node")?;
+    let form = form.arg(Arg::new(alloc, "FOLDER").long("journal"))?;
+    Ok(form.arg(flag(alloc, "journal-sync"))?)
 }
 
 fn screen_command<'a>(alloc: Global) -> Result<Command<'a>, Error> {
@@ -316,7 +327,17 @@ fn node_line<'a>(given: &ArgMatches<'a>) -> Option<NodeLine<'a>> {
         console,
         second_console,
         accepts_older: given.get_flag("accept-older"),
+        journal: journal_line(given.get_str("FOLDER"), given.get_flag("journal-sync"))?,
     })
+}
+
+/// Where a journal is written, if one is asked for. To sync none is no form.
+fn journal_line(folder: Option<&str>, is_synced: bool) -> Option<Option<JournalLine<'_>>> {
+    match folder {
+        Some(folder) => Some(Some(JournalLine { folder, is_synced })),
+        None if is_synced => None,
+        None => Some(None),
+    }
 }
 
 /// Two places at which a node may listen.

@@ -4,12 +4,13 @@ ghost use Rattle.std.specs.Prelude.{IfOk};
 ghost use Rattle.std.specs.Arc.{arc_value};
 ghost use Rattle.smi_program.specs.Named.{IsStationNamed};
 
-use crate::line::{ConsolePlace, NodeLine};
+use crate::line::{ConsolePlace, JournalLine, NodeLine};
 use crate::tree::read_marked;
 use crate::words::{Words, bytes_of};
 use smi_commands::status::{Status, no_memory, store_fault, wrong_line};
 use smi_console::{Console, ListenAddress, NodeSetup, Turns, run};
 use smi_disks::{Kinship, OpenStore, StoreAge, Stores, TreeMark, age};
+use smi_journal::JournalSetup;
 use smi_rows::{Key, Row, Stable, StoreFault};
 use smi_tree::Tree;
 use std::alloc::{AllocError, Global};
@@ -63,6 +64,26 @@ fn listen_addresses_of(
     Ok(places)
 }
 
+/// Returns how a journal is written, if the line asks for one.
+fn journal_setup(
+    alloc: Global,
+    line: Option<JournalLine<'_>>,
+    mark: &TreeMark,
+    station: u16,
+) -> Result<Option<Arc<JournalSetup, Global>>, AllocError> {
+    let Some(JournalLine { folder, is_synced }) = line else {
+        return Ok(None);
+    };
+    let setup = JournalSetup {
+        folder: String::from_str(alloc, folder)?,
+        tree_number: mark.number,
+        tree_digest: mark.digest,
+        station,
+        is_synced,
+    };
+    Ok(Some(Arc::new(alloc, setup)?))
+}
+
 /// Makes what a node of this line is run with, as far as its words say it, and the mark of its tree. Its station is the
 /// one that the line names.
 fn setup_of<H: Files + AllocGlobal, F: Write>(
@@ -78,17 +99,20 @@ fn setup_of<H: Files + AllocGlobal, F: Write>(
     let Some(station) = tree.station_named(line.station.as_bytes()) else {
         return Err(wrong_line(faults));
     };
-    match listen_addresses_of(host.alloc(), &line) {
-        Ok(consoles) => {
+    let consoles = listen_addresses_of(host.alloc(), &line);
+    let journal = journal_setup(host.alloc(), line.journal, &mark, station);
+    match (consoles, journal) {
+        (Ok(consoles), Ok(journal)) => {
             let setup = NodeSetup {
                 tree,
                 station,
                 turns: turns_of(line.turns),
                 consoles,
+                journal,
             };
             Ok((setup, mark))
         }
-        Err(_) => Err(no_memory(faults)),
+        _ => Err(no_memory(faults)),
     }
 }
 
