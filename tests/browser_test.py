@@ -468,6 +468,56 @@ def check_large(browser, subtests):
         assert middle < FRAME * (1 + SLACK)
 
 
+# The domains that are not left out, after a text was typed into the search, or a link was followed, or the name of a person
+# was clicked; and then all is shown again.
+KEPT = "[...domains.values()].filter((d) => !d.at.box.classList.contains('left-out')).map((d) => d.name)"
+FIND = """(() => { const f = by("find"); f.value = "%s"; f.dispatchEvent(new Event("input")); const kept = """ + KEPT + """;
+  f.value = ""; f.dispatchEvent(new Event("input")); return kept; })()"""
+ALONE = """(async () => { location.hash = "%s"; await new Promise((next) => setTimeout(next, 50)); const kept = """ + KEPT + """;
+  location.hash = ""; await new Promise((next) => setTimeout(next, 50)); return kept; })()"""
+PERSON = """(() => { const b = document.querySelector("#people [data-person=%s]"); b.click(); const kept = """ + KEPT + """;
+  const pressed = b.getAttribute("aria-pressed"); b.click(); return [kept, pressed]; })()"""
+COMMANDED = "[...domains.values()].filter((d) => commander(d) === 'ANN').map((d) => d.name)"
+TYPED = """(() => { const was = document.documentElement.dataset.theme;
+  by("find").dispatchEvent(new KeyboardEvent("keydown", { key: "t", bubbles: true }));
+  return was === document.documentElement.dataset.theme; })()"""
+SIZES = """["+", "+", "-", "-"].map((key) => { document.dispatchEvent(new KeyboardEvent("keydown", { key }));
+  return parseFloat(getComputedStyle(document.documentElement).fontSize); })"""
+
+
+def above(number):
+    """Returns the numbers of the large tree's domains from one up to the root."""
+    return [number] + (above((number - 1) // 4) if number else [])
+
+
+def parts_of(wanted):
+    """Returns the names of domains of the large tree that are wanted or below one that is, and of all above these."""
+    kept = [it for it in range(DOMAINS) if any(map(wanted, above(it)))]
+    return {"D%d" % up for it in kept for up in above(it)}
+
+
+def check_parts(browser, subtests):
+    """Of a large tree: what is found by name, a part alone, what one person commands; its form and its size."""
+    holds = {"V300": lambda it: it == 300 % DOMAINS, "D12": lambda it: "D12" in "D%d" % it, "no such": lambda it: False}
+    for text, wanted in holds.items():
+        with subtests.test("parts: what is found by %s" % text):
+            assert set(browser.run(FIND % text)) == parts_of(wanted)
+    for part in (2, 0):
+        with subtests.test("parts: D%d alone" % part):
+            assert set(browser.run(ALONE % ("D%d" % part))) == parts_of(lambda it, part=part: it == part)
+    kept, pressed = browser.run(PERSON % "ANN")
+    wanted = {up for it in browser.run(COMMANDED) for up in map("D%d".__mod__, above(int(it[1:])))}
+    with subtests.test("parts: what ANN commands"):
+        assert set(kept) == wanted and pressed == "true" and len(browser.run(KEPT)) == DOMAINS
+    with subtests.test("parts: the form of a large tree is dense"):
+        assert browser.run("document.body.classList.contains('dense')")
+    with subtests.test("parts: what is typed into the search is no order to the page"):
+        assert browser.run(TYPED)
+    sizes = browser.run(SIZES)
+    with subtests.test("parts: the letters grow and shrink: %s" % sizes):
+        assert sizes[0] < sizes[1] > sizes[2] > sizes[3] and sizes[0] > sizes[3]
+
+
 @pytest.mark.alone
 @pytest.mark.skipif(not browsers.program(), reason="there is no browser (Debian's chromium)")
 def test_page(program, folder, subtests):
@@ -482,7 +532,7 @@ def test_page(program, folder, subtests):
         check_look(browser, subtests)
         for check in (check_order, check_waiting, check_trip, check_lost):
             check(detector, browser, subtests)
-        for check in (check_deep, check_unheld, check_counted, check_large):
+        for check in (check_deep, check_unheld, check_counted, check_large, check_parts):
             check(browser, subtests)
     finally:
         browser.end()

@@ -17,14 +17,16 @@ pub const PAGE: &str = "<!doctype html>
 :root[data-theme=dark] { color-scheme: dark; --back: #0c0f14; --card: #171c24; --part: #1f2630; --ink: #eef2f7;
   --soft: #a9b4c2; --line: #36414f; --focus: #8ab4f8; --none: #333d49 }
 * { box-sizing: border-box }
-html { font-size: clamp(12px, min(.9vw, 1.6vh), 44px); background: var(--back) }
+html { font-size: calc(var(--size, 1) * clamp(12px, min(.9vw, 1.6vh), 44px)); background: var(--back) }
 body { margin: 0; color: var(--ink); font: 1rem/1.25 system-ui, \"DejaVu Sans\", \"Segoe UI\", Roboto, sans-serif;
   font-variant-numeric: tabular-nums }
 button { font: inherit; color: inherit; background: none; border: 0; padding: 0; text-align: left; cursor: pointer }
 :focus-visible { outline: 4px solid var(--focus); outline-offset: 2px; border-radius: 6px }
 header { display: flex; flex-wrap: wrap; align-items: center; gap: .4rem 1.2rem; padding: .5rem 1.2rem;
   border-bottom: 2px solid var(--line) }
-h1 { font-size: 1.3rem; margin: 0; font-weight: 600; color: var(--soft) }
+h1 { font-size: 1.3rem; margin: 0; font-weight: 600 }
+h1 a, a.tool { color: var(--soft); text-decoration: none }
+a.tool { display: inline-block; margin-top: .8rem }
 #live { font-size: 1.15rem; font-weight: 700; padding: .2rem .8rem; border-radius: 99px; background: #15803d;
   color: #fff }
 #live.late { background: #f0b429; color: #000 }
@@ -32,7 +34,7 @@ h1 { font-size: 1.3rem; margin: 0; font-weight: 600; color: var(--soft) }
 #clock { margin-left: auto; font-size: 2.1rem; font-weight: 700 }
 .tool { border: 2px solid var(--line); border-radius: 8px; padding: .3rem .7rem; color: var(--soft); font-weight: 600 }
 #alarms { display: flex; flex-wrap: wrap; gap: .5rem .7rem; padding: .6rem 1.2rem 0; min-height: 3.4rem;
-  align-items: center }
+  max-height: 7.6rem; overflow: auto; align-items: center }
 #alarms .calm { color: var(--soft); font-size: 1.3rem; font-weight: 600 }
 #alarms button { font-size: 1.45rem; font-weight: 700; padding: .3rem .9rem; border-radius: 8px; background: #c81e1e;
   color: #fff }
@@ -103,7 +105,8 @@ dialog { position: fixed; inset: 0 0 0 auto; width: min(34rem, 100vw); height: 1
   padding: 1.2rem; background: var(--card); color: var(--ink); border: 0; border-left: 4px solid var(--line);
   overflow: auto }
 dialog::backdrop { background: #0006 }
-dialog h2 { font-size: 2.1rem; margin: 0 0 .6rem; overflow-wrap: anywhere }
+dialog h2 { position: sticky; top: -1.2rem; z-index: 1; margin: 0 0 .6rem; background: var(--card); font-size: 2.1rem;
+  overflow-wrap: anywhere }
 dl { display: grid; grid-template-columns: auto 1fr; gap: .3rem 1rem; font-size: 1.2rem; margin: 0 }
 dt { color: var(--soft) }
 dd { margin: 0; font-weight: 700 }
@@ -112,13 +115,34 @@ td, th { padding: .25rem .4rem; border-bottom: 1px solid var(--line); text-align
 .hidden { position: absolute; width: 1px; height: 1px; overflow: hidden; clip-path: inset(50%) }
 @media (max-width: 640px) { html { font-size: 15px } main { padding: .5rem } #clock { font-size: 1.4rem }
   .root > .top .name, .root > .top .state { font-size: 1.7rem } .cards { grid-template-columns: 1fr !important } }
+.old .state { background: repeating-linear-gradient(135deg, var(--none) 0 8px, var(--part) 8px 16px);
+  color: var(--soft); outline: 2px dashed var(--soft); outline-offset: -2px; text-decoration: line-through }
+#alarms b { font-size: 1.45rem }
+.dense .part > .top .who, .dense .mode { display: none }
+.dense .group.same > .top { display: none }
+.dense .group.same { margin-top: 2px; padding: 0 0 0 .3rem }
+.dense .cards { grid-template-columns: repeat(auto-fit, minmax(11rem, 1fr)); gap: .4rem }
+.dense .part { margin-top: .25rem; padding: .1rem .4rem .2rem }
+.dense .part > .top .name { font-size: 1.05rem }
+.dense .part > .top .state { font-size: .95rem }
+.dense .devices i { width: .7rem; height: .7rem; font-size: .55rem; line-height: .7rem }
+.left-out { display: none }
+#find { font: inherit; width: 12rem; padding: .3rem .5rem; border: 2px solid var(--line); border-radius: 8px;
+  background: var(--card); color: var(--ink) }
+#people button { display: inline-flex; align-items: center; gap: .4rem; font-weight: 600 }
+#people [aria-pressed=true] { text-decoration: underline; text-underline-offset: .25em }
+@media (max-width: 640px) { .top, .tool, #find, #alarms button { min-height: 44px } }
+@media (forced-colors: active) { .state, .who, .note, .devices i, .legend i, #alarms button, #live {
+  forced-color-adjust: none } }
 </style>
 </head>
 <body>
 <header>
-  <h1 id=\"title\">screen</h1>
+  <h1><a id=\"title\" href=\"#\" title=\"the whole tree\">screen</a></h1>
   <span id=\"live\" role=\"status\">joining</span>
   <span id=\"clock\" aria-hidden=\"true\"></span>
+  <input id=\"find\" type=\"search\" placeholder=\"find  /\" aria-label=\"find a domain or a device\">
+  <button class=\"tool\" id=\"dense\" type=\"button\" aria-pressed=\"false\">dense</button>
   <button class=\"tool\" id=\"theme\" type=\"button\">light / dark</button>
 </header>
 <div id=\"alarms\" role=\"region\" aria-label=\"alarms\"></div>
@@ -127,7 +151,8 @@ td, th { padding: .25rem .4rem; border-bottom: 1px solid var(--line); text-align
 <footer>
   <div class=\"legend\" id=\"states\" role=\"region\" aria-label=\"colours of states\"></div>
   <div class=\"legend\" id=\"people\" role=\"region\" aria-label=\"colours of those who command\"></div>
-  <div><kbd>Tab</kbd> or arrows: go round, <kbd>Enter</kbd>: more, <kbd>Esc</kbd>: back, <kbd>t</kbd>: light or dark.
+  <div><kbd>Tab</kbd> or arrows: go round, <kbd>Enter</kbd>: more, <kbd>Esc</kbd>: back, <kbd>t</kbd>: light or dark,
+    <kbd>/</kbd>: find, <kbd>+</kbd> and <kbd>-</kbd>: size. A name below: what that person commands.
     <i>mode unknown</i>: nobody tells an observer whether a child is included, manual or ignored. A dashed edge: held by
     somebody else than what stands above. <span id=\"never\">This page shows and never orders.</span></div>
   <details id=\"hour\"><summary>What changed in the last hour</summary><ol id=\"log\"></ol></details>
@@ -139,6 +164,8 @@ td, th { padding: .25rem .4rem; border-bottom: 1px solid var(--line); text-align
 \"use strict\";
 // How often a picture is asked for, how long an answer is waited for, and after what time nothing is trusted any more.
 const PAUSE = 250, PATIENCE = 1200, GONE = 1600, HOUR = 3600000, MOST_LOGGED = 2000;
+// A tree of more domains is shown in its dense form, unless somebody has chosen.
+const MOST_AT_EASE = 64;
 const ALARM = /ERROR|FAULT|ALARM|TRIP/;
 const KNOWN = { OFF: \"#5f6b7a\", UNKNOWN: \"#b9a7c9\", STANDBY: \"#7cc4ee\", RAMPING: \"#f0b429\", READY: \"#1f6fd6\",
   RUNNING: \"#15803d\", ERROR: \"#c81e1e\" };
@@ -221,6 +248,20 @@ function boxOf(d, deep) {
   return box;
 }
 
+// The names of those who command: each leaves only what that person commands, and once more leaves all again.
+function peopleOf(items, place) {
+  place.replaceChildren(...items.map(([text, colour]) => {
+    const b = make(\"button\"), i = make(\"i\", \"square\");
+    b.type = \"button\";
+    b.dataset.person = text;
+    b.setAttribute(\"aria-pressed\", \"false\");
+    if (colour) i.style.setProperty(\"--c\", colour);
+    b.append(i, text);
+    b.addEventListener(\"click\", () => { person = person === text ? null : text; leaveOut(); });
+    return b;
+  }));
+}
+
 function legendOf(items, place, square) {
   place.replaceChildren(...items.map(([text, colour]) => {
     const b = make(\"b\"), i = make(\"i\", square ? \"square\" : \"\");
@@ -237,9 +278,11 @@ function build() {
   devices.forEach((d) => domains.get(d.domain).devices.push(d));
   by(\"main\").replaceChildren(...[...domains.values()].filter((d) => !d.parent).map((d) => boxOf(d, 0)));
   legendOf([...tree.states.map((s) => [s, stateColour(s)]), [\"not seen or silent\", \"\"]], by(\"states\"), false);
-  legendOf([...tree.operators.map((o) => [o.name, personColour(o.name)]), [\"free\", \"\"]], by(\"people\"), true);
+  peopleOf([...tree.operators.map((o) => [o.name, personColour(o.name)]), [\"free\", \"\"]], by(\"people\"));
   document.title = \"tree \" + tree.tree;
   set(by(\"title\"), document.title);
+  thicken(kept(\"dense\") === null ? domains.size > MOST_AT_EASE : kept(\"dense\") === \"true\");
+  leaveOut();
   picture = null; log = []; alarms = \"\";
   afterBuild.forEach((next) => next());
 }
@@ -310,6 +353,8 @@ function showDomain(d, heard, time) {
   set(at.note, silence === null ? \"\" : silence < 0 ? \"not heard yet\" : \"silent \" + age(silence));
   label(at.top, describe(d, silence));
   d.silence = silence;
+  const up = d.parent && domains.get(d.parent);
+  flag(at.box, \"same\", !!up && silence === null && state === stateOf(up) && !d.devices.some(isAlarm));
 }
 
 function showDevice(d) {
@@ -326,7 +371,29 @@ function show() {
   domains.forEach((d) => showDomain(d, heard, time));
   tellAlarms(heard, time);
   if (opened) fill();
+  if (person !== null) leaveOut();
   afterShow.forEach((next) => next());
+}
+
+// What of the tree is left out: all but what has a name that is typed, the part below a domain that is linked to, and
+// what one person commands. What stands above is kept, so that each part has its place.
+let person = null;
+
+function leaveOut() {
+  const text = by(\"find\").value.trim().toUpperCase(), part = domains.get(location.hash.slice(1)), kept = new Set();
+  const isPart = (d) => { let up = d; while (up && up !== part) up = domains.get(up.parent); return !part || !!up; };
+  const isNamed = (d) => d.name.includes(text) || d.devices.some((device) => device.name.includes(text));
+  const isOf = (d) => person === null || (commander(d) || \"free\") === person && commander(d) !== null;
+  const isBelow = (d, holds) => { let up = d; while (up && !holds(up)) up = domains.get(up.parent); return !!up; };
+  domains.forEach((d) => {
+    if (!isPart(d) || !isBelow(d, isNamed) || !isOf(d)) return;
+    for (let up = d; up; up = domains.get(up.parent)) kept.add(up.name);
+  });
+  domains.forEach((d) => flag(d.at.box, \"left-out\", !kept.has(d.name)));
+  document.querySelectorAll(\"#people button\").forEach((b) => {
+    const is = String(b.dataset.person === person);
+    if (b.getAttribute(\"aria-pressed\") !== is) b.setAttribute(\"aria-pressed\", is);
+  });
 }
 
 // Trips and silent stations: each a button that leads to its domain.
@@ -358,7 +425,10 @@ function tellAlarms(heard, time) {
   const words = out.map((o) => o.said).join(\", \");
   if (words !== said) { said = words; set(by(\"said\"), words || \"no alarms\"); }
   const focus = document.activeElement && document.activeElement.dataset.alarm;
-  by(\"alarms\").replaceChildren(...(out.length ? out.map((o) => {
+  const silent = out.filter((o) => o.kind).length;
+  const total = make(\"b\", \"\", out.length - silent + \" in alarm, \" + silent + \" silent:\");
+  document.title = (out.length ? \"(\" + out.length + \") \" : \"\") + \"tree \" + tree.tree;
+  by(\"alarms\").replaceChildren(...(out.length ? [total] : []), ...(out.length ? out.map((o) => {
     const b = make(\"button\", o.kind, o.text);
     b.type = \"button\";
     b.dataset.alarm = o.domain;
@@ -419,7 +489,10 @@ function open(domain) {
   shut.type = \"button\";
   shut.autofocus = true;
   shut.addEventListener(\"click\", () => more.close());
-  more.replaceChildren(head, facts, ...extras.map((extra) => extra(domains.get(domain))), shut);
+  const alone = make(\"a\", \"tool\", \"show this part alone\");
+  alone.href = \"#\" + domain;
+  alone.addEventListener(\"click\", () => more.close());
+  more.replaceChildren(head, facts, alone, ...extras.map((extra) => extra(domains.get(domain))), shut);
   fill();
   if (!more.open) more.showModal();
 }
@@ -427,7 +500,8 @@ function open(domain) {
 function rows(d) {
   const told = d.told, shown = d.shown, boss = commander(d), holder = told && told.holder;
   return [
-    [\"state\", shown ? shown.state + \" (\" + versionOf(d) + \", since \" + age(now() - shown.at) + \")\" : \"not seen\"],
+    [d.silence === null ? \"state\" : \"last seen\", shown ? shown.state + \" (\" + versionOf(d) + \", since \" +
+      age(now() - shown.at) + \")\" : \"not seen\"],
     [\"held by\", !told ? \"not heard\" : !holder ? \"nobody\" : holder.operator || \"domain \" + holder.domain],
     [\"commanded by\", boss === null ? \"not told\" : boss || \"nobody\"],
     [\"mode\", holder && holder.domain ? \"mode unknown\" : \"has none: it is not held by what stands above\"],
@@ -464,6 +538,7 @@ function fill() {
   const d = domains.get(opened), list = make(\"dl\");
   if (!d || !picture) return;
   rows(d).forEach(([key, value]) => list.append(make(\"dt\", \"\", key), make(\"dd\", \"\", value)));
+  flag(facts, \"old\", d.silence !== null);
   facts.replaceChildren(list, ...(d.devices.length ? [tableOf(d.devices)] : []));
 }
 
@@ -538,9 +613,17 @@ function showLive() {
   if (lost) set(by(\"lost-words\"), \"NO CONTACT for \" + age(late) + \": nothing here is true any more\");
 }
 
+// What somebody has chosen on this page; null where nothing was, or where the page may keep nothing.
+function kept(what) {
+  try { return localStorage.getItem(what); } catch (refused) { return null; }
+}
+function keep(what, value) {
+  try { localStorage.setItem(what, value); } catch (refused) { /* A page that may keep nothing forgets it. */ }
+}
+
 function theme(next) {
   document.documentElement.dataset.theme = next;
-  try { localStorage.setItem(\"theme\", next); } catch (refused) { /* A page that may keep nothing forgets it. */ }
+  keep(\"theme\", next);
 }
 function turnTheme() {
   const chosen = document.documentElement.dataset.theme;
@@ -548,10 +631,26 @@ function turnTheme() {
   theme(dark ? \"light\" : \"dark\");
 }
 by(\"theme\").addEventListener(\"click\", turnTheme);
-try {
-  const kept = localStorage.getItem(\"theme\");
-  if (kept === \"light\" || kept === \"dark\") document.documentElement.dataset.theme = kept;
-} catch (refused) { /* The machine's own choice stands. */ }
+if (kept(\"theme\") === \"light\" || kept(\"theme\") === \"dark\") document.documentElement.dataset.theme = kept(\"theme\");
+
+// The dense form shows a part that is in the state of what stands above by the dots of its devices alone.
+function thicken(is) {
+  document.body.classList.toggle(\"dense\", is);
+  by(\"dense\").setAttribute(\"aria-pressed\", String(is));
+}
+by(\"dense\").addEventListener(\"click\", () => {
+  thicken(!document.body.classList.contains(\"dense\"));
+  keep(\"dense\", String(document.body.classList.contains(\"dense\")));
+});
+
+// The size of all letters, which a browser's own zoom can't change because they follow the window.
+let size = Math.min(4, Math.max(.5, Number(kept(\"size\")) || 1));
+function resize(factor) {
+  size = Math.min(4, Math.max(.5, size * factor));
+  document.documentElement.style.setProperty(\"--size\", size);
+  keep(\"size\", size);
+}
+resize(1);
 
 by(\"more\").addEventListener(\"close\", () => {
   const was = domains.get(opened);
@@ -560,14 +659,22 @@ by(\"more\").addEventListener(\"close\", () => {
 });
 by(\"hour\").addEventListener(\"toggle\", () => { isLogOld = true; showLog(); });
 document.addEventListener(\"keydown\", (key) => {
-  if (key.ctrlKey || key.metaKey || key.altKey || by(\"more\").open) return;
+  if (key.ctrlKey || key.metaKey || key.altKey || by(\"more\").open || key.target === by(\"find\")) return;
   if (key.key === \"t\") { turnTheme(); return; }
+  if (key.key === \"/\") { by(\"find\").focus(); key.preventDefault(); return; }
+  if (key.key === \"+\" || key.key === \"-\") { resize(key.key === \"+\" ? 1.1 : 1 / 1.1); return; }
   const step = { ArrowDown: 1, ArrowRight: 1, ArrowUp: -1, ArrowLeft: -1 }[key.key];
   if (!step) return;
-  const all = [...document.querySelectorAll(\"#main button\")], at = all.indexOf(document.activeElement);
+  const all = [...document.querySelectorAll(\"#main section:not(.left-out) > button\")];
+  const at = all.indexOf(document.activeElement);
   const next = all[at < 0 ? 0 : (at + step + all.length) % all.length];
   if (next) { next.focus(); key.preventDefault(); }
 });
+by(\"find\").addEventListener(\"input\", leaveOut);
+by(\"find\").addEventListener(\"keydown\", (key) => {
+  if (key.key === \"Escape\") { by(\"find\").value = \"\"; by(\"find\").blur(); leaveOut(); }
+});
+addEventListener(\"hashchange\", leaveOut);
 const tick = () => { set(by(\"clock\"), new Date().toLocaleTimeString(\"en-GB\")); showLive(); show(); };
 setInterval(tick, 500);
 setInterval(showLive, 100);
