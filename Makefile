@@ -30,7 +30,7 @@ SHARE := $(PREFIX)/share/smi
 DOC := $(PREFIX)/share/doc/lunskaf
 ZSH := $(PREFIX)/share/zsh/site-functions
 # What a crew and whoever runs the machines may want beside the program.
-TOOLS := console devices draw firewall hierarchy lines lunskaf mqtt_bridge play record rows show status tango_bridge tree tree_check tree_diff
+TOOLS := console devices draw firewall hierarchy history lines lunskaf mqtt_bridge play record rows show status tango_bridge tree tree_check tree_diff
 
 # The program, its page, completion, the unit and its user, the tools, examples and documents.
 install: bin/smi

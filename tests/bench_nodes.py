@@ -8,6 +8,7 @@ one that wakes the station. The floor is a program in C that makes as many plain
 three to the log, each handed to the device, and as many datagrams to its own socket (tests/peer/floor.c). Both are run
 in turn, and each figure is the median of the rounds. Then the time from an order to its answer is measured through the
 pipes of a console, of a node at rest and of one that is sent datagrams all along; and through its sockets, at rest.
+At last takes with their drops are made in memory, by nodes with a journal and without one in turn.
 """
 
 import os
@@ -32,6 +33,8 @@ SAVES, DATAGRAMS = 6, 6
 # What a save adds to a log at least: a page and what stands before it.
 FRAME = 4096 + 24
 ASKS = 3000
+# How many nodes make takes and drops with a journal, and as many without one.
+JOURNALED = 15
 ORDERS = 300
 
 
@@ -145,6 +148,21 @@ def sockets(program, folder):
     node.kill()
 
 
+def journals(program):
+    """Takes with their drops a second over a store in memory, with a journal beside it and without one, in turn."""
+    counts = {"with": [], "without": []}
+    with tempfile.TemporaryDirectory(dir="/dev/shm") as folder:
+        tree = nodes.write_tree(folder, nodes.free_ports(2))
+        lines = ["order ANN ask DCS"] + ["order ANN take DCS", "order ANN drop DCS"] * PAIRS
+        for place in range(JOURNALED):
+            for how, more in (("with", ["--journal", os.path.join(folder, "night")]), ("without", [])):
+                words = [tree, "A", os.path.join(folder, "%s%d" % (how, place)), *more]
+                counts[how].append(PAIRS / lines_in(program, words, lines))
+    middles = {how: statistics.median(of) for how, of in counts.items()}
+    print("node: %.0f takes with their drops a second in memory, %.0f with a journal; ratio %.3f"
+          % (middles["without"], middles["with"], middles["with"] / middles["without"]))
+
+
 def main():
     program = os.path.abspath(sys.argv[1])
     # On the disk that the repository is on, as a folder for temporary files may be in memory.
@@ -153,6 +171,7 @@ def main():
         orders(program, folder)
         answers(program, folder)
         sockets(program, folder)
+    journals(program)
 
 
 if __name__ == "__main__":

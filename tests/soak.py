@@ -12,10 +12,11 @@ What has to hold: no two operators have a domain at once, by what they were told
 that a take is done to the moment at which the same gives it up; no row goes back, neither a boot, nor the epoch and the
 last command of a domain, nor the epoch that an operator knows of; once all nodes are killed, each record's holder knows
 of its grant, and each held link's record is that link's, with as many commands as were issued and are not pending; and
-no node ends by itself, or tells a fault.
+no node ends by itself, or tells a fault. At the end an audit of the journals of all nodes says that they were safe.
 """
 
 import argparse
+import glob
 import heapq
 import os
 import random
@@ -117,6 +118,7 @@ class Soak:
         self.lock, self.is_over = threading.Lock(), threading.Event()
         self.running, self.events, self.violations = {}, [], []
         self.orders = self.told = self.kills = self.samples = 0
+        self.audited = ""
         self.seen = {}
         for name in STATIONS:
             lines = tree_lines(self.ports, lambda other, name=name: self.ports[name] if other == name
@@ -132,7 +134,8 @@ class Soak:
             self.violations.append(text)
 
     def start(self, name):
-        node = nodes.Node(self.program, [self.path("tree", name), name, self.path("store", name)])
+        node = nodes.Node(self.program, [self.path("tree", name), name, self.path("store", name),
+                                         "--journal", os.path.join(self.folder, "night")])
         with self.lock:
             self.running[name] = node
         return node
@@ -258,12 +261,23 @@ class Soak:
             self.look_at(rows)
             everything.update(rows)
         self.violations += commanders(self.events) + unknown_grants(everything)
+        self.audit()
+
+    def audit(self):
+        """Checks that the journals of all nodes tell a safe trace."""
+        files = sorted(glob.glob(os.path.join(self.folder, "night", "*.journal")))
+        done = subprocess.run([self.program, "audit", self.path("tree", "A"), *files], capture_output=True, text=True,
+                              check=False)
+        self.audited = done.stdout + done.stderr
+        if done.returncode or not done.stdout.startswith("safe: "):
+            self.violations.append("the audit ended with %d: %s" % (done.returncode, self.audited))
 
     def report(self):
         text = "soak: seed %d, %d seconds: %d orders, %d told, %d kills, %d readings of rows; %s" % (
             self.said.seed, self.said.seconds, self.orders, self.told, self.kills, self.samples,
             ", ".join("%d %s" % (count, what) for what, count in self.proxy.count.items()))
         print(text)
+        print("soak: " + self.audited.split("\n", maxsplit=1)[0])
         for violation in self.violations:
             print("VIOLATION " + violation)
         print("soak: %d violations" % len(self.violations), flush=True)
