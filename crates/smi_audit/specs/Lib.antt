@@ -1,0 +1,7 @@
+pub mod Audited
+pub mod Described
+pub mod Kept
+pub mod Merged
+pub mod Passed
+pub mod Tables
+pub mod Teller
