@@ -1,5 +1,6 @@
 //! The commands, over any files, input and outputs.
 
+use crate::audit::audit_files;
 use crate::line::{CheckLine, CommandLine, line_of};
 use crate::node::run_node;
 use crate::screen::run_screen;
@@ -50,6 +51,7 @@ pub fn program<
         CommandLine::Check(line) => check_file(host, words, line, writer, faults),
         CommandLine::Rows(path) => list_rows(host, bytes_of(words, path), writer, faults).code(),
         CommandLine::Sim(line) => simulate(host, words, line, writer, faults),
+        CommandLine::Audit(line) => audit_files(host, words, line, writer, faults).code(),
         CommandLine::Node(line) => {
             let console = Console {
                 input: reader,

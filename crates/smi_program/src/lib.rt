@@ -15,6 +15,7 @@
 //! to show with each order, and what is written as orders.html.
 #![tactic(auto)]
 
+mod audit;
 mod commands;
 mod help;
 mod line;
@@ -30,7 +31,9 @@ mod words;
 
 pub use commands::program;
 pub use help::tell_help;
-pub use line::{CommandLine, JournalLine, NodeLine, Schedule, ScreenLine, SimLine, line_of};
+pub use line::{
+    AuditLine, CommandLine, JournalOptions, NodeLine, Schedule, ScreenLine, SimLine, line_of,
+};
 pub use orders::ORDERS;
 pub use page::PAGE;
 pub use with_orders::{page_bytes, page_with_orders};

@@ -23,6 +23,8 @@ pub enum CommandLine<'a> {
     Rows(&'a str),
     /// Simulate a schedule.
     Sim(SimLine<'a>),
+    /// Audit journals.
+    Audit(AuditLine<'a>),
     /// Run a node.
     Node(NodeLine<'a>),
     /// Run a screen.
@@ -48,6 +50,13 @@ pub struct SimLine<'a> {
     pub settles: bool,
 }
 
+/// An audit: the path of its tree, and whether the merged trace is written. Its files are the other words.
+#[derive(Clone, Copy)]
+pub struct AuditLine<'a> {
+    pub tree: &'a str,
+    pub traces: bool,
+}
+
 /// A schedule: the path of its file, or how it is drawn.
 #[derive(Clone, Copy)]
 pub enum Schedule<'a> {
@@ -64,7 +73,7 @@ pub enum ConsolePlace<'a> {
 
 /// Where a node writes its journal, and whether each step that saved is synced there before anything of it is sent.
 #[derive(Clone, Copy)]
-pub struct JournalLine<'a> {
+pub struct JournalOptions<'a> {
     pub folder: &'a str,
     pub is_synced: bool,
 }
@@ -84,7 +93,7 @@ pub struct NodeLine<'a> {
     /// Whether it starts on a store that is older than its label.
     pub accepts_older: bool,
     /// Where it writes its journal, if it has one.
-    pub journal: Option<JournalLine<'a>>,
+    pub journal: Option<JournalOptions<'a>>,
 }
 
 /// A screen: the path of its tree, the name of its station, the path of its store, where its guests come, by what name
@@ -132,6 +141,7 @@ fn line_in<'a>(matches: &ArgMatches<'a>) -> CommandLine<'a> {
             .get_str("STORE")
             .map_or(CommandLine::Wrong, CommandLine::Rows),
         Some(("sim", given)) => sim_line(given).map_or(CommandLine::Wrong, CommandLine::Sim),
+        Some(("audit", given)) => audit_line(given).map_or(CommandLine::Wrong, CommandLine::Audit),
         Some(("node", given)) => node_line(given).map_or(CommandLine::Wrong, CommandLine::Node),
         Some(("screen", given)) => screen_line(given).map_or(
             CommandLine::Wrong,
@@ -147,6 +157,7 @@ fn forms<'a>(alloc: Global) -> Result<Command<'a>, Error> {
     let command = with_form(command, check_command(alloc))?;
     let command = with_form(command, rows_command(alloc))?;
     let command = with_form(command, sim_command(alloc))?;
+    let command = with_form(command, audit_command(alloc))?;
     let command = with_form(command, node_command(alloc))?;
     with_form(command, screen_command(alloc))
 }
@@ -197,6 +208,20 @@ fn sim_line<'a>(given: &ArgMatches<'a>) -> Option<SimLine<'a>> {
         tree: given.get_str("TREE")?,
         schedule: schedule_of(given)?,
         settles: given.get_flag("settle"),
+    })
+}
+
+fn audit_command<'a>(alloc: Global) -> Result<Command<'a>, Error> {
+    let form = with_word(alloc, Command::new(alloc, "audit"), "TREE")?;
+    let files = Arg::new(alloc, "FILE").required(true).num_args(1..);
+    let form = form.arg(files)?;
+    Ok(form.arg(flag(alloc, "trace"))?)
+}
+
+fn audit_line<'a>(given: &ArgMatches<'a>) -> Option<AuditLine<'a>> {
+    Some(AuditLine {
+        tree: given.get_str("TREE")?,
+        traces: given.get_flag("trace"),
     })
 }
 
@@ -332,9 +357,9 @@ fn node_line<'a>(given: &ArgMatches<'a>) -> Option<NodeLine<'a>> {
 }
 
 /// Where a journal is written, if one is asked for. To sync none is no form.
-fn journal_line(folder: Option<&str>, is_synced: bool) -> Option<Option<JournalLine<'_>>> {
+fn journal_line(folder: Option<&str>, is_synced: bool) -> Option<Option<JournalOptions<'_>>> {
     match folder {
-        Some(folder) => Some(Some(JournalLine { folder, is_synced })),
+        Some(folder) => Some(Some(JournalOptions { folder, is_synced })),
         None if is_synced => None,
         None => Some(None),
     }

@@ -4,7 +4,7 @@ ghost use Rattle.std.specs.Prelude.{IfOk};
 ghost use Rattle.std.specs.Arc.{arc_value};
 ghost use Rattle.smi_program.specs.Named.{IsStationNamed};
 
-use crate::line::{ConsolePlace, JournalLine, NodeLine};
+use crate::line::{ConsolePlace, JournalOptions, NodeLine};
 use crate::tree::read_marked;
 use crate::words::{Words, bytes_of};
 use smi_commands::status::{Status, no_memory, store_fault, wrong_line};
@@ -67,11 +67,11 @@ fn listen_addresses_of(
 /// Returns how a journal is written, if the line asks for one.
 fn journal_setup(
     alloc: Global,
-    line: Option<JournalLine<'_>>,
+    line: Option<JournalOptions<'_>>,
     mark: &TreeMark,
     station: u16,
 ) -> Result<Option<Arc<JournalSetup, Global>>, AllocError> {
-    let Some(JournalLine { folder, is_synced }) = line else {
+    let Some(JournalOptions { folder, is_synced }) = line else {
         return Ok(None);
     };
     let setup = JournalSetup {
