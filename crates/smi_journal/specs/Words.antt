@@ -3,11 +3,11 @@ use Rattle.std.specs.Prelude.{ℕ, ◌++◌, List, [], ◌∷◌, map}
 use Rattle.std.specs.Fmt.{decimal}
 use Rattle.smi_grant.specs.declared.state.Version.{Version}
 use Rattle.smi_schedule.specs.TraceWords.{version_word}
-use Rattle.smi_journal.specs.declared.line.Word.{Word}
-use Rattle.smi_journal.specs.declared.line.Word.TheVariants as word
+use Rattle.smi_journal.specs.declared.line.JournalWord.{JournalWord}
+use Rattle.smi_journal.specs.declared.line.JournalWord.TheVariants as word
 
 -- what a word reads
-abbrev pub word_text : Word → List ℕ
+abbrev pub word_text : JournalWord → List ℕ
 word_text (word.Text bytes) = bytes.now
 word_text (word.Number number) = decimal number
 word_text (word.Version version) = version_word version

@@ -6,7 +6,7 @@
 ghost use Rattle.std.specs.Prelude.{◌≡◌, ◌++◌, OnOk};
 ghost use Rattle.smi_journal.specs.Blocks.{held_text, known_text, shown_text, stands_text};
 
-use crate::line::{Word, action, domain, holder, mode, object, phase, push_line, state};
+use crate::line::{JournalWord, action, domain, holder, mode, object, phase, push_line, state};
 use crate::step::LineContext;
 use smi_command::{Link, Pending};
 use smi_grant::{Command, Holder, Record, Shown};
@@ -64,11 +64,11 @@ fn push_stands(
 {
     let words = [
         domain(context.tree, number),
-        Word::Number(record.epoch),
+        JournalWord::Number(record.epoch),
         holder(context.tree, record.holder),
-        Word::Number(u64::from(record.last)),
+        JournalWord::Number(u64::from(record.last)),
         phase(record.phase),
-        Word::Number(u64::from(record.outcome)),
+        JournalWord::Number(u64::from(record.outcome)),
     ];
     push_line(text, context.prefix, b"stands", &words)
 }
@@ -87,20 +87,20 @@ fn push_known<'a>(
     let words = [
         holder(context.tree, ends.holder),
         domain(context.tree, ends.domain),
-        Word::Text(word),
-        Word::Number(epoch),
+        JournalWord::Text(word),
+        JournalWord::Number(epoch),
     ];
     push_line(text, context.prefix, b"link", &words)
 }
 
 /// Returns the two words of a command: what is to be done, and the action or the domain.
-fn command_words(tree: &Tree, command: Command) -> [Word<'_>; 2] {
+fn command_words(tree: &Tree, command: Command) -> [JournalWord<'_>; 2] {
     match command {
-        Command::Do(number) => [Word::Text(b"do"), action(tree, number)],
-        Command::Include(target) => [Word::Text(b"include"), domain(tree, target)],
-        Command::Exclude(target) => [Word::Text(b"exclude"), domain(tree, target)],
-        Command::Manual(target) => [Word::Text(b"manual"), domain(tree, target)],
-        Command::Ignore(target) => [Word::Text(b"ignore"), domain(tree, target)],
+        Command::Do(number) => [JournalWord::Text(b"do"), action(tree, number)],
+        Command::Include(target) => [JournalWord::Text(b"include"), domain(tree, target)],
+        Command::Exclude(target) => [JournalWord::Text(b"exclude"), domain(tree, target)],
+        Command::Manual(target) => [JournalWord::Text(b"manual"), domain(tree, target)],
+        Command::Ignore(target) => [JournalWord::Text(b"ignore"), domain(tree, target)],
     }
 }
 
@@ -119,8 +119,8 @@ fn push_pending(
         let words = [
             holder(context.tree, ends.holder),
             domain(context.tree, ends.domain),
-            Word::Number(grant.epoch),
-            Word::Number(u64::from(number)),
+            JournalWord::Number(grant.epoch),
+            JournalWord::Number(u64::from(number)),
             verb,
             target,
         ];
@@ -142,9 +142,9 @@ fn push_grant(
     let words = [
         holder(context.tree, ends.holder),
         domain(context.tree, ends.domain),
-        Word::Text(b"held"),
-        Word::Number(grant.epoch),
-        Word::Number(u64::from(grant.number)),
+        JournalWord::Text(b"held"),
+        JournalWord::Number(grant.epoch),
+        JournalWord::Number(u64::from(grant.number)),
         mode(grant.mode),
     ];
     push_line(text, context.prefix, b"link", &words)
@@ -271,7 +271,7 @@ fn push_state<'a>(
 {
     let words = [
         object(context.tree, shown.object),
-        Word::Version(shown.version),
+        JournalWord::Version(shown.version),
         state(context.tree, shown.state),
     ];
     push_line(text, context.prefix, first, &words)

@@ -54,7 +54,7 @@ pub enum Noted {
 
 /// A file that is written.
 #[derive(Drop)]
-struct JournalFile<F: Drop> {
+struct OpenedFile<F: Drop> {
     file: F,
     /// How many bytes it has.
     bytes: u64,
@@ -69,7 +69,7 @@ pub struct Journal<H: Files + Drop> {
     rt: H,
     tree: Arc<Tree, Global>,
     setup: Arc<JournalSetup, Global>,
-    current: Option<JournalFile<H::File>>,
+    current: Option<OpenedFile<H::File>>,
     /// The path of the file that was begun last, for whoever syncs it.
     begun: Option<String>,
     room: Room,
@@ -148,7 +148,7 @@ impl<H: Files + Clock + Drop> Journal<H> {
         if write_whole(&mut file, text).is_err() {
             return Err(io::Error::from(ErrorKind::WriteZero));
         }
-        self.current = Some(JournalFile {
+        self.current = Some(OpenedFile {
             file,
             bytes: text.len() as u64,
             day: now / DAY,
@@ -165,6 +165,7 @@ impl<H: Files + Clock + Drop> Journal<H> {
     fn give_up(&mut self, now: u64) -> Noted {
         let was_written = self.current.is_some();
         self.current = None;
+        self.typed.clear();
         self.unwritten = self.unwritten.saturating_add(1);
         self.next_try = now.saturating_add(PATIENCE);
         if was_written {
@@ -174,7 +175,7 @@ impl<H: Files + Clock + Drop> Journal<H> {
         }
     }
 
-    /// Notes a line that was typed at a console: it is written with the next step that is.
+    /// Notes a line that was typed at a console: it is written with the next step, before what that left.
     ///
     /// Without a file, or without memory, it is told nowhere.
     pub fn note_typed(&mut self, typed: TypedLine) {
@@ -254,12 +255,12 @@ impl<H: Files + Clock + Drop> Journal<H> {
         Noted::Resumed(lost)
     }
 
-    /// Notes a step: writes a line for each entry that it has handed out, all at once.
+    /// Notes a step: writes what was typed before it, and a line for each entry that it has handed out, all at once.
     ///
     /// The state is that of the station after the step. A fault ends the file and never the node: the steps that follow
     /// are counted, and after a minute a new file is begun, with what stands by then.
     pub fn note<T: StationState>(&mut self, state: &T, out: &Out) -> Noted {
-        if is_silent(out) {
+        if is_silent(out) && self.typed.is_empty() {
             return Noted::Written;
         }
         let now = self.now().unwrap_or(0);

@@ -9,8 +9,8 @@
 //! time, the station and the boot, and behind it the line of a trace. Their clauses say which text that is: the entries
 //! of the step by its definition, one line each, in their order (`specs/Text`).
 //!
-//! What a journal asks of a station is a trait of five questions ([`StationState`]), because a function over a station is
-//! expensive to prove.
+//! What a journal asks of a station is a trait of six questions ([`StationState`]), because a function over a station
+//! is expensive to prove.
 #![tactic(auto)]
 
 mod block;
@@ -24,7 +24,7 @@ mod typed;
 
 pub use block::StationState;
 pub use journal::{Journal, JournalSetup, MOST_BYTES, Noted, PATIENCE};
-pub use line::Word;
+pub use line::JournalWord;
 pub use step::{LineContext, is_silent, push_entry, push_step, write_step};
 pub use time::push_time;
 pub use typed::TypedLine;

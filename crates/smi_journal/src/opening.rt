@@ -2,7 +2,7 @@
 
 use crate::block::{StationState, push_block, push_states};
 use crate::journal::JournalSetup;
-use crate::line::{Word, push_line, station};
+use crate::line::{JournalWord, push_line, station};
 use crate::step::LineContext;
 use crate::time::{push_name_time, push_time};
 use smi_tree::Tree;
@@ -32,7 +32,7 @@ pub(crate) struct Room {
 /// Adds a name of the tree, or its number.
 fn push_station(text: &mut Vec<u8>, tree: &Tree, number: u16) -> Result<(), AllocError> {
     match station(tree, number) {
-        Word::Text(name) => text.extend_from_slice(name),
+        JournalWord::Text(name) => text.extend_from_slice(name),
         _ => write!(text, "{number}").map_err(|_| AllocError),
     }
 }
@@ -125,7 +125,7 @@ pub(crate) fn spell_opening<T: StationState>(
     push_head(text, setup)?;
     let words = [
         station(tree, setup.station),
-        Word::Number(u64::from(state.boot())),
+        JournalWord::Number(u64::from(state.boot())),
     ];
     push_line(text, context.prefix, first, &words)?;
     push_block(text, context, state)?;

@@ -155,7 +155,8 @@ pub fn write_step<W: Write>(
     ensures all { OnOk result (Appends (W.contents writer.old) (W.contents writer.new)
         (entries_text context.entry.tree.now context.entry.prefix.now (step_entries context.entry.station out.now))) }
     ensures prefix { (n : ℕ) × Appends (W.contents writer.old) (W.contents writer.new)
-        (take n (entries_text context.entry.tree.now context.entry.prefix.now (step_entries context.entry.station out.now))) }
+        (take n (entries_text context.entry.tree.now context.entry.prefix.now
+        (step_entries context.entry.station out.now))) }
 {
     text.clear();
     push_step(text, line, context, out)?;
