@@ -19,8 +19,8 @@ use std::sync::{Arc, Wait};
 use std::time::Clock;
 
 /// Forwards the states that the objects of its station pass through, those that the station takes, and the actions that
-/// it does, and wakes the front at the end of a turn that brought it an answer or news. Before that it notes the step in
-/// the journal of the node, if there is one.
+/// it does, and wakes the front at the end of a turn that brought it an answer or news. Before that it notes the step
+/// in the journal of the node, if there is one.
 ///
 /// A state for which there is no room is told at a later step, as the newest of its object by then.
 #[derive(Drop)]

@@ -80,8 +80,8 @@ impl<H: Files + Wait + Clock + Drop> JournalKeeper<H> {
     }
 }
 
-/// Opens a file to sync it, in place of the one before. It is opened by its descriptor, because the handle to files does
-/// not go to a thread.
+/// Opens a file to sync it, in place of the one before. It is opened by its descriptor, because the handle to files
+/// does not go to a thread.
 fn opened(before: i32, path: &str) -> i32 {
     if before >= 0 {
         libc::fdatasync(before);

@@ -188,8 +188,8 @@ impl<S: Stable, J: BoardId> Node<'_, '_, '_, S, J> {
 
     /// Carries an event to the station and what follows it from there, as [`carry`] does, and by the same contract.
     ///
-    /// The observer is told the step once its row is saved, and before anything of it is sent, published or answered: so
-    /// what others hear rests only on what the observer was told.
+    /// The observer is told the step once its row is saved, and before anything of it is sent, published or answered:
+    /// so what others hear rests only on what the observer was told.
     pub fn carry<L: DatagramLink, V: StepObserver, R: Wait>(
         &mut self,
         rt: &R,
