@@ -6,6 +6,7 @@ elements and compared with the trace of examples/shift.schedule up to there.
 """
 
 import json
+import os
 import random
 import re
 import socket
@@ -15,6 +16,7 @@ import pytest
 
 import browsers
 import demo
+import nodes
 import screens
 from browser import CONTRASTS, DOTS, GIVEN, LEADER, QUESTION, SHOWN, TOP, Hand, labels, shows, traced
 from running import is_so
@@ -468,8 +470,8 @@ def check_large(browser, subtests):
         assert middle < FRAME * (1 + SLACK)
 
 
-# The domains that are not left out, after a text was typed into the search, or a link was followed, or the name of a person
-# was clicked; and then all is shown again.
+# The domains that are not left out, after a text was typed into the search, a link was followed, or the name of a
+# person was clicked; and then all is shown again.
 KEPT = "[...domains.values()].filter((d) => !d.at.box.classList.contains('left-out')).map((d) => d.name)"
 FIND = """(() => { const f = by("find"); f.value = "%s"; f.dispatchEvent(new Event("input")); const kept = """ + KEPT + """;
   f.value = ""; f.dispatchEvent(new Event("input")); return kept; })()"""
@@ -537,6 +539,9 @@ def test_page(program, folder, subtests):
     finally:
         browser.end()
         detector.end()
+    is_safe, said = nodes.audit(program, detector.tree, os.path.join(folder, "night"))
+    with subtests.test("night: what an audit of the shift says: %s" % said):
+        assert is_safe
 
 
 def is_there(address):

@@ -188,6 +188,7 @@ class Crowd:
         self.ports = nodes.free_ports(said.stations)
         self.running, self.consoles, self.trees = {}, [], {}
         self.draw, self.ended = random.Random(said.seed), 0
+        self.night = os.path.join(folder, "night")
 
     def store(self, place):
         return os.path.join(self.folder, "store %d" % place)
@@ -201,8 +202,8 @@ class Crowd:
             self.trees[place] = nodes.write_tree(room, seen, crowd_lines(self.said, seen))
 
     def start(self, place):
-        self.running[place] = nodes.Node(self.program, [self.trees[place], "S%d" % place, self.store(place),
-                                                          "--endless"])
+        words = [self.trees[place], "S%d" % place, self.store(place), "--endless", "--journal", self.night]
+        self.running[place] = nodes.Node(self.program, words)
 
     def start_all(self):
         """Starts all nodes, with somebody at the first: how long they take to come up."""
@@ -339,6 +340,8 @@ def afterwards(table, crowd):
     table.add("orders answered", "%d of %d" % (answered, given), "all", 0 < given == answered)
     table.add_count("nodes that ended by themselves", crowd.ended, 0)
     table.add_count("grants and links that do not fit each other", len(soak.unknown_grants(crowd.rows())), 0)
+    is_safe, said = nodes.audit(crowd.program, crowd.trees[1], crowd.night)
+    table.add("the audit of all journals", said.split(":", maxsplit=1)[0], "safe", is_safe)
 
 
 # A late station

@@ -38,7 +38,8 @@ class Journaled:
 
     def files(self):
         """Returns the names of the files, the oldest first."""
-        return sorted(os.listdir(self.folder)) if os.path.isdir(self.folder) else []
+        names = os.listdir(self.folder) if os.path.isdir(self.folder) else []
+        return sorted(names, key=lambda it: (it.partition("Z")[0], int("0" + (NAME.fullmatch(it)[1] or "")[1:])))
 
     def text(self, place=-1):
         """Returns the text of one of the files."""
@@ -89,6 +90,14 @@ def test_remarks_and_tags_are_told_and_questions_are_not(room):
     assert node.ask("@8 order ANN take DCS", 30).startswith(("board", "@7"))
     assert running.is_so(lambda: "told ANN take DCS 0" in room.said())
     assert lines_of(room.said(), "typed") == ["typed 0 # name ANNA", "typed 0 @8 order ANN take DCS"]
+
+
+def test_remarks_alone_are_told_too(room):
+    node = room.node()
+    for place in range(100):
+        node.say("# remark %d" % place)
+    assert running.is_so(lambda: "typed 0 # remark 99" in room.said())
+    assert lines_of(room.said(), "typed") == ["typed 0 # remark %d" % place for place in range(100)]
 
 
 def test_a_start_begins_a_file_with_what_was_loaded(room):

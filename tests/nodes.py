@@ -1,5 +1,6 @@
-"""Nodes as processes: ports, tree files, and nodes whose lines are read as they come."""
+"""Nodes as processes: ports, tree files, nodes whose lines are read as they come, and audits of their journals."""
 
+import glob
 import itertools
 import os
 import queue
@@ -107,3 +108,11 @@ def ran(program, words, given="", **how):
     """Runs a node with all of its input at once. Returns the lines that it printed and told, and its status."""
     done = running.run([program, "node", *map(str, words)], given.encode(), **how)
     return done and (done[0].decode().splitlines(), done[1].decode().splitlines(), done[2])
+
+
+def audit(program, tree, night):
+    """Audits the journals of a folder. Returns whether they are safe, and the first line of the verdict."""
+    files = sorted(glob.glob(os.path.join(night, "*.journal")))
+    done = subprocess.run([program, "audit", tree, *files], capture_output=True, text=True, check=False)
+    said = (done.stdout + done.stderr).split("\n", maxsplit=1)[0]
+    return bool(files) and done.returncode == 0 and done.stdout.startswith("safe: "), said

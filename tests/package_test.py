@@ -88,7 +88,7 @@ def test_page(subtests):
         with subtests.test("the page has the form %s" % form):
             assert form in page
     with subtests.test("the page has all forms"):
-        assert len(told) == 7
+        assert len(told) == 8
     numbers = text_of("docs/NUMBERS.md")
     orders = [row[0] for row in documents.tables(documents.section(numbers, "How an order ends"))]
     listed = re.findall(r"^(\d+)  +\S", page, flags=re.M)
@@ -172,14 +172,17 @@ _smi
 printf '%s\n' "${COMPREPLY[@]}" | sort
 """
 COMPLETED = [
-    (["smi", ""], ["answer", "check", "node", "rows", "screen", "sim"]), (["smi", "s"], ["screen", "sim"]),
+    (["smi", ""], ["answer", "audit", "check", "node", "rows", "screen", "sim"]), (["smi", "s"], ["screen", "sim"]),
     (["smi", "x"], []),
     (["smi", "node", "three.tree", ""], ["A", "B", "C"]),
     (["smi", "node", "--turns", "5", "three.tree", "B"], ["B"]),
     (["smi", "node", "nowhere", ""], []),
-    (["smi", "node", "-"], ["--accept-older", "--console", "--endless", "--open", "--turns"]),
+    (["smi", "node", "-"], ["--accept-older", "--console", "--endless", "--journal", "--journal-sync", "--open",
+                            "--turns"]),
+    (["smi", "node", "--journal", "night", "three.tree", "B"], ["B"]),
     (["smi", "screen", "-"], ["--accept-older", "--endless", "--host", "--http", "--open", "--orders", "--turns"]),
-    (["smi", "check", "--"], ["--lint"]),
+    (["smi", "check", "--"], ["--lint"]), (["smi", "audit", "-"], ["--trace"]),
+    (["smi", "audit", "three.tree", "worked.t"], ["worked.tree"]),
     (["smi", "screen", "--http", "127.0.0.1:80", "three.tree", "B"], ["B"]),
     (["smi", "sim", "--s"], ["--seed", "--settle", "--steps"]),
     (["smi", "sim", "--seed", ""], []), (["smi", "rows", "-"], []),

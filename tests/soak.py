@@ -16,7 +16,6 @@ no node ends by itself, or tells a fault. At the end an audit of the journals of
 """
 
 import argparse
-import glob
 import heapq
 import os
 import random
@@ -265,19 +264,16 @@ class Soak:
 
     def audit(self):
         """Checks that the journals of all nodes tell a safe trace."""
-        files = sorted(glob.glob(os.path.join(self.folder, "night", "*.journal")))
-        done = subprocess.run([self.program, "audit", self.path("tree", "A"), *files], capture_output=True, text=True,
-                              check=False)
-        self.audited = done.stdout + done.stderr
-        if done.returncode or not done.stdout.startswith("safe: "):
-            self.violations.append("the audit ended with %d: %s" % (done.returncode, self.audited))
+        is_safe, self.audited = nodes.audit(self.program, self.path("tree", "A"), os.path.join(self.folder, "night"))
+        if not is_safe:
+            self.violations.append("the audit says: " + self.audited)
 
     def report(self):
         text = "soak: seed %d, %d seconds: %d orders, %d told, %d kills, %d readings of rows; %s" % (
             self.said.seed, self.said.seconds, self.orders, self.told, self.kills, self.samples,
             ", ".join("%d %s" % (count, what) for what, count in self.proxy.count.items()))
         print(text)
-        print("soak: " + self.audited.split("\n", maxsplit=1)[0])
+        print("soak: " + self.audited)
         for violation in self.violations:
             print("VIOLATION " + violation)
         print("soak: %d violations" % len(self.violations), flush=True)

@@ -92,7 +92,8 @@ class Detector:
         return [self.program, command, self.tree, name, os.path.join(self.folder, name + ".store"), "--endless"]
 
     def console(self, name):
-        return Console(self.words("node", name) + (["--console", self.desk] if name == DESK else []))
+        words = self.words("node", name) + ["--journal", os.path.join(self.folder, "night")]
+        return Console(words + (["--console", self.desk] if name == DESK else []))
 
     def looking(self):
         return subprocess.Popen(self.words("screen", STATION) + ["--http", self.http, "--orders", self.desk],

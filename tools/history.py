@@ -1,15 +1,15 @@
 """Tells what the journals of a night say: who held which domain when, what ran there and how it ended, who typed what,
 which stations started, and which objects stood in alarm.
 
-usage: history.py [--domain D] [--operator O] [--object X] [--from TIME] [--to TIME] [--states] [--alarm PATTERN] [--json]
-                  FILE ..
+usage: history.py [--domain D] [--operator O] [--object X] [--from TIME] [--to TIME] [--states] [--alarm PATTERN]
+                  [--json] FILE ..
 
 The files are journals that `smi node .. --journal FOLDER` wrote, in any order. Their lines stand in docs/FORMATS.md,
 "Journals". Events are told by their times, so the clocks of the machines decide the order of what happened at two of
 them; `smi audit` needs no clock. TIME is a time as in the journals, or the first part of one: 2026-11-27T22:05.
 
---states tells every state of every object, and not only those in alarm: ERROR, FAULT, ALARM or TRIP in the name, or what
-the PATTERN finds. --json prints a list with a dictionary for each event.
+--states tells every state of every object, and not only those in alarm: ERROR, FAULT, ALARM or TRIP in the name, or
+what the PATTERN finds. --json prints a list with a dictionary for each event.
 """
 
 import argparse

@@ -1,0 +1,562 @@
+"""Journals of stations: made from traces of `smi sim`, and judged by rules that share no code with `smi audit`.
+
+An entry is a tuple of its words, with numbers as numbers, a version as a pair and a command as a pair.
+"""
+
+import collections
+import datetime
+import hashlib
+
+import hierarchy
+
+FITS, WAITS, NEVER = "fits", "waits", "never"
+# The command of a run that a start alone tells.
+ANY = "?"
+MODES = ("included", "manual", "ignored")
+# The first words of the lines of a block.
+BLOCK = ("stands", "link", "pending", "state", "seen")
+# Kinds of entries that a save leaves.
+SAVED = ("granted", "freed", "ordered", "ran", "learned", "letgo", "mode", "settled")
+BEGIN = datetime.datetime(2026, 11, 28, 17, 45)
+
+
+class Tree:
+    """What an audit needs of a tree file, by names."""
+
+    def __init__(self, text):
+        self.text = text
+        made = hierarchy.of_lines(text.split("\n"))
+        self.number, self.stations, self.operators = made.number, list(made.stations), made.operators
+        self.parent = {name: None if above == "-" else above for name, (_, _, above) in made.domains.items()}
+        self.keeper = {name: made.station_of(name) for name in [*made.domains, *made.devices]}
+        self.class_of = {name: of for name, (_, of, _) in made.domains.items()}
+        self.actions, self.states = made.actions, made.states
+        self.accepts = collections.defaultdict(set)
+        for word, *more in filter(None, map(str.split, text.split("\n"))):
+            if word == "accept":
+                self.accepts[more[0]].add(more[1])
+
+    def children(self, domain):
+        return [name for name, above in self.parent.items() if above == domain]
+
+    def is_below(self, target, domain):
+        at = self.parent.get(target)
+        while at is not None and at != domain:
+            at = self.parent[at]
+        return at is not None
+
+    def forwards(self, domain, command, child):
+        """Returns true if a domain hands a command on to its child."""
+        verb, about = command
+        return about in self.accepts[self.class_of[domain]] if verb == "do" else self.is_below(about, child)
+
+    def station_of_holder(self, holder):
+        return self.operators[holder] if holder in self.operators else self.keeper[holder]
+
+    def digest(self):
+        """Returns the digest of what the file says: all words but comments and addresses."""
+        said = ""
+        for words in map(str.split, self.text.split("\n")):
+            if words and not words[0].startswith("#"):
+                said += "".join(word + " " for word in (words[:2] if words[0] == "station" else words)) + "\n"
+        return hashlib.sha256(said.encode()).hexdigest()
+
+    def teller(self, entry):
+        """Returns the station in whose journal an entry is."""
+        kind, *rest = entry
+        if kind in ("booted", "showed"):
+            return rest[0]
+        if kind in ("ordered", "told"):
+            return self.operators[rest[0]]
+        if kind in ("learned", "letgo"):
+            return self.station_of_holder(rest[0])
+        if kind == "mode":
+            return self.keeper[self.parent[rest[0]]]
+        return self.keeper[rest[0]]
+
+
+def entry_of(line):
+    """Returns the entry that a line of a trace tells."""
+    kind, *words = line.split(" ")
+    version = lambda text: tuple(map(int, text.split(".")))
+    if kind == "booted":
+        return kind, words[0], int(words[1])
+    if kind == "granted":
+        return kind, words[0], int(words[1]), words[2]
+    if kind == "freed":
+        return kind, words[0], int(words[1])
+    if kind == "ordered":
+        return kind, words[0], words[1], int(words[2]), int(words[3]), tuple(words[4:])
+    if kind == "ran":
+        return kind, words[0], int(words[1]), int(words[2]), tuple(words[3:])
+    if kind in ("learned", "letgo"):
+        return kind, words[0], words[1], int(words[2])
+    if kind == "settled":
+        return kind, words[0], int(words[1]), int(words[2]), int(words[3])
+    if kind == "showed":
+        return kind, words[0], words[1], version(words[2]), words[3]
+    if kind == "passed":
+        return kind, words[0], version(words[1]), words[2]
+    return (kind, *words)
+
+
+def text_of(entry):
+    """Returns the line of a trace that tells an entry."""
+    words = []
+    for word in entry:
+        if isinstance(word, tuple):
+            words.append(" ".join(word) if isinstance(word[0], str) else "%d.%d" % word)
+        else:
+            words.append(str(word))
+    return " ".join(words)
+
+
+class Account:
+    """What the entries of one station say of its domains and links, and what it has to write of them at a start."""
+
+    def __init__(self):
+        # domain: [epoch, holder, last, whether busy, outcome]; (holder, domain): [epoch, whether held, number]
+        self.records, self.links, self.modes = {}, {}, {}
+        # (holder, domain): the pending commands, each with its number; domain: its command at work
+        self.pending, self.work = collections.defaultdict(list), {}
+        # object: the newest version that it passed, or that was shown here, with the state
+        self.states, self.seen = {}, {}
+
+    def record(self, domain):
+        return self.records.get(domain, [0, None, 0, False, 0])
+
+    def link(self, holder, domain):
+        return self.links.get((holder, domain), [0, False, 0])
+
+    def note(self, tree, entry):
+        """Takes an entry into account."""
+        kind, *rest = entry
+        if kind in ("granted", "freed"):
+            self.records[rest[0]] = [rest[1], rest[2] if kind == "granted" else None, 0, False, 0]
+        elif kind == "ran":
+            self.records[rest[0]] = [*self.record(rest[0])[:2], rest[2], True, 0]
+            self.work[rest[0]] = rest[3]
+            for child in tree.children(rest[0]):
+                link = self.link(rest[0], child)
+                if link[1] and self.modes.get(child) != "manual" and tree.forwards(rest[0], rest[3], child):
+                    link[2] += 1
+                    self.pending[rest[0], child].append((link[2], rest[3]))
+        elif kind == "settled":
+            self.records[rest[0]] = [*self.record(rest[0])[:3], False, rest[3]]
+            for child in tree.children(rest[0]):
+                self.pending[rest[0], child] = []
+        elif kind == "ordered":
+            self.links[rest[0], rest[1]] = [*self.link(rest[0], rest[1])[:2], rest[3]]
+            self.pending[rest[0], rest[1]].append((rest[3], rest[4]))
+        elif kind == "learned":
+            self.links[rest[0], rest[1]] = [rest[2], True, 0]
+            self.modes[rest[1]], self.pending[rest[0], rest[1]] = "included", []
+        elif kind == "letgo":
+            self.links[rest[0], rest[1]] = [*self.link(rest[0], rest[1])[:1], False, 0]
+        elif kind == "mode":
+            self.modes[rest[0]] = rest[1]
+        elif kind == "passed":
+            self.states[rest[0]] = rest[1:]
+        elif kind == "showed":
+            self.seen[rest[1]] = rest[2:]
+
+    def block(self, tree, goes_on=False):
+        """Returns the lines of a block that says all this, by numbers of domains and operators.
+
+        States are in a block of a file that goes on within a boot.
+        """
+        lines = []
+        for domain in tree.parent:
+            epoch, holder, last, is_busy, outcome = self.record(domain)
+            if epoch:
+                lines.append("stands %s %d %s %d %s %d" % (
+                    domain, epoch, holder or "free", last, "busy" if is_busy else "settled", outcome))
+        for holder in [*tree.operators, *tree.parent]:
+            for domain in tree.parent:
+                epoch, is_held, number = self.link(holder, domain)
+                if is_held:
+                    mode = self.modes[domain] if holder in tree.parent else "included"
+                    lines.append("link %s %s held %d %d %s" % (holder, domain, epoch, number, mode))
+                    lines += ["pending %s %s %d %d %s" % (holder, domain, epoch, count, " ".join(command))
+                              for count, command in self.pending[holder, domain]]
+                elif epoch:
+                    lines.append("link %s %s dropping %d" % (holder, domain, epoch))
+        for word, known in (("state", self.states), ("seen", self.seen)) if goes_on else ():
+            lines += ["%s %s %d.%d %s" % (word, name, *version, state) for name, (version, state) in known.items()]
+        return lines
+
+
+def journals_of(tree, trace, lose=lambda entries: 0):
+    """Returns the journal of each station as a list of pairs: the boot and the words of a line.
+
+    Behind each start is its block. `lose` says of the entries before a start how many of the last are not written.
+    """
+    journals = {name: [] for name in tree.stations}
+    accounts = {name: Account() for name in tree.stations}
+    boots = dict.fromkeys(tree.stations, 0)
+    for line in trace:
+        if not line or line.startswith("sent "):
+            continue
+        entry = entry_of(line)
+        station = tree.teller(entry)
+        if entry[0] == "booted":
+            written = journals[station]
+            del written[len(written) - lose([words for _, words in written]):]
+            boots[station] = entry[2]
+        journals[station].append((boots[station], line))
+        accounts[station].note(tree, entry)
+        if entry[0] == "booted":
+            journals[station] += [(boots[station], words) for words in accounts[station].block(tree)]
+    return journals
+
+
+def time_text(number):
+    """Returns the time of a line: ten milliseconds for each before it."""
+    at = BEGIN + datetime.timedelta(milliseconds=10 * number)
+    return at.strftime("%Y-%m-%dT%H:%M:%S.") + "%03dZ" % (at.microsecond // 1000)
+
+
+def file_text(tree, station, lines, has_end=True, since=0):
+    """Returns the text of a journal's file: a head, and a line for each pair."""
+    text = "journal 1 %d %s\n" % (tree.number, tree.digest())
+    for number, (boot, words) in enumerate([*lines, *([(lines[-1][0], "ends")] if has_end and lines else [])]):
+        text += "%s %s %d %s\n" % (time_text(since + number), station, boot, words)
+    return text
+
+
+# ---- what a start tells that was lost
+
+
+class Loaded:
+    """What a block says was loaded."""
+
+    def __init__(self, lines):
+        self.account = Account()
+        for kind, *words in (line.split(" ") for line in lines):
+            if kind == "stands":
+                domain, epoch, holder, last, phase, outcome = words
+                holder = None if holder == "free" else holder
+                self.account.records[domain] = [int(epoch), holder, int(last), phase == "busy", int(outcome)]
+            elif kind == "link":
+                holder, domain, how, *more = words
+                self.account.links[holder, domain] = [int(more[0]), how == "held", int(more[1]) if how == "held" else 0]
+                if how == "held":
+                    self.account.modes[holder, domain] = more[2]
+            elif kind == "pending":
+                holder, domain, _, number, *command = words
+                self.account.pending[holder, domain].append((int(number), tuple(command)))
+
+    def command(self, tree, domain, number):
+        """Returns the command that a domain ran last, if a link of the station tells it."""
+        _, holder, _, is_busy, _ = self.account.record(domain)
+        below = [pending[-1][1] for child in tree.children(domain) if (pending := self.account.pending[domain, child])]
+        if is_busy and below:
+            return below[-1]
+        return dict(self.account.pending[holder, domain]).get(number, ANY)
+
+
+def lost_of(tree, was, lines, is_torn):
+    """Returns the entries that a journal lacks by a block, in the order of a step, and whether they are of one step.
+
+    Of a torn block the lines that are there are looked at, and no others.
+    """
+    loaded = Loaded(lines)
+    now = loaded.account
+    lost, rows, is_one = collections.defaultdict(list), set(), True
+    for domain in tree.parent:
+        before, after = was.record(domain), now.record(domain)
+        if before == after or (is_torn and domain not in now.records):
+            continue
+        rows.add(domain)
+        epoch, holder, last, is_busy, outcome = after
+        if epoch == before[0] + 1 and last == 0 and not before[3]:
+            lost[0].append(("granted", domain, epoch, holder) if holder else ("freed", domain, epoch))
+        elif after[:2] == before[:2] and last == before[2] + 1 and not before[3]:
+            lost[2].append(("ran", domain, epoch, last, loaded.command(tree, domain, last)))
+            lost[5] += [] if is_busy else [("settled", domain, epoch, last, outcome)]
+        elif after[:3] == before[:3] and before[3] and not is_busy:
+            lost[5].append(("settled", domain, epoch, last, outcome))
+        else:
+            is_one = False
+    for holder, domain in {**({} if is_torn else was.links), **now.links}:
+        before, after = was.link(holder, domain), now.link(holder, domain)
+        if before[1] and not after[1]:
+            rows.add(holder)
+            lost[3].append(("letgo", holder, domain, before[0]))
+        elif after[1]:
+            is_new = before[0] < after[0]
+            if is_new:
+                rows.add(holder)
+                lost[3].append(("learned", holder, domain, after[0]))
+                is_one = is_one and not before[1] and after[2] == 0
+            elif after[0] < before[0] or not before[1]:
+                is_one = False
+            if holder in tree.operators and after[2] != (0 if is_new else before[2]):
+                rows.add(holder)
+                number = after[2]
+                command = dict(now.pending[holder, domain]).get(number)
+                is_one = is_one and command is not None and number == (0 if is_new else before[2]) + 1
+                lost[1].append(("ordered", holder, domain, after[0], number, command))
+            mode = now.modes.get((holder, domain))
+            if holder in tree.parent and mode != ("included" if is_new else was.modes.get(domain, "included")):
+                rows.add(holder)
+                lost[4].append(("mode", domain, mode))
+    return [entry for rank in range(6) for entry in lost[rank]], is_one and len(rows) <= 1
+
+
+def replayed(tree, lines, has_end):
+    """Returns the entries of a station's journal, with those that starts alone tell, and whether there is a gap."""
+    account, entries, at = Account(), [], 0
+    while at < len(lines):
+        entry = entry_of(lines[at][1])
+        at += 1
+        block = []
+        while entry[0] == "booted" and at < len(lines) and lines[at][1].split(" ")[0] in BLOCK:
+            block.append(lines[at][1])
+            at += 1
+        if entry[0] == "booted":
+            is_torn = at == len(lines) and not has_end
+            lost, is_one = lost_of(tree, account, block, is_torn)
+            if not is_one and not is_torn:
+                return entries, True
+            entries += lost if is_one else []
+            account = Loaded(block).account
+            account.modes = {domain: mode for (_, domain), mode in account.modes.items()}
+        account.note(tree, entry)
+        entries.append(entry)
+    return entries, False
+
+
+# ---- what fits
+
+
+class Grant:
+    """What a trace says of a domain and its present grant."""
+
+    def __init__(self, epoch=0, holder=None):
+        self.epoch, self.holder, self.is_learned, self.is_gone = epoch, holder, False, False
+        self.orders, self.last, self.work, self.mode = [], 0, None, "included"
+        # (child, epoch, number) of each run as which the work was handed on
+        self.owed = []
+
+
+class Judge:
+    """Takes entries one by one, each only if the trace stays safe with it and none is taken too early."""
+
+    def __init__(self, tree):
+        self.tree = tree
+        self.grants = {domain: Grant() for domain in tree.parent}
+        self.states, self.newest = collections.defaultdict(dict), {}
+        self.shown, self.since, self.boots = {}, set(), {}
+
+    def look(self, entry):
+        """Returns whether an entry fits, waits or never fits, the station that it waits for, and a command."""
+        look = getattr(self, "look_" + entry[0], None)
+        return look(*entry[1:]) if look else (FITS, None, None)
+
+    def look_booted(self, station, boot):
+        return (NEVER if self.boots.get(station, 0) >= boot else FITS), None, None
+
+    def look_granted(self, domain, epoch, holder):
+        is_lawful = epoch % 2 == 1 and (holder in self.tree.operators or holder == self.tree.parent[domain])
+        return (FITS if is_lawful and epoch == self.grants[domain].epoch + 1 else NEVER), None, None
+
+    def look_freed(self, domain, epoch):
+        grant = self.grants[domain]
+        if epoch % 2 == 1 or epoch != grant.epoch + 1:
+            return NEVER, None, None
+        if not grant.is_gone:
+            return WAITS, self.tree.station_of_holder(grant.holder), None
+        return (FITS if grant.work is None else NEVER), None, None
+
+    def look_learned(self, holder, domain, epoch):
+        grant = self.grants[domain]
+        if epoch > grant.epoch:
+            return WAITS, self.tree.keeper[domain], None
+        fits = epoch == grant.epoch and grant.holder == holder and not grant.is_learned
+        return (FITS if fits else NEVER), None, None
+
+    def look_letgo(self, holder, domain, epoch):
+        grant = self.grants[domain]
+        if epoch > grant.epoch:
+            return WAITS, self.tree.keeper[domain], None
+        if (epoch, holder) != (grant.epoch, grant.holder) or not grant.is_learned or grant.is_gone:
+            return NEVER, None, None
+        waits = grant.work is not None or (holder in self.tree.operators and grant.last < len(grant.orders))
+        return (WAITS, self.tree.keeper[domain], None) if waits else (FITS, None, None)
+
+    def look_ordered(self, operator, domain, epoch, number, _command):
+        grant = self.grants[domain]
+        is_held = (epoch, operator) == (grant.epoch, grant.holder) and grant.is_learned and not grant.is_gone
+        return (FITS if is_held and number == len(grant.orders) + 1 else NEVER), None, None
+
+    def backing(self, domain, epoch, number, command):
+        """Looks for what stands behind a run, all the way up."""
+        grant = self.grants[domain]
+        holder = grant.holder
+        if grant.epoch != epoch or holder is None:
+            return NEVER, None, None
+        station = self.tree.station_of_holder(holder)
+        if not grant.is_learned:
+            return WAITS, station, None
+        if grant.is_gone:
+            return NEVER, None, None
+        if holder in self.tree.operators:
+            if number > len(grant.orders):
+                return WAITS, station, None
+            ordered = grant.orders[number - 1]
+            return (FITS if command in (ANY, ordered) else NEVER), None, ordered
+        above = self.grants[holder]
+        is_at_work = above.work is not None and command in (ANY, above.work)
+        if grant.mode == "manual" or not is_at_work or (domain, epoch, number) not in above.owed:
+            return WAITS, station, None
+        how, whom, _ = self.backing(holder, above.epoch, above.last, above.work)
+        return how, whom, above.work
+
+    def look_ran(self, domain, epoch, number, command):
+        grant = self.grants[domain]
+        if epoch != grant.epoch or number != grant.last + 1 or grant.work is not None:
+            return NEVER, None, None
+        return self.backing(domain, epoch, number, command)
+
+    def look_settled(self, domain, epoch, number, _outcome):
+        grant = self.grants[domain]
+        if (epoch, number) != (grant.epoch, grant.last) or grant.work is None:
+            return NEVER, None, None
+        for child, its_epoch, its_number in grant.owed:
+            below = self.grants[child]
+            at = (below.epoch, below.last)
+            if at < (its_epoch, its_number) or (at == (its_epoch, its_number) and below.work is not None):
+                return WAITS, self.tree.keeper[child], None
+        return FITS, None, None
+
+    def look_passed(self, thing, version, _state):
+        return (FITS if version > self.newest.get(thing, (0, -1)) else NEVER), None, None
+
+    def look_showed(self, station, thing, version, state):
+        if version not in self.states[thing]:
+            is_over = version < self.newest.get(thing, (0, -1))
+            return (NEVER, None, None) if is_over else (WAITS, self.tree.keeper[thing], None)
+        last = self.shown.get((station, thing))
+        is_old = last is not None and (version < last or (version == last and (station, thing) in self.since))
+        return (NEVER if is_old or self.states[thing][version] != state else FITS), None, None
+
+    def take(self, entry):
+        """Takes an entry that fits."""
+        kind, *rest = entry
+        if kind == "booted":
+            self.boots[rest[0]] = rest[1]
+            self.since = {pair for pair in self.since if pair[0] != rest[0]}
+        elif kind in ("granted", "freed"):
+            self.grants[rest[0]] = Grant(rest[1], rest[2] if kind == "granted" else None)
+        elif kind == "learned":
+            self.grants[rest[1]].is_learned = True
+        elif kind == "letgo":
+            self.grants[rest[1]].is_gone = True
+        elif kind == "ordered":
+            self.grants[rest[1]].orders.append(rest[4])
+        elif kind == "mode":
+            self.grants[rest[0]].mode = rest[1]
+        elif kind == "ran":
+            self.take_run(*rest)
+        elif kind == "settled":
+            self.grants[rest[0]].work = None
+        elif kind == "passed":
+            self.newest[rest[0]] = rest[1]
+            self.states[rest[0]][rest[1]] = rest[2]
+        elif kind == "showed":
+            self.shown[rest[0], rest[1]] = rest[2]
+            self.since.add((rest[0], rest[1]))
+
+    def take_run(self, domain, epoch, number, command):
+        if command == ANY:
+            command = self.backing(domain, epoch, number, ANY)[2]
+        grant = self.grants[domain]
+        grant.last, grant.work, grant.owed = number, command, []
+        for child in self.tree.children(domain):
+            below = self.grants[child]
+            is_held = below.holder == domain and below.is_learned and not below.is_gone
+            if is_held and below.mode != "manual" and self.tree.forwards(domain, command, child):
+                grant.owed.append((child, below.epoch, below.last + 1))
+
+
+def judged(tree, journals, ended):
+    """Returns the verdict on journals, `safe`, `open` or `unsafe`, and how many entries there are.
+
+    `ended` has the stations whose nodes ended by themselves, so that their journals tell no more.
+    """
+    judge = Judge(tree)
+    left, gaps = {}, set()
+    for station, lines in journals.items():
+        entries, has_gap = replayed(tree, lines, station in ended)
+        left[station] = collections.deque(entries)
+        gaps |= {station} if has_gap else set()
+    count = sum(map(len, left.values()))
+    is_moved = True
+    while is_moved:
+        is_moved = False
+        for entries in left.values():
+            while entries and judge.look(entries[0])[0] == FITS:
+                judge.take(entries.popleft())
+                is_moved = True
+    holds = {station: judge.look(entries[0]) for station, entries in left.items() if entries}
+    fates = {fate_of(holds, gaps, ended, station) for station in left}
+    return "unsafe" if "unsafe" in fates else "open" if fates - {"safe"} else "safe", count
+
+
+def fate_of(holds, gaps, ended, station):
+    """Follows what the first entry of a station's journal waits for."""
+    at, seen = station, set()
+    while at in holds:
+        how, whom, _ = holds[at]
+        if how == NEVER:
+            return "unsafe" if at == station else "behind"
+        if at in seen:
+            return "unsafe"
+        seen.add(at)
+        at = whom
+    if at == station:
+        return "open" if station in gaps else "safe"
+    return "unsafe" if at in ended and at not in gaps else "open"
+
+
+# ---- one entry forged
+
+
+def others(tree, entry):
+    """Returns the ways in which one thing that an entry says is said otherwise, with names that the tree has."""
+    kind, *rest = entry
+    action = lambda command: [("do", name) for name in tree.actions if ("do", name) != command]
+    if kind == "granted":
+        return [(kind, rest[0], rest[1], other) for other in [*tree.operators, *tree.parent] if other != rest[2]]
+    if kind == "freed":
+        return [(kind, rest[0], rest[1] + 2)]
+    if kind in ("learned", "letgo"):
+        return [(kind, *rest[:2], epoch) for epoch in (rest[2] + 2, rest[2] - 2) if epoch > 0]
+    if kind == "ran":
+        return [(kind, *rest[:3], other) for other in action(rest[3])] + [(kind, *rest[:2], rest[2] + 1, rest[3])]
+    if kind == "ordered":
+        return [(kind, *rest[:4], other) for other in action(rest[4])]
+    if kind in ("showed", "passed"):
+        return [(kind, *rest[:-1], other) for other in tree.states if other != rest[-1]]
+    return []
+
+
+def forged(rng, tree, journals, kinds):
+    """Returns what was done to one entry of these kinds, and the journals with it; None if there is no such entry."""
+    places = [(station, number) for station, lines in journals.items() for number, (_, words) in enumerate(lines)
+              if words.split(" ")[0] in kinds]
+    if not places:
+        return None
+    station, number = rng.choice(places)
+    boot, words = journals[station][number]
+    made = {name: list(lines) for name, lines in journals.items()}
+    way = rng.choice(("gone", "twice", "other"))
+    choices = others(tree, entry_of(words))
+    if way == "gone":
+        del made[station][number]
+    elif way == "twice" or not choices:
+        made[station].insert(number + 1, (boot, words))
+    else:
+        made[station][number] = (boot, text_of(rng.choice(choices)))
+    return "%s: %s" % (way, words), made
