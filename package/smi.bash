@@ -8,7 +8,7 @@ _smi_words()
     for ((place = 2; place < COMP_CWORD; place++)); do
         word=${COMP_WORDS[place]}
         case $word in
-            --console | --host | --http | --orders | --seed | --steps | --turns) ((place++)) ;;
+            --console | --host | --http | --journal | --orders | --seed | --steps | --turns) ((place++)) ;;
             -*) ;;
             *) words+=("$word") ;;
         esac
@@ -20,12 +20,12 @@ _smi()
     local word=${COMP_WORDS[COMP_CWORD]} before=${COMP_WORDS[COMP_CWORD - 1]} options='' words
     COMPREPLY=()
     if ((COMP_CWORD == 1)); then
-        mapfile -t COMPREPLY < <(compgen -W 'answer check node rows screen sim' -- "$word")
+        mapfile -t COMPREPLY < <(compgen -W 'answer audit check node rows screen sim' -- "$word")
         return
     fi
     case $before in
         --host | --http | --seed | --steps | --turns) return ;;
-        --console | --orders)
+        --console | --journal | --orders)
             compopt -o filenames 2> /dev/null
             mapfile -t COMPREPLY < <(compgen -f -- "$word")
             return
@@ -33,8 +33,9 @@ _smi()
     esac
     case ${COMP_WORDS[1]} in
         sim) options='--seed --settle --steps' ;;
+        audit) options='--trace' ;;
         check) options='--lint' ;;
-        node) options='--accept-older --console --endless --open --turns' ;;
+        node) options='--accept-older --console --endless --journal --journal-sync --open --turns' ;;
         screen) options='--accept-older --endless --host --http --open --orders --turns' ;;
     esac
     if [[ $word == -* ]]; then
@@ -46,7 +47,7 @@ _smi()
         node:1 | screen:1)
             mapfile -t COMPREPLY < <(compgen -W "$(awk '$1 == "station" {print $2}' "${words[0]}" 2> /dev/null)" -- "$word")
             ;;
-        check:0 | rows:0 | sim:0 | sim:1 | node:[02] | screen:[02])
+        audit:* | check:0 | rows:0 | sim:0 | sim:1 | node:[02] | screen:[02])
             compopt -o filenames 2> /dev/null
             mapfile -t COMPREPLY < <(compgen -f -- "$word")
             ;;
