@@ -374,7 +374,7 @@ UNHELD = """(() => {""" + LEVELS + """
   const none = getComputedStyle(probe).color;
   probe.remove();
   return [...[...domains.values()].map((d) => getComputedStyle(d.at.box).borderLeftColor === none),
-    document.getElementById("alarms").textContent]; })()"""
+    ...[...document.querySelectorAll("#alarms button")].map((b) => b.textContent)]; })()"""
 # Whether the page takes the silent domain for manual after each of these steps: an order of its own, with the code with
 # which it ends, or `waits`, or `lost` if it is not known; or a record of the domain above, its epoch and last command.
 COUNTED = """(async () => {""" + LEVELS + """
@@ -452,7 +452,8 @@ LARGE = """(() => {
   for (let n = 0; n < 20; n += 1) {
     frame += 1;
     const begun = performance.now();
-    take({ frame, now: 1000 * frame, domains: domains.map((d) => ({ name: d.name, shown: shown(), told: {
+    // (a picture of frame 0 is never newer than one of the screen, so the page does not take it for begun again)
+    take({ frame: 0, now: 1000 * frame, domains: domains.map((d) => ({ name: d.name, shown: shown(), told: {
       holder: any() %% 2 ? { operator: "ANN" } : null, epoch: frame, last: frame, busy: any() %% 2 === 0, outcome: 0,
       since: 1000 * frame, heard: 1000 * frame } })),
       devices: devices.map((d) => ({ name: d.name, shown: shown() })) });
