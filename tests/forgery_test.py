@@ -1,0 +1,192 @@
+"""What an audit says of nights that were not honest: forged datagrams, a second process of a station, a store that was put
+back, and another tree. The bytes of the datagrams are those of docs/FORMATS.md."""
+
+import os
+import shutil
+import socket
+import subprocess
+
+import pytest
+
+import layout
+import nodes
+import running
+
+A, B = 1, 2
+DCS, TPC = 1, 2
+OPERATOR, DOMAIN = 1, 2
+
+
+def datagram(kind, **fields):
+    """Returns the bytes of a datagram of tree 17 with these fields."""
+    data = bytearray(b"SM" + bytes([1, kind]) + bytes(40))
+    for name, value in {"tree": 17, **fields}.items():
+        place, size, _ = layout.FIELDS[name.replace("_", " ")]
+        data[place:place + size] = value.to_bytes(size, "big")
+    assert layout.refusal(bytes(data)) == 0
+    return bytes(data)
+
+
+class Night:
+    """Stations A and B of the worked tree, which write journals, and somebody who forges datagrams to them."""
+
+    def __init__(self, program, folder, ports, start_node):
+        self.program, self.folder, self.ports, self.start_node = program, folder, ports, start_node
+        self.tree, self.night = nodes.write_tree(folder, ports), os.path.join(folder, "night")
+        self.running = {}
+
+    def store(self, station):
+        return os.path.join(self.folder, station)
+
+    def start(self, station, *words):
+        before = self.files(station)
+        node = self.start_node(self.tree, station, self.store(station), "--endless", "--journal", self.night, *words)
+        assert running.is_so(lambda: len(self.files(station)) > len(before))
+        self.running[station] = node
+        return node
+
+    def kill(self, station):
+        self.running.pop(station).kill()
+
+    def files(self, station):
+        names = os.listdir(self.night) if os.path.isdir(self.night) else []
+        return [os.path.join(self.night, it) for it in sorted(names) if it.startswith(station + "-")]
+
+    def says(self, station, words):
+        """Returns true once a journal of the station has an entry of these words."""
+        return running.is_so(lambda: any(line.endswith(" " + words) for path in self.files(station)
+                                         for line in running.read(path).decode().splitlines()))
+
+    def forge(self, station, data):
+        """Sends a datagram to a station."""
+        with socket.socket(socket.AF_INET, socket.SOCK_DGRAM) as out:
+            out.sendto(data, ("127.0.0.1", self.ports[station - 1]))
+
+    def include(self):
+        """Has DCS, which ANN holds, hold TPC."""
+        node = self.running["A"]
+        assert node.ask("order ANN take DCS") == "told ANN take DCS 0"
+        assert node.ask("order ANN include DCS TPC") == "told ANN include DCS TPC 0"
+
+    def audit(self, tree=None):
+        """Ends all nodes, and returns the status of an audit and what it says."""
+        for station in list(self.running):
+            self.kill(station)
+        paths = self.files("A") + self.files("B")
+        done = subprocess.run([self.program, "audit", tree or self.tree, *paths], capture_output=True, text=True,
+                              check=False)
+        return done.returncode, done.stdout + done.stderr
+
+
+@pytest.fixture
+def night(program, folder, ports, start_node):
+    return Night(program, folder, ports, start_node)
+
+
+@pytest.fixture
+def both(night):
+    """Returns a night in which both stations run."""
+    night.start("A")
+    night.start("B")
+    return night
+
+
+def test_an_honest_night_is_safe(both):
+    both.include()
+    status, said = both.audit()
+    assert (status, said.split(":")[0]) == (0, "safe")
+
+
+def test_a_forged_run_is_told(both):
+    both.include()
+    both.forge(B, datagram(layout.RUN, **{"from": A}, to=B, subject=TPC, holder_kind=DOMAIN, holder=DCS, code=1, epoch=1,
+                           number=1, argument=1))
+    assert both.says("B", "ran TPC 1 1 do CONFIGURE")
+    # What A was shown and this run wait for one another's journals: the first of both by time is told.
+    status, said = both.audit()
+    assert status == 1 and said.startswith("unsafe: "), said
+    assert "ran TPC 1 1 do CONFIGURE" in said or "showed A TPC 1.1 READY waits for passed TPC 1.1 READY of" in said, said
+
+
+def test_a_forged_drop_is_told(both):
+    both.include()
+    both.forge(B, datagram(layout.DROP, **{"from": A}, to=B, subject=TPC, holder_kind=DOMAIN, holder=DCS, epoch=1))
+    assert both.says("B", "freed TPC 2")
+    status, said = both.audit()
+    assert status == 1 and "freed TPC 2" in said and "letgo DCS TPC 1" in said, said
+
+
+def test_a_forged_tell_is_told(night):
+    node = night.start("A")
+    assert node.ask("order ANN take DCS") == "told ANN take DCS 0"
+    node.say("@1 order ANN include DCS TPC")
+    assert night.says("A", "ran DCS 1 1 include TPC")
+    night.forge(A, datagram(layout.TELL, **{"from": B}, to=A, subject=TPC, holder_kind=DOMAIN, holder=DCS, epoch=1))
+    assert night.says("A", "learned DCS TPC 1")
+    night.start("B")
+    status, said = night.audit()
+    assert status == 1 and "learned DCS TPC 1" in said and "granted TPC 1 DCS" in said, said
+
+
+def test_a_forged_state_is_told(both):
+    both.include()
+    both.forge(A, datagram(layout.STATE, **{"from": B}, to=A, subject=TPC, echo=1, boot=1, sequence=9, code=3))
+    assert both.says("A", "showed A TPC 1.9 RUNNING")
+    status, said = both.audit()
+    assert status == 1 and "showed A TPC 1.9 RUNNING" in said, said
+
+
+def test_a_forged_take_gives_a_grant_that_nobody_learns_of(both):
+    both.forge(B, datagram(layout.TAKE, **{"from": A}, to=B, subject=TPC, holder_kind=OPERATOR, holder=1, epoch=0))
+    assert both.says("B", "granted TPC 1 ANN")
+    status, said = both.audit()
+    assert (status, said.split(":")[0]) == (0, "safe")
+
+
+def copied(night, station):
+    """Copies the store of a station that does not run, with what belongs to it, and returns how to put that back."""
+    names = [it for it in os.listdir(night.folder) if it == station or it.startswith(station + "-")]
+    for name in names:
+        shutil.copy(os.path.join(night.folder, name), os.path.join(night.folder, "copy " + name))
+    return [(os.path.join(night.folder, "copy " + name), os.path.join(night.folder, name)) for name in names]
+
+
+def test_a_store_that_was_put_back_is_told(night):
+    night.start("B")
+    night.kill("B")
+    copies = copied(night, "B")
+    node = night.start("B")
+    assert node.ask("order BOB take TPC") == "told BOB take TPC 0"
+    night.kill("B")
+    for copy, path in copies:
+        shutil.copy(copy, path)
+    night.start("B")
+    night.start("A")
+    status, said = night.audit()
+    assert status == 1 and "B-" in said, said
+
+
+def test_a_second_process_of_a_station_is_told(both):
+    both.kill("B")
+    copied(both, "B")
+    for name in os.listdir(both.folder):
+        if name.startswith("copy B"):
+            shutil.copy(os.path.join(both.folder, name), os.path.join(both.folder, name.replace("copy B", "second B")))
+    first = both.start("B")
+    assert first.ask("order BOB take TPC") == "told BOB take TPC 0"
+    tree = os.path.join(both.folder, "second")
+    os.mkdir(tree)
+    path = nodes.write_tree(tree, [both.ports[0], nodes.free_ports(1)[0]])
+    second = both.start_node(path, "B", os.path.join(both.folder, "second B"), "--endless", "--journal", both.night)
+    assert second.ask("order BOB take TPC") == "told BOB take TPC 0"
+    status, said = both.audit()
+    assert status == 1 and "B-" in said, said
+
+
+def test_a_tree_with_another_rule_is_told(both):
+    both.include()
+    lines = [line.replace("all UNIT READY READY", "all UNIT READY RUNNING") for line in nodes.tree_lines(both.ports)]
+    other = os.path.join(both.folder, "other")
+    os.mkdir(other)
+    status, said = both.audit(nodes.write_tree(other, both.ports, lines))
+    assert status == 1 and said.endswith("line 1 fault 15\n"), said
