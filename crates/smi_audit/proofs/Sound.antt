@@ -28,7 +28,7 @@ use Rattle.smi_audit.proofs.States.{passing_fits, passed_now, showing_fits, show
 use Rattle.smi_audit.proofs.Fits.{grant_fits, end_fits, learned_fits, let_go_fits, one_commander, run_rests, run_next}
 use Rattle.smi_audit.proofs.Fits.{run_above}
 
--- A table with one state anew.
+-- A table with one state replaced.
 
 row_at : {X : Type 0} (P : ℕ → X → Type 0) (table : ℕ → X) (x : ℕ) (v : X) → P x v
     → ((y : ℕ) → (x ≡ y → ⊥) → P y (table y)) → (y : ℕ) → P y (put table x v y)

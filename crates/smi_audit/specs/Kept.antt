@@ -53,7 +53,7 @@ pub record IsDomainTable (l : DomainTable) : Type 0 where
 abbrev pub accounts_of : DomainTable → ℕ → Account
 accounts_of l d = account_of (entry_or l.grants d fresh_state) (entry_or l.orders d [])
 
--- an entry about a domain that passes a test is taken, and its account is written anew; or nothing changes
+-- an entry about a domain that passes a test is taken, and its account is replaced; or nothing changes
 abbrev pub Writes : Bool → Bool → DomainTable → DomainTable → ℕ → Account → Type 0
 Writes true test before after d new = (test ≡ true) × (accounts_of after ≡ put (accounts_of before) d new)
     × (after.tree ≡ before.tree)
@@ -126,7 +126,7 @@ Starts true before after s b = (fits_boot before s b ≡ true) × (passed_of aft
     × (after.tree ≡ before.tree)
 Starts false before after s b = (fits_boot before s b ≡ false) × (after ≡ before)
 
--- what stands at the beginning is set, if the tree has it
+-- what is there at the beginning is set, if the tree has it
 
 abbrev pub SetsShown : Bool → StateTable → StateTable → ℕ → Shown → Type 0
 SetsShown done before after s z =

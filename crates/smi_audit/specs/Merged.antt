@@ -87,7 +87,7 @@ abbrev pub Means : MergeVerdict → Hierarchy → List Entry → List (List Entr
 Means verdict.Safe h base journals = HasSafeMerge h base journals
 Means verdict.Open h base journals = HasSafeStart h base journals
 
--- an entry comes to the end of one of the journals
+-- an entry is added at the end of one of the journals
 abbrev pub pushed : List (List Entry) → ℕ → Entry → List (List Entry)
 pushed [] i x = []
 pushed (j ∷ more) zero x = (j ++ x ∷ []) ∷ more

@@ -197,7 +197,7 @@ forwards h p (Exclude t) d = is_below h t d
 forwards h p (Manual t) d = is_below h t d
 forwards h p (Ignore t) d = is_below h t d
 
--- the holder of a domain stands behind its command, by its order or by what it works on itself; `above` says whether
+-- the holder of a domain backs its command, by its order or by what it works on itself; `above` says whether
 -- the holder's own command rests on current grants
 abbrev pub is_behind : Hierarchy → (ℕ → Account) → ℕ → ℕ → Command → (ℕ → Bool) → Holder → Bool
 is_behind h domains d n c above Free = false
@@ -206,7 +206,7 @@ is_behind h domains d n c above (Domain p) =
     may_hold h d (Domain p) && (is_commanded (domains d).mode && (works_on (domains p).work c && (forwards h p c d
     && above p)))
 
--- a command rests on current grants, so many levels up at most
+-- a command rests on current grants, at most this many levels up
 unfoldable pub rests : ℕ → Hierarchy → (ℕ → Account) → ℕ → ℕ → Command → Bool
 rests zero h domains d n c = false
 rests (suc more) h domains d n c =

@@ -168,7 +168,7 @@ impl<'a> Audit<'a> {
         self.domains.assume(domain, state)
     }
 
-    /// Adds a command that was ordered under a grant that stands at the beginning. Returns false if the tree lacks the
+    /// Adds a command that was ordered under a grant of the beginning. Returns false if the tree lacks the
     /// domain. If memory is refused, nothing changes.
     pub fn assume_order(&mut self, domain: u16, command: Command) -> Result<bool, AllocError>
         ensures taken { IfOk result (λ taken. Assumes taken (has_domain self.old.domains.tree domain) self.old self.new

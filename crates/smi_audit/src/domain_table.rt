@@ -104,7 +104,7 @@ impl<'a> DomainTable<'a> {
         }
     }
 
-    /// Writes the state of a domain anew.
+    /// Replaces the state of a domain.
     fn put_state(&mut self, domain: u16, state: GrantState)
         requires { has_domain self.old.tree domain ≡ true }
         ensures accounts { accounts_of self.new
@@ -218,7 +218,7 @@ impl<'a> DomainTable<'a> {
         state.stage.is_held() && self.is_behind(levels - 1, domain, number, command, state)
     }
 
-    /// Returns true if the holder of a domain stands behind its command.
+    /// Returns true if the holder of a domain has ordered its command, or works on it.
     #[cycle(rests)]
     fn is_behind(
         &self,
@@ -398,7 +398,7 @@ impl<'a> DomainTable<'a> {
         }
     }
 
-    /// Adds a command that was ordered under the grant that stands at the beginning. Returns false if the tree lacks
+    /// Adds a command that was ordered under the grant of the beginning. Returns false if the tree lacks
     /// the domain. If memory is refused, nothing changes.
     pub fn assume_order(&mut self, domain: u16, command: Command) -> Result<bool, AllocError>
         ensures taken { IfOk result (λ taken. Writes taken (has_domain self.old.tree domain) self.old self.new domain

@@ -89,7 +89,7 @@ impl<'a> Merge<'a> {
         obstacle_of(&self.audit, &self.owed, self.tree, entry)
     }
 
-    /// Returns the command that stands behind a run of this number under the last grant of a domain: what its operator
+    /// Returns the command behind a run of this number under the last grant of a domain: what its operator
     /// ordered under the number, or what the domain above works on and hands on as this number.
     pub fn expected_command(&self, domain: u16, number: u32) -> Option<Command> {
         match self.audit.state(domain).holder {
@@ -114,7 +114,7 @@ impl<'a> Merge<'a> {
         self.audit.assume(domain, state)
     }
 
-    /// Adds a command that was ordered under a grant that stands at the beginning. Returns false if the tree lacks the
+    /// Adds a command that was ordered under a grant of the beginning. Returns false if the tree lacks the
     /// domain. If memory is refused, nothing changes.
     pub fn assume_order(&mut self, domain: u16, command: Command) -> Result<bool, AllocError>
         ensures taken { IfOk result (λ taken. Assumes taken (has_domain self.old.domains.tree domain) self.old self.new

@@ -87,9 +87,9 @@ pub enum Contradiction {
     Command { ordered: Command },
     /// The holder has let go of the domain.
     LetGo { holder: Holder },
-    /// This domain above does not stand behind the command.
+    /// This domain above does not work on the command.
     Unbacked { domain: u16 },
-    /// The command is not at work: so many have run under the grant of this epoch.
+    /// The command is not at work: `ran` have run under the grant of this epoch.
     NotAtWork { epoch: u64, ran: u32 },
     /// A version that was passed or shown before is not older.
     Version { newest: Version },
@@ -327,7 +327,7 @@ fn before_run(
     }
 }
 
-/// Returns the first domain above that does not stand behind a command.
+/// Returns the first domain above that does not work on a command.
 fn unbacked(audit: &Audit<'_>, tree: &Tree, domain: u16, command: Command) -> u16 {
     let mut below = domain;
     for _level in 0..MOST_LEVELS {

@@ -16,10 +16,10 @@ use std::io::{self, ErrorKind};
 use std::sync::Arc;
 use std::time::{Clock, SystemTime, UNIX_EPOCH};
 
-/// A file is ended once it has so many bytes.
+/// How many bytes a file has at least when a new one follows it.
 pub const MOST_BYTES: u64 = 64 << 20;
 
-/// After a fault no new file is begun for so many milliseconds.
+/// How long no new file is begun after a fault, in milliseconds.
 pub const PATIENCE: u64 = 60_000;
 
 /// So many files that were begun within a second have names.
@@ -48,7 +48,7 @@ pub enum Noted {
     Failed,
     /// It could not be written, and neither could the one before it.
     Failing,
-    /// A new file is begun, and so many steps are written nowhere.
+    /// A new file is begun; the number says how many steps are written nowhere.
     Resumed(u64),
 }
 
@@ -70,7 +70,7 @@ pub struct Journal<H: Files + Drop> {
     tree: Arc<Tree, Global>,
     setup: Arc<JournalSetup, Global>,
     current: Option<OpenedFile<H::File>>,
-    /// The path of the file that was begun last, for whoever syncs it.
+    /// The path of the file that was begun last, for the thread that syncs it.
     begun: Option<String>,
     room: Room,
     /// What was typed since the last step that was written.
@@ -156,7 +156,7 @@ impl<H: Files + Clock + Drop> Journal<H> {
         Ok(())
     }
 
-    /// Takes the path of the file that was begun last, once, for whoever syncs it from then on.
+    /// Takes the path of the file that was begun last, once, for the thread that syncs it from then on.
     pub fn take_begun(&mut self) -> Option<String> {
         self.begun.take()
     }

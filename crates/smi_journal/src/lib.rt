@@ -3,7 +3,7 @@
 //! A [`Journal`] is told each step of a node after its save and before anything of it is sent ([`Journal::note`]). So
 //! what others hear rests only on lines that are written, and what a kill loses is at most the step that was saved
 //! last, which the next start reads from its row: each file begins with what stands by then. The files, their names and
-//! their lines stand in docs/FORMATS.md, "Journals".
+//! their lines are in docs/FORMATS.md, "Journals".
 //!
 //! [`push_step`] puts the lines of a step together, and [`write_step`] writes them at once: a prefix, which has the
 //! time, the station and the boot, and behind it the line of a trace. Their clauses say which text that is: the entries

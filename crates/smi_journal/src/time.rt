@@ -7,12 +7,12 @@ use std::io::Write;
 /// How many milliseconds a day has.
 pub(crate) const DAY: u64 = 86_400_000;
 
-/// Returns the date and time in UTC of so many milliseconds since 1970; none past the year 9999.
+/// Returns the date and time in UTC of these milliseconds since 1970; none past the year 9999.
 fn date_time(millis: u64) -> Option<DateTime> {
     DateTime::from_nanosecond(i128::from(millis) * 1_000_000).ok()
 }
 
-/// Adds a time to a text: that of so many milliseconds since 1970, in UTC, as `2026-11-27T22:00:01.123Z`.
+/// Adds a time to a text: that of these milliseconds since 1970, in UTC, as `2026-11-27T22:00:01.123Z`.
 ///
 /// One past the year 9999 is told as its milliseconds.
 pub fn push_time(text: &mut Vec<u8>, millis: u64) -> Result<(), AllocError> {

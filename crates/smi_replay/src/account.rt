@@ -31,7 +31,7 @@ pub(crate) struct LinkState {
     pub(crate) mode: Mode,
 }
 
-/// What stands at a moment, by the entries of a journal or by a block.
+/// How domains and links are at a moment, by the entries of a journal or by a block.
 #[derive(Drop)]
 pub(crate) struct Account {
     /// By number of domain.

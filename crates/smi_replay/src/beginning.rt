@@ -1,4 +1,4 @@
-//! What stood at the first lines of the journals, where they begin when domains were held already.
+//! What is assumed at the first lines of the journals, if they begin when domains were held already.
 
 use crate::account::{Account, DomainState};
 use crate::night::Front;

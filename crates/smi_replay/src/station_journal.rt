@@ -25,7 +25,7 @@ pub(crate) struct Place {
     pub(crate) time: u64,
 }
 
-/// An entry of a journal, and where it stands.
+/// An entry of a journal, and its file and line.
 #[derive(Clone, Copy)]
 pub(crate) struct PlacedEntry {
     pub(crate) place: Place,

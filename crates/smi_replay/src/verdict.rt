@@ -1,4 +1,4 @@
-//! What an audit comes to: the verdict and its words.
+//! The verdict of an audit, and its words.
 
 use crate::beginning::Beginning;
 use crate::clock::write_time;
@@ -26,7 +26,7 @@ pub(crate) enum Hold {
     Waits(u16, Need),
     /// Its first entry names what the tree does not have.
     Unknown,
-    /// It comes to a run whose command nothing tells.
+    /// The next entry is a run whose command nothing tells.
     Command,
     /// Lines are missing after it.
     Gap(Place),
