@@ -9,7 +9,7 @@ use Rattle.std.specs.Prelude.{replicate}
 use Rattle.std.proofs.Math.ListN.{get_or-map}
 use Rattle.smi_station_grants.specs.Entries.{entry_or}
 
--- a list of which the first so many have changed
+-- a list whose first elements have changed, up to a place
 pub so_far : {X : Type 0} → (X → X) → List X → ℕ → List X
 so_far f [] i = []
 so_far f (x ∷ xs) zero = x ∷ xs

@@ -78,7 +78,7 @@ module _ (k : StateTable) (is : IsStateTable k) where
       let p = placed x (object_count k.tree) u in
       (p.0, let most = p.1 in let long = is.each s t in omega (arith, most, long))
 
-  -- a table of another station's may be written anew
+  -- the table of another station may be replaced
   pub places_stay : (s : ℕ) (g : List LastShown) → has_station k.tree s ≡ true → length g ≡ length (shown_to k s)
       → IsStateTable (record k { shown = set k.shown (s - 1) g })
   places_stay s g t long = record {

@@ -128,8 +128,8 @@ impl GrantState {
             && self.stage.is_loose()
     }
 
-    /// Returns true if this operator may issue its next command under the grant of this epoch, which has so many
-    /// already.
+    /// Returns true if this operator may issue its next command under the grant of this epoch, under which `count` were
+    /// issued.
     pub fn takes_order(&self, count: usize, operator: u16, epoch: u64, number: u32) -> bool
         ensures { result ≡ (smi_grant_specs.same_holder self.now.holder (Operator operator) && (epoch == self.now.epoch
             && (number == count + 1 && spec.is_held self.now.stage))) }

@@ -22,7 +22,7 @@ pub const MOST_BYTES: u64 = 64 << 20;
 /// How long no new file is begun after a fault, in milliseconds.
 pub const PATIENCE: u64 = 60_000;
 
-/// So many files that were begun within a second have names.
+/// How many files that were begun within one second get a name.
 const MOST_NAMES: u32 = 99;
 
 /// Says where the journal of a station is written, and how.

@@ -23,7 +23,7 @@ pub struct LineContext<'a> {
     pub tree: &'a Tree,
     /// The number of the station, from 1.
     pub station: u16,
-    /// What each line begins with: the time, the station and the boot, each with a blank behind it.
+    /// What each line begins with: the time, the station and the boot, each followed by a space.
     pub prefix: &'a [u8],
 }
 
