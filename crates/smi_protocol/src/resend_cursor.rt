@@ -1,5 +1,5 @@
 /// Where a tick goes on with what it may have to send, in the order in which it goes through it.
-#[derive(Clone, Copy, Debug, PartialEq, Eq, PartialOrd, Ord)]
+#[derive(Clone, Copy, PartialEq, Eq, PartialOrd, Ord)]
 pub enum ResendCursor {
     /// What a domain of the station asks of this child.
     Child(u16),

@@ -8,7 +8,7 @@ pub const MOST_CHANGES: usize = MOST_DEVICES_OF_A_DOMAIN + 1;
 /// What a step shows anew: devices by number, then the unit.
 ///
 /// The list lies in the value itself, so it takes no memory. Contracts see the list.
-#[derive(Debug, Drop)]
+#[derive(Drop)]
 pub struct Changes {
     shown: [Shown; MOST_CHANGES],
     count: usize,

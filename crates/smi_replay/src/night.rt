@@ -21,7 +21,7 @@ use std::slice;
 const WINDOW: usize = 4096;
 
 /// Why an audit came to no verdict.
-#[derive(Clone, Copy, Debug, PartialEq, Eq)]
+#[derive(Clone, Copy, PartialEq, Eq)]
 pub(crate) enum AuditFault {
     /// The line of this number in the file of this number is none.
     Line(usize, u64, LineFault),

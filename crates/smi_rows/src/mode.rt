@@ -1,5 +1,5 @@
 /// How the domain above works with a child that it holds.
-#[derive(Clone, Copy, Debug, PartialEq, Eq)]
+#[derive(Clone, Copy, PartialEq, Eq)]
 pub enum Mode {
     /// The child gets commands, and its state counts.
     Included,

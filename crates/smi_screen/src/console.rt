@@ -75,7 +75,7 @@ impl ConsoleStream {
 }
 
 /// How a connection is after a turn.
-#[derive(Clone, Copy, Debug, PartialEq, Eq)]
+#[derive(Clone, Copy, PartialEq, Eq)]
 enum Standing {
     Sound,
     Broken,

@@ -12,7 +12,7 @@ const MOST_LATE: u64 = 160;
 const BETWEEN_TICKS: u64 = 300;
 
 /// How far an observer has come with its objects and its domains.
-#[derive(Clone, Copy, Debug, PartialEq, Eq)]
+#[derive(Clone, Copy, PartialEq, Eq)]
 pub struct Pace {
     objects: u16,
     domains: u16,

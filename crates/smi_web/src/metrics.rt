@@ -28,7 +28,7 @@ use smi_view::{Hearing, Picture, Sight};
 use std::alloc::{AllocError, Global};
 
 /// What is told of each domain in a number of its own.
-#[derive(Clone, Copy, Debug, PartialEq, Eq)]
+#[derive(Clone, Copy, PartialEq, Eq)]
 enum Metric {
     Held,
     Busy,

@@ -44,7 +44,7 @@ impl<'a> Model for RequestParts<'a> {
 }
 
 /// Which answer a request gets.
-#[derive(Clone, Copy, Debug, PartialEq, Eq)]
+#[derive(Clone, Copy, PartialEq, Eq)]
 pub enum Route {
     Page,
     Tree,
