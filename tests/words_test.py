@@ -1,26 +1,24 @@
-"""Lines of over 120 columns, and words for which there is an ordinary one, in the sources and the documents.
+"""Lines of over 120 columns, and plain English in the comments of sources and in the documents.
 
-Sources are read line by line; a line that is long for a text in quotes alone may be. Words are looked for in comments
-and in documents (docs/GLOSSARY.md, "Ordinary words").
+Sources are read line by line; a line that is long for a text in quotes alone may be. Some words may not stand at all,
+others are counted (docs/GLOSSARY.md, "Ordinary words"). tests/english.py prints the figures and the worst files.
 """
 
-import glob
 import os
 import re
 
 import pytest
 
+import english
+from english import COMMENTS, DOCUMENTS, GLOSSARY, SOURCES
 from running import ROOT, text_of
 
 WIDTH = 120
-COMMENTS = {".rt": re.compile(r"\s*//"), ".antt": re.compile(r"\s*--"), ".py": re.compile(r"\s*#")}
-SOURCES = ["crates/*/src/**/*.rt", "crates/*/specs/**/*.antt", "crates/*/proofs/**/*.antt", "tests/*.py", "tools/*.py"]
-DOCUMENTS = ["README.md", "CONTRIBUTING.md", "CHANGELOG.md", "SECURITY.md", "docs/*.md"]
+# The least share of functions whose doc begins with a verb, and how many calques there may be in all.
+LEAST_VERBS, MOST_CALQUES = 0.41, 1529
 # The ordinary word for each: allocation, out of memory, unchanged, after, k-th.
 UNUSUAL = re.compile(r"\b(growths?|want of memory|(?:stays?|is|are|stayed) as (?:it was|they were)(?! found)|so-manieth"
                      r"|behind the (?:save|others|first|next|last|opening))\b", re.IGNORECASE)
-# The glossary names them to say which word replaces them.
-GLOSSARY = "docs/GLOSSARY.md"
 # What is between backquotes is a name.
 NAME = re.compile(r"`[^`]*`")
 
@@ -28,11 +26,6 @@ NAME = re.compile(r"`[^`]*`")
 def unusual(line):
     """Returns the first such word of a line, if it has any."""
     return UNUSUAL.search(NAME.sub("", line))
-
-
-def files(patterns):
-    found = (path for pattern in patterns for path in glob.glob(os.path.join(ROOT, pattern), recursive=True))
-    return sorted(os.path.relpath(path, ROOT) for path in found if "/out/" not in path)
 
 
 def faults_of_source(path):
@@ -51,11 +44,31 @@ def faults_of_document(path):
             yield number, unusual(line)[0]
 
 
-@pytest.mark.parametrize("path", files(SOURCES))
+@pytest.mark.parametrize("path", english.files(SOURCES))
 def test_source(path):
     assert list(faults_of_source(path)) == []
 
 
-@pytest.mark.parametrize("path", files(DOCUMENTS))
+@pytest.mark.parametrize("path", english.files(DOCUMENTS))
 def test_document(path):
     assert list(faults_of_document(path)) == []
+
+
+def test_docs_begin_with_verbs(subtests):
+    assert english.share_of_verbs() >= LEAST_VERBS
+    for doc, is_right in [("Saves a row.", True), ("A row is saved.", False), ("Rows of a store.", False)]:
+        with subtests.test(doc):
+            assert (doc.split()[0] in english.VERBS) == is_right
+    with subtests.test("a doc comment is read"):
+        found = english.FUNCTION.search("/// Saves a row.\n///\n/// Fails if\n#[inline]\npub fn save() {}\n")
+        assert found[2] == "pub fn save" and found[1].split()[1] == "Saves"
+
+
+def test_calques(subtests):
+    assert sum(english.counted_calques().values()) <= MOST_CALQUES
+    for line, wanted in [
+            ("a row stands where it has room", ["stand", "where it"]), ("so many rows, behind it, anew", ["so many",
+            "behind", "anew"]), ("it comes to whoever asks", ["comes to", "whoever"]), ("that is dear", ["dear"]),
+            ("`stands D E`, told as \"anew\"", []), ("H stands for a holder, where the tree is", [])]:
+        with subtests.test("calques of: " + line):
+            assert sorted(english.calques(line)) == sorted(wanted)
