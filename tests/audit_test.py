@@ -132,7 +132,7 @@ def test_journals_that_are_cut_short_are_open_or_safe(night, audit, name):
         assert (err, verdict_of(out), status) == ("", verdict, int(verdict != "safe")), out
 
 
-# A station, what its file says behind the head, and what is told: `{}` is the name of the file.
+# A station, what its file says after the head, and what is told: `{}` is the name of the file.
 BOOTED = "2026-11-28T17:45:00.000Z A 1 booted A 1\n"
 AT = "2026-11-28T17:45:01.000Z "
 FAULTS = [

@@ -30,7 +30,7 @@ ROUNDS = 5
 PAIRS = 300
 # Of a take and a drop: saves, and datagrams with those that wake the station.
 SAVES, DATAGRAMS = 6, 6
-# What a save adds to a log at least: a page and what stands before it.
+# What a save adds to a log at least: a page and its header.
 FRAME = 4096 + 24
 ASKS = 3000
 # How many nodes make takes and drops with a journal, and as many without one.

@@ -35,7 +35,7 @@ class Browser:
                  "--window-size=%d,%d" % (width, height), "about:blank"]
         self.child = subprocess.Popen(words, stdin=subprocess.DEVNULL, stdout=subprocess.DEVNULL,
                                       stderr=subprocess.DEVNULL)
-        # (Chromium refuses a client that says where it comes from)
+        # (Chromium refuses a client that names its origin)
         self.wire = websocket.create_connection(self.page(), timeout=DEADLINE, suppress_origin=True)
         self.number, self.errors = 0, []
         for domain in ("Page", "Runtime", "Log"):

@@ -56,7 +56,7 @@ all UNIT READY READY
 all UNIT OFF OFF"""
 # What a tree file may have at most, and what one domain has (docs/FORMATS.md, "Limits of a tree file").
 MOST_STATIONS, MOST_DEEP, MOST_CHILDREN, MOST_DEVICES = 128, 8, 16, 512
-# An order is to be answered within so many seconds of the moment from which it can be; of many orders one after the
+# An order is to be answered within this many seconds of the moment from which it can be; of many orders one after the
 # other each takes so long in the middle.
 SOON, EACH = 0.5, 0.1
 # How long all stations may take to come up, how much of a second each may keep a processor busy at rest, and how many

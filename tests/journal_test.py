@@ -78,7 +78,7 @@ def test_what_orders_leave_stands_in_a_journal_before_they_are_told(room):
     assert node.ask("order ANN drop DCS") == "told ANN drop DCS 0"
     dropped = room.said()[len(BOOTED) + len(taken):]
     assert sorted(taken) == sorted(TAKEN) and sorted(dropped) == sorted(DROPPED)
-    # What was typed stands before what came of it, and the grant before it is known.
+    # What was typed is before what came of it, and the grant before it is known.
     assert taken[0] == TAKEN[0] and taken.index(TAKEN[1]) < taken.index(TAKEN[2]) < taken.index(TAKEN[3])
     assert dropped[0] == DROPPED[0]
 

@@ -12,7 +12,7 @@ def between(low, high):
     return lambda value: low <= value <= high
 
 
-# Where a field stands, how many bytes it has, and its range by the kinds that use it.
+# The place of a field, how many bytes it has, and its range by the kinds that use it.
 FIELDS = {
     "from": (4, 2, dict.fromkeys(range(1, 9), between(1, 128))),
     "to": (6, 2, dict.fromkeys(range(1, 9), between(1, 128))),

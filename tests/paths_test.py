@@ -99,7 +99,7 @@ def test_reading(smi, folder, subtests):
     path = store_in(folder, "blank")
     open(path, "wb").close()
     listed_alone(smi, subtests, "a file with nothing in it", path, [])
-    # Two rows of three stand in the log alone.
+    # Two rows of three are in the log alone.
     path, there = store_in(folder, "logged"), store_in(folder, "there")
     with sqlite3.connect(there) as file:
         file.execute("PRAGMA journal_mode = WAL")

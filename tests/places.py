@@ -20,7 +20,7 @@ SEARCHED = {
     "sources": ["crates/*/src/**/*.rt"], "tests": ["crates/*/src/**/*.rt", "tests/*.py", "tests/*.txt"],
     "definitions": ["crates/*/specs/**/*.antt"], "proofs": ["crates/*/proofs/**/*.antt"], "tools": ["tools/*.py"],
     "documents": ["*.md", "docs/*.md", "package/*", "examples/*"]}
-# What a proof stands in, where it is not the lemmas of a subject.
+# The file of a proof that is not the lemmas of a subject.
 ANSWERS = ("Answers.antt", "Invariants.antt", "Proof.antt", "Send.antt")
 
 

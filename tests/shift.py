@@ -126,7 +126,7 @@ PLACES = [
     Place("the muon machine has stopped", units("READY", alike("RUNNING", MUO="UNKNOWN")),
           runs=both({("EXPERIMENT", "START"): 1, ("MUO", "START"): 1}, ran("START", "TRK", "CAL", "TRG", "DAQ")),
           shown={"MUO": "READY"}),
-    # The command was saved, so it comes to its end; no device moves, as none was reported yet.
+    # The command was saved, so it ends; no device moves, as none was reported yet.
     Place("its command goes on", units("UNKNOWN", alike("RUNNING", MUO="UNKNOWN")), told=[led("START")],
           runs={(name, "START"): 1 for name in below("MUO")[1:]}),
     Place("the muon devices are known again", units("READY", alike("RUNNING", MUO="READY"))),

@@ -34,7 +34,7 @@ PATIENCE = 5
 # With which word the last line of an answer begins. What follows or tells actions has no last line.
 LAST = {"order": "told", "report": "told", "show": "board", "counts": "counts", "states": "states", "under": "under",
         "help": "help"}
-# The exit status where there is no node, or no longer one.
+# The exit status if there is no node, or no longer one.
 NOBODY = 3
 
 

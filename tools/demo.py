@@ -197,7 +197,7 @@ def main():
     given = words.parse_args()
     folder = tempfile.mkdtemp()
     detector = Detector(os.path.abspath(given.program), folder, given.http)
-    # whoever ends this by a signal ends all that it has started
+    # a signal that ends this ends all that it has started
     signal.signal(signal.SIGTERM, signal.default_int_handler)
     try:
         if not is_up(detector):

@@ -29,7 +29,7 @@ import threading
 
 import kit
 
-# So many mutants are tried in one copy, and so many in one part of a crate: parts are tried side by side.
+# How many mutants are tried in one copy, and how many in one part of a crate: parts are tried side by side.
 MOST, MOST_OF_A_PART = 60, 40
 # The memory that a check of a mutant takes, in bytes.
 MEMORY = 2_500_000_000
@@ -127,7 +127,7 @@ def write_copy(crate, edits, room):
     for part in kit.PROVED:
         if os.path.isdir(os.path.join(crate.folder, part)):
             shutil.copytree(os.path.join(crate.folder, part), os.path.join(room, part))
-    # from the last cut on, so that each is still where it was found
+    # from the last cut on, so that each is still at its place
     for path, start, end, new in sorted((cut for edit in edits for cut in edit.cuts), key=lambda it: (it[0], -it[1])):
         with open(os.path.join(room, path), encoding="utf-8") as file:
             text = file.read()

@@ -24,7 +24,7 @@ import lunskaf
 ALARM = "ERROR|FAULT|ALARM|TRIP"
 TIME = "%Y-%m-%dT%H:%M:%S.%fZ"
 LINE = re.compile(r"(\d{4}-\d\d-\d\dT\d\d:\d\d:\d\d\.\d{3}Z) (\S+) (\d+) (.+)")
-# A line that was typed: maybe behind a tag, an order of an operator, or a remark that says who types.
+# A line that was typed: maybe after a tag, an order of an operator, or a remark that says who types.
 ORDER = re.compile(r"(?:@\S+ )?order +(\S+) +(.+)")
 NAME = re.compile(r"(?:@\S+ )?# *name +(.+)")
 
@@ -70,7 +70,8 @@ class History:
         self.alarm, self.tells_states, self.events = re.compile(alarm), tells_states, []
         # domain: (since when, the grant's epoch, its holder); (domain, epoch, number): (when, command, who)
         self.held, self.running = {}, {}
-        # (station, session): the name that it gave; (operator, order): when and where it was typed, oldest first
+        # (station, session): the name that it gave; (operator, order): the time and the place of its typing,
+        # oldest first
         self.names, self.typed = {}, collections.defaultdict(collections.deque)
 
     def tell(self, line, kind, about, who, text):

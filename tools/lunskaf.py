@@ -36,7 +36,7 @@ import socket
 import threading
 import time
 
-# How long a call waits for its answer, and how long `follow` waits before it connects anew, in seconds.
+# How long a call waits for its answer, and how long `follow` waits before it connects again, in seconds.
 PATIENCE, PAUSE = 30.0, 0.5
 # The most bytes of a line.
 LONGEST = 200
@@ -70,7 +70,8 @@ CODES = {
 Shown = collections.namedtuple("Shown", "object boot sequence state")
 # An action that was done at a device, and the device's version and state then, whether it moved or not.
 Acted = collections.namedtuple("Acted", "device action boot sequence state")
-# How a domain stands: who holds it since which epoch, the last command, and whether it is busy or settled, with what.
+# The record of a domain: who holds it since which epoch, the last command, and whether it is busy or settled,
+# with what.
 Record = collections.namedtuple("Record", "domain holder epoch last phase outcome")
 # An order that is not answered yet, and the seconds since it was given.
 Waiting = collections.namedtuple("Waiting", "operator order seconds")

@@ -22,7 +22,7 @@ import tempfile
 
 import hierarchy
 
-# So many rounds of deliveries come to an end, or the plan never does.
+# Deliveries end after this many rounds, or the plan never does.
 ROUNDS = 100
 
 

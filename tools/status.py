@@ -25,7 +25,7 @@ WORDS = {WELL: "OK", WARNING: "WARNING", CRITICAL: "CRITICAL", UNKNOWN: "UNKNOWN
 ALARM = "ERROR|FAULT|ALARM|TRIP"
 # A screen asks about a domain each 20 milliseconds at most; what the page takes for silence is the same.
 LEAST, BASE, EACH = 2.0, 0.8, 0.03
-# So many names are told in the summary.
+# How many names are told in the summary.
 FEW = 5
 
 

@@ -1,6 +1,6 @@
 //! What all layers share: limits, numbers in bytes, bytes written whole, and counts that contracts alone read.
 //!
-//! The limits of trees, stations, datagrams and rows stand here, one place each (docs/FORMATS.md, docs/PROTOCOL.md):
+//! The limits of trees, stations, datagrams and rows, one place each (docs/FORMATS.md, docs/PROTOCOL.md):
 //! code and definitions of all crates above cite them, and [`law`] says what each is. [`u16_at`], [`u32_at`] and
 //! [`u64_at`] read numbers whose most significant byte comes first, as datagrams and stable rows have them
 //! (docs/FORMATS.md).

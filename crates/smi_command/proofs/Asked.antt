@@ -30,7 +30,7 @@ place_known (Taking s) = omega arith
 place_known (Held e n p) = omega arith
 place_known (Dropping e) = omega arith
 
--- what a test of the keeper says where it holds
+-- what a test of the keeper says if it holds
 pub record Admitted (r : Standing) (g : Holder) (e n : ℕ) : Type 0 where
   pub holder : r.holder ≡ g
   pub epoch : r.epoch ≡ e

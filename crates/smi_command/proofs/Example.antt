@@ -12,7 +12,7 @@ use Rattle.smi_command.specs.OneLink.{reached}
 abbrev bob : Holder
 bob = Operator 2
 
--- what is due is sent, comes to the keeper, and its answer comes to the holder. The newest first
+-- what is due is sent, reaches the keeper, and its answer reaches the holder. The newest first
 abbrev asked_and_told : List Event
 asked_and_told = Deliver 0 true 0 ∷ Deliver 0 true 0 ∷ SendDue 0 ∷ []
 

@@ -21,7 +21,7 @@ place (Taking s) = s + s
 place (Held e n p) = e + e
 place (Dropping e) = e + e + 1
 
--- how a holder's link stands to the record
+-- how a holder's link relates to the record
 abbrev pub LinkOk : Standing → Holder → Link → Type 0
 LinkOk r h (Out k) = (k ≤ r.epoch) × (r.holder ≡ h → ⊥)
 LinkOk r h (Taking s) = (s ≤ r.epoch) × (r.holder ≡ h → (r.epoch ≡ s + 1) × (r.last ≡ 0))

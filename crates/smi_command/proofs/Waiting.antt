@@ -17,7 +17,7 @@ at_append [] i c d e = absurd cc
 at_append (x ∷ xs) zero c d e = e
 at_append (x ∷ xs) (suc i) c d e = at_append xs i c d e
 
--- what stands in a list with one more is the one more, or stood there
+-- what is in a list with one more is the one more, or was there
 pub from_append : (xs : List Command) (i : ℕ) (c d : Command) → slice_get (xs ++ d ∷ []) i ≡ Some c
     → (slice_get xs i ≡ Some c) ⊎ ((i ≡ length xs) × (d ≡ c))
 from_append [] zero c d e = inr (refl, cc)
@@ -168,7 +168,7 @@ waited e m k p f n c counted few w =
       counts = omega (arith, w.counts);
     }
 
--- where nothing is pending nothing waits
+-- if nothing is pending nothing waits
 pub none_waits : (e m f n : ℕ) (c : Command) → Waits (Held e m []) f n c → ⊥
 none_waits e m f n c w =
     let is = w.is in

@@ -1,4 +1,4 @@
--- What a holder's link becomes where it is told a record, and what its holder learns by it.
+-- What a holder's link becomes if it is told a record, and what its holder learns by it.
 use Rattle.std.specs.Prelude.{ℕ, ◌+◌, ◌-◌, ◌==◌, ◌&&◌, nat_lt, nat_le, min, if◌then◌else◌, not, List, [], ◌∷◌, length}
 use Rattle.std.specs.Prelude.{drop, map}
 use Rattle.std.specs.List.{range_with_len}

@@ -15,13 +15,13 @@ KnowsOf (Taking s) e = s + 1 ≡ e
 KnowsOf (Held f n p) e = f ≡ e
 KnowsOf (Dropping f) e = f ≡ e
 
--- whoever holds the domain has a link that knows of it, and whoever believes to hold it does
+-- a holder of the domain has a link that knows of it, and one that believes to hold it does
 pub record KnownGrant (r : Standing) (me : Holder) (l : Link) : Type 0 where
   pub is_known : r.holder ≡ me → KnowsOf l r.epoch
   pub is_held : (e n : ℕ) (p : List Command) → l ≡ Held e n p → (r.epoch ≡ e) × (r.holder ≡ me)
 
 -- under a grant with these pending commands: all earlier ones have run, none was run that was not
--- issued, and where none of the pending ones has run, the last one has settled
+-- issued, and if none of the pending ones has run, the last one has settled
 pub record InStep (r : Standing) (number : ℕ) (pending : List Command) : Type 0 where
   pub few : length pending ≤ most_pending
   pub counted : length pending ≤ number

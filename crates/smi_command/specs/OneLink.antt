@@ -63,7 +63,7 @@ asked_ran r h (Take s) ran = ran
 asked_ran r h (Drop e) ran = ran
 asked_ran r h (Run e n c) ran = if admits r h e n then job h e n c ∷ ran else ran
 
--- the keeper answers whoever asks with its record
+-- the keeper answers each question with its record
 abbrev pub asked : Pair → Holder → Due → Bool → ℕ → Pair
 asked p h d busy x = record {
   kept = asked_record p.kept h d busy x;
@@ -121,11 +121,11 @@ pub data Event : Type 0 where
   OrderDrop : Event
   -- what the link is due at this place is sent
   SendDue : (place : ℕ) → Event
-  -- the datagram that was sent so many before the newest comes to whom it is for
+  -- the datagram that was sent this many before the newest reaches its receiver
   Deliver : (before : ℕ) → (busy : Bool) → (outcome : ℕ) → Event
   -- the command at work ends
   Settle : (outcome : ℕ) → Event
-  -- another holder's datagram comes to the keeper
+  -- another holder's datagram reaches the keeper
   Stranger : (who : Holder) → (what : Due) → (busy : Bool) → (outcome : ℕ) → Event
   -- somebody asks for the record
   Ask : Event

@@ -34,7 +34,7 @@ command_issued (Held e n p) c =
     else Ok (Held e (n + 1) (p ++ c ∷ [])))
 command_issued (Dropping e) c = refused NotHeld
 
--- a drop begins where nothing is pending
+-- a drop begins if nothing is pending
 abbrev pub drop_begun : Link → Result Link ℕ
 drop_begun (Out k) = refused NotHeld
 drop_begun (Taking s) = refused NotHeld

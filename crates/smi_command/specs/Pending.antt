@@ -5,7 +5,7 @@ use Rattle.smi_command.specs.declared.pending.TheConstants.{MOST_PENDING}
 use Rattle.smi_grant.specs.declared.command.Command.{Command}
 use Rattle.smi_grant.specs.declared.command.Command.TheVariants.{Do}
 
--- so many commands of a grant may be pending at a time
+-- how many commands of a grant may be pending at a time
 abbrev pub most_pending : ℕ
 most_pending = MOST_PENDING
 
@@ -13,7 +13,7 @@ most_pending = MOST_PENDING
 abbrev pub base_of : ℕ → List Command → ℕ
 base_of n p = n - length p
 
--- what lies in so many places that no command has
+-- what is in the places that no command has
 abbrev pub unused : ℕ → List Command
 unused n = replicate n (Do 0)
 

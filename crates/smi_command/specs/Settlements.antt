@@ -14,11 +14,11 @@ settlement n x = record { number = n; code = x }
 abbrev pub unseen : ℕ
 unseen = 8
 
--- the one at this place of so many: the newest has the code, the others are unseen
+-- the one at this place of this many: the newest has the code, the others are unseen
 abbrev pub settled_at : ℕ → ℕ → ℕ → ℕ → Settlement
 settled_at first count x i = settlement (first + i) (if i + 1 == count then x else unseen)
 
--- so many settle, numbered from the first on
+-- this many settle, numbered from the first on
 abbrev pub settled_run : ℕ → ℕ → ℕ → List Settlement
 settled_run first count x = map (settled_at first count x) (range_with_len 0 count)
 

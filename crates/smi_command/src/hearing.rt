@@ -19,7 +19,7 @@ pub enum LinkHeard {
 /// What a told record makes of a link, and what the holder learns by it.
 ///
 /// `me` is the link's holder, an operator or a domain. The table of docs/PROTOCOL.md, "Hearing a
-/// record", has the rule for each link; where none fits, nothing changes.
+/// record", has the rule for each link; if none fits, nothing changes.
 pub fn told(link: &Link, me: Holder, heard: &Record) -> (Link, LinkHeard)
     requires { is_free me ≡ false }
     ensures { result ≡ told_of link.now me heard.now }

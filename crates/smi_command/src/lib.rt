@@ -11,14 +11,14 @@
 //!
 //! # How it is proved
 //!
-//! `specs/OneLink` has the events and where they lead, `specs/KnownGrant` what the law says of that. That no event is
+//! `specs/OneLink` has the events and what they lead to, `specs/KnownGrant` what the law says of that. That no event is
 //! empty is shown by a worked run, `proofs/Example`, computed from the definitions: a take, a command that stays at
 //! work and settles, and a drop.
 //!
 //! The invariant speaks of one holder `h` at a time, with all others as strangers. So it holds of each of many
-//! holders of one record at once. Its parts stand in `proofs/Facts`:
+//! holders of one record at once. Its parts are in `proofs/Facts`:
 //!
-//! - `LinkOk r h l`: how the link stands to the record. `Out(k)` and `Taking(s)` are not ahead. A record that is h's
+//! - `LinkOk r h l`: how the link relates to the record. `Out(k)` and `Taking(s)` are not ahead. A record that is h's
 //!   while the link is `Taking` is fresh from the grant, at s + 1 with nothing run. `Held` is the present grant and
 //!   in step. A record that is h's while the link is `Dropping` is settled.
 //! - `NoLater q r`: q is a record that this keeper had no later than r. It is a preorder. Each of the keeper's steps

@@ -105,7 +105,7 @@ impl Pending {
         self.count += 1;
     }
 
-    /// The pending commands without so many of the oldest.
+    /// Returns the pending commands without this many of the oldest.
     pub fn without_oldest(&self, gone: usize) -> Pending
         ensures { result ≡ drop gone self.now }
     {

@@ -47,7 +47,7 @@ impl Settlements {
     ghost use Rattle.smi_command.specs.Pending.{most_pending};
     ghost use Rattle.smi_command.specs.Settlements.{settlement, settled_run};
 
-    /// So many commands have settled, numbered from `first` on: the newest with `code`, and the
+    /// This many commands have settled, numbered from `first` on: the newest with `code`, and the
     /// others unseen.
     pub(crate) fn run(first: u32, count: usize, code: u16) -> Settlements
         requires some { 1 ≤ count }

@@ -285,7 +285,7 @@ read_none a b c n piece q r k w0 w z g p =
     subst (λ (t : List ℕ). Goes a c t r k w0 w) (ap (λ (m : ℕ). piece ++ take m q) z ∙ append-nil piece)
     (reads a b c piece (take n q) r k w0 w g p)
 
--- what the contract asks where it is done
+-- what the contract asks if it is done
 pub done_of : (a : Option (List ℕ)) (end : Answered) (w0 w : Option (List ℕ)) → Finishes a end w0 w
     → IfSome a (λ input. IsDone end → (end ≡ ending 0 fresh (pieces input))
     × Appends w0 w (answers fresh (pieces input)))

@@ -14,11 +14,11 @@ some_up_to most test = list_any test (range_with_len 0 (most + 1))
 
 -- Actions.
 
--- the class of a domain's unit, 0 where there is no such domain
+-- the class of a domain's unit, 0 if there is no such domain
 abbrev pub class_of : Hierarchy → ℕ → ℕ
 class_of h domain = option_map_or (λ row. row.class) (entry h.domains domain) 0
 
--- the domain of a device, 0 where there is no such device
+-- the domain of a device, 0 if there is no such device
 abbrev pub home_of : Hierarchy → ℕ → ℕ
 home_of h device = option_map_or (λ row. row.domain) (entry h.devices device) 0
 

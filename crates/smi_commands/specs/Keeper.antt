@@ -1,4 +1,4 @@
--- What the keeper of one domain that stands alone makes of a datagram.
+-- What the keeper of one domain on its own makes of a datagram.
 use Rattle.std.specs.Prelude.{ℕ, ◌&&◌, ◌==◌, Bool, true, false, if◌then◌else◌, List, Result, Ok, Err}
 use Rattle.smi_grant.specs.declared.Holder.{Holder}
 use Rattle.smi_grant.specs.declared.Holder.TheVariants.{Free, Operator, Domain}
@@ -26,7 +26,7 @@ abbrev pub after : Verdict → Standing → Standing
 after (New s) r = s
 after Same r = r
 
--- each command ends at once: an action is done, and no target is below a domain that stands alone
+-- each command ends at once: an action is done, and a domain on its own has no target below it
 abbrev pub outcome_of : Command → ℕ
 outcome_of (Do a) = 0
 outcome_of (Include t) = 2

@@ -40,7 +40,7 @@ pub enum Answered {
 struct Progress {
     /// How many are answered.
     count: usize,
-    /// Why the next one is not, where it is refused.
+    /// Why the next one is not, if it is refused.
     refusal: Option<DatagramRefusal>,
 }
 
@@ -80,7 +80,7 @@ fn answer_each(keeper: &mut Keeper, bytes: &[u8], told: &mut [u8; BLOCK]) -> Pro
     }
 }
 
-/// Answers each 44 bytes of a reader by the record as it stands afterwards, up to the first refusal.
+/// Answers each 44 bytes of a reader by the record as it is afterwards, up to the first refusal.
 /// A reader that gives no end in 2^32 reads is answered as one that fails.
 fn answer_all<R: Read, W: Write>(reader: &mut R, writer: &mut W) -> Answered
     ensures done { IfSome (R.remaining reader.old) (λ input. IsDone result →
@@ -132,15 +132,15 @@ fn answer_all<R: Read, W: Write>(reader: &mut R, writer: &mut W) -> Answered
     Answered::ReadFault
 }
 
-/// Answers each 44 bytes of a reader by the record as it stands afterwards, up to the first refusal,
+/// Answers each 44 bytes of a reader by the record as it is afterwards, up to the first refusal,
 /// and flushes what it wrote.
 ///
-/// The domain is domain 1 of tree 17, kept by station 1; it begins fresh and stands alone. Refusals
+/// The domain is domain 1 of tree 17, kept by station 1; it begins fresh and is on its own. Refusals
 /// are those of docs/PROTOCOL.md, "Refusals", and a rest under 44 bytes is refused 1. A reader that
 /// gives no end in 2^32 reads is answered as one that fails. A write or flush that fails is told also
 /// where a datagram was refused before it.
 pub fn answer<R: Read, W: Write>(reader: &mut R, writer: &mut W) -> Answered
-    // Where it comes to the end or to a refusal, all the answers are written, and nothing else.
+    // If it reaches the end or a refusal, all the answers are written, and nothing else.
     ensures done { IfSome (R.remaining reader.old) (λ input. IsDone result →
         (result ≡ ending 0 fresh (pieces input))
         × Appends (W.contents writer.old) (W.contents writer.new) (answers fresh (pieces input))) }

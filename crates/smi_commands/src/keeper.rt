@@ -1,4 +1,4 @@
-//! The keeper of one domain that stands alone.
+//! The keeper of one domain on its own.
 
 ghost use Rattle.std.specs.Prelude.{◌≡◌, ◌≤◌, true, MatchResult, Ok, Err};
 ghost use Rattle.smi_base.specs.declared.trees.TheConstants.{MOST_STATIONS};
@@ -9,7 +9,7 @@ use smi_grant::{Command, Holder, LAST_NUMBER, Outcome, Record, Verdict};
 use smi_message::{Body, Datagram, DatagramRefusal, decode, encode};
 use std::marker::Model;
 
-/// The number of the tree that the domain stands in.
+/// The number of the domain's tree.
 const TREE: u16 = 17;
 
 /// The station that keeps the domain.
@@ -48,7 +48,7 @@ impl Keeper {
         }
     }
 
-    /// What the keeper answers to 44 bytes: the record as it stands afterwards. A refusal changes
+    /// What the keeper answers to 44 bytes: the record as it is afterwards. A refusal changes
     /// nothing, and names the first test that the bytes fail.
     #[tactic(auto, unfolding(crate::specs::Keeper::answer_to))]
     pub fn answer(&mut self, bytes: &[u8]) -> Result<[u8; 44], DatagramRefusal>
@@ -88,7 +88,7 @@ impl Keeper {
     }
 }
 
-/// The record after what a datagram says, where it speaks of the domain and comes from an operator.
+/// The record after what a datagram says, if it speaks of the domain and comes from an operator.
 #[tactic(auto, unfolding(crate::specs::Keeper::said_after))]
 fn said_after(current: &Record, body: &Body) -> Result<Record, DatagramRefusal>
     requires { is_body body.now ≡ true }

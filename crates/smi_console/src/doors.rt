@@ -30,7 +30,7 @@ pub(crate) enum Stream {
     Tcp(TcpStream),
 }
 
-/// Whether a socket's file is one that a process left behind, which nobody listens at any more.
+/// Returns true if a socket's file is left over from an earlier process: no process listens at it.
 fn is_left_behind<R: Files + Net>(rt: &R, path: &str) -> bool {
     let is_socket = match fs::symlink_metadata(rt, path) {
         Ok(found) => found.file_type().is_socket(),
@@ -43,7 +43,7 @@ fn is_left_behind<R: Files + Net>(rt: &R, path: &str) -> bool {
         }
 }
 
-/// A Unix socket at a path. One that was left behind there is taken away first; anything else stays, and is an error.
+/// Binds a Unix socket at a path. Replaces a socket that is left over there; any other file stays, and is an error.
 fn unix_door<R: Files + Net>(rt: &R, path: &str) -> io::Result<UnixListener> {
     if is_left_behind(rt, path) {
         fs::remove_file(rt, path)?;
@@ -63,7 +63,7 @@ impl Door {
         }
     }
 
-    /// The next connection, or `WouldBlock` where none waits.
+    /// Accepts the next connection. Fails with `WouldBlock` if none waits.
     pub(crate) fn accept(&self) -> io::Result<Stream> {
         match self {
             Door::Unix(listener) => Ok(Stream::Unix(listener.accept()?.0)),
@@ -75,7 +75,7 @@ impl Door {
         }
     }
 
-    /// Has it wake whoever waits, by this number.
+    /// Registers it with the poll, under this token.
     pub(crate) fn register(&mut self, registry: &Registry, number: usize) -> io::Result<()> {
         let (token, interest) = (Token(number), Interest::READABLE);
         match self {
@@ -86,7 +86,7 @@ impl Door {
 }
 
 impl Stream {
-    /// Has it wake whoever waits, by this number.
+    /// Registers it with the poll, under this token.
     pub(crate) fn register(&mut self, registry: &Registry, number: usize) -> io::Result<()> {
         let (token, interest) = (Token(number), Interest::READABLE | Interest::WRITABLE);
         match self {

@@ -27,7 +27,7 @@ struct EventQueueParts<H: Drop> {
 /// beyond it are counted, and their count is told before any later action.
 #[derive(Drop)]
 pub(crate) struct EventQueue<H: Drop> {
-    // Behind a box, so that a place that drops it is not expensive to prove.
+    // In a box, because each place that drops it is expensive to prove.
     parts: Box<EventQueueParts<H>>,
 }
 

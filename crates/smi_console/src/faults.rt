@@ -35,7 +35,7 @@ pub fn link_fault<F: Write>(faults: &mut F) -> Status
     print_fault("link fault", faults)
 }
 
-/// Tells that the node can't listen where it was told to.
+/// Tells that the node can't listen at the place of `--console`.
 pub(crate) fn console_fault<F: Write>(faults: &mut F) -> Status
     ensures { result ≡ status.Fault }
 {

@@ -41,7 +41,7 @@ struct Seats {
     desk: Box<Desk>,
 }
 
-/// A seat for each operator of a station, behind them one for reports, and their desk.
+/// Opens a seat for each operator of a station, one more for reports, and their desk.
 fn seated(alloc: Global, operators: &[u16]) -> Result<Seats, AllocError>
     ensures count { IfOk result (λ r. length r.own.items ≡ min (length operators.now) MOST_OPERATORS_OF_A_STATION) }
     ensures desk { IfOk result (λ r. IsDeskOf r.desk.value (r.own.items ++ r.reports ∷ [])) }
@@ -127,7 +127,7 @@ fn hall_of<H: Files + Net + AllocGlobal>(
     }
 }
 
-/// What a node has before its threads begin: the station's side, what stands at the front, and a waker to it.
+/// What a node has before its threads begin: the station's side, the console's side, and its waker.
 #[derive(Drop)]
 struct BothSides<L: Drop, G: StateReader + Drop> {
     side: StationSide<L>,

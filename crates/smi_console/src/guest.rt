@@ -198,7 +198,7 @@ impl ConsoleGuest {
         is_late || self.caller.output().len() > MOST_UNSENT
     }
 
-    /// An answer is told to it, where it is of its order. Whether it is; one that can't be told it leaves.
+    /// Sends the answer if this connection gave the order, and returns whether it did. Closes it if out of memory.
     pub(crate) fn is_answered<G: StateReader + Drop>(
         &mut self,
         front: &mut SessionService<G>,

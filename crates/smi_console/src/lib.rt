@@ -8,7 +8,7 @@
 //! the store is the contract of [`run`].
 //!
 //! Three threads, which nobody joins, have the consoles (`starting`). One reads the lines of the standard input and
-//! hands them on (`reading`); one writes what the standard input is told (`outlet`). The third stands at the front
+//! hands them on (`reading`); one writes what the standard input is told (`outlet`). The third is at the front
 //! (`attending`): it has the front desk of `smi_session`, hears the standard input and the connections (`hall`,
 //! `guest`) that come in at the doors (`doors`), and tells each what it asked for. It waits for all of them at
 //! once, for none of them alone, and is woken by the thread that serves (`console_waker`) once a turn has brought an
@@ -19,7 +19,7 @@
 //! A node that has a journal notes each step in it, before anything of the step is sent (`journal_keeper`); a fourth
 //! thread syncs its files once a second.
 //!
-//! The lines, the statuses and what is printed stand in docs/FORMATS.md, "A node's lines".
+//! The lines, the statuses and what is printed are in docs/FORMATS.md, "A node's lines".
 //!
 //! # How it is proved
 //!
@@ -28,7 +28,7 @@
 //!
 //! - `ServesFor` (`specs/Serving`) says of an endless node that it was served a million turns, so often, and then
 //!   ended with a fault. The loop's invariant counts the rounds.
-//! - `IsServed` hides the link, the desk, the board and the observer behind "some", so that no caller has to name the
+//! - `IsServed` hides the link, the desk, the board and the observer as "some", so that no caller has to name the
 //!   node's own.
 //! - Where the station is open and no service begins, it is left unchanged.
 //!

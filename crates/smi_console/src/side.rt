@@ -18,7 +18,7 @@ struct StationSideParts<L: Drop> {
 /// The link of a station, the desk of its seats, and the statistics that both sides share.
 #[derive(Drop)]
 pub(crate) struct StationSide<L: Drop> {
-    // Behind a box, so that a place that drops it is not expensive to prove.
+    // In a box, because each place that drops it is expensive to prove.
     parts: Box<StationSideParts<L>>,
 }
 

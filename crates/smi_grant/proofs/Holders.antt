@@ -1,4 +1,4 @@
--- Holders are told apart, and whoever is not nobody makes an epoch odd.
+-- Holders are told apart, and a holder that is not nobody makes an epoch odd.
 use Rattle.std.proofs.Common.{ℕ, ◌≡◌, Bool, true, false, ◌⊎◌, inl, inr, refl, sym, ap, ◌∙◌, arith}
 use Rattle.std.specs.Prelude.{◌==◌}
 use Rattle.std.proofs.lemmas.Bool.Decides.{nat_tests}

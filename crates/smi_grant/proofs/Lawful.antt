@@ -32,7 +32,7 @@ coherent_parts true false last outcome c = (λ f. grind (arith, nat_tests), λ z
 coherent_parts false true last outcome c = (λ f. absurd cc, λ z. refl)
 coherent_parts false false last outcome c = (λ f. absurd cc, λ z. grind (arith, nat_tests))
 
--- nothing has run at a free domain, and where nothing has run nothing is at work
+-- nothing has run at a free domain, and if nothing has run nothing is at work
 pub free_last : (r : Standing) → IsRecord r → is_free r.holder ≡ true → r.last ≡ 0
 free_last r i f = (coherent_parts (is_free r.holder) (is_settled r.phase) r.last r.outcome i.coherent).0 f
 

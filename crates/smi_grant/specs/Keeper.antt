@@ -12,7 +12,7 @@ use Rattle.smi_grant.specs.Record.{Standing, standing, is_settled, last_epoch}
 abbrev pub handed : Standing → Holder → Standing
 handed r h = standing (r.epoch + 1) h 0 Settled 0
 
--- a free domain is granted to whoever has seen its epoch, while epochs are left
+-- a free domain is granted to a holder that has seen its epoch, while epochs are left
 abbrev pub take_after : Standing → Holder → ℕ → Verdict
 take_after r h seen =
     if is_free r.holder && (r.epoch == seen && nat_lt seen last_epoch) then New (handed r h) else Same

@@ -9,7 +9,7 @@ use Rattle.smi_grant.specs.declared.record.Phase.{Phase}
 use Rattle.smi_grant.specs.declared.record.Phase.TheVariants.{Settled, Busy}
 use Rattle.smi_grant.specs.Holder.{is_free, odd_of}
 
--- how a domain stands: what its record says
+-- what the record of a domain says
 pub record Standing : Type 0 where
   pub epoch : ℕ
   pub holder : Holder
@@ -41,7 +41,7 @@ phase_of n = if n == 0 then Some Settled else (if n == 1 then Some Busy else Non
 abbrev pub is_outcome : ℕ → Bool
 is_outcome x = nat_le x 7 || x == 9
 
--- a free domain has run nothing; where nothing has run it is settled with outcome 0; busy means
+-- a free domain has run nothing; if nothing has run it is settled with outcome 0; busy means
 -- outcome 0
 abbrev pub is_coherent : Standing → Bool
 is_coherent r =
@@ -49,7 +49,7 @@ is_coherent r =
     && ((if r.last == 0 then is_settled r.phase && r.outcome == 0 else true)
     && (if is_settled r.phase then true else r.outcome == 0))
 
--- a lawful record: epochs and numbers within their limits, odd epochs exactly where it is held
+-- a lawful record: epochs and numbers within their limits, odd epochs exactly when it is held
 pub record IsRecord (r : Standing) : Type 0 where
   pub epoch : r.epoch ≤ last_epoch
   pub last : r.last ≤ last_number

@@ -59,7 +59,7 @@ impl Command {
         }
     }
 
-    /// The command of this verb, where there is such a verb.
+    /// Returns the command of this verb, if there is such a verb.
     pub fn from_verb(verb: u16, argument: u16) -> Option<Command>
         ensures { result ≡ command_of verb argument }
     {

@@ -11,7 +11,7 @@ pub enum Verdict {
     Same,
 }
 
-/// A free domain is granted to whoever has seen its epoch, while epochs are left.
+/// A free domain is granted to a holder that has seen its epoch, while epochs are left.
 ///
 /// In every other case nothing changes. `holder` is an operator or a domain.
 pub fn take(current: &Record, holder: Holder, seen: u64) -> Verdict
@@ -63,7 +63,7 @@ pub fn admit(current: &Record, holder: Holder, epoch: u64, number: u32) -> bool
         && number == current.last + 1
 }
 
-/// The next command runs. It stays at work where it is `busy`, and else has ended with `outcome`.
+/// Runs the next command. It stays at work if it is `busy`, and else has ended with `outcome`.
 pub fn start(current: &Record, busy: bool, outcome: u16) -> Verdict
     requires held { is_free current.now.holder ≡ false }
     requires settled { current.now.phase ≡ Phase.Settled }

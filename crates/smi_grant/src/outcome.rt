@@ -2,7 +2,7 @@
 
 use thiserror::Error;
 
-/// How a command, a take or a drop ended. It stands as a number in records, and is told as one to operators
+/// How a command, a take or a drop ended. It is a number in records, and is told as one to operators
 /// (docs/PROTOCOL.md, "Outcomes"; docs/NUMBERS.md, "How an order ends").
 #[derive(Clone, Copy, Debug, PartialEq, Eq, Error)]
 pub enum Outcome {
@@ -22,7 +22,7 @@ pub enum Outcome {
     NotHandedOn,
     #[error("7: a million commands were given to a child under one grant")]
     ChildNumbersUsed,
-    /// It is told to operators alone, and stands in no record.
+    /// It is told to operators alone, and is in no record.
     #[error("8: it has ended, and how was not seen")]
     Unseen,
     #[error("9: the epochs of the domain are used up")]

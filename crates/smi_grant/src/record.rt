@@ -25,7 +25,7 @@ impl Phase {
         }
     }
 
-    /// The phase of this number, where there is one.
+    /// Returns the phase of this number, if there is one.
     pub fn from_number(number: u8) -> Option<Phase>
         ensures { result ≡ phase_of number }
     {
@@ -39,8 +39,8 @@ impl Phase {
 
 /// What the keeper of a domain knows of its grant.
 ///
-/// Every record is lawful: its epoch is at most [`LAST_EPOCH`], and even exactly where nobody holds
-/// the domain; `last` is at most [`LAST_NUMBER`]; a free domain has run nothing; where nothing has
+/// Every record is lawful: its epoch is at most [`LAST_EPOCH`], and even exactly when nobody holds
+/// the domain; `last` is at most [`LAST_NUMBER`]; a free domain has run nothing; if nothing has
 /// run, it is settled with outcome 0; a busy domain has outcome 0. (docs/PROTOCOL.md, "The record".)
 #[derive(Clone, Copy, Debug, PartialEq, Eq)]
 pub struct Record {
@@ -50,7 +50,7 @@ pub struct Record {
     /// The number of the last command that ran under this grant, 0 for none.
     pub last: u32,
     pub phase: Phase,
-    /// How that command ended, 0 where it was done or is not settled.
+    /// How that command ended, 0 if it was done or is not settled.
     pub outcome: u16,
 }
 
@@ -96,7 +96,7 @@ impl Record {
         }
     }
 
-    /// The record of these values, where they are lawful together.
+    /// Returns the record of these values, if they are lawful together.
     pub fn checked(
         epoch: u64,
         holder: Holder,

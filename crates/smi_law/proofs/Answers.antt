@@ -268,7 +268,7 @@ nothing_waits d (Held e n []) f = refl
 nothing_waits d (Held e n (c ∷ p)) f = absurd cc
 nothing_waits d (Dropping e) f = absurd cc
 
--- where it leads to rest, each order that waited is told
+-- if it leads to rest, each order that waited is told
 pub all_told : (h : Hierarchy) (o d : ℕ) (items : List Item) (w : World) → Each false h w items
     → is_unsettled (link_in h (led h w items) (Operator o) d) ≡ false
     → map order_told (told_about o d (entries_left h w items)) ≡ orders_waiting d (link_in h w (Operator o) d)

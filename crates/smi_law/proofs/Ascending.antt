@@ -1,4 +1,4 @@
--- Lists in which each thing stands before all that follow it.
+-- Lists in which each thing precedes all that follow it.
 use Rattle.std.proofs.Common.{ℕ, zero, suc, ◌≡◌, ◌<◌, ◌+◌, Bool, true, false, List, [], ◌∷◌, inl, inr, refl, sym}
 use Rattle.std.proofs.Common.{subst}
 use Rattle.std.proofs.Common.{arith}

@@ -156,7 +156,7 @@ module _ (h : Hierarchy) (number : ℕ) (g : Grants) (from d : ℕ) (who : Holde
 
 -- In the world.
 
--- a request has come to the keeper, who answers its sender with the record
+-- a request has reached the keeper, who answers its sender with the record
 pub record Asked (h : Hierarchy) (w : World) (number d : ℕ) (who : Holder) (due : Due) (v : World) : Type 0 where
   pub busy : Bool
   pub outcome : ℕ

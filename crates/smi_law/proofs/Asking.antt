@@ -1,4 +1,4 @@
--- A holder's request is sent by ticks, and comes to the keeper, who does not refuse it.
+-- A holder's request is sent by ticks, and reaches the keeper, who does not refuse it.
 use Rattle.std.proofs.Common.{ℕ, zero, suc, ◌≡◌, ◌≤◌, ◌+◌, Bool, true, false, List, [], ◌∷◌, inl, inr, refl, sym, ap}
 use Rattle.std.proofs.Common.{◌∙◌}
 use Rattle.std.proofs.Common.{subst, arith}
@@ -185,7 +185,7 @@ module _ (starts : Bool) (h : Hierarchy) (tree : IsTree h) (n : ℕ) (w : World)
   sound : IsSound h s.grants
   sound = (all_sound h tree fine.past w fine.run).sound number
 
-  -- so many ticks send all
+  -- this many ticks send all of it
   in_time : length (all_owed h number s.grants s.display) ≤ most_sent * (most_owed h / most_sent + 1)
   in_time = let most = owed_most h number s.grants s.display sound tree in omega (arith, most)
 

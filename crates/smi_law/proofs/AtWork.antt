@@ -31,13 +31,13 @@ use Rattle.smi_law.proofs.Viewed.{viewed, view_fits}
 use Rattle.smi_law.proofs.Works.{works}
 use Rattle.smi_law.proofs.WorkSteps.{busy_pending, waiting_one}
 
--- the command that stands in its place
+-- the command in its place
 at_place : (pending : List Command) (i : ℕ) → i < length pending → (c : Command) × (slice_get pending i ≡ Some c)
 at_place [] i less = absurd (omega (arith, less))
 at_place (c ∷ pending) zero less = (c, refl)
 at_place (c ∷ pending) (suc i) less = at_place pending i (omega (arith, less))
 
--- the last command that ran waits where it has not settled
+-- the last command that ran waits if it has not settled
 last_waits : (r : Standing) (e n : ℕ) (p : List Command) (l : Link) → InStep r n p → is_settled r.phase ≡ false
     → r.epoch ≡ e → l ≡ Held e n p → (c : Command) × Waits l r.epoch r.last c
 last_waits r e n p l step busy epoch is =

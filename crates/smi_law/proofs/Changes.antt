@@ -32,7 +32,7 @@ pub record SameGrant (r q : Standing) : Type 0 where
 pub same_grant : (r : Standing) → SameGrant r r
 same_grant r = record { epoch = refl; holder = refl }
 
--- the link holds what it held, knows no less, and is dropping only where it was
+-- the link holds what it held, knows no less, and is dropping only if it was
 pub record SameLink (l k : Link) : Type 0 where
   pub held : (e : ℕ) → holds_at k e ≡ holds_at l e
   pub known : known l ≤ known k

@@ -1,4 +1,4 @@
--- A take and a drop come to their ends.
+-- A take and a drop end.
 use Rattle.std.proofs.Common.{ℕ, ◌≡◌, ◌<◌, ◌≤◌, ◌+◌, Bool, true, false, [], ◌∷◌, ◌⊎◌, inl, inr, refl, sym, ap}
 use Rattle.std.proofs.Common.{◌∙◌, subst, arith}
 use Rattle.std.specs.Prelude.{◌==◌, ◌&&◌, if◌then◌else◌, length, nat_lt}
@@ -155,7 +155,7 @@ module _ (starts : Bool) (h : Hierarchy) (tree : IsTree h) (d : ℕ) (who : Hold
   abbrev number : ℕ
   number = holder_home h who
 
-  -- where it is settled
+  -- if it is settled
   settles : (n : ℕ) (w v : World) → Fine starts h n v → Eases h d w v → is_unsettled (link_in h w who d) ≡ true
       → is_unsettled (link_in h v who d) ≡ false → Settles starts h n d who w v
   settles n w v on eases waits settled =

@@ -35,7 +35,7 @@ use Rattle.smi_law.proofs.StepKinds.{understood}
 
 -- One object.
 
--- it comes to another state, with the next sequence
+-- it enters another state, with the next sequence
 pub record Changed (old new : Option Condition) : Type 0 where
   pub before : Condition
   pub state : ℕ
@@ -46,7 +46,7 @@ pub record Changed (old new : Option Condition) : Type 0 where
 abbrev pub Moves : Option Condition → Option Condition → Type 0
 Moves old new = (new ≡ old) ⊎ Changed old new
 
--- an object that comes to a state stays unchanged, or changes
+-- an object that enters a state stays unchanged, or changes
 pub comes : (f : Condition → ℕ) (old : Option Condition) → Moves old (option_map (λ c. come_to (f c) c) old)
 comes f None = inl refl
 comes f (Some c) = elim (either (c.state == f c)) [
@@ -221,7 +221,7 @@ module _ (h : Hierarchy) (tree : IsTree h) where
     ]
   ]
 
-  -- Whatever comes to a station.
+  -- Anything that reaches a station.
 
   -- the objects that may change
   abbrev pub may_change : Option ℕ → List ℕ

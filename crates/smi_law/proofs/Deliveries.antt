@@ -30,7 +30,7 @@ use Rattle.smi_law.proofs.Room.{first_room, lasts}
 use Rattle.smi_law.proofs.Ticks.{sent_first, sent_second}
 use Rattle.smi_law.proofs.Ways.{Fine, IsReady, Way, led_reached}
 
--- the datagram that stands so far in what was sent comes
+-- the datagram at this place in what was sent arrives
 abbrev pub deliver : ℕ → Item
 deliver i = item.Do (deed.Deliver (i + 1))
 
@@ -163,7 +163,7 @@ deliver_fits : (starts : Bool) (h : Hierarchy) (w : World) (i : ℕ) → i < len
 deliver_fits true h w i less = (omega arith, omega (arith, less))
 deliver_fits false h w i less = (omega arith, omega (arith, less))
 
--- A datagram that was sent may come, where it is not refused.
+-- A datagram that was sent may come, if it is not refused.
 module _ (starts : Bool) (h : Hierarchy) (tree : IsTree h) (n : ℕ) (w : World) (m : Message)
     (fine : Fine starts h (n + 2) w) (sent : IsSent m w.sent) (here : IsStation h m.to)
     (none : refusal_of h m.to (w.stations m.to).grants (Comes m) ≡ None) where

@@ -31,7 +31,7 @@ use Rattle.smi_law.proofs.StepKinds.{step_kind}
 use Rattle.smi_law.proofs.Traces.{Traces, Safely, safely_quiet, one_commander}
 use Rattle.smi_law.proofs.Viewed.{Viewed, step_viewed, viewed, sent_or}
 
--- What comes to a station.
+-- An event of a station.
 
 kept_kind : (h : Hierarchy) (w : World) (number : ℕ) (what : Happening) → MayCome w what → Viewed h w
     → (o : Option ℕ) → refusal_of h number (w.stations number).grants what ≡ o

@@ -1,4 +1,4 @@
--- What a told record does to grants: a take comes to its grant, or every link holds what it held.
+-- What a told record does to grants: a take is granted, or every link holds what it held.
 use Rattle.std.proofs.Common.{ℕ, suc, ◌≡◌, ◌≤◌, ◌+◌, ◌-◌, Bool, true, false, List, [], ◌∷◌, inl, inr, refl, sym, ap}
 use Rattle.std.proofs.Common.{◌∙◌, subst, arith}
 use Rattle.std.specs.Prelude.{◌==◌, ◌++◌, Option, Some, None, map, find, slice_get, unwrap_or, if◌then◌else◌}
@@ -36,7 +36,7 @@ use Rattle.smi_law.proofs.Viewed.{Viewed, keeper_home, view_fits}
 
 -- One link.
 
--- it comes to its grant, or holds what it held
+-- it is granted, or holds what it held
 pub data ToldKind (who : Holder) (d : ℕ) (l new : Link) : Type 0 where
   learns : (s : ℕ) → l ≡ Taking s → new ≡ Held (s + 1) 0 [] → ToldKind who d l new
   remains : SameLink l new → AllQuiet (learned who d l new) → ToldKind who d l new

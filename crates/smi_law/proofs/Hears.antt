@@ -58,7 +58,7 @@ same_grant r s is = record {
 pub grant_on : (r s t : Standing) → SameGrant r s → SameGrant s t → SameGrant r t
 grant_on r s t a b = record { epoch = b.epoch ∙ a.epoch; holder = b.holder ∙ a.holder; last = b.last ∙ a.last }
 
--- a link that is told the record, so many times
+-- a link that is told the record, this many times
 pub data Told (me : Holder) (r : Standing) (l : Link) : Link → Type 0 where
   stays : Told me r l l
   hears_it : (k : Link) → Told me r l k → Told me r l (told_link k me r)
@@ -134,7 +134,7 @@ heard_one h tree number g d r (Domain p) at =
           omega (arith, is, less));
     }
 
--- whoever listens at a station is there
+-- each holder that listens at a station is there
 pub listens_here : (h : Hierarchy) (number d : ℕ) (who : Holder) → In who (listeners h number d)
     → (is_free who ≡ false) × (holder_home h who ≡ number)
 listens_here h number d Free at = absurd (nobody_listens h number d at)
@@ -216,7 +216,7 @@ unheard_hears l Free r f = f
 unheard_hears l (Operator o) r f = f
 unheard_hears l (Domain p) r f = ap (λ b. b && not (is_ahead l r)) f
 
--- nobody is found where nobody passes
+-- nobody is found if nobody passes
 not_found : {X : Type 0} (test : X → Bool) (xs : List X) → find test xs ≡ None → (x : X) → In x xs → test x ≡ false
 not_found test [] none x i = absurd i
 not_found {X = X} test (y ∷ xs) none x i = by (test y) refl none (λ n j. not_found test xs n x j) i

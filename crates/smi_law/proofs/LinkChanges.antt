@@ -119,7 +119,7 @@ holder_none : (d : ℕ) → holder_at d [] ≡ Free
 unfolding holder_at
 holder_none d = refl
 
--- after an entry that leaves the epoch, the grant stands as before
+-- after an entry that leaves the epoch, the grant is as before
 still_stands : (d : ℕ) (who : Holder) (x : Entry) (past : List Entry) → epoch_at d (x ∷ past) ≡ epoch_at d past
     → Stands (Granted d (epoch_at d past) who) past → Stands (Granted d (epoch_at d (x ∷ past)) who) (x ∷ past)
 still_stands d who x past same a = subst (λ n. Stands (Granted d n who) (x ∷ past)) (sym same) (inr a)
@@ -181,7 +181,7 @@ granted_stands d who p (Told o q ∷ past) i =
     still_stands d who (Told o q) past (epoch_quiet d (Told o q) past tt)
     (granted_stands d who p past (sym (holder_quiet d (Told o q) past tt) ∙ i))
 
--- A take has come to its grant.
+-- A take is granted.
 
 module _ (h : Hierarchy) (past : List Entry) (w next : World) (who : Holder) (x s : ℕ)
     (c : LinkChange h w next who x (Taking s) (Held (s + 1) 0 [])) (t : Traces h past w) where

@@ -1,4 +1,4 @@
--- What anything that comes to a station does to each link there is a move.
+-- Whatever reaches a station moves each link there.
 use Rattle.std.proofs.Common.{ℕ, ◌≡◌, Bool, true, false, List, inl, inr, refl, sym, subst}
 use Rattle.std.specs.Prelude.{◌==◌, ◌&&◌, Option, Some, None, Result, Ok, Err, if◌then◌else◌}
 use Rattle.std.proofs.lemmas.Bool.{and_parts}

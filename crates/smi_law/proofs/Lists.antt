@@ -1,4 +1,4 @@
--- What stands in lists, and in traces to which they were noted.
+-- What is in lists, and in traces to which they were noted.
 use Rattle.std.proofs.Common.{List, [], ◌∷◌, ◌⊎◌, inl, inr}
 pub use Rattle.smi_protocol.specs.Sound.{In}
 pub use Rattle.smi_protocol.proofs.Lists.{in_first, in_second, in_both, in_mapped, from_mapped, in_chosen}

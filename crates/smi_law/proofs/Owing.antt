@@ -1,4 +1,4 @@
--- What a station owes stands by place, and what its links are due is among it.
+-- What a station owes is ordered by place, and what its links are due is among it.
 use Rattle.std.proofs.Common.{ℕ, zero, suc, ◌≡◌, ◌<◌, ◌≤◌, ◌+◌, ◌-◌, Bool, true, false, List, [], ◌∷◌, inl, inr, refl}
 use Rattle.std.proofs.Common.{sym, ap}
 use Rattle.std.proofs.Common.{◌∙◌, subst, arith}
@@ -49,7 +49,7 @@ there_within [] i c is = absurd (nothing i is)
 there_within (x ∷ p) zero c is = omega arith
 there_within (x ∷ p) (suc i) c is = let less = there_within p i c is in omega (arith, less)
 
--- so many things are due
+-- this many things are due
 pub due_within : (l : Link) (i : ℕ) (due : Due) → due_of l i ≡ Some due → i < waiting l
 due_within (Out k) i due is = absurd cc
 due_within (Taking s) i due is = by (i == 0) refl is
@@ -111,7 +111,7 @@ one_waits h (Dropping e) i = omega arith
 at_places : (u v : Owed) (p q : ResendCursor) → u.place ≡ p → v.place ≡ q → Before p q → Earlier u v
 at_places u v p q i j before = subst (λ z. Before z v.place) (sym i) (subst (Before p) (sym j) before)
 
--- no thing stands before another
+-- no thing precedes another
 abbrev Never : Due → Due → Type 0
 Never u v = ⊥
 
@@ -251,7 +251,7 @@ module _ (h : Hierarchy) (number : ℕ) (g : Grants) (s : Display) where
         (λ x y u v less i j. at_places u v (place.Watch x) (place.Watch y) (watch_place x u i) (watch_place y v j)
         (inr (refl, inl less)))
 
-    -- all that is owed stands by place
+    -- all that is owed is ordered by place
     pub owed_ascends : Ascends Earlier (all_owed h number g s)
     owed_ascends =
         ascends_both Earlier (children ++ operators ++ questions) watches'
@@ -325,7 +325,7 @@ pub record IsOwed (h : Hierarchy) (number : ℕ) (g : Grants) (s : Display) (who
   pub message : owing.message ≡ requests h number who d due
   pub low : kind owing.place ≤ 1
 
--- what is owed for links stands first
+-- what is owed for links comes first
 first_parts : (h : Hierarchy) (number : ℕ) (g : Grants) (s : Display) (it : Owed)
     → In it (children h number g s ++ operators h number g s) → In it (all_owed h number g s)
 first_parts h number g s it i =

@@ -15,7 +15,7 @@ use Rattle.smi_law.specs.Trace.{Stands, epoch_at}
 use Rattle.smi_law.proofs.LinkChanges.{granted_stands}
 use Rattle.smi_law.proofs.Traces.{Safely}
 
--- whatever stands in a safe trace fits what stood before it
+-- each entry of a safe trace fits the entries before it
 granted_parent : (h : Hierarchy) (d e q : ℕ) (past : List Entry) → SafeGrants h past
     → Stands (Granted d e (Domain q)) past → parent_of h d ≡ Some q
 granted_parent h d e q [] safe at = absurd at

@@ -1,4 +1,4 @@
--- A request comes to its keeper, and the answer to the holder.
+-- A request reaches its keeper, and the answer to the holder.
 use Rattle.std.proofs.Common.{ℕ, ◌≡◌, ◌<◌, ◌≤◌, ◌+◌, Bool, true, false, List, [], ◌∷◌, inl, inr, refl, sym, ap}
 use Rattle.std.proofs.Common.{◌∙◌, subst, arith}
 use Rattle.std.specs.Prelude.{◌==◌, ◌&&◌, filter, length, map, nat_lt, not, Option, Some, None, if◌then◌else◌}
@@ -44,7 +44,7 @@ use Rattle.smi_law.proofs.Ways.{Fine, Way, go_on, less_fine, no_longer}
 
 -- Who listens.
 
--- whoever has a place listens there
+-- a holder that has a place listens there
 pub listens : (h : Hierarchy) (number d : ℕ) (who : Holder) → has_place h number d who ≡ true
     → In who (listeners h number d)
 listens h number d Free here =
@@ -226,7 +226,7 @@ pub told_waits : (me : Holder) (r : Standing) (l k : Link) → Told me r l k →
 told_waits me r l k t = told_keeps (λ z. waiting z ≤ waiting l) me r
     (λ z a. let b = told_less z me r in omega (arith, a, b)) l k t (omega arith)
 
--- where no child of the domain has more to wait for
+-- if no child of the domain has more to wait for
 pub passed_eases : (h : Hierarchy) → IsTree h → (w : World) (number d : ℕ) (who : Holder) (due : Due)
     (a b : List Entry) (v : World) → Reaches h a w → Reaches h b v → Passed h w number d who due v
     → ((x : ℕ) → (x ≡ d → ⊥) → waiting (link_in h v (Domain d) x) ≤ waiting (link_in h w (Domain d) x)) → Eases h d w v
@@ -253,7 +253,7 @@ passed_eases h tree w number d who due a b v run run' p children = record {
   ];
 }
 
--- where nothing runs
+-- if nothing runs
 pub quiet_eases : (h : Hierarchy) → IsTree h → (w : World) (number d : ℕ) (who : Holder) (due : Due)
     (a b : List Entry) (v : World) → Reaches h a w → Reaches h b v → Passed h w number d who due v
     → RunsNothing (record_in h w d) who due → Eases h d w v

@@ -66,7 +66,7 @@ child_placed h tree number p d here child =
     let within = (child_there h tree d p child).0 in
     and_from _ _ (between 1 (domain_count h) d within.least within.most) (and_from _ _ child here)
 
--- whoever listens at a station is there
+-- each holder that listens at a station is there
 pub listening_operator : (h : Hierarchy) (number d o : ℕ) → In (Operator o) (listeners h number d)
     → is_number (operator_station_of h o) number ≡ true
 listening_operator h number d o a =

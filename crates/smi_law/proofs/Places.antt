@@ -1,4 +1,4 @@
--- How the places of a tick stand.
+-- How the places of a tick are ordered.
 use Rattle.std.proofs.Common.{ℕ, ◌≡◌, ◌<◌, ◌+◌, Bool, true, false, ◌⊎◌, inl, inr, refl, arith}
 use Rattle.std.specs.Prelude.{◌==◌, ◌&&◌, ◌||◌, nat_lt, nat_le, if◌then◌else◌}
 use Rattle.std.proofs.lemmas.Bool.Decides.{nat_tests}
@@ -36,7 +36,7 @@ minor (place.Watch x) = 0
 abbrev pub Lower : ℕ → ℕ → ℕ → ℕ → ℕ → ℕ → ℕ → ℕ → Type 0
 Lower k a b c l d e f = (k < l) ⊎ ((k ≡ l) × ((a < d) ⊎ ((a ≡ d) × ((b < e) ⊎ ((b ≡ e) × (c < f))))))
 
--- one place stands before another
+-- one place precedes another
 abbrev pub Before : ResendCursor → ResendCursor → Type 0
 Before p q = Lower (kind p) (major p) (middle p) (minor p) (kind q) (major q) (middle q) (minor q)
 
@@ -97,7 +97,7 @@ before_is_before (place.Watch x) (place.Link p e m) l = absurd (grind (arith, l)
 before_is_before (place.Watch x) (place.Ask p) l = absurd (grind (arith, l))
 before_is_before (place.Watch x) (place.Watch y) l = one_true x y (grind (arith, l))
 
--- the numbers of one are before those of the other, or the same, or behind
+-- the numbers of one are before those of the other, or the same, or after them
 abbrev pub NotBefore : ResendCursor → ResendCursor → Type 0
 NotBefore p q = Before p q → ⊥
 
@@ -119,7 +119,7 @@ before_around p q s x y = lower_around (kind p) (major p) (middle p) (minor p) (
 
 -- The place after a place.
 
--- it is the first one, or right behind
+-- it is the first one, or the next one
 pub record Follows (p q : ResendCursor) : Type 0 where
   pub behind : Before p q
   pub next : (s : ResendCursor) → Before p s → NotBefore s q
@@ -148,7 +148,7 @@ next_watch x (place.Link o d n) a b = grind (arith, a)
 next_watch x (place.Ask o) a b = grind (arith, a)
 next_watch x (place.Watch y) a b = grind (arith, a, b)
 
--- the place after a place is right behind it, but after a watch it may be the first
+-- the place after a place is the next one, but after a watch it may be the first
 pub next_or_first : (h : Hierarchy) (p : ResendCursor)
     → Follows p (next_place h p) ⊎ ((kind p ≡ 3) × (next_place h p ≡ first_place))
 next_or_first h (place.Child x) = inl (record { behind = inr (refl, inl (omega arith)); next = next_child x })

@@ -1,4 +1,4 @@
--- What stands in lists that are made of others, and how long these are.
+-- What is in lists that are made of others, and how long these are.
 use Rattle.std.proofs.Common.{ℕ, zero, suc, ◌≡◌, ◌<◌, ◌≤◌, ◌+◌, Bool, true, false, List, [], ◌∷◌, ◌⊎◌, inl, inr, refl}
 use Rattle.std.proofs.Common.{sym, ap, ◌∙◌, subst, arith}
 use Rattle.std.proofs.lemmas.List.Sums.{sum_by-cons}
@@ -144,7 +144,7 @@ kept_behind test (suc k) (x ∷ xs) none most =
     rw (none x (inl refl))
     (let l = kept_behind test k xs (λ y i. none y (inr i)) (omega (arith, most)) in omega (arith, l))
 
--- what stands in a list is among the first or among the others
+-- what is in a list is among the first or among the others
 pub in_parts : {X : Type 0} (y : X) (k : ℕ) (xs : List X) → In y xs → In y (take k xs) ⊎ In y (drop k xs)
 in_parts y zero xs i = inr i
 in_parts y (suc k) [] i = absurd i

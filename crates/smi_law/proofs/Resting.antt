@@ -1,4 +1,4 @@
--- All that is under way comes to its end.
+-- All that is under way ends.
 use Rattle.std.proofs.Common.{ℕ, zero, suc, ◌≡◌, ◌<◌, ◌≤◌, ◌+◌, Bool, true, false, List, [], ◌∷◌, ◌⊎◌, inl, inr, refl}
 use Rattle.std.proofs.Common.{sym, ap}
 use Rattle.std.proofs.Common.{◌∙◌, subst, arith}
@@ -71,7 +71,7 @@ total_less f g z (x ∷ xs) each (inr at) less =
 
 -- Who may hold something.
 
--- whoever has a place is among them
+-- a holder that has a place is among them
 among_parties : (h : Hierarchy) (number d : ℕ) (who : Holder) → has_place h number d who ≡ true
     → In (party d who) (parties h)
 among_parties h number d who here =
@@ -160,7 +160,7 @@ module _ (starts : Bool) (h : Hierarchy) (tree : IsTree h) (levels most : ℕ)
           omega (arith, less, little))
           s.fine))
 
-  -- where nobody waits, all is at rest
+  -- if nobody waits, all is at rest
   at_rest : (n : ℕ) (w : World) → Quiet n w → IsAtRest h w
   at_rest n w q = record {
     links = settled;

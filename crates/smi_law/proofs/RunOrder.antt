@@ -63,7 +63,7 @@ order_none (Passed v) past calm safe = safe
 order_none (Told o t) past calm safe = safe
 order_none (Ran x e n c) past calm safe = absurd calm
 
--- where no command has run under a grant, none is counted
+-- if no command has run under a grant, none is counted
 runs_zero : (d f : ℕ) (past : List Entry) → ((m : ℕ) (k : Command) → Stands (Ran d f m k) past → ⊥)
     → runs_under d f past ≡ 0
 runs_zero d f [] none = nothing_under d f
@@ -98,7 +98,7 @@ runs_zero d f (Passed v ∷ past) none = none_under d f (Passed v) past tt
 runs_zero d f (Told o t ∷ past) none = none_under d f (Told o t) past tt
     ∙ runs_zero d f past (λ m k a. none m k (inr a))
 
--- How the runs so far stand to the records.
+-- How the runs so far relate to the records.
 
 pub record Counted (h : Hierarchy) (past : List Entry) (w : World) : Type 0 where
   pub count : (d : ℕ) → runs_under d (record_in h w d).epoch past ≡ (record_in h w d).last

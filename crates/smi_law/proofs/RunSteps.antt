@@ -1,4 +1,4 @@
--- What anything that comes to a station does to the runs of its domains: none, a change of hands, or the next one.
+-- What an event does to the runs of a station's domains: none, a change of hands, or the next one.
 use Rattle.std.proofs.Common.{ℕ, ◌≡◌, ◌+◌, Bool, true, false, List, [], ◌∷◌, inl, inr, refl, sym, ap, ◌∙◌, subst}
 use Rattle.std.specs.Prelude.{◌++◌, Option, Some, None, Result, Ok, Err}
 use Rattle.std.proofs.lemmas.Bool.{and_parts}

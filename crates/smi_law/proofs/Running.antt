@@ -45,7 +45,7 @@ use Rattle.smi_law.proofs.Ways.{Fine, Way, go_on, less_fine, no_longer, stay}
 
 -- The record.
 
--- after the request of the oldest command, the record has it behind
+-- after the request of the oldest command, the record is past it
 ran_past : (r : Standing) (who : Holder) (e k : ℕ) (c : Command) (p : List Command) → LinkOk r who (Held e k (c ∷ p))
     → (busy : Bool) (x : ℕ)
     → base_of k (c ∷ p) + 1 ≤ (asked_record r who (Run e (base_of k (c ∷ p) + 1 + 0) c) busy x).last
@@ -73,7 +73,7 @@ ran_past r who e k c p ok busy x =
         (and_from _ _ (ap is_settled (ok.2.all_settled at))
         (eq-eqb (base_of k (c ∷ p) + 1 + 0) (r.last + 1) (next (base_of k (c ∷ p)) r.last at))))) ∙ f in cc)
 
--- what is behind does not run again
+-- what is past does not run again
 not_again : (r : Standing) (who : Holder) (e b : ℕ) → b + 1 ≤ r.last → admits r who e (b + 1 + 0) ≡ false
 not_again r who e b less = elim (either (admits r who e (b + 1 + 0))) [
   | inl t ↦

@@ -99,7 +99,7 @@ module _ (h : Hierarchy) (parents : (d p : ℕ) → parent_of h d ≡ Some p →
         ∙ ap (λ z. e == z) (s.traces.epoch d ∙ sym epoch) ∙ number_self e,
   )
 
-  -- whoever has handed something on is busy
+  -- a domain that has handed something on is busy
   is_busy : (d q e n : ℕ) (c : Command) (more : List Command) → parent_of h d ≡ Some q
       → link_in h w (Domain q) d ≡ Held e n (c ∷ more) → is_settled (record_in h w q).phase ≡ false
   is_busy d q e n c more parent is = elim (either (is_settled (record_in h w q).phase)) [

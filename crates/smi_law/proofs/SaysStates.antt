@@ -45,7 +45,7 @@ use Rattle.smi_protocol.specs.Tidy.{IsTidy}
 use Rattle.smi_law.proofs.Tidy.{length_before}
 use Rattle.smi_law.proofs.Versions.{Somewhere, from_left}
 
--- A watch comes to its list.
+-- A watch reaches its list.
 
 max_is : (m n : ℕ) → m ≤ n → max m n ≡ n
 max_is m n l = grind (arith, l)

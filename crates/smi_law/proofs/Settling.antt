@@ -1,4 +1,4 @@
--- Every link under way comes to wait for less, whatever its domain has handed on.
+-- Every link under way waits for less in the end, whatever its domain has handed on.
 use Rattle.std.proofs.Common.{ℕ, zero, suc, ◌≡◌, ◌<◌, ◌≤◌, ◌+◌, Bool, true, false, List, [], ◌∷◌, inl, inr, refl, sym}
 use Rattle.std.proofs.Common.{ap}
 use Rattle.std.proofs.Common.{◌∙◌, subst, arith}
@@ -156,7 +156,7 @@ module _ (starts : Bool) (h : Hierarchy) (tree : IsTree h) (levels d : ℕ)
 abbrev more : Hierarchy → ℕ → ℕ → ℕ
 more h levels d = total (map (passes h levels) (children_of h d))
 
--- A link under way comes to wait for less.
+-- A link under way waits for less in the end.
 pub settle_way : (starts : Bool) (h : Hierarchy) → IsTree h → (levels d : ℕ) (who : Holder) (n : ℕ) (w : World)
     → domain_count h < d + levels → is_unsettled (link_in h w who d) ≡ true
     → Fine starts h (n + passes h levels d * changing) w

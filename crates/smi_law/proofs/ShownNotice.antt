@@ -45,7 +45,7 @@ use Rattle.smi_law.proofs.ShownStep.{Next, Acts}
 use Rattle.smi_law.proofs.Silent.{kept_silent}
 use Rattle.smi_law.proofs.Versions.{newer_than, from_watched, from_unwatched, Somewhere}
 
--- A datagram that is not refused has come to its receiver.
+-- A datagram that is not refused has reached its receiver.
 
 abbrev first_of : Bool → Option ℕ → Option ℕ
 first_of b rest = if b then Some 7 else rest
@@ -99,7 +99,7 @@ module _ (h : Hierarchy) (past : List Entry) (w : World) (number : ℕ) (known :
     pub since : (sh : Shown) → n.showed ≡ Some sh
         → NotOlderThanShown number sh.object sh.version (before_start number past)
 
-  -- nothing is shown, and whoever watches may
+  -- nothing is shown, and the watchers may
   watched_by : (n : Notice) → n.showed ≡ None → n.display.shown ≡ S.shown
       → ((x station echo : ℕ) → In (watcher station echo) (listed n.display.watchers x)
       → Somewhere (watcher station echo) S.watchers ⊎ (echo ≤ (w.stations station).grants.boot)) → Noted n

@@ -31,7 +31,7 @@ abbrev pub state_of : ℕ → Version → ℕ → Shown
 state_of x v q = record { object = x; version = v; state = q }
 
 -- what was told of an object to a station was passed through; its echo is of no later boot than the present one; and
--- where it is the present one, it is not older than what the station was shown before its start
+-- if it is the present one, it is not older than what the station was shown before its start
 pub record ToldWell (past : List Entry) (station x echo : ℕ) (v : Version) (q boot : ℕ) : Type 0 where
   pub passed : Stands (Passed (state_of x v q)) past
   pub within : echo ≤ boot
@@ -163,7 +163,7 @@ pub before_passed : (t : ℕ) (v : Shown) (past : List Entry) → before_start t
 unfolding before_start
 before_passed t v past = refl
 
--- what stood before the start stands
+-- what was before the start is still there
 pub stands_before : (z : Entry) (t : ℕ) (past : List Entry) → Stands z (before_start t past) → Stands z past
 unfolding before_start
 stands_before z t [] a = a

@@ -94,7 +94,7 @@ module _ (h : Hierarchy) (tree : IsTree h) (number : ℕ) (s : Station) (tidy : 
             s.display.conditions (domain_of_happening h what) m b
       ]
 
--- whatever comes to a station whose lists are tidy
+-- any event of a station whose lists are tidy
 pub one_speaks : (h : Hierarchy) → IsTree h → (number : ℕ) (s : Station) → IsTidy h s.display
     → (what : Happening) (m : Message) → Among m (after h number s what).out.datagrams
     → MaySend h number (after h number s what).station m

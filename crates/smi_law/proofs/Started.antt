@@ -1,4 +1,4 @@
--- How a domain stands to the trace after a command has begun in it.
+-- How a domain relates to the trace after a command has begun in it.
 use Rattle.std.proofs.Common.{ℕ, suc, zero, ◌≡◌, ◌+◌, ◌-◌, Bool, true, false, List, [], ◌∷◌, inl, inr, refl, sym, ap}
 use Rattle.std.proofs.Common.{◌∙◌, subst, arith}
 use Rattle.std.specs.Prelude.{◌==◌, ◌||◌, ◌++◌, Option, Some, None, if◌then◌else◌, slice_get, option_and_then}
@@ -32,7 +32,7 @@ use Rattle.smi_law.proofs.WorkRuns.{orders_mild, child_modes}
 use Rattle.smi_law.proofs.Working.{HandedOn, At}
 use Rattle.smi_law.proofs.Moves.{number_self}
 
--- Where no child is waited for, no link to a child waits.
+-- If no child is waited for, no link to a child waits.
 
 or_false : (a b : Bool) → (a || b) ≡ false → (a ≡ false) × (b ≡ false)
 or_false true b i = absurd cc

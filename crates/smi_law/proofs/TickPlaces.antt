@@ -1,4 +1,4 @@
--- Whatever a link is due is sent within so many ticks, wherever they begin.
+-- Whatever a link is due is sent within a bounded number of ticks, wherever they begin.
 use Rattle.std.proofs.Common.{ℕ, zero, suc, ◌≡◌, ◌<◌, ◌≤◌, ◌+◌, ◌-◌, Bool, true, false, List, [], ◌∷◌, ◌⊎◌, inl, inr}
 use Rattle.std.proofs.Common.{refl}
 use Rattle.std.proofs.Common.{sym, ap, ◌∙◌, subst, arith}
@@ -101,7 +101,7 @@ module _ (h : Hierarchy) where
     abbrev pub next : ResendCursor → ResendCursor
     next p = place_behind h first_place most_sent (owed_from p all)
 
-    -- so many ticks send it, the first from this place
+    -- this many ticks send it, the first from this place
     abbrev pub SentWithin : Owed → ℕ → ResendCursor → Type 0
     SentWithin y zero p = ⊥
     SentWithin y (suc n) p = In y (owed_from p all) ⊎ SentWithin y n (next p)
@@ -116,7 +116,7 @@ module _ (h : Hierarchy) where
       | inr f ↦ ap not f
     ]
 
-    -- what is left behind a later place is less by all that was sent
+    -- what is left after a later place is less by all that was sent
     fewer : (p q : ResendCursor) (z : Owed) → In z (rest p) → Before z.place q
         → ((u : Owed) → In u (take most_sent (rest p)) → (u ≡ z) ⊎ Before u.place z.place)
         → most_sent ≤ length (rest p)
@@ -169,7 +169,7 @@ module _ (h : Hierarchy) where
           left = f.left;
         }
 
-    -- A link's due that stands behind the place is sent, or the next tick begins behind the place and before it.
+    -- A link's due after the place is sent, or the next tick begins after the place and before it.
     record Nears (p : ResendCursor) (y : Owed) : Type 0 where
       less : length (rest (next p)) + most_sent ≤ length (rest p)
       still : In y (rest (next p))
@@ -253,6 +253,6 @@ module _ (h : Hierarchy) where
           later : (a b : ℕ) → suc (a + b) ≡ suc a + b
           later a b = omega arith
 
-      -- it is sent within so many ticks
+      -- it is sent within this many ticks
       pub sent_within : (m : ℕ) → length all ≤ most_sent * m → (p : ResendCursor) → SentWithin y (suc (m + m)) p
       sent_within m most p = far_sent m m p (let l = kept_most (behind p) all in omega (arith, l, most)) most

@@ -43,7 +43,7 @@ in_sent m [] a = absurd a
 in_sent m (x ∷ xs) (inl same) = inl same
 in_sent m (x ∷ xs) (inr a) = inr (in_sent m xs a)
 
--- the first of a list stand in what is taken of it
+-- the first of a list are in what is taken of it
 taken : {X : Type 0} (y : X) (n : ℕ) (xs ys : List X) → length xs ≤ n → In y xs → In y (take n (xs ++ ys))
 taken y n [] ys most i = absurd i
 taken y zero (x ∷ xs) ys most i = absurd (omega (arith, most))

@@ -64,7 +64,7 @@ held_link (Taking s) e i = absurd cc
 held_link (Held f n p) e i = record { number = n; pending = p; is = ap (λ z. Held z n p) (eqb-true f e i) }
 held_link (Dropping f) e i = absurd cc
 
--- whoever holds a domain by the trace is the holder by its record
+-- the holder of a domain by the trace is its holder by its record
 pub held_by : (h : Hierarchy) (past : List Entry) (w : World) (me : Holder) (d : ℕ) → is_free me ≡ false → Viewed h w
     → Traces h past w → Holds me d past → (record_in h w d).holder ≡ me
 held_by h past w me d party v t holds =

@@ -1,4 +1,4 @@
--- What a link waits for where the record as it stands is no news to it.
+-- What a link waits for if the present record is no news to it.
 use Rattle.std.proofs.Common.{ℕ, zero, suc, ◌≡◌, ◌≤◌, ◌<◌, ◌+◌, Bool, true, false, List, [], ◌∷◌, drop, refl, sym, ap}
 use Rattle.std.proofs.Common.{◌∙◌, arith}
 use Rattle.std.specs.Prelude.{◌==◌, ◌&&◌, nat_lt, nat_le, not, length, map}
@@ -23,7 +23,7 @@ use Rattle.smi_grant.proofs.Holders.{same_is}
 use Rattle.smi_protocol.specs.Hearing.{is_heard}
 use Rattle.smi_law.specs.Waiting.{waiting}
 
--- a link never waits for more where it is told a record
+-- a link never waits for more if it is told a record
 pub told_less : (l : Link) (me : Holder) (r : Standing) → waiting (told_link l me r) ≤ waiting l
 told_less (Out k) me r = omega arith
 told_less (Taking s) me r = by_row_taking (λ l k. waiting k ≤ waiting l) me r s
@@ -116,7 +116,7 @@ heard_once (Dropping e) me r o =
     (λ f. choose {A = Link × LinkHeard} (λ z. is_heard z.1 ≡ false) (nat_lt e r.epoch) _ _
     (λ t. absurd (not_both _ t f)) (λ i. refl))
 
--- What a link may still wait for, where the record as it stands is no news to it: for a free domain at this epoch;
+-- What a link may still wait for, if the present record is no news to it: for a free domain at this epoch;
 -- for its oldest command, which has not ended; and for the end of a grant.
 abbrev pub Left : Standing → Link → Type 0
 Left r (Out k) = ⊥

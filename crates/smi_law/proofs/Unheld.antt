@@ -1,4 +1,4 @@
--- Whoever may not hold a domain has a link to it as at the beginning.
+-- A holder that may not hold a domain has a link to it as at the beginning.
 use Rattle.std.proofs.Common.{ℕ, ◌≡◌, Bool, true, false, List, inl, inr, refl, sym, ap, ◌∙◌}
 use Rattle.std.specs.Prelude.{◌&&◌, Option, Some, None, Result, Ok, Err}
 use Rattle.std.proofs.lemmas.Bool.{and_parts}

@@ -135,7 +135,7 @@ from_left station (l ∷ lists) (suc j) w a = from_left station lists j w a
 abbrev pub Somewhere : Watcher → List (List Watcher) → Type 0
 Somewhere w lists = (y : ℕ) × In w (listed lists y)
 
--- whoever watches after a watch did so before, or by this watch
+-- a station that watches after a watch did so before, or by this watch
 pub from_watched : (s : Display) (from x echo y : ℕ) (w : Watcher)
     → In w (listed (lists_after (lists_before s from echo) x from echo) y)
     → Somewhere w s.watchers ⊎ (w ≡ watcher from echo)
@@ -162,7 +162,7 @@ from_watched s from x echo y w a = full (is_full (lists_before s from echo) x fr
           | inr old ↦ inl (before y old)
         ]
 
--- whoever watches after an unwatch did so before
+-- a station that watches after an unwatch did so before
 pub from_unwatched : (lists : List (List Watcher)) (from x echo y : ℕ) (w : Watcher)
     → In w (listed (unwatched lists x from echo) y) → Somewhere w lists
 from_unwatched lists from x echo y w a = elim (from_list lists x y (unwatch_in (listed lists x) from echo) w a) [

@@ -172,7 +172,7 @@ told_now d me p x r now = elim (apart x d) [
   | inr other ↦ of_others d me p (body.Tell x r) (λ i. absurd (other i))
 ]
 
--- a request is about the pair where it is this holder's, to this domain
+-- a request is about the pair if it is this holder's, to this domain
 record IsMine (d : ℕ) (me : Holder) (x : ℕ) (who : Holder) : Type 0 where
   domain : x ≡ d
   holder : who ≡ me
@@ -247,7 +247,7 @@ sent_view h w number m d me may v =
           ]);
     }
 
--- whoever has a station holds something
+-- a holder that has a station holds something
 party : (h : Hierarchy) (who : Holder) (number : ℕ) → holder_station h who ≡ Some number → is_free who ≡ false
 party h Free number is = absurd cc
 party h (Operator o) number is = refl

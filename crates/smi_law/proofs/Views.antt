@@ -49,7 +49,7 @@ covers_request d me sent (Take s) c = c refl refl
 covers_request d me sent (Drop e) c = c refl refl
 covers_request d me sent (Run e n k) c = c refl refl
 
--- what is among the datagrams stands somewhere
+-- what is among the datagrams is at some place
 pub record At (k : Datagram) (sent : List Datagram) : Type 0 where
   pub place : ℕ
   pub is : slice_get sent place ≡ Some k

@@ -63,7 +63,7 @@ no_longer starts h w a b P Q less turn way = record {
 
 -- What stations have left.
 
--- the station is in service, and will be for so many changes, or may be started again
+-- the station is in service, and will be for this many changes, or may be started again
 pub record IsReady (starts : Bool) (n : ℕ) (s : Station) : Type 0 where
   pub runs : s.is_stopped ≡ false
   pub lasts : HasChanges n s.display.conditions ⊎ ((starts ≡ true) × (s.grants.boot ≢ last_boot))

@@ -1,4 +1,4 @@
--- Whatever comes to a station, its domains stand to the trace as they should.
+-- Whatever reaches a station, its domains relate to the trace as they should.
 use Rattle.std.proofs.Common.{ℕ, zero, suc, ◌≡◌, ◌+◌, Bool, true, false, List, [], ◌∷◌, inl, inr, refl, sym, ap, ◌∙◌}
 use Rattle.std.proofs.Common.{subst, arith}
 use Rattle.std.specs.Prelude.{◌==◌, ◌&&◌, ◌++◌, nat_lt, Option, Some, None, Result, Ok, Err, slice_get, if◌then◌else◌}
@@ -68,7 +68,7 @@ use Rattle.smi_law.proofs.WorkRuns.{child_aside}
 use Rattle.smi_law.proofs.WorkTold.{at_told, learned_aside, told_aside, told_same}
 use Rattle.smi_law.proofs.Parents.{held_by_parent}
 
--- every domain stands to the trace as it should
+-- every domain relates to the trace as it should
 pub record Working (h : Hierarchy) (past : List Entry) (w : World) : Type 0 where
   pub now : ℕ → Command
   pub at : (p : ℕ) → At h now past (w.stations (home h p)).grants p
@@ -89,7 +89,7 @@ if_true : (a b c : Bool) → a ≡ true → (if a then b else c) ≡ true → b 
 if_true true b c i j = j
 if_true false b c i j = absurd cc
 
--- where nothing has run, and where nobody holds it, a domain is settled
+-- if nothing has run, and if nobody holds it, a domain is settled
 fresh_settled : (r : Standing) → IsRecord r → (r.last == 0) ≡ true → is_settled r.phase ≡ true
 fresh_settled r lawful none =
     let a = and_parts (if is_free r.holder then r.last == 0 else true) _ lawful.coherent in
@@ -163,7 +163,7 @@ module _ (h : Hierarchy) (w : World) (number : ℕ) (past : List Entry) (v : Vie
   abbrev G : Grants
   G = (w.stations number).grants
 
-  -- how the domains stand after a step of this station
+  -- the state of the domains after a step of this station
   pub record Local (K : Grants) (new : List Entry) : Type 0 where
     pub next : ℕ → Command
     pub here : (p : ℕ) → home h p ≡ number → At h next (noted new past) K p

@@ -1,4 +1,4 @@
--- How a domain stands to the trace after one of its children's records was told to it.
+-- How a domain relates to the trace after one of its children's records was told to it.
 use Rattle.std.proofs.Common.{ℕ, suc, zero, ◌≡◌, ◌≤◌, ◌+◌, Bool, true, false, List, [], ◌∷◌, drop, inl, inr, refl}
 use Rattle.std.proofs.Common.{sym, ap, ◌∙◌, subst, arith}
 use Rattle.std.specs.Prelude.{◌==◌, ◌++◌, not, Some, if◌then◌else◌}
@@ -97,7 +97,7 @@ module _ (me : Holder) (r : Standing) where
       (λ at is. absurd cc) (λ is. absurd cc)
   told_unheld (Dropping f) = λ is. refl
 
--- where no grant is learned there is no entry
+-- if no grant is learned there is no entry
 learned_none : (who : Holder) (d : ℕ) (l new : Link) → AllQuiet (learned who d l new) → learned who d l new ≡ []
 learned_none who d (Out k) new q = refl
 learned_none who d (Held e n p) new q = refl

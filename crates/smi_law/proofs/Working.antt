@@ -31,7 +31,7 @@ pub record HandedOn (h : Hierarchy) (now : ℕ → Command) (g : Grants) (p x : 
   pub forwards : Forwards h p c x
   pub commanded : is_commanded (g.modes x) ≡ true
 
--- how a domain stands to the trace: `now` has the command at work in each busy domain
+-- how a domain relates to the trace: `now` has the command at work in each busy domain
 pub record At (h : Hierarchy) (now : ℕ → Command) (past : List Entry) (g : Grants) (p : ℕ) : Type 0 where
   pub work : is_settled (g.records p).phase ≡ false → InWork p (g.records p).epoch (g.records p).last (now p) past
   pub rest : is_settled (g.records p).phase ≡ true → (x : ℕ) → parent_of h x ≡ Some p

@@ -1,4 +1,4 @@
--- In every run every domain stands to the trace as it should.
+-- In every run every domain relates to the trace as it should.
 use Rattle.std.proofs.Common.{ℕ, ◌≡◌, true, false, List, [], inl, inr, refl, sym, subst, arith}
 use Rattle.std.specs.Prelude.{◌==◌, Option, Some, None}
 use Rattle.std.specs.List.{range_with_len}

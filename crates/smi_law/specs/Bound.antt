@@ -17,7 +17,7 @@ most_owed h =
     domain_count h + most_operators * (most_links * most_pending) + most_operators
     + (domain_count h + device_count h)
 
--- so many ticks send all of it, wherever the first of them begins
+-- this many ticks send all of it of it, wherever the first of them begins
 abbrev pub most_ticks : Hierarchy → ℕ
 most_ticks h = 2 * (most_owed h / most_sent + 1) + 1
 
@@ -29,7 +29,7 @@ round h = most_ticks h + 2
 abbrev pub most_hearing : ℕ
 most_hearing = most_operators + 1
 
--- a request comes to its keeper, and the answer to each of these links; where that stops a station, it starts again
+-- a request reaches its keeper, and the answer each of these links; where that stops a station, it starts again
 abbrev pub passing : Hierarchy → ℕ
 passing h = round h + (most_hearing + most_hearing)
 
@@ -37,11 +37,11 @@ passing h = round h + (most_hearing + most_hearing)
 abbrev pub changing : ℕ
 changing = most_hearing + most_hearing + 2
 
--- for each of so many things under way: two such passes for each domain
+-- for each of the things under way: two such passes for each domain
 abbrev pub most_items : Hierarchy → ℕ → ℕ
 most_items h n = n * (2 * domain_count h * passing h)
 
--- and so many changes of an object
+-- and this many changes of an object
 abbrev pub most_changes : Hierarchy → ℕ → ℕ
 most_changes h n = n * (2 * domain_count h * changing)
 

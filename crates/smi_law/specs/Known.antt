@@ -1,4 +1,4 @@
--- How a domain stands in the world, and what its holders' links are.
+-- The record of a domain in the world, and the links of its holders.
 use Rattle.std.specs.Prelude.{ℕ, unwrap_or}
 use Rattle.smi_grant.specs.declared.Holder.{Holder}
 use Rattle.smi_grant.specs.Record.{Standing}

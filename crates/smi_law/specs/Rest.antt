@@ -28,7 +28,7 @@ AllRun h w = (number : ℕ) → IsStation h number → (w.stations number).is_st
 abbrev pub HaveBoots : Hierarchy → World → Type 0
 HaveBoots h w = (number : ℕ) → IsStation h number → (w.stations number).grants.boot ≢ last_boot
 
--- each object of a table may change so many times more
+-- each object of a table may change this many times more
 abbrev pub HasChanges : ℕ → (ℕ → Option Condition) → Type 0
 HasChanges n table = (x : ℕ) (c : Condition) → table x ≡ Some c → c.sequence + n < last_sequence
 
@@ -63,7 +63,7 @@ abbrev pub Fits : Bool → Hierarchy → World → Item → Type 0
 Fits true = GoesOrStarts
 Fits false = Goes
 
--- each item of a list is such where it stands
+-- each item of a list is such at its place
 abbrev pub Each : Bool → Hierarchy → World → List Item → Type 0
 Each starts h w [] = Unit {0}
 Each starts h w (x ∷ more) = Fits starts h w x × Each starts h (turn h w x).world more

@@ -44,7 +44,7 @@ GrantFits h (Learned who d e) past = (e ≡ epoch_at d past) × Stands (Granted 
 GrantFits h (LetGo who d e) past = (e ≡ epoch_at d past) × Holds who d past
 GrantFits h _ past = Unit {0}
 
--- each entry fits what stands before it, and at each moment each domain has one commander at most
+-- each entry fits the entries before it, and at each moment each domain has one commander at most
 abbrev pub SafeGrants : Hierarchy → List Entry → Type 0
 SafeGrants h [] = OneCommander h []
 SafeGrants h (x ∷ past) = GrantFits h x past × OneCommander h (x ∷ past) × SafeGrants h past

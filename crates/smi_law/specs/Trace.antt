@@ -10,7 +10,7 @@ use Rattle.smi_protocol.specs.declared.Entry.{Entry}
 use Rattle.smi_protocol.specs.declared.Entry.TheVariants.{Booted, Granted, Freed, Ordered, Ran, Learned, LetGo}
 use Rattle.smi_protocol.specs.declared.Entry.TheVariants.{InMode, Settled}
 
--- the entry stands in the trace
+-- the entry is in the trace
 abbrev pub Stands : Entry → List Entry → Type 0
 Stands x [] = ⊥
 Stands x (y ∷ past) = (x ≡ y) ⊎ Stands x past

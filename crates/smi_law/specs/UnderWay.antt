@@ -19,7 +19,7 @@ pub record Party : Type 0 where
 abbrev pub party : ℕ → Holder → Party
 party d who = record { holder = who; domain = d }
 
--- the parent of a domain, where it has one
+-- the parent of a domain, if it has one
 abbrev pub above : Option ℕ → List Holder
 above None = []
 above (Some p) = Domain p ∷ []

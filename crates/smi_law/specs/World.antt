@@ -35,7 +35,7 @@ with_sent w m = record { stations = w.stations; sent = w.sent ++ m ∷ [] }
 pub data Step (h : Hierarchy) (w : World) : List Entry → World → Type 0 where
   -- a station sends a datagram that it may send
   sends : (number : ℕ) (m : Message) → MaySend h number (w.stations number) m → Step h w [] (with_sent w m)
-  -- something comes to a station that runs
+  -- something reaches a station that runs
   steps : (number : ℕ) (what : Happening) → (w.stations number).is_stopped ≡ false → MayCome w what
       → Step h w ((after h number (w.stations number) what).kept ++ (after h number (w.stations number) what).after)
       (with_station w number (after h number (w.stations number) what).station)

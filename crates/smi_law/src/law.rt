@@ -78,7 +78,7 @@ pub fn commands_are_handed_on()
 /// In every trace of a tree the runs of each domain rise by epoch and number, and those of one grant are 1, 2
 /// and so on: none runs twice, and none before its turn. And each run is backed at its moment: it is under the
 /// current grant of its domain, which its holder holds; where that is an operator, the operator ordered this
-/// command under its number, once and no other; where it is the domain's parent, the parent is in this very
+/// command under its number, once and no other; if it is the domain's parent, the parent is in this very
 /// command, hands it on to this child, commands the child, and is backed in it itself.
 pub fn runs_are_safe()
     ensures order { (h : Hierarchy) (past : List Entry) (w : World) → Reaches h past w → RunsInOrder past }
@@ -97,7 +97,7 @@ pub fn states_are_safe()
         → NotOlderThanShown m.to x v (before_start m.to past) }
 {}
 
-/// Whatever comes to a station of a tree whose lists of watchers are tidy (`IsTidy` of `smi_protocol`), each datagram
+/// Whatever reaches a station of a tree whose lists of watchers are tidy (`IsTidy` of `smi_protocol`), each datagram
 /// that it sends in the step is one that it may send when the step is done. The lists are tidy at a start, and stay
 /// so whatever comes.
 pub fn what_is_sent_may_be_sent()

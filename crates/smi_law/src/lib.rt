@@ -4,7 +4,8 @@
 //! (specs/Safe.antt), and [`law`] says that all are: what never happens.
 //!
 //! [`rest`] says what can always be done. From every world that can be reached a list of items leads to rest,
-//! whatever was lost, repeated and reordered, and whoever has stopped: ticks, deliveries of datagrams that were sent,
+//! whatever was lost, repeated and reordered, and whichever station has stopped: ticks, deliveries of
+//! datagrams that were sent,
 //! and starts of stations that have stopped lead to a world in which no holder waits for anything, no domain is at
 //! work and every station is in service (specs/Rest.antt).
 //!
@@ -16,14 +17,14 @@
 //!
 //! One invariant for each part, kept by every step:
 //!
-//! - *Pairs.* Whatever comes to a station moves each record and each link by one of a few moves (`RecordMoves`,
+//! - *Pairs.* Whatever reaches a station moves each record and each link by one of a few moves (`RecordMoves`,
 //!   `LinkMoves`). Each move is an event of the pair of a keeper and one holder (`Views`). So each pair in the world
 //!   is one that a list of such events has reached (`Viewed`), and has the facts of `smi_grant` (`KnownFacts`).
 //! - *Grants.* What a trace says of epochs, holders and learned grants is what the records and links are (`Traces`).
-//!   Whatever comes to a station changes its grants in one of five ways: not at all, a grant, the end of a grant, a
-//!   take that comes to its grant, a grant given up (`GrantKinds`). Each keeps the trace safe (`Changes`,
+//!   Whatever reaches a station changes its grants in one of five ways: not at all, a grant, the end of a grant, a
+//!   take that is granted, a grant given up (`GrantKinds`). Each keeps the trace safe (`Changes`,
 //!   `LinkChanges`), and nothing else happens (`ChildKinds`, `HearingKinds`, `StepKinds`). One commander follows:
-//!   whoever holds a domain by the trace has a held link, so is the record's holder, and a record has one.
+//!   the holder of a domain by the trace has a held link, so is the record's holder, and a record has one.
 //! - *Order.* As many commands have run under a domain's present grant as its record says, and none under a later one
 //!   (`RunOrder`, `RunSteps`, `RunsOrdered`).
 //! - *Backed runs.* What an operator has issued by the trace is what the operator's link says (`OrderSteps`,
@@ -43,7 +44,7 @@
 //!
 //! ## Wrong definitions, and what breaks
 //!
-//! Each was tried in place of the right one, with the worked examples left out. Behind it stand lemmas that were seen
+//! Each was tried in place of the right one, with the worked examples left out. After it are lemmas that were seen
 //! to break. There are more, as only the first messages were kept.
 //!
 //! - *A take is granted whatever epoch it has seen.* `RecordMoves.body_moves`: no such move of one record; then
@@ -55,7 +56,7 @@
 //!   `StepKinds.order_kind`.
 //! - *An operator's link is out on any told record.* `LinkMoves.tell_moves`.
 //! - *A number is given twice.* `RecordMoves.order_rests`, `LinkMoves.order_moves`, `StepKinds.order_kind`.
-//! - *Versions begin anew at a start.* `ShownStart.boot_here`.
+//! - *Versions begin again at a start.* `ShownStart.boot_here`.
 //! - *A state that answers another boot is taken.* `ShownNotice.state_noted`, `SaysStates.state_says`,
 //!   `Tidy.state_tidy`.
 //! - *An action goes on to a manual child.* `LinkMoves.handed`, `ChildKinds.handed`.
@@ -74,11 +75,11 @@
 //!   station (`Placed`). What every station keeps of grants is sound, and what was sent of them in range (`Sounds`),
 //!   so a busy domain waits for a child. A link that gives up the present grant is that of the record's holder
 //!   (`Drops`).
-//! - *Ticks.* What a station owes stands by place (`Places`, `Ascending`, `Owing`), and is never more than so much
-//!   (`OwedCount`). So wherever ticks begin, what a link is due is sent within so many of them (`TickPlaces`,
+//! - *Ticks.* What a station owes is ordered by place (`Places`, `Ascending`, `Owing`), and is never more than so much
+//!   (`OwedCount`). So wherever ticks begin, what a link is due is sent within a bounded number of them (`TickPlaces`,
 //!   `Ticks`).
 //! - *A delivery.* A request is not refused, and its answer is the first datagram of the step (`Deliveries`,
-//!   `Asking`, `Asked`). A station stops in it only where an object has come to its last sequence (`Room`), and is
+//!   `Asking`, `Asked`). A station stops in it only if an object has reached its last sequence (`Room`), and is
 //!   then started again.
 //! - *An answer.* A record that is told again is news to fewer links at the station, until it is to none (`Hears`).
 //!   What a link then still waits for (`Unheard`) is a free domain at this very epoch, its oldest command, or the end

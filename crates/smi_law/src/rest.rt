@@ -27,7 +27,7 @@ pub fn can_come_to_rest()
         → HaveBoots h (led h (first_world h) items) → Settling true h (led h (first_world h) items) }
 {}
 
-/// Where all stations are in service, and each object may change so many times more, no station has to be started
+/// Where all stations are in service, and each object may change this many times more, no station has to be started
 /// again. Whatever an operator is told about a domain in such a list is what the link to it has heard, with the codes
 /// with which it settled; and that is the end of each order that was under way, in their order, and of no other.
 pub fn without_restarts()
@@ -41,7 +41,8 @@ pub fn without_restarts()
         ≡ orders_waiting d (link_in h w (Operator o) d) }
 {}
 
-/// The list is no longer than a bound by what is under way and by the tree: so many lost datagrams are made good by so
+/// The list is no longer than a bound by what is under way and by the tree: this many lost datagrams are made
+/// good by this
 /// many ticks and deliveries. What is under way never changes an object as often as it can change from a start on.
 pub fn a_bounded_number()
     ensures starting { (h : Hierarchy) (past : List Entry) (w : World) → IsTree h → Reaches h past w → HaveBoots h w

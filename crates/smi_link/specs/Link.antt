@@ -7,7 +7,7 @@ use Rattle.smi_link.specs.declared.link.Reception.TheVariants.{Received, Nothing
 abbrev pub most_bytes : ℕ
 most_bytes = 45
 
--- a list grows by one where it is told
+-- a list grows by one if it is told
 abbrev pub Grows : {X : Type 0} → Option (List X) → Option (List X) → X → Type 0
 Grows old new x = IfSome old (λ xs. new ≡ Some (xs ++ x ∷ []))
 

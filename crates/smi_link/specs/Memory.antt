@@ -10,7 +10,7 @@ use Rattle.smi_link.specs.declared.frame.ToReceive.{ToReceive}
 use Rattle.smi_link.specs.declared.frame.ToReceive.TheVariants.{Datagram, Nothing, Fault}
 use Rattle.smi_link.specs.Link.{most_bytes}
 
--- what a link in memory holds: before `place` stands what it gave
+-- what a link in memory holds: before `place` is what it gave
 pub record Memory : Type 0 where
   pub station : ℕ
   pub coming : List ToReceive
@@ -60,7 +60,7 @@ with_nothing m = with_coming m Nothing
 abbrev pub with_fault : Memory → Memory
 with_fault m = with_coming m Fault
 
--- the send after so many fails
+-- the send after this many fails
 abbrev pub failing_after : Memory → ℕ → Memory
 failing_after m sends = record m { fails_after = Some sends }
 

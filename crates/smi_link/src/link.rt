@@ -1,4 +1,4 @@
-//! What a link is to whoever sends and receives over it.
+//! What a link is to its users, which send and receive over it.
 
 ghost use Rattle.std.specs.Prelude.{ℕ, List, Option, ◌≡◌, ◌+◌};
 ghost use Rattle.smi_link.specs.Link.{Receives, Sends, CountsReception, CountsSend};
@@ -15,7 +15,7 @@ pub const MOST_BYTES: usize = 45;
 /// What a call of [`DatagramLink::receive`] gives.
 #[derive(Clone, Copy, Debug, PartialEq, Eq)]
 pub enum Reception {
-    /// A whole datagram of so many bytes, or the first 45 bytes of a longer one.
+    /// A whole datagram of this many bytes, or the first 45 bytes of a longer one.
     Received(usize),
     /// Nothing has come.
     Nothing,

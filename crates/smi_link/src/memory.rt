@@ -10,7 +10,7 @@ use std::marker::Model;
 /// It gives what was put into it, in that order, and at the end `Nothing`. What is sent to its own
 /// station comes back to it. It loses nothing but what [`MemoryLink::put_fault`],
 /// [`MemoryLink::fail_send`] or a refused allocation make it lose. Contracts see how often memory was
-/// refused to it, so that being out of memory is told only where it was.
+/// refused to it, so that out of memory is told only if that is so.
 #[derive(Drop)]
 pub struct MemoryLink {
     station: u16,

@@ -12,7 +12,7 @@ pub(crate) const MOST_PATIENCE: u64 = 10;
 /// The patience of a link: it begins with the first look after nothing has come, and datagrams do not renew it.
 #[derive(Clone, Copy)]
 pub(crate) struct Patience {
-    /// When it began; nothing where it begins with the next look.
+    /// When it began; nothing if it begins with the next look.
     begun: Option<Instant>,
 }
 

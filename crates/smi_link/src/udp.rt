@@ -12,7 +12,7 @@ use std::time::{Clock, Instant};
 ///
 /// A call of `receive` waits ten milliseconds at most, and then nothing has come. Nothing has also come once ten
 /// milliseconds have passed by the clock since the first call after the last `Nothing`, however many datagrams wait
-/// in the socket: they are given by later calls. So whoever receives again and again is told `Nothing` close to a
+/// in the socket: they are given by later calls. So a caller that receives again and again is told `Nothing` close to a
 /// hundred times a second under load. Where the clock can't be read, a call waits as if it were the first. A datagram
 /// over 44 bytes is received as its first 45. A send to a station without an address is a fault.
 ///
@@ -109,7 +109,7 @@ impl<C: Clock + Drop> UdpLink<C> {
         }
     }
 
-    /// The socket waits no longer than so many milliseconds from now on, or as long as before where that fails.
+    /// Has the socket wait no longer than this many milliseconds from now on, or as long as before if that fails.
     fn wait_at_most(&mut self, waits: u64)
         ensures { self.new ≡ self.old }
     {
@@ -118,7 +118,7 @@ impl<C: Clock + Drop> UdpLink<C> {
         }
     }
 
-    /// Nothing has come: patience begins anew.
+    /// Nothing has come: patience begins again.
     fn nothing(&mut self) -> Reception
         ensures nothing { result ≡ Reception.Nothing }
         ensures same { self.new ≡ self.old }

@@ -78,12 +78,12 @@ fields_of from to tree (body.State x echo v s) =
     record (plain 7 from to tree x) { code = s; echo = echo; boot = v.boot; sequence = v.sequence }
 fields_of from to tree (body.Unwatch x echo) = record (plain 8 from to tree x) { echo = echo }
 
--- ---- what the fields say, where they say anything
+-- ---- what the fields say, if they say anything
 
 abbrev pub holder_at : Fields → Option Holder
 holder_at f = holder_of f.holder_kind f.holder
 
--- a verb stands in its own layout alone
+-- a verb is in its own layout alone
 abbrev pub command_in : ℕ → ℕ → ℕ → Option Command
 command_in layout verb n = option_and_then (λ c. if layout_of c == layout then Some c else None) (command_of verb n)
 
@@ -129,7 +129,7 @@ body_at f =
 abbrev pub is_zero_unless : Bool → ℕ → Bool
 is_zero_unless used n = used || n == 0
 
--- the holder and the epoch stand in datagrams about a grant
+-- datagrams about a grant have the holder and the epoch
 abbrev pub uses_grant : ℕ → Bool
 uses_grant kind = is_between 2 5 kind
 
@@ -138,7 +138,7 @@ is_grant_zero f =
     is_zero_unless (uses_grant f.kind) f.holder_kind
     && (is_zero_unless (uses_grant f.kind) f.holder && is_zero_unless (uses_grant f.kind) f.epoch)
 
--- commands and records have numbers, records a phase; a code stands in states too
+-- commands and records have numbers, records a phase; states have a code too
 abbrev pub is_command_zero : Fields → Bool
 is_command_zero f =
     is_zero_unless (f.kind == 5) f.phase && (is_zero_unless (is_between 4 5 f.kind || f.kind == 7) f.code

@@ -1,4 +1,4 @@
--- Where each number of a datagram stands in its 44 bytes.
+-- The place of each number of a datagram in its 44 bytes.
 use Rattle.std.specs.Prelude.{ℕ, List, [], ◌∷◌, ◌++◌, slice_index}
 use Rattle.std.specs.Int.{w16, w32, w64, to_be_bytes}
 use Rattle.smi_base.specs.Bytes.{u16_at, u32_at, u64_at}

@@ -68,6 +68,6 @@ is_addressed from to tree =
 abbrev pub is_message : Message → Bool
 is_message m = is_addressed m.from m.to m.tree && is_body m.body
 
--- how a domain stands, told by one station to another
+-- the record of a domain, told by one station to another
 abbrev pub tell : ℕ → ℕ → ℕ → ℕ → Standing → Message
 tell from to tree d r = record { from = from; to = to; tree = tree; body = body.Tell d r }

@@ -4,7 +4,7 @@ use std::marker::Model;
 /// What a datagram says. The first five are about a domain, the last three about an object.
 #[derive(Clone, Copy, Debug, PartialEq, Eq)]
 pub enum Body {
-    /// Asks how the domain stands.
+    /// Asks for the record of the domain.
     Ask(u16),
     /// The holder takes the domain, which it last saw free at this epoch.
     Take {
@@ -26,7 +26,7 @@ pub enum Body {
         number: u32,
         command: Command,
     },
-    /// Tells how the domain stands.
+    /// Tells the record of the domain.
     Tell {
         domain: u16,
         told: Record,
@@ -82,7 +82,7 @@ impl Datagram {
     ghost use Rattle.smi_grant.specs.Record.{is_outcome};
     ghost use Rattle.smi_message.specs.Message.{tell};
 
-    /// The datagram that tells how a domain stands, a record whose holder and outcome are in range.
+    /// Returns the datagram that tells a domain's record, whose holder and outcome are in range.
     pub fn tell(from: u16, to: u16, tree: u16, domain: u16, told: Record) -> Datagram
         requires from { (1 ≤ from) × (from ≤ MOST_STATIONS) }
         requires to { (1 ≤ to) × (to ≤ MOST_STATIONS) }

@@ -1,12 +1,12 @@
 //! Datagrams between stations, and the 44 bytes that each of them is.
 //!
 //! [`encode`] writes a [`Datagram`] and [`decode`] reads one. Each datagram has one spelling, and bytes
-//! are read as a datagram exactly where they are its spelling; all other bytes are refused by the
-//! first test that they fail ([`Bad`]). Neither call takes memory. The layout stands in
+//! are read as a datagram exactly when they are its spelling; all other bytes are refused by the
+//! first test that they fail ([`Bad`]). Neither call takes memory. The layout is in
 //! docs/FORMATS.md, "Datagrams".
 //!
-//! Between bytes and datagram stand the numbers at each place, together as they are written and one
-//! by one as they are read. What knows where they stand knows nothing of what they mean, and what knows
+//! Between bytes and datagram are the numbers at each place, together as they are written and one
+//! by one as they are read. What knows their places knows nothing of what they mean, and what knows
 //! what they mean knows nothing of bytes.
 //!
 //! # How it is proved
@@ -14,7 +14,7 @@
 //! `decode` has three clauses. What is read is spelled so (`found`). What is spelled so is read (`only`). The result
 //! is the reading function's, so each refusal is the first test that fails (`exact`). `encode` gives the spelling.
 //!
-//! Between bytes and datagram stands `Fields`, the plain number at each place.
+//! Between bytes and datagram is `Fields`, the plain number at each place.
 //!
 //! - The layout, from bytes to fields and back, is proved once and knows no kinds (`proofs/Bytes`). The kinds are
 //!   about numbers alone.

@@ -1,4 +1,4 @@
-//! Reads a datagram from its bytes: where each number stands, what the fields of each kind say, and which ranges they
+//! Reads a datagram from its bytes: the place of each number, what the fields of each kind say, and which ranges they
 //! have.
 
 ghost use Rattle.std.specs.Prelude.{◌≡◌, IfOk, Ok, Some, length, true};
@@ -122,7 +122,7 @@ fn is_addressed(f: &Spelled<'_>) -> bool
         && 1 <= f.tree()
 }
 
-// ---- what the fields say, where they say anything: ranges are tested afterwards
+// ---- what the fields say, if they say anything: ranges are tested afterwards
 
 fn holder_at(f: &Spelled<'_>) -> Option<Holder>
     ensures { result ≡ spec.holder_at f.now }
@@ -359,9 +359,9 @@ fn is_watch_zero(f: &Spelled<'_>) -> bool
     }
 }
 
-// ---- where each number stands
+// ---- the place of each number
 
-/// The fields of 44 bytes, each of them read where it is asked for.
+/// The fields of 44 bytes, each of them read when it is asked for.
 #[derive(Drop)]
 struct Spelled<'a> {
     bytes: &'a [u8],

@@ -73,7 +73,7 @@ is_report (event.Report device state) = true
 is_report (event.Order o (order.Report device state)) = true
 is_report _ = false
 
--- the code that a step has for whoever gave it its event, which is a report or not
+-- the code that a step has for the giver of its event, which is a report or not
 abbrev pub code_of : Bool → Result Heard StepFault → Option ℕ
 code_of report (Ok (heard.Refused code)) = Some code
 code_of true (Ok heard.Same) = Some 0
@@ -84,7 +84,7 @@ code_of report (Err fault.NotStored) = Some 31
 code_of report (Err fault.Stopped) = None
 code_of report (Err fault.Memory) = Some 33
 
--- that code goes to the newest order of the seat; where there is none, the answers go to their orders
+-- that code goes to the newest order of the seat; if there is none, the answers go to their orders
 abbrev pub Tells : List ℕ → Option ℕ → Option ℕ → List Answer → Desk → Desk → Type 0
 Tells operators seat (Some code) answers before after = TellsNewest seat code before after
 Tells operators seat None answers before after = TellsAll operators answers before after

@@ -16,7 +16,7 @@ abbrev pub shown_by : {L : Type 0} → (L → Option (List (List ℕ))) → (L �
 shown_by received handed failures receives l =
     record { received = received l; handed = handed l; failures = failures l; receives = receives l }
 
--- a list with so many of its elements left out
+-- a list with this many of its elements left out
 abbrev pub IsWithout : {X : Type 0} → ℕ → List X → List X → Type 0
 IsWithout lost [] kept = (lost ≡ 0) × (kept ≡ [])
 IsWithout {X} lost (x ∷ xs) kept =

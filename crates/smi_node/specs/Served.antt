@@ -82,7 +82,7 @@ Hears C Failed before after f =
 
 -- What the seats give.
 
--- the operator of a seat: of so many seats the last one is nobody's
+-- the operator of a seat: the last of these seats is nobody's
 abbrev pub operator_of_seat : List ℕ → ℕ → ℕ → Option ℕ
 operator_of_seat operators seats seat = if seat + 1 == seats then None else slice_get operators seat
 
@@ -120,7 +120,7 @@ ServesSeat C who seat before after f =
     (given : Option Order) × (desk : Desk) × Steps before.edges.desk desk seat (Gives given)
     × IsAsked (seat_end before.edges.desk seat) given × ObeysGiven C who seat given (with_desk before desk) after f
 
--- so many seats are served, one after the other from 0
+-- this many seats are served, one after the other from 0
 abbrev pub ServesSeats : {T : Type 0} → Carrying T → List ℕ → (seats many : ℕ) → Node T → Node T → Type 0
 ServesSeats C operators seats zero before after = after ≡ before
 ServesSeats {T} C operators seats (suc seat) before after =
@@ -146,19 +146,19 @@ Turns {T} C operators coming before after (Some f) =
     ⊎ ((heard : Node T) × Hears C coming before heard None
     × ServesAll C operators (seat_count heard.edges.desk) heard after (Some f))
 
--- whole turns, one after the other; what came in them stands with the newest first
+-- whole turns, one after the other; what came in them is listed with the newest first
 abbrev pub TakesTurns : {T : Type 0} → Carrying T → List ℕ → List Coming → Node T → Node T → Type 0
 TakesTurns C operators [] before after = after ≡ before
 TakesTurns {T} C operators (coming ∷ more) before after =
     (between : Node T) × TakesTurns C operators more before between × Turns C operators coming between after None
 
--- the newest so many were faults
+-- the newest of them, this many, were faults
 abbrev pub AreFailed : ℕ → List Coming → Type 0
 AreFailed zero comings = Unit {0}
 AreFailed (suc n) [] = ⊥
 AreFailed (suc n) (coming ∷ more) = (coming ≡ Failed) × AreFailed n more
 
--- so many faults in a row end the service
+-- how many faults in a row end the service
 abbrev pub most_faults : ℕ
 most_faults = 100
 
@@ -221,7 +221,7 @@ begun_in (Err serve.Stopped) comings = length comings + 1
 begun_in (Err serve.Memory) comings = length comings + 1
 begun_in (Err serve.Link) comings = length comings
 
--- A node serves so many turns, in which, as far as they are whole, this came, the newest first: what the link tells
+-- A node serves this many turns, in which, as far as they are whole, this came, the newest first: what the link tells
 -- as received is what came, it counts each of its faults, and it was asked once in each turn that was begun.
 pub record Serves {T : Type 0} (C : Carrying T) (operators : List ℕ) (turns : ℕ) (before after : Node T)
     (r : Result (Unit {0}) ServeFault) : Type 0 where

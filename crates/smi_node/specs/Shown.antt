@@ -3,7 +3,7 @@ use Rattle.std.specs.Prelude.{◌≡◌, ◌⊎◌, ◌++◌, ◌∷◌, [], Opt
 use Rattle.smi_grant.specs.declared.Shown.{Shown}
 use Rattle.smi_view.specs.Shows.{BoardShows, IsRefused}
 
--- it is published after all that was pending; where none was shown, nothing is
+-- it is published after all that was pending; if none was shown, nothing is
 abbrev pub Publishes : Option Shown → BoardShows → BoardShows → Type 0
 Publishes None before after = after ≡ before
 Publishes (Some s) before after = after ≡ record {

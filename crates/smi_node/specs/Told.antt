@@ -38,7 +38,7 @@ MarksNewest None issued before after = after ≡ before
 abbrev pub seat_of : List ℕ → ℕ → Option ℕ
 seat_of operators operator = position (λ o. o == operator) operators
 
--- an answer ends the oldest order of its operator that it is of; where it is of none, nothing changes
+-- an answer ends the oldest order of its operator that it is of; if it is of none, nothing changes
 abbrev pub TellsAt : Option ℕ → Answer → Desk → Desk → Type 0
 TellsAt None a before after = after ≡ before
 TellsAt (Some seat) a before after =

@@ -18,7 +18,7 @@ TurnsSo C operators before after (Ok failed) =
     (coming : Coming) × (failed ≡ is_failed coming) × Turns C operators coming before after None
 TurnsSo C operators before after (Err f) = (coming : Coming) × Turns C operators coming before after (Some f)
 
--- so many faults in a row, after one more turn
+-- this many faults in a row, after one more turn
 abbrev pub in_a_row : ℕ → Bool → ℕ
 in_a_row faults true = faults + 1
 in_a_row faults false = 0
@@ -28,7 +28,7 @@ abbrev pub ended_by : CarryFault → ServeFault
 ended_by carry.Stopped = serve.Stopped
 ended_by carry.Memory = serve.Memory
 
--- so many turns were made, the newest of them so many faults, and not too many
+-- this many turns were made, the newest of them this many faults, and not too many
 pub record MadeTurns {T : Type 0} (C : Carrying T) (operators : List ℕ) (turns faults : ℕ) (before after : Node T)
     : Type 0 where
   pub comings : List Coming

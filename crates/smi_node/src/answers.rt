@@ -16,7 +16,7 @@ fn seat_of(operators: &[u16], operator: u16) -> Option<usize>
     operators.iter().position(|other| *other == operator)
 }
 
-/// Where the newest order in work of a seat stands.
+/// Returns the place of a seat's newest order in work.
 fn newest(desk: &Desk, seat: usize) -> Option<usize>
     ensures { result ≡ newest_of (work_at desk.now seat) }
 {
@@ -27,7 +27,7 @@ fn newest(desk: &Desk, seat: usize) -> Option<usize>
     }
 }
 
-/// Where the order in work of a seat stands that an answer is of.
+/// Returns the place of the order in work of a seat that an answer is of.
 fn place_answered(desk: &Desk, seat: usize, answer: &Answer) -> Option<usize>
     ensures { IsPlaceOf answer.now.told.order answer.now.mark (work_at desk.now seat) result }
 {

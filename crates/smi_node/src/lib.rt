@@ -3,11 +3,11 @@
 //! A [`Node`] has them together. [`Node::carry`] takes one event to the station and carries on what follows its step:
 //! datagrams are sent, a shown state is published, and answers go to the orders in work that they are of.
 //! [`Node::serve`] does nothing but that, turn after turn, with what comes over the link and what the seats give: begin
-//! there. [`carry`] and [`serve`] are the same for a station, a link, a desk and a board that stand apart. All are for
+//! there. [`carry`] and [`serve`] are the same for a station, a link, a desk and a board that are apart. All are for
 //! any store, any link and any board. Neither opens or reads anything, and what they wait for is the link and the
 //! board's readers.
 //!
-//! A [`StepObserver`] is told of each step, with the list of its effects, and when a turn is over: whoever owns the
+//! A [`StepObserver`] is told of each step, with the list of its effects, and when a turn is over: the owner of the
 //! loop forwards, wakes and notes there. [`NodeStats`] has in numbers what a node has done since it began, which the
 //! node's thread raises while others read them. [`step_and_send`] is the part of a carry that needs neither a desk nor
 //! a board.

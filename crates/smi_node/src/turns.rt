@@ -309,7 +309,7 @@ impl<S: Stable, J: BoardId> Node<'_, '_, '_, S, J> {
         Ok(())
     }
 
-    /// Serves the station for so many turns, as [`serve`] does, and by the same contract.
+    /// Serves the station for this many turns, as [`serve`] does, and by the same contract.
     ///
     /// The observer is told of each step, and of the end of each turn.
     pub fn serve<L: DatagramLink, V: StepObserver, R: Wait>(
@@ -338,7 +338,7 @@ impl<S: Stable, J: BoardId> Node<'_, '_, '_, S, J> {
     }
 }
 
-/// Serves a station for so many turns.
+/// Serves a station for this many turns.
 ///
 /// Seat i of the desk is that of the station's i-th operator, from 0, and the last seat is nobody's: it may report,
 /// and any other order from it ends with 26. A turn receives once: a datagram is carried as its delivery ([`carry`]),

@@ -19,7 +19,7 @@ refilled xs ws same =
     ∙ ap (λ all. take (length xs) all) (append-nil ws)
     ∙ take_all (length xs) ws (omega (arith, same))
 
--- what stands where there is no entry
+-- what is at a place without an entry
 nobody : WorkSlot
 nobody = begun (order.Ask 0)
 

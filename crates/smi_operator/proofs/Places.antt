@@ -1,4 +1,4 @@
--- Where the oldest order in work stands that an answer is of.
+-- The place of the oldest order in work that an answer is of.
 use Rattle.std.proofs.Common.{◌≡◌, ◌⊎◌, inl, inr, ℕ, ◌+◌, ◌<◌, ◌≤◌, Bool, true, false, List, length, get_or, sym}
 use Rattle.std.proofs.Common.{subst, ◌∙◌, arith}
 use Rattle.std.specs.Prelude.{Option, Some, IfSome, slice_get}

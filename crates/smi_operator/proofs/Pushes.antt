@@ -5,7 +5,7 @@ use Rattle.smi_operator.specs.declared.ends.Seat.{Seat}
 use Rattle.smi_operator.specs.declared.ends.SeatEnd.{SeatEnd}
 use Rattle.smi_operator.specs.Sides.{AreSeats, IsFresh, IsSeatOf}
 
--- one more seat stands with its end
+-- one more seat is with its end
 pub seats_push : (ss : List Seat) (ps : List SeatEnd) (s : Seat) (p : SeatEnd) → AreSeats ss ps → IsFresh s p
     → AreSeats (ss ++ s ∷ []) (ps ++ p ∷ [])
 seats_push [] [] s p all new = (new, tt)
@@ -13,7 +13,7 @@ seats_push [] (q ∷ ps) s p all new = absurd all
 seats_push (t ∷ ss) [] s p all new = absurd all
 seats_push (t ∷ ss) (q ∷ ps) s p all new = (all.0, seats_push ss ps s p all.1 new)
 
--- two seats that are taken from the back stand with the first two ends
+-- two seats that are taken from the back are with the first two ends
 pub two_seats : (ss r : List Seat) (a b : Seat) (ps : List SeatEnd) → AreSeats ss ps → ss ≡ (r ++ a ∷ []) ++ b ∷ []
     → length ss ≡ 2
     → IfSome (slice_get ps 0) (IsSeatOf a) × IfSome (slice_get ps 1) (IsSeatOf b)

@@ -12,7 +12,7 @@ use Rattle.smi_operator.specs.declared.work.Ending.{Ending}
 use Rattle.smi_operator.specs.declared.work.Work.{Work}
 use Rattle.smi_operator.specs.declared.work.WorkSlot.{WorkSlot}
 
--- so many orders of a seat may be in work at a time
+-- how many orders of a seat may be in work at a time
 abbrev pub most_work : ℕ
 most_work = 8
 
@@ -66,7 +66,7 @@ ending code asked = record { code = code; asked = asked }
 abbrev pub told_of : Order → Ending → Told
 told_of o x = record { order = o; code = x.code; asked = x.asked }
 
--- the entry at this place changes, where there is one
+-- the entry at this place changes, if there is one
 abbrev pub changed_at : (WorkSlot → WorkSlot) → ℕ → List WorkSlot → List WorkSlot
 changed_at f i work = option_map_or (λ e. set work i (f e)) (slice_get work i) work
 
@@ -116,7 +116,7 @@ abbrev pub still_in_work : List WorkSlot → List WorkSlot
 still_in_work [] = []
 still_in_work (e ∷ more) = staying e.ending (e ∷ more) (still_in_work more)
 
--- the answer of the oldest order, where it has ended
+-- the answer of the oldest order, if it has ended
 abbrev pub first_told : List WorkSlot → Option Told
 first_told [] = None
 first_told (e ∷ more) = option_map (told_of e.work.order) e.ending

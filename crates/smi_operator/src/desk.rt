@@ -20,7 +20,7 @@ impl Desk {
 
     /// The next order of a seat, which is then in work.
     ///
-    /// There is none where the seat submitted none, where no place for its answer is free, or where it may not
+    /// Returns none if the seat submitted none, if no place for its answer is free, or if it may not
     /// join the orders in work: all have to be commands on one domain, and eight at most.
     pub fn next(&mut self, seat: usize) -> Option<Order>
         requires { seat < seat_count self.old }
@@ -66,7 +66,7 @@ impl Desk {
         self.seat_ends[seat].in_work(place)
     }
 
-    /// Where the newest order in work of a seat stands, the oldest at 0; none where none is in work.
+    /// Returns the place of a seat's newest order in work, the oldest at 0; none if none is in work.
     pub fn newest(&self, seat: usize) -> Option<usize>
         requires { seat < seat_count self.now }
         ensures { IfSome (seat_end self.now seat) (λ p. result ≡ newest_of (work_of p)) }
@@ -74,7 +74,7 @@ impl Desk {
         self.seat_ends[seat].newest()
     }
 
-    /// Where the order in work of a seat stands that an answer is of, the oldest such order: of an issued command the
+    /// Returns the place of the order in work of a seat that an answer is of, the oldest such: of an issued command the
     /// order that became this command, of any other answer an order that is the same.
     pub fn place_of(&self, seat: usize, order: Order, mark: Option<Mark>) -> Option<usize>
         requires { seat < seat_count self.now }

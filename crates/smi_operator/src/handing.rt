@@ -9,7 +9,7 @@ use arrayvec::ArrayVec;
 use rtrb::Producer;
 use smi_protocol::Told;
 
-/// The answer of the oldest order, where it has ended.
+/// Returns the answer of the oldest order, if it has ended.
 fn first_told(work: &[WorkSlot]) -> Option<Told>
     ensures { result ≡ first_told work.now }
 {

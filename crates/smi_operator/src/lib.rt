@@ -1,4 +1,4 @@
-//! What stands between operators and their station: a seat for each operator, and the desk at which the station
+//! What is between operators and their station: a seat for each operator, and the desk at which the station
 //! serves them.
 //!
 //! [`open_seats`] makes seats and their desk. A [`Seat`] goes to the operator's thread: it submits orders, and

@@ -45,7 +45,7 @@ fn open_seat(alloc: Global) -> Result<(Seat, SeatEnd), AllocError>
     Ok((seat, end))
 }
 
-/// Opens so many seats, 1 to 9, and their desk. Nothing was submitted, given, answered or told yet.
+/// Opens this many seats, 1 to 9, and their desk. Nothing was submitted, given, answered or told yet.
 ///
 /// It fails only where memory ran out, which tests alone see.
 #[tactic(auto, using(crate::proofs::Pushes::seats_push))]

@@ -14,7 +14,7 @@ use smi_grant::Record;
 use smi_protocol::{Mark, Order};
 
 impl SeatEnd {
-    /// Takes the next order into work, where it may join those that are and a place for its answer is free.
+    /// Takes the next order into work, if it may join those that are and a place for its answer is free.
     pub(crate) fn next(&mut self) -> Option<Order>
         ensures ring { SameEnd self.old self.new }
         ensures may { IfSome result (λ o. may_join self.old.work.items o ≡ true) }
@@ -78,14 +78,14 @@ impl SeatEnd {
         Some(entry.work)
     }
 
-    /// Where the newest order in work stands.
+    /// Returns the place of the newest order in work.
     pub(crate) fn newest(&self) -> Option<usize>
         ensures { result ≡ newest_of self.now.work.items }
     {
         self.work.len().checked_sub(1)
     }
 
-    /// Where the oldest order in work stands that an answer is of.
+    /// The place of the oldest order in work that an answer is of.
     pub(crate) fn place_of(&self, order: Order, mark: Option<Mark>) -> Option<usize>
         ensures { IsPlaceOf order mark self.now.work.items result }
     {

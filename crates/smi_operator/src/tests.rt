@@ -22,7 +22,7 @@ fn open_one(alloc: Global) -> Result<(Seat, Desk), Fail>
     }
 }
 
-/// Ends an order that is in work; false where there is none.
+/// Ends an order that is in work; false if there is none.
 fn answer(desk: &mut Desk, place: usize, code: u16, asked: Option<Record>) -> bool
     requires { 0 < seat_count desk.old }
     ensures { seat_count desk.new ≡ seat_count desk.old }
@@ -34,7 +34,7 @@ fn answer(desk: &mut Desk, place: usize, code: u16, asked: Option<Record>) -> bo
     true
 }
 
-/// Marks the newest order in work; false where there is none.
+/// Marks the newest order in work; false if there is none.
 fn mark(desk: &mut Desk, number: u32) -> bool
     requires { 0 < seat_count desk.old }
     ensures { seat_count desk.new ≡ seat_count desk.old }

@@ -32,7 +32,7 @@ pub(crate) struct WorkSlot {
     pub(crate) ending: Option<Ending>,
 }
 
-/// What stands where no order is in work.
+/// What a place without an order in work has.
 impl Default for WorkSlot {
     fn default() -> WorkSlot {
         WorkSlot::begun(Order::Ask(0))
@@ -109,7 +109,7 @@ pub(crate) fn mark_newest(work: &mut [WorkSlot], mark: Mark)
     work[newest] = work[newest].marked_by(mark);
 }
 
-/// The domain that an order commands, none where it is no command.
+/// Returns the domain that an order commands, none if it is no command.
 fn commanded(order: Order) -> Option<u16>
     ensures { result ≡ spec.commanded order }
 {
@@ -137,7 +137,7 @@ fn is_answered_by(entry: &WorkSlot, order: Order, mark: Option<Mark>) -> bool
 
 ghost use Rattle.std.specs.Bool.{Decides};
 
-/// Where the oldest order in work stands that an answer is of.
+/// The place of the oldest order in work that an answer is of.
 pub(crate) fn place_in_work(work: &[WorkSlot], order: Order, mark: Option<Mark>) -> Option<usize>
     ensures { spec.IsPlaceOf order mark work.now result }
 {

@@ -132,7 +132,7 @@ fn records_heard_by_links_that_hold(rt: HostRuntime) {
     assert_eq!(rt; Outcome::Unseen.code(), 8);
 }
 
-/// What a link that is taking hears where nothing settles.
+/// What a link that is taking hears if nothing settles.
 fn heard_while_taking(heard: Record) -> LinkHeard {
     told(&Link::Taking(0), BOB, &heard).1
 }

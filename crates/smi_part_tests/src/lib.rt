@@ -1,5 +1,5 @@
-//! Tests of what stands below a station, by public functions: grants, links and datagrams, tree files and look-ups,
-//! watcher lists, boards, publishers and links between stations. They stand here so that those crates are proved
+//! Tests of what is below a station, by public functions: grants, links and datagrams, tree files and look-ups,
+//! watcher lists, boards, publishers and links between stations. They are here so that those crates are proved
 //! once.
 #![tactic(auto)]
 

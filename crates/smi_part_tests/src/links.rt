@@ -29,7 +29,7 @@ fn pass_on<L: DatagramLink>(link: &mut L, station: u16) -> bool
     }
 }
 
-/// Whether a datagram of this byte alone stands in the beginning of a buffer.
+/// Returns true if a buffer begins with a datagram of this byte alone.
 fn begins_with(buffer: &[u8; 45], byte: u8) -> bool {
     &buffer[..44] == [byte; 44].as_slice()
 }

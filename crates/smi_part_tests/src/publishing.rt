@@ -115,7 +115,7 @@ fn each_case<R: Abort>(rt: &R, alloc: Global, tree: &Tree) -> Result<(), Fail>
     Ok(())
 }
 
-// One function owns the tree, and drops it in one place: each place is dear to prove.
+// One function owns the tree, and drops it in one place, because each place is expensive to prove.
 #[test]
 fn the_worked_tree(rt: HostRuntime) -> Result<(), Fail> {
     let tree = worked(&rt, rt.alloc())?;

@@ -10,7 +10,7 @@ use std::test::Fail;
 const BEGUN: &[u8] =
     b"tree 1\nstate S\nstate T\naction A\nstation P 10.0.0.1:1\noperator O P\ndevclass D S\nmove D S A T\nunitclass U S\naccept U A\ndomain M P U -\n";
 
-/// The fault of a file, (0, 0) where it has none.
+/// The fault of a file, (0, 0) if it has none.
 fn fault_of(alloc: Global, bytes: &[u8]) -> Result<(u64, u16), TreeFault> {
     match Tree::read(alloc, bytes) {
         Ok(_) => Ok((0, 0)),
@@ -134,7 +134,7 @@ fn goes_by_its_rules<R: Abort>(rt: &R, tree: &Tree) {
     assert_eq!(rt; tree.unit_state(1, 3, &[2, 0]), 3, "one is not known");
 }
 
-// One function owns the tree, and drops it in one place: each place is dear to prove.
+// One function owns the tree, and drops it in one place, because each place is expensive to prove.
 #[test]
 fn the_worked_file(rt: HostRuntime) -> Result<(), Fail> {
     let tree = Tree::read(rt.alloc(), WORKED)?;
@@ -143,7 +143,7 @@ fn the_worked_file(rt: HostRuntime) -> Result<(), Fail> {
     Ok(())
 }
 
-/// Lines behind those of `BEGUN`, and the fault of each.
+/// Lines after those of `BEGUN`, and the fault of each.
 const BEHIND: [(&[u8], (u64, u16)); 41] = [
     (b"", (0, 0)),
     (b"\n# a comment\n \t\n", (0, 0)),

@@ -1,4 +1,4 @@
-//! Where help is, for whoever types at a terminal.
+//! Where help is, for a person at a terminal.
 
 ghost use Rattle.std.specs.Prelude.{ℕ, OnOk, take};
 ghost use Rattle.std.specs.Io.KnownBytes.{Appends};
@@ -9,7 +9,7 @@ use smi_commands::status::Status;
 use std::io::Write;
 
 /// Tells where help is, in one line more, where a command has ended as a wrong line and `faults` is a terminal. Else it
-/// writes nothing, so that whoever reads `faults` by a program finds the one line alone.
+/// writes nothing, so that a program that reads `faults` finds the one line alone.
 ///
 /// Its error is that not all could be written.
 pub fn tell_help<F: Write>(status: u8, is_terminal: bool, faults: &mut F) -> Result<(), NotWritten>

@@ -6,7 +6,7 @@ use smi_tree::number_within;
 use std::alloc::Global;
 use std::net::{SocketAddr, SocketAddrV4};
 
-/// The most turns of a node, and how many it serves where none are given.
+/// The most turns of a node, and how many it serves if none are given.
 const MOST_TURNS: u32 = 1_000_000;
 
 /// The most items of a drawn schedule.
@@ -78,21 +78,22 @@ pub struct JournalOptions<'a> {
     pub is_synced: bool,
 }
 
-/// A node: the path of its tree, the name of its station, the path of its store, how long it serves, where it listens
-/// for consoles, and where it writes its journal.
+/// A node: the path of its tree, the name of its station, the path of its store, how long it serves, the
+/// places if it listens
+/// for consoles, and the folder of its journal.
 #[derive(Clone, Copy)]
 pub struct NodeLine<'a> {
     pub tree: &'a str,
     pub station: &'a str,
     pub store: &'a str,
-    /// How many turns it serves, none where it serves without end.
+    /// How many turns it serves, none if it serves without end.
     pub turns: Option<u32>,
-    /// Where it listens for consoles; the second only beside a first.
+    /// The places at which it listens for consoles; the second only beside a first.
     pub console: Option<ConsolePlace<'a>>,
     pub second_console: Option<ConsolePlace<'a>>,
     /// Whether it starts on a store that is older than its label.
     pub accepts_older: bool,
-    /// Where it writes its journal, if it has one.
+    /// The folder of its journal, if it has one.
     pub journal: Option<JournalOptions<'a>>,
 }
 
@@ -107,7 +108,7 @@ pub struct ScreenLine<'a> {
     pub name: Option<&'a str>,
     /// The console of the node whose operators may order from its page.
     pub orders: Option<ConsolePlace<'a>>,
-    /// How many turns it looks, none where it looks without end.
+    /// How many turns it looks, none if it looks without end.
     pub turns: Option<u32>,
     /// Whether it starts on a store that is older than its label.
     pub accepts_older: bool,
@@ -185,7 +186,7 @@ fn rows_command<'a>(alloc: Global) -> Result<Command<'a>, Error> {
     with_word(alloc, Command::new(alloc, "rows"), "STORE")
 }
 
-/// A form with one more word that has to stand there.
+/// A form with one more word that has to be there.
 fn with_word<'a>(alloc: Global, form: Command<'a>, name: &'a str) -> Result<Command<'a>, Error> {
     Ok(form.arg(Arg::new(alloc, name).required(true))?)
 }

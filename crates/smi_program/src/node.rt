@@ -33,7 +33,7 @@ fn shared<F: Write>(
     }
 }
 
-/// How long a node serves that serves so many turns, or without end where none are given.
+/// Returns how long a node serves: this many turns, or without end if none are given.
 fn turns_of(turns: Option<u32>) -> Turns {
     match turns {
         Some(count) => Turns::Count(count),

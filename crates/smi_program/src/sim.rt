@@ -67,7 +67,7 @@ fn simulate_file<H: Files + AllocGlobal, W: Write, F: Write>(
     }
 }
 
-// Over any reader, since what `sim` says is dear to prove of a host's files.
+// Over any reader, since what `sim` says is expensive to prove of a host's files.
 fn simulate_lines<R: Read + Drop, W: Write, F: Write>(
     alloc: Global,
     tree: &Tree,

@@ -57,7 +57,7 @@ pub fn sim<R: Read, W: Write, F: Write>(
     streamed(stream(alloc, tree, reader, writer), faults)
 }
 
-/// Runs the schedule of so many items that a seed draws, and writes the text of its trace while it is drawn. Answers
+/// Runs the schedule of this many items that a seed draws, and writes the text of its trace while it is drawn. Answers
 /// the exit status: 0 where the whole trace is written, 3 where a write failed, and 4 where memory ran out.
 pub fn sim_drawn<W: Write, F: Write>(
     alloc: Global,
@@ -96,7 +96,7 @@ fn settled<F: Write>(settled: Settled, faults: &mut F) -> u8 {
 
 /// Runs a schedule as [`sim`] does, and goes on until nothing is under way: stations that have stopped start again,
 /// stations tick, and what was sent comes. The lines that this leaves are written like any others, and at the end
-/// `settled after N items`. Answers the exit status: 1 also where nothing came to rest, which is told as
+/// `settled after N items`. Answers the exit status: 1 also if nothing came to rest, which is told as
 /// `not settled`.
 pub fn sim_settled<R: Read, W: Write, F: Write>(
     alloc: Global,
@@ -108,7 +108,7 @@ pub fn sim_settled<R: Read, W: Write, F: Write>(
     settled(stream_settled(alloc, tree, reader, writer), faults)
 }
 
-/// The same of the schedule of so many items that a seed draws.
+/// Does the same with the schedule of this many items that a seed draws.
 pub fn sim_drawn_settled<W: Write, F: Write>(
     alloc: Global,
     tree: &Tree,

@@ -20,7 +20,7 @@ pub fn tree_bytes<H: Files + AllocGlobal>(host: &H, path: &[u8]) -> io::Result<V
     Ok(bytes)
 }
 
-/// The bytes of a tree file, or what is told where they can't be had.
+/// Returns the bytes of a tree file, or what is told if they can't be had.
 fn read_bytes<H: Files + AllocGlobal, F: Write>(
     host: &H,
     path: &[u8],

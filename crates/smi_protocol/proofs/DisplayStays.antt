@@ -240,7 +240,7 @@ module _ (h : Hierarchy) (tree : IsTree h) (number : ℕ) (cs : ℕ → Option C
       by false here i = absurd cc
   moved_sound g Ticks d none is = absurd cc
 
-  -- where no domain's members may change, nothing moves
+  -- if no domain's members may change, nothing moves
   still : (g : Grants) (what : Happening) → refusal_of h number g what ≡ None → domain_of_happening h what ≡ None
       → Conditions h number (moved_by h g cs what)
   still g (Comes m) none is = by m.body is

@@ -1,4 +1,4 @@
--- What stands in lists.
+-- What is in lists.
 use Rattle.std.proofs.Common.{ℕ, zero, suc, ◌≡◌, ◌≤◌, ◌<◌, ◌+◌, Bool, true, false, List, [], ◌∷◌, ◌⊎◌, inl, inr, refl}
 use Rattle.std.proofs.Common.{sym, ap, ◌∙◌, subst, arith}
 use Rattle.std.specs.Prelude.{◌==◌, ◌||◌, ◌++◌, Option, Some, None, map, take, filter, slice_get, if◌then◌else◌}
@@ -196,7 +196,7 @@ from_kept {X = X} test y (x ∷ xs) a = by (test x) a (λ b. from_kept test y xs
     by true (inr b) rest = inr (rest b)
     by false b rest = inr (rest b)
 
--- what stands in a list has a place in it
+-- what is in a list has a place in it
 pub place_of : {X : Type 0} (y : X) (xs : List X) → In y xs → (i : ℕ) × (slice_get xs i ≡ Some y)
 place_of y [] a = absurd a
 place_of y (x ∷ xs) (inl is) = (zero, ap Some (sym is))

@@ -339,7 +339,7 @@ module _ (h : Hierarchy) (tree : IsTree h) (number : ℕ) (here : IsBetween 1 (s
   notice_in g s (Reports device state) grants sound begun fits none = none_in
   notice_in g s Ticks grants sound begun fits none = tick_in g s grants sound begun
 
-  -- what objects show anew is told to all who watch them
+  -- what objects newly show is told to all their watchers
   shown_in_range : (watchers : List (List Watcher)) → ((x : ℕ) → AllByRecursion (IsWatcher h) (listed watchers x))
       → (passed : List Shown) → AllByRecursion (IsShown h) passed
       → AllInRange (flat_map (shown_to_all h number watchers) passed)

@@ -18,7 +18,7 @@ use Rattle.smi_protocol.specs.Children.{mode_after, code_of}
 use Rattle.smi_protocol.specs.Sound.{IsCommand, IsLink, most_handed_on}
 use Rattle.smi_protocol.proofs.SoundLinks.{sound_taken, sound_dropped, sound_issued}
 
--- where nothing is under way, nothing is pending
+-- if nothing is under way, nothing is pending
 pub none_pending : (e n : ℕ) (p : List Command) → is_unsettled (Held e n p) ≡ false → length p < most_handed_on
 none_pending e n [] still = omega arith
 none_pending e n (c ∷ p) still = absurd cc

@@ -49,7 +49,7 @@ filter_all P test [] all = tt
 filter_all P test (x ∷ xs) all = choose (λ zs. AllByRecursion P zs) (test x) (x ∷ filter test xs) (filter test xs)
     (λ t. (all.0, filter_all P test xs all.1)) (λ f. filter_all P test xs all.1)
 
--- what stands at a place after a write is what was written, or what stood there
+-- what is at a place after a write is what was written, or what was there
 read_set : {X : Type 0} (xs : List X) (n m : ℕ) (v : X)
     → (slice_get (slice_set xs n v) m ≡ slice_get xs m) ⊎ (slice_get (slice_set xs n v) m ≡ Some v)
 read_set [] n m v = inl refl
@@ -199,7 +199,7 @@ come_in : (h : Hierarchy) (c : Condition) (state : ℕ) → IsCondition h c → 
 come_in h c state old room within = choose (IsCondition h) (c.state == state) c (condition state (c.sequence + 1))
     (λ t. old) (λ f. record { state = within; sequence = omega (arith, room) })
 
--- what each condition keeps, where it is changed by a test
+-- what each condition keeps, if it is changed by a test
 each_changed : (P : Condition → Type 0) (b : Bool) (f : Condition → Condition) (o : Option Condition)
     → ((c : Condition) → o ≡ Some c → b ≡ true → P c → P (f c)) → IfSome o P
     → IfSome (if b then option_map f o else o) P
@@ -281,7 +281,7 @@ pub display_shown : (h : Hierarchy) (tree : IsTree h) (number boot : ℕ) (s : D
 display_shown h tree number boot s sound begun x =
     shown_in h tree number boot s.conditions (sound.own, sound.conditions) begun x
 
--- so is each of what is shown anew
+-- so is each of what is newly shown
 pub passed_all : (h : Hierarchy) (tree : IsTree h) (number boot : ℕ) (old cs : ℕ → Option Condition)
     → Conditions h number cs → is_boot boot ≡ true → (xs : List ℕ)
     → AllByRecursion (IsShown h) (changes_at boot old cs xs)

@@ -44,7 +44,7 @@ party_held Free p = absurd cc
 party_held (Operator n) p = (refl, p)
 party_held (Domain n) p = (refl, p)
 
--- what is found stands in the list and passes
+-- what is found is in the list and passes
 pub found : {X : Type 0} (test : X → Bool) (xs : List X) (x : X) → find test xs ≡ Some x → In x xs × (test x ≡ true)
 found test [] x is = absurd cc
 found test (y ∷ xs) x is = by (test y) refl is (λ i. found test xs x i)

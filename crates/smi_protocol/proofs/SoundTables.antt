@@ -1,4 +1,4 @@
--- What a change of some links leaves unchanged, and what the parts of a lawful record come to.
+-- What a change of some links leaves unchanged, and what the parts of a lawful record add up to.
 use Rattle.std.proofs.Common.{ℕ, ◌≡◌, ◌≤◌, Bool, true, false, refl, ap, arith}
 use Rattle.std.specs.Prelude.{◌==◌, ◌||◌, nat_le, max, not, count_by}
 use Rattle.std.specs.List.{list_any, range_with_len}

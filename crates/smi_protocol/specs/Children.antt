@@ -39,12 +39,12 @@ pub data ChildChange : Type 0 where
   Relinked : Link → ChildChange
   ComesInto : Mode → ChildChange
 
--- its link changes, or stays where it is refused, with this code
+-- its link changes, or stays if it is refused, with this code
 abbrev pub relinked_or : ℕ → Result Link ℕ → ChildChange
 relinked_or code (Ok l) = Relinked l
 relinked_or code (Err refusal) = Stays code
 
--- a held child that takes commands is handed one on: 7 no number is left, this code where it takes none
+-- a held child that takes commands is handed one on: 7 no number is left, this code if it takes none
 abbrev pub handed_on : ℕ → Command → Link → Mode → ChildChange
 handed_on code c l m = if is_held l && is_commanded m then relinked_or 7 (command_issued l c) else Stays code
 
@@ -115,7 +115,7 @@ code_at_domain h d (Exclude t) = if is_below h t d then 0 else 2
 code_at_domain h d (Manual t) = if is_below h t d then 0 else 2
 code_at_domain h d (Ignore t) = if is_below h t d then 0 else 2
 
--- the largest of these codes, 0 where there is none
+-- the largest of these codes, 0 if there is none
 abbrev pub largest : List ℕ → ℕ
 largest [] = 0
 largest (code ∷ more) = max code (largest more)

@@ -1,4 +1,4 @@
--- What comes to a station, and what it leaves.
+-- An event of a station, and what it leaves.
 use Rattle.std.specs.Prelude.{ℕ, List, map, Option, Some, None}
 use Rattle.smi_grant.specs.declared.Command.{Command}
 use Rattle.smi_grant.specs.declared.Command.TheVariants.{Do, Include, Exclude, Manual, Ignore}
@@ -27,7 +27,7 @@ order_of d (Exclude t) = order.Exclude d t
 order_of d (Manual t) = order.Manual d t
 order_of d (Ignore t) = order.Ignore d t
 
--- an order with its code, and the record where it asked for one
+-- an order with its code, and the record if it asked for one
 abbrev pub told : Order → ℕ → Option Standing → Told
 told what code asked = record { order = what; code = code; asked = asked }
 

@@ -25,12 +25,12 @@ use Rattle.smi_protocol.specs.declared.order.Order.TheVariants as order
 use Rattle.smi_protocol.specs.declared.entry.Entry.{Entry}
 use Rattle.smi_protocol.specs.declared.entry.Entry.TheVariants as entry
 
--- the parent, where it is kept here
+-- the parent, if it is kept here
 abbrev pub parent_here : Hierarchy → ℕ → Option ℕ → List Holder
 parent_here h number None = []
 parent_here h number (Some p) = if is_keeper h number p then Domain p ∷ [] else []
 
--- whoever may have a link to the domain here: the operators by number, and then the domain's parent
+-- the holders that may have a link to the domain here: the operators by number, and then the domain's parent
 abbrev pub listeners : Hierarchy → ℕ → ℕ → List Holder
 listeners h number d = map Operator (operators_of h number) ++ parent_here h number (parent_of h d)
 
@@ -55,7 +55,7 @@ hears l who r = is_heard (told_heard l who r)
 abbrev pub listener : Hierarchy → ℕ → Grants → ℕ → Standing → Option Holder
 listener h number g d r = find (λ who. hears (g.links who d) who r) (listeners h number d)
 
--- a take has come to its grant
+-- a take is granted
 abbrev pub learned : Holder → ℕ → Link → Link → List Entry
 learned who d (Taking s) (Held e n p) = entry.Learned who d e ∷ []
 learned who d _ _ = []
@@ -146,7 +146,7 @@ parent_told h number g p d r =
       issued = None;
     }
 
--- Whoever it changes.
+-- The holder whose link it changes.
 
 -- the record is told to the one whom it changes, if there is one
 abbrev pub told_to : Hierarchy → ℕ → Grants → ℕ → Standing → Option Holder → GrantStep

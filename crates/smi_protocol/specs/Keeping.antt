@@ -21,7 +21,7 @@ use Rattle.smi_protocol.specs.GrantStep.{GrantStep, unchanged, domain_changed, w
 use Rattle.smi_protocol.specs.declared.entry.Entry.{Entry}
 use Rattle.smi_protocol.specs.declared.entry.Entry.TheVariants as entry
 
--- who asked is told how the domain stands
+-- the sender is told the domain's record
 abbrev pub answered : Hierarchy → ℕ → Grants → ℕ → ℕ → GrantStep
 answered h number g from d = unchanged g (tells h number from d (g.records d) ∷ [])
 

@@ -1,4 +1,4 @@
--- What the rows of a station mean, and what it comes to where it opens on them.
+-- What the rows of a station mean, and how an open on them ends.
 use Rattle.std.specs.Prelude.{ℕ, ◌≡◌, ◌≢◌, ◌⊎◌, ◌==◌, Bool, true, false, List, [], find, Option, Some, None}
 use Rattle.std.specs.Prelude.{option_and_then, unwrap_or, Result, Ok, Err, if◌then◌else◌}
 use Rattle.smi_grant.specs.declared.Holder.{Holder}
@@ -36,21 +36,21 @@ abbrev pub read : Result Row RowFault → Option Row
 read (Ok r) = Some r
 read (Err fault) = None
 
--- what the row of a key says, where there is one that is read
+-- what the row of a key says, if there is one that is read
 abbrev pub said : Hierarchy → Rows → Key → Option Row
 said h rows k = option_and_then (λ b. read (row_of h k b)) (rows k)
 
--- how often the station has started: never, where there is no row
+-- how often the station has started: never, if there is no row
 abbrev pub boot_of : Option Row → ℕ
 boot_of (Some (row.Boot b)) = b
 boot_of _ = 0
 
--- what is kept of a domain: where there is no row it is fresh, and nothing was heard of its children
+-- what is kept of a domain: if there is no row it is fresh, and nothing was heard of its children
 abbrev pub domain_of : Option Row → KeptDomain
 domain_of (Some (row.Domain d)) = d
 domain_of _ = kept_domain fresh 0 []
 
--- the links of an operator: none where there is no row
+-- the links of an operator: none if there is no row
 abbrev pub links_of : Option Row → List StoredLink
 links_of (Some (row.Operator links)) = links
 links_of _ = []
@@ -88,7 +88,7 @@ grants_in h number rows = record {
   modes = λ x. mode_under h number rows x (parent_of h x);
 }
 
--- What it comes to.
+-- How it ends.
 
 -- the test that a row fails, if it fails one
 abbrev pub fault_in : Result Row RowFault → Option ℕ
@@ -113,8 +113,8 @@ AllRead h number rows = (k : Key) → fault_of h number rows k ≡ None
 abbrev pub IsStation : Hierarchy → ℕ → Bool → Type 0
 IsStation h number b = is_between 1 (station_count h) number ≡ b
 
--- A station opens as a restart of what its rows mean. The faults stand in their order; a fault of the store, and
--- out of memory, come where they come.
+-- A station opens as a restart of what its rows mean. The faults are in their order; a fault of the store, and
+-- out of memory, may come at any place.
 abbrev pub Opens : Hierarchy → ℕ → Rows → Result Station OpenFault → Type 0
 Opens h number rows (Ok s) =
     IsStation h number true × AllRead h number rows × ((grants_in h number rows).boot ≢ last_boot)

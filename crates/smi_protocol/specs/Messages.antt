@@ -29,7 +29,7 @@ object_home h x = unwrap_or (keeper_of h x) 0
 abbrev pub says : Hierarchy → ℕ → ℕ → Body → Message
 says h from to what = record { from = from; to = to; tree = h.number; body = what }
 
--- the keeper tells how a domain stands
+-- the keeper tells a domain's record
 abbrev pub tells : Hierarchy → ℕ → ℕ → ℕ → Standing → Message
 tells h from to d r = says h from to (body.Tell d r)
 

@@ -1,4 +1,4 @@
--- How a station starts, and what it is where it stops in the middle of a step.
+-- How a station starts, and what it is if it stops in the middle of a step.
 use Rattle.std.specs.Prelude.{ℕ, ◌+◌, true, false, List, [], ◌∷◌, map, replicate, None}
 use Rattle.std.specs.List.{filter_map, range_with_len}
 use Rattle.smi_grant.specs.declared.Shown.{Shown}

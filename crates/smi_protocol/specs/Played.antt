@@ -126,7 +126,7 @@ abbrev pub world_from : Hierarchy → World → List Line → World
 world_from h w [] = w
 world_from h w (x ∷ more) = world_from h (turn h w x.what).world more
 
--- the step of the station that a deed comes to
+-- the step of the station that a deed is for
 abbrev pub outcome_in : Hierarchy → World → Deed → Option Outcome
 outcome_in h w what = option_map (λ x. after h x.station (w.stations x.station) x.what) (arrival_of h w what)
 

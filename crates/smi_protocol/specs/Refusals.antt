@@ -76,7 +76,7 @@ abbrev pub is_report_here : Hierarchy → ℕ → ℕ → ℕ → Bool
 is_report_here h number device s =
     nat_le 1 device && (is_kept_by h number (domain_count h + device) && is_between 1 (state_count h) s)
 
--- so many links of an operator may be not out at a time
+-- how many links of an operator may be not out at a time
 abbrev pub most_links : ℕ
 most_links = MOST_LINKS
 
@@ -84,7 +84,7 @@ most_links = MOST_LINKS
 abbrev pub links_in_use : Hierarchy → Grants → ℕ → ℕ
 links_in_use h g o = count_by (λ d. not (is_out (g.links (Operator o) d))) (range_with_len 1 (domain_count h))
 
--- the refusal, where there is one
+-- the refusal, if there is one
 abbrev pub why_not : Result Link ℕ → Option ℕ
 why_not (Ok l) = None
 why_not (Err code) = Some code

@@ -49,9 +49,9 @@ changed w number s entries sends = record {
   sends = sends;
 }
 
--- What comes to a station, and to which.
+-- What reaches a station, and which one.
 
--- something comes to a station
+-- something reaches a station
 pub record Arrival : Type 0 where
   pub station : ℕ
   pub what : Happening
@@ -59,16 +59,16 @@ pub record Arrival : Type 0 where
 abbrev pub arrival : Happening → ℕ → Arrival
 arrival what number = record { station = number; what = what }
 
--- a datagram comes to its receiver, if the tree has that station
+-- a datagram reaches its receiver, if the tree has that station
 abbrev pub delivery : Hierarchy → Option Message → Option Arrival
 delivery h None = None
 delivery h (Some m) = if is_between 1 (station_count h) m.to then Some (arrival (Comes m) m.to) else None
 
--- the datagram that was sent so many before the newest
+-- the datagram that was sent this many before the newest
 abbrev pub sent_before : ℕ → List Message → Option Message
 sent_before j sent = if is_some (slice_get sent j) then slice_get sent (length sent - 1 - j) else None
 
--- a report comes to the device's station, an order to the operator's
+-- a report reaches the device's station, an order to the operator's
 abbrev pub arrival_at : Hierarchy → Happening → Option Arrival
 arrival_at h (Orders o what) = option_map (arrival (Orders o what)) (operator_station_of h o)
 arrival_at h (Reports device s) =

@@ -82,7 +82,7 @@ abbrev pub moved_by_command : Hierarchy → (ℕ → Option Condition) → ℕ �
 moved_by_command h conditions d (Do a) = if accepts h d a then acted h conditions d a else conditions
 moved_by_command h conditions d _ = conditions
 
--- a command moves devices where it runs
+-- a command moves devices if it runs
 abbrev pub moved_by_body : Hierarchy → Grants → (ℕ → Option Condition) → Body → ℕ → Option Condition
 moved_by_body h g conditions (body.Run d who e n c) =
     if admits (g.records d) who e n then moved_by_command h conditions d c else conditions
@@ -104,7 +104,7 @@ followed h old new conditions d =
 
 -- Who is shown what.
 
--- what a domain's objects show anew: devices by number, and then the unit
+-- what a domain's objects newly show: devices by number, and then the unit
 abbrev pub passed_in : Hierarchy → ℕ → (ℕ → Option Condition) → (ℕ → Option Condition) → Option ℕ → List Shown
 passed_in h boot old new None = []
 passed_in h boot old new (Some d) = changes_at boot old new (device_objects h d ++ d ∷ [])
@@ -113,6 +113,6 @@ passed_in h boot old new (Some d) = changes_at boot old new (device_objects h d 
 abbrev pub shown_to_all : Hierarchy → ℕ → List (List Watcher) → Shown → List Message
 shown_to_all h number watchers s = map (λ w. shows h number w.station w.echo s) (listed watchers s.object)
 
--- a station whose object has come to the last sequence stops
+-- a station whose object has reached the last sequence stops
 abbrev pub is_spent : List Shown → Bool
 is_spent passed = list_any (λ s. s.version.sequence == last_sequence) passed

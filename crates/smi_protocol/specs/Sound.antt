@@ -31,14 +31,14 @@ pub record IsCommand (h : Hierarchy) (c : Command) : Type 0 where
 abbrev pub IsGrantEpoch : ℕ → Type 0
 IsGrantEpoch e = (e ≤ last_epoch) × (e % 2 ≡ 1)
 
--- at most so many commands are pending, and they have numbers, from the newest down
+-- no more commands are pending than may be, and they have numbers, from the newest down
 pub record ArePending (h : Hierarchy) (most n : ℕ) (p : List Command) : Type 0 where
   pub few : length p ≤ most
   pub numbered : length p ≤ n
   pub newest : n ≤ last_number
   pub each : AllByRecursion (IsCommand h) p
 
--- a link under which at most so many commands are pending
+-- a link with no more pending commands than may be
 abbrev pub IsLink : Hierarchy → ℕ → Link → Type 0
 IsLink h most (Out k) = k ≤ last_epoch
 IsLink h most (Taking s) = s ≤ last_epoch
@@ -74,14 +74,14 @@ pub record IsSound (h : Hierarchy) (g : Grants) : Type 0 where
   pub mode : (p d : ℕ) → is_parent h d p ≡ true → is_held (g.links (Domain p) d) ≡ false → g.modes d ≡ Included
   pub few : (o : ℕ) → links_in_use h g o ≤ most_links
 
--- what comes can be said in a datagram, where it is one
+-- what comes can be said in a datagram, if it is one
 abbrev pub IsSayable : Happening → Type 0
 IsSayable (Comes m) = is_body m.body ≡ true
 IsSayable (Orders o what) = Unit {0}
 IsSayable (Reports device s) = Unit {0}
 IsSayable Ticks = Unit {0}
 
--- it stands in the list
+-- it is in the list
 abbrev pub In : {X : Type 0} → X → List X → Type 0
 In y [] = ⊥
 In y (x ∷ xs) = (y ≡ x) ⊎ In y xs

@@ -17,13 +17,13 @@ use Rattle.smi_protocol.specs.Watching.{Notice, noticed, is_watched}
 use Rattle.smi_protocol.specs.declared.resend_cursor.ResendCursor.{ResendCursor}
 use Rattle.smi_protocol.specs.declared.resend_cursor.ResendCursor.TheVariants as place
 
--- a step sends at most so many datagrams
+-- how many datagrams a step sends at most
 abbrev pub most_sent : ℕ
 most_sent = MOST_SENT
 
--- Places stand in the order of their kinds, and then of their numbers.
+-- Places are in the order of their kinds, and then of their numbers.
 
--- the numbers by which places stand
+-- the numbers by which places are ordered
 abbrev pub place_key : ResendCursor → List ℕ
 place_key (place.Child x) = 0 ∷ x ∷ []
 place_key (place.Link o d n) = 1 ∷ o ∷ d ∷ n ∷ []
@@ -36,7 +36,7 @@ is_key_before [] _ = false
 is_key_before (a ∷ more) [] = false
 is_key_before (a ∷ more) (b ∷ rest) = nat_lt a b || (a == b && is_key_before more rest)
 
--- one place stands before another
+-- one place precedes another
 abbrev pub is_before : ResendCursor → ResendCursor → Bool
 is_before a b = is_key_before (place_key a) (place_key b)
 

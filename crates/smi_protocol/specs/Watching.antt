@@ -49,7 +49,7 @@ is_watched h number s x = s.named x || is_child_unit h number x
 abbrev pub lists_before : Display → ℕ → ℕ → List (List Watcher)
 lists_before s from echo = if nat_lt (s.echoes from) echo then left_by from s.watchers else s.watchers
 
--- so many others watch the object already
+-- as many others as may watch the object do so already
 abbrev pub is_full : List (List Watcher) → ℕ → ℕ → Bool
 is_full lists x from = length (others_of from (listed lists x)) == most_watchers
 
@@ -106,7 +106,7 @@ state_comes h number boot s from echo state =
 abbrev pub has_asked : Display → ℕ → ℕ → Bool
 has_asked s d o = is_number (s.asks o) d
 
--- whoever has asked about the domain is answered, and asks no more
+-- those who have asked about the domain are answered, and ask no more
 abbrev pub record_comes : Hierarchy → ℕ → Display → ℕ → Standing → Notice
 record_comes h number s d r =
     noticed

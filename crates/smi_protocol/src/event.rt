@@ -1,7 +1,7 @@
 use crate::order::Order;
 use thiserror::Error;
 
-/// What comes to a station.
+/// An event of a station.
 #[derive(Clone, Copy)]
 pub enum Event<'a> {
     /// The bytes of a datagram.

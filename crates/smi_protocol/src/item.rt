@@ -5,12 +5,12 @@ use crate::order::Order;
 use smi_message::Datagram;
 use smi_rows::Plan;
 
-/// What may come to a station. Stations, operators and devices have their numbers of the tree.
+/// What may reach a station. Stations, operators and devices have their numbers of the tree.
 #[derive(Clone, Copy, Debug, PartialEq, Eq)]
 pub enum Deed {
     /// The k-th datagram that was sent, from 1, is delivered.
     Deliver(u64),
-    /// The datagram that was sent so many before the newest is delivered.
+    /// The datagram that was sent this many before the newest is delivered.
     Recent(u64),
     /// An operator orders.
     Order(u16, Order),

@@ -45,7 +45,7 @@ pub fn displays_stay_sound()
         → IsDisplay h number (after h number s what).station.display }
 {}
 
-/// Whatever comes to a sound station, forged or not, each datagram that it then sends is in the ranges of its kind:
+/// Whatever reaches a sound station, forged or not, each datagram that it then sends is in the ranges of its kind:
 /// those of its grants, where these are sound, and all of them, where what it keeps of states is sound too.
 pub fn what_is_sent_is_in_range()
     ensures of_grants { (h : Hierarchy) (number : ℕ) (g : Grants) (what : Happening) → IsTree h

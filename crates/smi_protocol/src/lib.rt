@@ -4,7 +4,7 @@
 //! datagram, an operator's [`Order`], a device's report, or a tick. What each event does is defined
 //! under `specs/`, in the words of docs/PROTOCOL.md. An [`Item`] is one thing that a schedule lets happen to the
 //! stations of a tree; a schedule makes a trace, which is a list of [`Line`]s (specs/Schedule.antt), and [`examples`]
-//! shows the definitions at work. How a schedule is written or drawn and how a trace reads stand in crates of their
+//! shows the definitions at work. How a schedule is written or drawn and how a trace reads are in crates of their
 //! own.
 //!
 //! # How it is proved
@@ -25,7 +25,7 @@
 //! - `Step`: the two halves put together: `after_event`.
 //! - `Opening`: a restart, and what a step leaves that is stopped after its save (`saved_only`).
 //! - `Loading`: what the rows of a station mean (`grants_in`), also with rows missing and rows of other stations, and
-//!   what it comes to where a station opens on them (`Opens`: each fault by its cause).
+//!   how a station's open on them ends (`Opens`: each fault by its cause).
 //! - `Sending`: what a station may send.
 //! - `Schedule`: what a list of items makes of all stations of a tree, and which trace it leaves (`trace_of`).
 //! - `Played`: what is seen of each item of a worked example.

@@ -24,7 +24,7 @@ pub fn seventeenth_domain()
     ensures before_25 { told_at_once wide_tree sixteen_taken (Take 16) ≡ 23 ∷ [] }
 {}
 
-/// 65 places are due: the first tick sends 64, the second the last, and the third begins anew.
+/// 65 places are due: the first tick sends 64, the second the last, and the third begins again.
 pub fn sixty_five_places()
     ensures first { subjects (tick all_named) ≡ range_with_len 1 64 }
     ensures second { subjects (tick (tick all_named).station) ≡ 65 ∷ [] }

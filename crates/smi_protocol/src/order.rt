@@ -19,7 +19,7 @@ pub enum Order {
     Manual(u16, u16),
     /// Have the domain keep another one below it, but take no notice of its state.
     Ignore(u16, u16),
-    /// How does the domain stand?
+    /// What is the domain's record?
     Ask(u16),
     /// Watch the object.
     Watch(u16),
@@ -38,7 +38,7 @@ pub enum Request {
     Drop(u16),
     /// To have the domain run the command.
     Command(u16, Command),
-    /// To be told how the domain stands.
+    /// To be told the domain's record.
     Ask(u16),
     /// To watch the object.
     Watch(u16),
@@ -126,6 +126,6 @@ pub struct Mark {
 pub struct Answer {
     pub operator: u16,
     pub told: Told,
-    /// The command that this answers, where it answers a command that was issued.
+    /// The command that this answers, if it answers a command that was issued.
     pub mark: Option<Mark>,
 }

@@ -1,4 +1,4 @@
--- One object comes to a state that is read off its condition.
+-- One object enters a state that is read off its condition.
 use Rattle.std.proofs.Common.{◌≡◌, ℕ, Bool, true, false, Option, Some, refl, ap, List}
 use Rattle.std.specs.Prelude.{◌==◌, ◌-◌, if◌then◌else◌, option_map}
 use Rattle.std.proofs.lemmas.Bool.{eqb-true}

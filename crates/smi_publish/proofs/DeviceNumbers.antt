@@ -10,7 +10,7 @@ use Rattle.smi_tree.specs.Hierarchy.{Hierarchy, is_device_of}
 use Rattle.smi_tree.specs.Lawful.{IsTree}
 use Rattle.smi_tree.specs.Lookups.{numbers_from, devices_of}
 
--- each number is one of so many from the first on
+-- each number is one of this many from the first on
 pub record IsFrom (first count n : ℕ) : Type 0 where
   pub least : first ≤ n
   pub most : n < first + count

@@ -30,7 +30,7 @@ shown boot object c = record {
   state = c.state;
 }
 
--- what an object shows, where it is kept here
+-- what an object shows, if it is kept here
 abbrev pub shown_at : ℕ → (ℕ → Option Condition) → ℕ → Option Shown
 shown_at boot conditions object = option_map (shown boot object) (conditions object)
 
@@ -48,19 +48,19 @@ differs (Some a) (Some b) = not (a.state == b.state)
 differs (Some a) None = false
 differs None b = false
 
--- what an object shows anew, where its state has changed
+-- what an object newly shows, where its state has changed
 abbrev pub change_at : ℕ → (ℕ → Option Condition) → (ℕ → Option Condition) → ℕ → Option Shown
 change_at boot old new object = if differs (old object) (new object) then shown_at boot new object else None
 
--- what objects show anew, in this order
+-- what objects newly show, in this order
 abbrev pub changes_at : ℕ → (ℕ → Option Condition) → (ℕ → Option Condition) → List ℕ → List Shown
 changes_at boot old new objects = filter_map (change_at boot old new) objects
 
--- at most so many objects change in one step
+-- how many objects change in one step at most
 abbrev pub most_changes : ℕ
 most_changes = MOST_CHANGES
 
--- so many places, of which the first hold something
+-- a number of places, of which the first hold something
 pub record IsStored (places : List Shown) (count : ℕ) : Type 0 where
   pub all : length places ≡ most_changes
   pub within : count ≤ most_changes

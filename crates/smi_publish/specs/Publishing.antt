@@ -1,4 +1,4 @@
--- How objects come to their states.
+-- How objects enter their states.
 use Rattle.std.specs.Prelude.{ℕ, ◌+◌, ◌-◌, ◌==◌, if◌then◌else◌, Bool, List, map, Option, None}
 use Rattle.std.specs.Prelude.{option_map}
 use Rattle.std.specs.List.{list_any}
@@ -17,7 +17,7 @@ first_condition h station object =
 abbrev pub come_to : ℕ → Condition → Condition
 come_to state c = if c.state == state then c else condition state (c.sequence + 1)
 
--- an object comes to a state
+-- an object enters a state
 abbrev pub reported : (ℕ → Option Condition) → ℕ → ℕ → ℕ → Option Condition
 reported conditions object state other =
     if other == object then option_map (come_to state) (conditions other) else conditions other
@@ -44,7 +44,7 @@ acted h conditions domain action object =
     if is_among (device_objects h domain) object then option_map (moved_by h action object) (conditions object)
     else conditions object
 
--- a unit comes to the state that its class gives it over its members
+-- a unit enters the state that its class gives it over its members
 abbrev pub unit_moved : Hierarchy → ℕ → List ℕ → Condition → Condition
 unit_moved h domain members c = come_to (unit_state h domain c.state members) c
 

@@ -5,7 +5,7 @@ use std::marker::Model;
 /// How many objects may change in one step: the devices of a domain and its unit.
 pub const MOST_CHANGES: usize = MOST_DEVICES_OF_A_DOMAIN + 1;
 
-/// What a step shows anew: devices by number, then the unit.
+/// The changes of a step: the new states of devices by number, then of the unit.
 ///
 /// The list lies in the value itself, so it takes no memory. Contracts see the list.
 #[derive(Drop)]
@@ -30,7 +30,7 @@ impl Changes {
     ghost use Rattle.std.specs.Prelude.{◌≡◌, ◌<◌, ◌≤◌, ◌↔◌, ◌++◌, ◌∷◌, [], IsTrue, length};
     ghost use Rattle.smi_publish.specs.Published.{most_changes};
 
-    /// Nothing is shown anew.
+    /// No changes.
     pub fn new() -> Changes
         ensures { result ≡ [] }
     {
@@ -48,7 +48,7 @@ impl Changes {
         }
     }
 
-    /// How many objects show something anew, at most [`MOST_CHANGES`].
+    /// Returns how many objects have changed, at most [`MOST_CHANGES`].
     pub fn len(&self) -> usize
         ensures value { result ≡ length self.now }
         ensures within { result ≤ most_changes }
@@ -56,21 +56,21 @@ impl Changes {
         self.count
     }
 
-    /// Whether no object shows anything anew.
+    /// Returns true if no object has changed.
     pub fn is_empty(&self) -> bool
         ensures { IsTrue result ↔ (self.now ≡ []) }
     {
         self.len() == 0
     }
 
-    /// What is shown anew, in its order.
+    /// Returns the changes, in their order.
     pub fn as_slice(&self) -> &[Shown]
         ensures { result.now ≡ self.now }
     {
         &self.shown[..self.count]
     }
 
-    /// One more object shows something anew, after the others.
+    /// Adds the change of one more object, after the others.
     pub fn push(&mut self, shown: Shown)
         requires { length self.old < most_changes }
         ensures { self.new ≡ self.old ++ shown ∷ [] }
@@ -79,7 +79,7 @@ impl Changes {
         self.count += 1;
     }
 
-    /// Nothing is shown anew any more.
+    /// Takes all changes away.
     pub fn clear(&mut self)
         ensures { self.new ≡ [] }
     {

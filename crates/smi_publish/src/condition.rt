@@ -34,7 +34,7 @@ impl Condition {
     }
 }
 
-/// The condition of an object in a table by number, where it stands there.
+/// Returns the condition of an object in a table by number, if it is there.
 pub(crate) fn condition_in(conditions: &[Option<Condition>], object: u16) -> Option<Condition>
     ensures condition { result ≡ condition_in conditions.now object }
     ensures least { IfSome result (λ _. 1 ≤ object) }

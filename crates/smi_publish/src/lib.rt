@@ -4,7 +4,7 @@
 //! its class's first state, at sequence 0 of the station's boot. After that an object changes in three
 //! ways: a device reports its state ([`Publisher::report`]), the devices of a domain move by an action
 //! ([`Publisher::run_action`]), and a unit follows the states of its members
-//! ([`Publisher::evaluate`]). What a step shows anew is gathered in [`Changes`].
+//! ([`Publisher::evaluate`]). The changes of a step are gathered in [`Changes`].
 //!
 //! The layer above may rely on this: objects move by the tables of the tree and in no other way
 //! (docs/PROTOCOL.md, "States and versions"); a changed state adds 1 to the object's sequence and an

@@ -75,7 +75,7 @@ impl Publisher {
         }
     }
 
-    /// An object comes to a state; what it shows anew, where that is another state.
+    /// Has an object enter a state. Returns what it shows then, if that is another state.
     ///
     /// An object that the station does not keep has none, and stays so.
     pub fn report(&mut self, object: u16, state: u16) -> Option<Shown>
@@ -96,8 +96,8 @@ impl Publisher {
         Some(new.shown(object, self.boot))
     }
 
-    /// The unit of a domain comes to the state that its class gives it where its members are in
-    /// these states, 0 for one that is not known; what it shows anew, where that is another state.
+    /// Has the unit of a domain enter the state that its class gives it if its members are in
+    /// these states, 0 for one that is not known. Returns what it shows then, if that is another state.
     pub fn evaluate(&mut self, tree: &Tree, domain: u16, members: &[u16]) -> Option<Shown>
         requires { HasRoom (conditions_of self.old) domain }
         ensures boot { self.new.boot ≡ self.old.boot }
@@ -108,7 +108,7 @@ impl Publisher {
         self.report(domain, tree.unit_state(domain, old.state, members))
     }
 
-    /// Every device of a domain moves by its class; what they show anew, by number.
+    /// Moves every device of a domain by its class. Returns the changes, by number.
     pub fn run_action(&mut self, tree: &Tree, domain: u16, action: u16) -> Changes
         requires least { 1 ≤ domain }
         requires most { domain ≤ domain_count tree.now }
@@ -132,7 +132,7 @@ impl Publisher {
         changes
     }
 
-    /// A device moves by its class; what it shows anew.
+    /// Moves a device by its class. Returns its change.
     fn act(&mut self, tree: &Tree, object: u16, action: u16) -> Option<Shown>
         requires device { domain_count tree.now < object }
         requires room { HasRoom (conditions_of self.old) object }

@@ -223,7 +223,7 @@ drop-front : (a b : List ℕ) → drop (length a) (a ++ b) ≡ b
 drop-front [] b = refl
 drop-front (x ∷ a) b = drop-front a b
 
--- what stands after the first link
+-- what is after the first link
 behind-link : (s : Schema) (x : StoredLink) (more : List ℕ) → Stands s x more
     → drop (size_at s (link_bytes x ++ more)) (link_bytes x ++ more) ≡ more
 behind-link s x more t = ap (λ i. drop i (link_bytes x ++ more)) t.size ∙ drop-front (link_bytes x) more
@@ -251,7 +251,7 @@ links-again s (x ∷ xs) h =
     ∙ ap (λ r. option_map (λ rest. x ∷ rest) (links_at s (length xs) r)) (behind-link s x (links_bytes xs) t)
     ∙ ap (option_map (λ rest. x ∷ rest)) (links-again s xs a.1)
 
--- so many numbers from 1 to 128 rise
+-- this many numbers from 1 to 128 rise
 pub rising-few : (s : Schema) (low : ℕ) (xs : List StoredLink) → low ≤ MOST_DOMAINS → rises_above low xs ≡ true
     → each_link_in s xs ≡ true → low + length xs ≤ MOST_DOMAINS
 rising-few s low [] l r h = omega arith

@@ -25,7 +25,7 @@ takes : (s : Schema) (b : List ℕ) (size : ℕ) (t : Bool) → nat_le (size_at 
 takes s b size true is e = record { size = cc; fits = is }
 takes s b size false is e = absurd cc
 
--- the size of a link that stands whole
+-- the size of a link that is there whole
 pub takes-size : (s : Schema) (b : List ℕ) (size : ℕ)
     → Some size ≡ (if nat_le (size_at s b) (length b) then Some (size_at s b) else None) → Takes s b size
 takes-size s b size e = takes s b size (nat_le (size_at s b) (length b)) refl e

@@ -3,7 +3,7 @@ use Rattle.std.specs.Prelude.{ℕ, ◌+◌, Bool, List, [], ◌∷◌, Option, S
 use Rattle.smi_rows.specs.declared.key.Key.{Key}
 use Rattle.smi_rows.specs.Store.{Saved, saved, is_before, same_key, rises, rises_after}
 
--- the place of a key: how many rows stand before it
+-- the place of a key: how many rows precede it
 abbrev pub place_of : Key → List Saved → ℕ
 place_of key [] = 0
 place_of key (r ∷ more) = if is_before r.key key then place_of key more + 1 else 0

@@ -3,7 +3,7 @@ use Rattle.std.specs.Prelude.{ℕ, ◌==◌, ◌-◌, if◌then◌else◌, Optio
 use Rattle.smi_rows.specs.declared.planned.Plan.{Plan}
 use Rattle.smi_rows.specs.declared.planned.Planned.{Planned}
 
--- so many saves from now, this one fails so
+-- this many saves from now, one fails so
 abbrev pub planned : ℕ → Plan → Planned
 planned nth plan = record { nth = nth; plan = plan }
 

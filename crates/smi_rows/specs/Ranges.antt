@@ -60,7 +60,7 @@ is_mode_in s l m = if is_included m then true else (has_modes s && is_held l)
 abbrev pub is_link_in : Schema → StoredLink → Bool
 is_link_in s x = is_between 1 MOST_DOMAINS x.domain && (is_grant_in s x.link && is_mode_in s x.link x.mode)
 
--- the links stand by rising domain
+-- the links are in rising order of domain
 abbrev pub rises_above : ℕ → List StoredLink → Bool
 rises_above low [] = true
 rises_above low (x ∷ more) = nat_lt low x.domain && rises_above x.domain more

@@ -39,11 +39,11 @@ has_lists s = nat_lt 1 (most_pending_in s)
 abbrev pub others_at : List ℕ → ℕ
 others_at b = u16_at b 20
 
--- how many bytes a link takes that stands at the beginning: 20, or what its list of commands takes
+-- how many bytes the link at the beginning takes: 20, or what its list of commands takes
 abbrev pub size_at : Schema → List ℕ → ℕ
 size_at s b = if slice_index b 2 == 5 && has_lists s then 22 + 4 * others_at b else 20
 
--- the bytes are so many links, and nothing else
+-- the bytes are this many links, and nothing else
 abbrev pub are_cut : Schema → ℕ → List ℕ → Bool
 are_cut s zero b = length b == 0
 are_cut s (suc n) b = nat_le (size_at s b) (length b) && are_cut s n (drop (size_at s b) b)
@@ -55,7 +55,7 @@ domain_fixed = 24
 abbrev pub operator_fixed : ℕ
 operator_fixed = 4
 
--- after the beginning, which ends with their number, there are so many links and nothing else
+-- after the beginning, which ends with their number, there are this many links and nothing else
 abbrev pub has_links_after : Schema → ℕ → List ℕ → Bool
 has_links_after s fixed b = nat_le fixed (length b) && are_cut s (u16_at b (fixed - 2)) (drop fixed b)
 
@@ -64,12 +64,12 @@ has_length_of kind.Boot s b = length b == 8
 has_length_of kind.Domain s b = has_links_after s domain_fixed b
 has_length_of kind.Operator s b = has_links_after s operator_fixed b
 
--- ---- what stands at each place
+-- ---- what is at each place
 
 abbrev pub command_at : List ℕ → Option Command
 command_at b = command_of (u16_at b 0) (u16_at b 2)
 
--- so many commands
+-- this many commands
 abbrev pub commands_at : ℕ → List ℕ → Option (List Command)
 commands_at zero b = Some []
 commands_at (suc n) b = option_and_then (λ c. option_map (λ more. c ∷ more) (commands_at n (drop 4 b))) (command_at b)
@@ -103,7 +103,7 @@ abbrev pub link_at : Schema → List ℕ → Option StoredLink
 link_at s b = option_and_then (λ m. option_map (λ l. stored (u16_at b 0) l m) (grant_at s b))
     (mode_of (slice_index b 3))
 
--- so many links
+-- this many links
 abbrev pub links_at : Schema → ℕ → List ℕ → Option (List StoredLink)
 links_at s zero b = Some []
 links_at s (suc n) b =
@@ -122,7 +122,7 @@ domain_at s b =
     option_and_then (λ r. option_map (kept_domain r (u16_at b 20)) (links_at s (u16_at b 22) (drop domain_fixed b)))
     (standing_at b)
 
--- what a row seems to say, from the numbers that stand at its places
+-- what a row seems to say, from the numbers that are at its places
 abbrev pub row_at : RowKind → Schema → List ℕ → Option Row
 row_at kind.Boot s b = Some (row.Boot (u32_at b 4))
 row_at kind.Domain s b = option_map (λ d. row.Domain d) (domain_at s b)
@@ -130,7 +130,7 @@ row_at kind.Operator s b = option_map (λ links. row.Operator links) (links_at s
 
 -- ---- the tests, in their order
 
--- what it seems to say is said where it is in range and is written so
+-- what it seems to say is said if it is in range and is written so
 abbrev pub is_said : Schema → List ℕ → Row → Bool
 is_said s b r = is_row_in s r && bytes_eq (row_bytes s.number r) b
 
@@ -166,7 +166,7 @@ Reads (Ok r) reading = reading ≡ Ok r
 Reads (Err Memory) reading = Unit {0}
 Reads (Err (Code n)) reading = reading ≡ Err (Code n)
 
--- a result, seen by view, is this value; where there is none the row is out of range
+-- a result, seen by view, is this value; if there is none the row is out of range
 abbrev pub Gives : {X Y : Type 0} → (X → Y) → Option Y → Result X RowFault → Type 0
 Gives view said (Ok x) = said ≡ Some (view x)
 Gives view said (Err Memory) = Unit {0}

@@ -19,7 +19,7 @@ same_key a b = a.station == b.station && (a.domain == b.domain && a.operator == 
 abbrev pub with_row : Key → List ℕ → Rows → Rows
 with_row key bytes rows k = if same_key key k then Some bytes else rows k
 
--- keys stand by station, domain and operator
+-- keys are ordered by station, domain and operator
 abbrev pub is_before : Key → Key → Bool
 is_before a b =
     if a.station == b.station

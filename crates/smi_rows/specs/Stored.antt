@@ -18,7 +18,7 @@ mode_of n =
 abbrev pub stored : ℕ → Link → Mode → StoredLink
 stored domain link mode = record { domain = domain; link = link; mode = mode }
 
--- what a station keeps of a domain: how it stands, the code gathered so far, and the links to its children
+-- what a station keeps of a domain: its record, the code gathered so far, and the links to its children
 pub record KeptDomain : Type 0 where
   pub standing : Standing
   pub gathered : ℕ

@@ -171,7 +171,7 @@ fn put_holder(row: &mut Vec<u8>, schema: u8, standing: &Record) -> Result<(), Al
     row.extend_from_slice(&standing.epoch.to_be_bytes())
 }
 
-// How far its commands have come. In one piece, since each looks anew at the room that is left.
+// How far its commands have come. In one piece, because each looks at the room that is left.
 fn put_work(row: &mut Vec<u8>, standing: &Record, gathered: u16) -> Result<(), AllocError>
     ensures { OnOk result (row.new.items ≡ row.old.items ++ spec.work_bytes standing.now gathered) }
 {

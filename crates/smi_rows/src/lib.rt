@@ -27,8 +27,8 @@
 //! found, and the keys still rise.
 //!
 //! Three laws speak of any store, and are proved from the trait alone. `law::saved_is_loaded` and
-//! `law::loaded_is_as_told` say what is loaded after a save, whatever that came to.
-//! `law::a_failure_leaves_what_was_saved` puts them together: a row is saved and loaded, and saved anew. What is
+//! `law::loaded_is_as_told` say what is loaded after a save, however that ended.
+//! `law::a_failure_leaves_what_was_saved` puts them together: a row is saved and loaded, and saved again. What is
 //! loaded then is as the second save says, over what the first one saved. In each a failure is told only where the
 //! store counted one (`cause`). A listing shows that the store did not fail for good (`loaded`), so nothing has to be
 //! known of a store before it.

@@ -65,7 +65,7 @@ impl MemoryStable {
     }
 }
 
-/// How many rows stand before a key.
+/// Returns how many rows precede a key.
 fn place_of(rows: &[SavedRow], key: Key) -> usize
     ensures place { result ≡ listed.place_of key rows.now }
     ensures within { result ≤ length rows.now }

@@ -24,7 +24,7 @@ impl Mode {
         }
     }
 
-    /// The mode of this number, where there is one.
+    /// Returns the mode of this number, if there is one.
     pub fn from_number(number: u8) -> Option<Mode>
         ensures { result ≡ mode_of number }
     {

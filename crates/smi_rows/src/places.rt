@@ -1,4 +1,4 @@
-//! What stands at the places of a row, whatever its values.
+//! What is at the places of a row, whatever its values.
 
 ghost use Rattle.std.specs.Prelude.{◌≡◌, ◌≤◌, ◌+◌, ◌*◌, true, length, if◌then◌else◌, nat_le, Some, None, option_map};
 ghost use Rattle.std.specs.Prelude.{◌++◌};
@@ -26,7 +26,7 @@ fn has_lists(schema: Schema) -> bool
     schema.most_pending() > 1
 }
 
-/// How many bytes the link takes that stands at the beginning, where there are so many.
+/// Returns how many bytes the link at the beginning takes, if there are as many.
 pub(crate) fn link_size(schema: Schema, b: &[u8]) -> Option<usize>
     ensures { result ≡ (if nat_le (spec.size_at schema b.now) (length b.now) then Some (spec.size_at schema b.now)
         else None) }
@@ -44,7 +44,7 @@ pub(crate) fn link_size(schema: Schema, b: &[u8]) -> Option<usize>
     if size <= b.len() { Some(size) } else { None }
 }
 
-/// How many bytes the link takes that stands at the beginning.
+/// Returns how many bytes the link at the beginning takes.
 pub(crate) fn size_at(schema: Schema, b: &[u8]) -> usize
     requires { spec.size_at schema b.now ≤ length b.now }
     ensures size { result ≡ spec.size_at schema b.now }
@@ -57,7 +57,7 @@ pub(crate) fn size_at(schema: Schema, b: &[u8]) -> usize
     }
 }
 
-/// Whether the bytes are so many links, and nothing else.
+/// Returns true if the bytes are this many links, and nothing else.
 pub(crate) fn are_cut(schema: Schema, count: u16, links: &[u8]) -> bool
     ensures { result ≡ spec.are_cut schema count links.now }
 {
@@ -71,7 +71,7 @@ pub(crate) fn are_cut(schema: Schema, count: u16, links: &[u8]) -> bool
     rest.is_empty()
 }
 
-/// The link that stands at the beginning.
+/// Returns the link at the beginning.
 pub(crate) fn link_at(schema: Schema, b: &[u8]) -> Option<StoredLink>
     requires { spec.size_at schema b.now ≤ length b.now }
     ensures { result ≡ spec.link_at schema b.now }
@@ -133,7 +133,7 @@ fn several_at(b: &[u8]) -> Option<Pending>
     with_commands(oldest, others, &b[LINK + 2..])
 }
 
-/// The pending commands, and after them so many that stand in the bytes.
+/// Returns the pending commands, and after them this many of the bytes.
 fn with_commands(oldest: Pending, others: u16, b: &[u8]) -> Option<Pending>
     requires room { length oldest + others ≤ 8 }
     requires whole { 4 * others ≤ length b.now }
@@ -155,7 +155,7 @@ fn command_at(b: &[u8]) -> Option<Command>
     Command::from_verb(u16_at(b, 0), u16_at(b, 2))
 }
 
-/// The record that stands in a domain's row.
+/// Returns the record in a domain's row.
 pub(crate) fn standing_at(b: &[u8]) -> Option<Record>
     requires { 20 ≤ length b.now }
     ensures { result ≡ spec.standing_at b.now }

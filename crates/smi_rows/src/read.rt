@@ -16,10 +16,10 @@ use smi_base::{u16_at, u32_at};
 use smi_tree::Tree;
 use std::alloc::Global;
 
-/// How many bytes of a domain's row stand before its links.
+/// How many bytes of a domain's row are before its links.
 const DOMAIN_FIXED: usize = 24;
 
-/// How many bytes of an operator's row stand before its links.
+/// How many bytes of an operator's row are before its links.
 const OPERATOR_FIXED: usize = 4;
 
 impl Row {
@@ -39,10 +39,10 @@ impl Row {
         ensures found { IfOk result (λ row. IsRow tree.now key bytes.now row) }
         // What was written so is read, where the tree has what it names.
         ensures only { (row : Said) → IsRow tree.now key bytes.now row → Reads result (Ok row) }
-        // It is unknown where it was written so, and the tree lacks something that it names.
+        // It is unknown if it was written so, and the tree lacks something that it names.
         ensures unknown { (row : Said) → IsWritten key bytes.now row → is_known tree.now key row ≡ false
             → Reads result (refused RowFlaw.Unknown) }
-        // It is out of range only where it is written as no row is.
+        // It is out of range only if it is written as no row is.
         ensures out_of_range { result ≡ refused RowFlaw.Range → (row : Said) → IsWritten key bytes.now row → ⊥ }
         // The first test that fails.
         ensures exact { Reads result (row_of tree.now key bytes.now) }
@@ -80,7 +80,7 @@ fn has_length(schema: Schema, bytes: &[u8]) -> bool
     }
 }
 
-/// Whether after the beginning, which ends with their number, there are so many links and nothing else.
+/// Returns true if after the beginning, which ends with their number, there are that many links and nothing else.
 fn has_links_after(schema: Schema, fixed: usize, bytes: &[u8]) -> bool
     requires { 2 ≤ fixed }
     ensures { result ≡ spec.has_links_after schema fixed bytes.now }
@@ -107,7 +107,7 @@ fn said_at(alloc: Global, schema: Schema, bytes: &[u8]) -> Result<Row, RowFault>
     Ok(row)
 }
 
-/// What the row seems to say, from the numbers that stand at its places.
+/// Returns what the row seems to say, from the numbers at its places.
 fn row_at(alloc: Global, schema: Schema, bytes: &[u8]) -> Result<Row, RowFault>
     requires { spec.has_length_of schema.kind schema bytes.now ≡ true }
     ensures few { IfOk result HasFewLinks }

@@ -18,7 +18,7 @@ pub struct StoredLink {
 #[derive(Drop)]
 pub struct DomainRow {
     pub standing: Record,
-    /// The greatest code so far of the command at work, 0 where none is.
+    /// The greatest code so far of the command at work, 0 if none is.
     pub gathered: u16,
     /// The links to the children, by rising number.
     pub links: Vec<StoredLink>,

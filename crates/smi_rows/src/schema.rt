@@ -27,7 +27,7 @@ impl Schema {
     ghost use Rattle.std.specs.Prelude.{◌≡◌};
     ghost use Rattle.smi_rows.specs.Schema.{schema_of, has_modes, last_verb, most_pending_in};
 
-    /// The schema of this number, where there is one.
+    /// Returns the schema of this number, if there is one.
     pub fn of(kind: RowKind, number: u8) -> Option<Schema>
         ensures { result ≡ schema_of kind number }
     {

@@ -75,7 +75,7 @@ strip-long line long = elim (either (slice_index line (length line - 1) == 13)) 
   | inr on ↦ rw on (omega arith)
 ]
 
--- so many bytes without a line feed
+-- this many bytes without a line feed
 pub too_long : (rest later : List ℕ) → length rest ≤ position_or_len is_line_feed rest → 201 < length rest
     → (first : List ℕ) × (more : List (List ℕ)) × (lines (rest ++ later) ≡ first ∷ more) ×
     (MOST_BYTES_OF_A_LINE < length first)

@@ -16,7 +16,7 @@ stands : (said : Result (Option Item) Fault) (item : Option Item) (more : List I
 stands said None more e = rw e refl
 stands said (Some x) more e = rw e refl
 
--- a line that stands puts its item before those of the lines after it
+-- a lawful line puts its item before those of the lines after it
 pub items-line : (h : Hierarchy) (line : List ℕ) (more ls : List (List ℕ)) (item : Option Item) → ls ≡ line ∷ more
     → item_in h line ≡ Ok item
     → items_before_fault h ls ≡ option_to_list item ++ items_before_fault h more
@@ -46,7 +46,7 @@ pub fault-none : (number : ℕ) (h : Hierarchy) (ls : List (List ℕ)) → ls �
 unfolding first_fault
 fault-none number h ls e = rw (e, first_fault) refl
 
--- the fault of a line is that of all, where none above it has one
+-- the fault of a line is that of all, if none above it has one
 pub refused : {X : Type 0} (Y : Type 0) (view : X → List Item) (number : ℕ) (h : Hierarchy) (line : List ℕ)
     (more ls all : List (List ℕ)) (old new : List Item) (e : ScheduleFault)
     → ls ≡ line ∷ more → first_fault number h ls ≡ first_fault 1 h all
@@ -59,7 +59,7 @@ refused Y view number h line more ls all old new (Line place code) cut same r =
     ap (λ (f : Option ScheduleFault). unless_faulty f (items_before_fault h all)) here
     ∙ ap (λ (f : ScheduleFault). Err f) told
 
--- where no line is left, the items so far are all
+-- if no line is left, the items so far are all
 pub ended : (number : ℕ) (h : Hierarchy) (ls all : List (List ℕ)) (items : List Item) → ls ≡ []
     → items ++ items_before_fault h ls ≡ items_before_fault h all
     → first_fault number h ls ≡ first_fault 1 h all → items_of h all ≡ Ok items

@@ -13,7 +13,7 @@ use Rattle.smi_protocol.specs.declared.item.Deed.TheVariants as deed
 use Rattle.smi_protocol.specs.declared.item.Item.{Item}
 use Rattle.smi_protocol.specs.declared.item.Item.TheVariants as item
 
--- the number from 1 to so many that a part of a word picks
+-- the number from 1 to the most that a part of a word picks
 abbrev pub pick : ℕ → ℕ → ℕ
 pick part count = 1 + part % count
 
@@ -33,7 +33,7 @@ order_of h word =
     order_by (word / 512 % 8) (pick (word / 4096) (domain_count h)) (pick (word / 524288) (action_count h))
     (pick (word / 524288) (domain_count h))
 
--- a device in a state; where there are no devices, a tick of the first station
+-- a device in a state; if there are no devices, a tick of the first station
 abbrev pub report_of : Hierarchy → ℕ → Deed
 report_of h word =
     if device_count h == 0 then deed.Tick 1
@@ -64,11 +64,11 @@ word_of words = (pcg32 words).0
 abbrev pub word_taken : Lcg → Lcg
 word_taken words = (pcg32 words).1
 
--- so many items, each by the next word
+-- this many items, each by the next word
 unfoldable pub items_drawn : Hierarchy → ℕ → Lcg → List Item
 items_drawn h zero words = []
 items_drawn h (suc more) words = item_of h (word_of words) ∷ items_drawn h more (word_taken words)
 
--- the first so many items of a seed
+-- the first items of a seed, this many
 abbrev pub schedule_drawn : Hierarchy → ℕ → ℕ → List Item
 schedule_drawn h seed steps = items_drawn h steps (seeded seed)

@@ -19,7 +19,7 @@ has_operator h o = is_between 1 (operator_count h) o
 abbrev pub has_device : Hierarchy → ℕ → Bool
 has_device h device = is_between 1 (device_count h) device
 
--- an order names a device where it holds a report
+-- an order names a device if it holds a report
 abbrev pub has_order : Hierarchy → Order → Bool
 has_order h (order.Report device s) = has_device h device
 has_order h what = true

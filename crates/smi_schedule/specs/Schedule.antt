@@ -13,7 +13,7 @@ use Rattle.smi_schedule.specs.declared.schedule.ScheduleFault.{ScheduleFault}
 use Rattle.smi_schedule.specs.declared.schedule.ScheduleFault.TheVariants.{Line, Memory}
 use Rattle.smi_schedule.specs.Line.{item_in}
 
--- the items of a line that stands, and then those of the lines after it; a faulty line ends it
+-- the items of a lawful line, and then those of the lines after it; a faulty line ends it
 abbrev pub items_on : Result (Option Item) Fault → List Item → List Item
 items_on (Ok None) more = more
 items_on (Ok (Some item)) more = item ∷ more

@@ -84,7 +84,7 @@ order_words h (order.Watch x) = codes "watch" ∷ object_word h x ∷ []
 order_words h (order.Unwatch x) = codes "unwatch" ∷ object_word h x ∷ []
 order_words h (order.Report d s) = codes "report" ∷ device_word h d ∷ state_word h s ∷ []
 
--- a record: who holds the domain, its epoch, the last command's number, and how that stands
+-- a record: who holds the domain, its epoch, the last command's number, and whether that has ended
 abbrev pub record_words : Hierarchy → Standing → List (List ℕ)
 record_words h r = holder_word h r.holder ∷ decimal r.epoch ∷ decimal r.last ∷ phase_word r.phase ∷ decimal r.outcome
     ∷ []

@@ -106,7 +106,8 @@ impl Drawer {
     }
 }
 
-/// The first so many items that a seed draws. Out of memory is answered only where an allocation was refused, which
+/// Returns the first items that a seed draws, this many. Out of memory is answered only if an allocation was
+/// refused, which
 /// tests alone see.
 pub fn draw_schedule(
     alloc: Global,

@@ -3,13 +3,13 @@
 //! [`read_item`] reads one line of a schedule, so that one can be taken line by line, as [`Lines`] cuts them from a
 //! reader; [`read_schedule`] reads a whole text. The words of a line are told apart (`words`), then read with their
 //! names and numbers (`said`), then found in the tree (`known`); the first test that fails is the line's
-//! [fault](smi_tree::Fault). [`Drawer`] draws items one by one and [`draw_schedule`] so many of them. The lines and
-//! the drawing stand in docs/FORMATS.md, "Schedules".
+//! [fault](smi_tree::Fault). [`Drawer`] draws items one by one and [`draw_schedule`] a number of them. The lines and
+//! the drawing are in docs/FORMATS.md, "Schedules".
 //!
 //! [`spell`] puts the text of a [`Line`](smi_protocol::Line) of a trace into a buffer, and [`write_lines`] writes
 //! lines one by one through such a buffer, so that no text of a whole trace is ever kept. A line's words are put
-//! together in `entries` and `orders`; how a name, a holder or a number is written stands in `names` and
-//! `trace_words`. The lines stand in docs/FORMATS.md, "Traces". Three lines that no trace has, and a running node
+//! together in `entries` and `orders`; how a name, a holder or a number is written is in `names` and
+//! `trace_words`. The lines are in docs/FORMATS.md, "Traces". Three lines that no trace has, and a running node
 //! prints, are put together from the same words: how a report ended ([`spell_report`]), what a board shows of an
 //! object ([`spell_board`]), and which orders are under way ([`spell_waiting`]).
 //!
@@ -48,11 +48,11 @@
 //! ## Traces
 //!
 //! `line_text` (`specs/Text`) is a line of a trace as a function of the tree and the line: its first word, each
-//! further word after a blank, and a line feed. The words stand in `specs/TraceWords`. `spell` puts it into a buffer.
+//! further word after a blank, and a line feed. The words are in `specs/TraceWords`. `spell` puts it into a buffer.
 //!
 //! `write_lines` writes the text of each line through such a buffer. On an error what it has written is a prefix of
 //! the text of all lines (`prefix`). That rests on `write_whole` of `smi_base`, since std's `write_all` does not say
-//! what it has written where it fails (`proofs/Prefixes`).
+//! what it has written if it fails (`proofs/Prefixes`).
 #![tactic(auto)]
 
 mod draw;

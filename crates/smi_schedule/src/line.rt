@@ -10,7 +10,7 @@ use smi_base::MOST_BYTES_OF_A_LINE;
 use smi_protocol::Item;
 use smi_tree::{Fault, Tree, first_word, is_comment};
 
-/// What a line of a schedule lets happen; nothing where it has no words or is a comment.
+/// Returns what a line of a schedule lets happen; nothing if it has no words or is a comment.
 ///
 /// The line is without its line feed and the carriage return before it. It takes no memory. A line that is too long is
 /// refused first, then one with a word that no line says there, then a wrong count of words, then a name or a number

@@ -134,7 +134,7 @@ impl Lines {
         }
     }
 
-    /// Takes what was read as the last line, where there is any.
+    /// Takes what was read as the last line, if there is any.
     fn take_last(&mut self) -> Cut
         requires { HasNoLine self.old.rest }
         ensures cut { CutsText result self.old.rest self.new.line (Some self.new.rest) }
@@ -208,7 +208,7 @@ impl Lines {
         }
     }
 
-    /// Looks for a line in what was read, and reads once where there is none.
+    /// Looks for a line in what was read, and reads once if there is none.
     fn step<R: Read>(&mut self, reader: &mut R) -> Option<Cut>
         ensures cut { MatchOption result
             (Keeps (left self.old (R.remaining reader.old)) (left self.new (R.remaining reader.new)))

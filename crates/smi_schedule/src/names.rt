@@ -1,4 +1,4 @@
-//! The names of what a tree has, by number; nothing where it has no such thing.
+//! The names of what a tree has, by number; nothing if it has no such thing.
 
 ghost use Rattle.std.specs.Prelude.{◌≡◌, option_map};
 ghost use Rattle.smi_tree.specs.Hierarchy.{entry};

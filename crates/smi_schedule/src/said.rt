@@ -13,7 +13,7 @@ use smi_tree::{Fault, Name, Word, first_word, number_within, one_name, one_word,
 /// The greatest number that is written with ten digits.
 const MOST: u64 = 9_999_999_999;
 
-/// An order. After a domain stands an action, or another domain.
+/// An order. After a domain comes an action, or another domain.
 #[derive(Drop)]
 pub(crate) enum SaidOrder<'a> {
     Take(Name<'a>),
@@ -60,7 +60,7 @@ fn name(word: Word<'_>) -> Result<Name<'_>, Fault>
     Name::read(word).ok_or(Fault::Malformed)
 }
 
-/// The one word of a text, where it is a number from `least` on.
+/// Returns the one word of a text, if it is a number from `least` on.
 fn one_number(least: u64, text: &[u8]) -> Result<u64, Fault>
     ensures { result ≡ spec.one_number least (words text.now) }
 {

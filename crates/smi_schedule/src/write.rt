@@ -63,7 +63,7 @@ pub fn write_line<W: Write>(
 
 /// Writes the text of lines, one after the other; each is put together in `text`.
 ///
-/// On an error a prefix of it is written; where memory ran out, so many whole lines.
+/// On an error a prefix of it is written; if memory ran out, a number of whole lines.
 pub fn write_lines<W: Write>(
     writer: &mut W,
     text: &mut Vec<u8>,

@@ -34,7 +34,7 @@ answer_notes now answer = asked_notes answer.told.order answer.told.asked now
 abbrev pub handed_notes : Out → ℕ → List Note
 handed_notes handed now = shown_notes handed.shown now ++ flat_map (answer_notes now) handed.answers
 
--- the record in a datagram, also where it answers no question that is still open
+-- the record in a datagram, also if it answers no question that is still open
 abbrev pub body_notes : Body → ℕ → List Note
 body_notes (body.Tell d told) now = Told d told now ∷ []
 body_notes _ now = []

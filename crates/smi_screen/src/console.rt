@@ -7,7 +7,7 @@ use std::alloc::{AllocError, Global};
 use std::io::{self, ErrorKind, Read, Write};
 use std::net::{Net, SocketAddr};
 
-/// So many milliseconds pass before a connection is tried for again, and so many before one that is not made is given
+/// How many milliseconds pass before a connection is tried for again, and how many before one that is not made is given
 /// up.
 const BETWEEN_TRIES: u64 = 1_000;
 
@@ -187,7 +187,7 @@ impl NodeConsole {
         }
     }
 
-    /// Begins to connect, where it is time.
+    /// Begins to connect, if it is time.
     fn connect<R: Net>(&mut self, rt: &R, now: u64) {
         if now < self.next_try {
             return;
@@ -202,7 +202,7 @@ impl NodeConsole {
         }
     }
 
-    /// One turn: a connection is made where there is none, what was said over it is heard, and what is to be sent is
+    /// Makes one turn: makes a connection if there is none, hears what was said over it, and sends what is to be sent
     /// sent, as far as nothing waits. With a connection that breaks, what was given on it is lost.
     pub fn turn<R: Net>(&mut self, rt: &R, relay: &mut OrderRelay, now: u64) {
         let standing = match &mut self.line {

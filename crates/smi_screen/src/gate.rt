@@ -12,10 +12,10 @@ use std::net::{Net, SocketAddr, TcpListener, TcpStream};
 /// The most guests: where one more comes, the one goes whose time is up first.
 pub const MOST_GUESTS: usize = 64;
 
-/// So many are let in at one turn.
+/// How many are let in at one turn.
 const MOST_AT_ONCE: usize = 8;
 
-/// A request is a head of at most so many bytes, with a body of as many; nothing is read while an answer waits.
+/// A request is a head of at most this many bytes, with a body of as many; nothing is read while an answer waits.
 const CONFIG: Config = Config {
     limits: Limits {
         max_head_len: 8_192,
@@ -52,7 +52,7 @@ impl Gate {
     ghost use Rattle.smi_screen.specs.Gate.{most_guests};
 
     /// A gate at an address, through which nobody has come. Its guests' headers are kept under these keys, so that
-    /// nobody can choose names that are dear to look up.
+    /// nobody can choose names that are expensive to look up.
     pub fn open<R: Net<Listener = TcpListener, Stream = TcpStream>>(
         rt: &R,
         alloc: Global,
@@ -79,7 +79,7 @@ impl Gate {
         self.guests.len()
     }
 
-    /// Where the guest stands whose time is up first.
+    /// Returns the place of the guest whose time is up first.
     fn first_to_go(&self) -> usize
         requires { 0 < self.now.guests }
         ensures { result < self.now.guests }

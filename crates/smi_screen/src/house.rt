@@ -21,7 +21,7 @@ pub(crate) struct House {
     frames: u64,
     window: WebService,
     gate: Gate,
-    /// Where orders go that are given from the page, where they may be.
+    /// The relay of orders from the page, if orders may be given.
     console: Option<NodeConsole>,
 }
 

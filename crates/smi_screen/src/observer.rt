@@ -70,7 +70,7 @@ fn note_taken(picture: &mut Picture, bytes: &[u8], is_taken: bool, now: u64)
     }
 }
 
-/// Turns what a delivery answered into what its receive came to.
+/// Turns the result of a delivery into that of its receive.
 fn something(delivered: Result<(), Stopped>) -> Result<ReceiveOutcome, Stopped>
     ensures { has_stopped result ≡ has_stopped delivered }
 {
@@ -170,7 +170,7 @@ impl Observer {
         }
     }
 
-    /// Carries what has come, up to so many datagrams.
+    /// Carries what has come, up to this many datagrams.
     fn hear_all<S: Stable, L: DatagramLink>(
         &mut self,
         station: &mut Station<'_, S>,
@@ -274,7 +274,7 @@ impl Observer {
         }
     }
 
-    /// Watches the next objects, so many at once.
+    /// Watches the next objects, this many at once.
     fn watch_next<S: Stable, L: DatagramLink>(
         &mut self,
         station: &mut Station<'_, S>,

@@ -25,7 +25,7 @@ pub struct Pace {
 }
 
 impl Pace {
-    /// An observer of so many objects and domains that has done nothing yet.
+    /// Returns the schedule of an observer of this many objects and domains that has done nothing yet.
     pub fn new(objects: u16, domains: u16) -> Pace {
         Pace {
             objects,
@@ -37,7 +37,7 @@ impl Pace {
         }
     }
 
-    /// The next object that is to be watched, each once. That it is watched anew where its station has begun again is
+    /// The next object that is to be watched, each once. That it is watched again after its station has begun again is
     /// the station's own care.
     pub(crate) fn next_watch(&mut self) -> Option<u16> {
         if self.watched < self.objects {
@@ -48,7 +48,7 @@ impl Pace {
         }
     }
 
-    /// The next domain that is to be asked about, one after the other, where it is time.
+    /// The next domain that is to be asked about, one after the other, if it is time.
     pub(crate) fn next_question(&mut self, now: u64) -> Option<u16> {
         if now.saturating_sub(self.asked_at) < BETWEEN_QUESTIONS {
             return None;

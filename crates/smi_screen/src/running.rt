@@ -71,7 +71,7 @@ pub struct ScreenSetup {
     pub page: Bytes,
     /// The orders that its page may give, if it may.
     pub giving: Option<Giving>,
-    /// How many turns it looks, none where it looks without end.
+    /// How many turns it looks, none if it looks without end.
     pub turns: Option<u32>,
 }
 
@@ -118,7 +118,7 @@ fn housed<R: Net<Listener = TcpListener, Stream = TcpStream> + AllocGlobal>(
     }
 }
 
-/// What a screen works with, in a box, since whoever drops one is dear to prove.
+/// What a screen works with, in a box, because each place that drops one is expensive to prove.
 fn server_of<R: Net<Listener = TcpListener, Stream = TcpStream> + Wait + Clock + AllocGlobal>(
     rt: &R,
     tree: &Tree,
@@ -194,7 +194,7 @@ fn opened<
 /// Runs a screen, and gives its store back.
 ///
 /// The rows of its station are brought into their newest schema, the station is opened, its own socket is, and last
-/// that for its guests; then it looks, for so many turns or until a fault. The keys are those of its guests' headers.
+/// that for its guests; then it looks, for this many turns or until a fault. The keys are those of its guests' headers.
 /// What the setup has is taken out of it as it is needed.
 pub fn run<
     S: Stable,

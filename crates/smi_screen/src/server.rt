@@ -22,7 +22,7 @@ use std::time::{Clock, Instant};
 /// How many turns an endless screen makes at once, before it begins again with all that it has.
 const TURNS_AT_ONCE: u32 = 1_000_000;
 
-/// So many turns in a row whose receives end in a fault end the service.
+/// How many turns in a row whose receives end in a fault end the service.
 const MOST_FAULTS: u32 = 100;
 
 /// What a screen works with, beside its station and its link.
@@ -35,7 +35,7 @@ pub(crate) struct ScreenServer {
     pace: Pace,
     /// Its time is how many milliseconds have passed since the start.
     observer: Observer,
-    // Behind a box, so that whatever has a server is not dear to prove.
+    // In a box, so that an owner of a server is not expensive to prove.
     house: Box<House>,
 }
 
@@ -58,7 +58,7 @@ impl ScreenServer {
         }
     }
 
-    /// Looks at the clock. Where it can't be read, no time has passed.
+    /// Looks at the clock. If it can't be read, no time has passed.
     fn tell_time<C: Clock>(&mut self, clock: &C)
         ensures picture { self.new.observer.picture ≡ self.old.observer.picture }
         ensures operator { self.new.operator ≡ self.old.operator }
@@ -70,7 +70,7 @@ impl ScreenServer {
         }
     }
 
-    /// Counts the turns in a row that ended in a fault of the link; an error where they are too many.
+    /// Counts the turns in a row that ended in a fault of the link; an error if they are too many.
     fn count(&mut self, came: ReceiveOutcome) -> Result<(), Ended>
         ensures picture { self.new.observer.picture ≡ self.old.observer.picture }
         ensures operator { self.new.operator ≡ self.old.operator }
@@ -161,7 +161,7 @@ impl ScreenServer {
         self.follow(rt, tree, looked)
     }
 
-    /// So many turns, or fewer where a fault ends them.
+    /// Makes this many turns, or fewer if a fault ends them.
     fn turns<S: Stable, L: DatagramLink, R: Net + Clock>(
         &mut self,
         rt: &R,
@@ -186,7 +186,7 @@ impl ScreenServer {
         Ok(())
     }
 
-    /// Turns, so many or without end: all that becomes of the station by them is what it looks.
+    /// Makes turns, this many or without end: all that becomes of the station by them is what it looks.
     pub(crate) fn serve<S: Stable, L: DatagramLink, R: Net + Wait + Clock>(
         &mut self,
         rt: &R,

@@ -9,7 +9,7 @@ use smi_web::{OrderRelay, PageOrders, Snapshot, WebService};
 use std::alloc::{AllocError, Global};
 use std::mem::replace;
 
-/// A picture, the window on it, and the console that its orders go to, where there may be orders.
+/// A picture, the window on it, and the console that its orders go to, if there may be orders.
 #[derive(Drop)]
 pub(crate) struct Stage {
     pub(crate) picture: Picture,
@@ -52,7 +52,7 @@ fn stage_with(alloc: Global, setup: &mut ScreenSetup, picture: Picture, frame: S
 
 /// A stage on which nothing was seen, with what the setup has for it, which is taken out of it.
 ///
-/// It is handed out in a box, since whoever drops one is dear to prove.
+/// It is handed out in a box, because each place that drops one is expensive to prove.
 pub(crate) fn staged(
     alloc: Global,
     tree: &Tree,

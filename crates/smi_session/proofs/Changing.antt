@@ -22,7 +22,7 @@ get_another (x ∷ xs) zero (suc j) y other = refl
 get_another (x ∷ xs) (suc i) zero y other = refl
 get_another (x ∷ xs) (suc i) (suc j) y other = get_another xs i j y (λ e. other (ap suc e))
 
--- whoever sits at the queues stays there
+-- the operators at the queues stay there
 pub stay : (os : List ℕ) (qs : List SeatQueueState) (i : ℕ) (q d : SeatQueueState)
     → q.operator ≡ (get_or qs i d).operator → AreQueuesOf os qs → AreQueuesOf os (slice_set qs i q)
 stay os qs i q d same are = map-set_same (λ q. q.operator) qs i q d same ∙ are

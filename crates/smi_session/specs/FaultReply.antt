@@ -40,7 +40,7 @@ abbrev pub fault_text : ReplyStyle → List ℕ → List ℕ → List ℕ
 fault_text Script reason text = text ++ 10 ∷ []
 fault_text Human reason text = text ++ 58 ∷ 32 ∷ reason ++ 10 ∷ []
 
--- behind the tag, or among the answers; on standard input, if there is no tag, apart
+-- after the tag, or among the answers; on standard input, if there is no tag, apart
 abbrev pub faulty : ReplyStyle → Option Tag → List ℕ → SessionState → SessionState
 faulty Script None text s = with_error text s
 faulty Script (Some tag) text s = with_reply (Some tag) text s

@@ -93,7 +93,7 @@ ResumesPart h now a c b =
 abbrev pub tag_in_line : List ℕ → Option (List ℕ)
 tag_in_line line = if nat_lt MOST_BYTES_OF_A_LINE (length line) then None else tag_of (words line)
 
--- what stands behind the tag of a line is handled
+-- what follows the tag of a line is handled
 abbrev pub HandlesTagged : Hierarchy → Option Instant → List ℕ → List ℕ → ServiceState → SessionState → ServiceState
     → SessionState → Type 0
 HandlesTagged h now spelled line a c b d = (tag : Tag) × (text : List ℕ) × (tag_text tag ≡ spelled)
@@ -105,7 +105,7 @@ abbrev pub HandlesLineSo : Hierarchy → Option Instant → Option (List ℕ) �
 HandlesLineSo h now (Some spelled) line a c b d = HandlesTagged h now spelled line a c b d
 HandlesLineSo h now None line a c b d = Resumes h now a (waits (next_line c) line (counted c)) b d
 
--- one with a tag is handled at once, any other waits behind those before it
+-- one with a tag is handled at once, any other waits for those before it
 abbrev pub HandlesLine : Hierarchy → Option Instant → List ℕ → ServiceState → SessionState → ServiceState
     → SessionState → Type 0
 HandlesLine h now line a c b d = HandlesLineSo h now (tag_in_line line) line a c b d

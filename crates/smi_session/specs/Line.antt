@@ -51,7 +51,7 @@ request_as_item h operators line = do
   what ← item_in h line
   request_so operators what
 
--- after `show` stands an object
+-- after `show` comes an object
 unfoldable pub shown : Hierarchy → List (List ℕ) → Result SessionRequest Fault
 shown h more = do
   name ← declaration.one_name more

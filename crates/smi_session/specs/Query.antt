@@ -39,7 +39,7 @@ abbrev pub query_so : Option Query → List (List ℕ) → Result (Option Query)
 query_so None more = Ok None
 query_so (Some query) more = if may_have query more then Ok (Some query) else Err WordCount
 
--- what a line asks by its words; nothing where it is another line, or has none
+-- what a line asks by its words; nothing if it is another line, or has none
 abbrev pub query_in : List (List ℕ) → Result (Option Query) Fault
 query_in [] = Ok None
 query_in (word ∷ more) = query_so (query_named word) more

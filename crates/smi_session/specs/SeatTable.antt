@@ -9,13 +9,13 @@ use Rattle.smi_session.specs.declared.seat_queue.PendingOrder.{PendingOrder}
 use Rattle.smi_session.specs.declared.session.Deferred.{Deferred}
 use Rattle.smi_session.specs.declared.seat_table.SeatAnswer.{SeatAnswer}
 
--- the operators, their queues and behind them nobody's, and whether an order was given since that was last asked
+-- the operators, their queues and after them nobody's, and whether an order was given since that was last asked
 pub record SeatTableState : Type 0 where
   pub operators : List ℕ
   pub queues : List SeatQueueState
   pub has_given : Bool
 
--- whose seats they are: the operators', and behind them nobody's
+-- whose seats they are: the operators', and after them nobody's
 abbrev pub AreQueuesOf : List ℕ → List SeatQueueState → Type 0
 AreQueuesOf operators queues = map (λ q. q.operator) queues ≡ map Some operators ++ None ∷ []
 

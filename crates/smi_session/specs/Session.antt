@@ -84,16 +84,16 @@ beginning tag s = record s { is_busy = s.is_busy || is_none tag }
 abbrev pub ending : Option Tag → SessionState → SessionState
 ending tag s = record s { is_busy = s.is_busy && is_some tag }
 
--- a line waits behind those before it
+-- a line waits for those before it
 abbrev pub waits : ℕ → List ℕ → SessionState → SessionState
 waits number line s = record s { waiting = s.waiting ++ (record { number = number; line = line }) ∷ [] }
 
--- a text behind a tag
+-- a text after a tag
 abbrev pub behind : Option Tag → List ℕ → List ℕ
 behind None text = text
 behind (Some tag) text = 64 ∷ tag_text tag ++ 32 ∷ text
 
--- a text is to be told, behind all that was
+-- a text is to be told, after all that was
 abbrev pub with_reply : Option Tag → List ℕ → SessionState → SessionState
 with_reply tag text s = record s { output = s.output ++ behind tag text }
 

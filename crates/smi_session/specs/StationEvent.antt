@@ -33,7 +33,7 @@ event_text h (event.StateChanged shown) = board_text h shown.object (Some shown)
 event_text h (event.ActionDone done) = action_text h done
 event_text h (event.Lagged count) = lagged_text count
 
--- the tag behind which a session is told of an event, if it wants to be: a state by the states that it follows, an
+-- the tag after which a session is told of an event, if it wants to be: a state by the states that it follows, an
 -- action by the devices whose actions it follows, and what is not told if it follows any
 abbrev pub event_tag : SessionState → StationEvent → Option (Option Tag)
 event_tag s (event.StateChanged shown) = tag_for s.states shown.object

@@ -17,7 +17,7 @@ includes_object (Some objects) object = list_any (λ o. o == object) objects
 abbrev pub includes : SubscriptionState → ℕ → Bool
 includes s object = includes_object s.objects object
 
--- the tag behind which a session is told of an object, if it wants to be
+-- the tag after which a session is told of an object, if it wants to be
 abbrev pub tag_for : Option SubscriptionState → ℕ → Option (Option Tag)
 tag_for None object = None
 tag_for (Some s) object = if includes s object then Some s.tag else None

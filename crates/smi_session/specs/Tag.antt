@@ -13,7 +13,7 @@ tag_text tag = take (min tag.count 16) tag.bytes
 abbrev pub is_tag : List ℕ → Bool
 is_tag text = nat_le 1 (length text) && nat_le (length text) 16 && list_all is_ascii_graphic text
 
--- the tag of a word: what stands behind its @
+-- the tag of a word: what follows its @
 abbrev pub tag_in : List ℕ → Option (List ℕ)
 tag_in [] = None
 tag_in (byte ∷ text) = if byte == 64 && is_tag text then Some text else None

@@ -37,7 +37,7 @@ has h operators kind.Object name = is_some (object_named h name)
 has h operators kind.Action name = is_some (number_of h.action_names name)
 has h operators kind.State name = is_some (number_of h.state_names name)
 
--- what the names behind the verb of an order stand for
+-- what the names after the verb of an order stand for
 abbrev pub kinds_of_order : List ℕ → Option NameKind × Option NameKind
 kinds_of_order verb =
     if bytes_eq verb (codes "take") || bytes_eq verb (codes "drop") || bytes_eq verb (codes "ask")
@@ -70,7 +70,7 @@ abbrev pub unknown_of_two : Hierarchy → List ℕ → Option NameKind × Option
 unknown_of_two h operators kinds names =
     or_else (unknown_first h operators kinds.0 names) (unknown_second h operators kinds.1 names)
 
--- an order that has a verb names its operator, and then what stands behind the verb
+-- an order that has a verb names its operator, and then what follows the verb
 abbrev pub unknown_of_order : Hierarchy → List ℕ → List (List ℕ) → Option (List ℕ × List ℕ)
 unknown_of_order h operators [] = None
 unknown_of_order h operators (operator ∷ []) = None

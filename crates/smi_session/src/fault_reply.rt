@@ -92,7 +92,7 @@ fn end_fault(
     Ok(())
 }
 
-/// Tells a session the fault of its line: behind its tag, among the answers, or apart.
+/// Tells a session the fault of its line: after its tag, among the answers, or apart.
 ///
 /// Its error is that memory was refused.
 pub(crate) fn push_fault(

@@ -1,4 +1,4 @@
-//! What follows for whoever types at a node.
+//! What follows for a client that types at a node.
 
 ghost use Rattle.std.specs.Prelude.{ℕ, ◌≡◌, ◌+◌, ◌==◌, ◌++◌, ◌∷◌, [], List, length, map, slice_get, true, Some};
 ghost use Rattle.std.specs.Prelude.{None};

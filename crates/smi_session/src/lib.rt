@@ -1,9 +1,9 @@
 //! What people and programs type at a node: their lines become orders at seats, and each answer goes to the session
 //! that gave its order.
 //!
-//! A [`Session`] is whoever types: a connection, or the standard input. A [`LineSplitter`] cuts its bytes into lines,
+//! A [`Session`] is a client: a connection, or the standard input. A [`LineSplitter`] cuts its bytes into lines,
 //! and [`SessionService`] reads them. The service has all seats of the station in its [`SeatTable`]. No call waits. An
-//! order stands in the [`SeatQueue`] of its operator, with the number of its session and the tag of its line, until the
+//! order is in the [`SeatQueue`] of its operator, with the number of its session and the tag of its line, until the
 //! station answers it. A seat answers its orders in their order, so the oldest order of a queue is the one that the
 //! next answer is of. If its session has left by then, nobody is told.
 //!
@@ -20,13 +20,13 @@
 //!
 //! ## What a line asks, and what it does
 //!
-//! - `request_of_line` (`specs/Request`) says what a line asks. It stands over `request_in` (`specs/Line`), which says
+//! - `request_of_line` (`specs/Request`) says what a line asks. It is built on `request_in` (`specs/Line`), which says
 //!   it by what the same line is in a schedule, over `query_in` (`specs/Query`), and over `tag_of` (`specs/Tag`).
 //! - `Receives` (`specs/Handling`) says what a line does to the service and to its session. A line with a tag is
-//!   handled at once. Any other waits behind those before it, and `Resumes` handles those that wait one after the
+//!   handled at once. Any other waits for those before it, and `Resumes` handles those that wait one after the
 //!   other, until one holds up the others or 64 were handled.
 //! - `Trust` (`specs/Trust`) is what the lines of a session have shown of it.
-//! - `Gives` (`specs/SeatTable`) says what becomes of an order. It is submitted once, behind those before it, at the
+//! - `Gives` (`specs/SeatTable`) says what becomes of an order. It is submitted once, after those before it, at the
 //!   seat of its operator, and is the newest of that queue. Or its session keeps it as deferred, nothing is submitted,
 //!   and it is given first the next time. Each other queue stays as it is.
 //!

@@ -1,4 +1,4 @@
-//! Whoever types lines, and what is to be told there.
+//! A client that types lines, and what is to be told there.
 
 ghost use Rattle.std.specs.Prelude.{◌≡◌};
 
@@ -158,7 +158,7 @@ impl Session {
     }
 
     /// Refuses a session that has asked nothing, if a faulty line of it is one that no client begins with. A browser
-    /// sends what a page wrote behind such a line: the head of its request.
+    /// sends what a page wrote after such a line: the head of its request.
     pub(crate) fn judge(&mut self, has_tag: bool, text: &[u8])
         ensures { self.new ≡ judged has_tag (words text.now) self.old }
     {
@@ -305,7 +305,7 @@ impl Session {
         self.actions = Some(subscription);
     }
 
-    /// Returns the tag behind which it is told of this object's states. None if it is not told.
+    /// Returns the tag after which it is told of this object's states. None if it is not told.
     pub(crate) fn state_tag(&self, object: u16) -> Option<Option<Tag>>
         ensures { result ≡ tag_for self.now.states object }
     {
@@ -315,7 +315,7 @@ impl Session {
         }
     }
 
-    /// Returns the tag behind which it is told of actions at this object. None if it is not told.
+    /// Returns the tag after which it is told of actions at this object. None if it is not told.
     pub(crate) fn action_tag(&self, object: u16) -> Option<Option<Tag>>
         ensures { result ≡ tag_for self.now.actions object }
     {
@@ -325,7 +325,7 @@ impl Session {
         }
     }
 
-    /// Returns the tag behind which it is told of any actions. None if it is told of none.
+    /// Returns the tag after which it is told of any actions. None if it is told of none.
     pub(crate) fn any_action_tag(&self) -> Option<Option<Tag>>
         ensures { result ≡ option_map (λ s. s.tag) self.now.actions }
     {
@@ -335,7 +335,7 @@ impl Session {
         }
     }
 
-    /// Adds a text to the output, behind a tag.
+    /// Adds a text to the output, after a tag.
     ///
     /// Its error is that memory was refused: then a part of the text may be there.
     pub(crate) fn push_reply(&mut self, tag: Option<Tag>, text: &[u8]) -> Result<(), AllocError>

@@ -1,4 +1,4 @@
-//! The tag of a line, by which whoever typed it knows the answers to it.
+//! The tag of a line, by which its client knows the answers to it.
 
 ghost use Rattle.std.specs.Prelude.{◌≡◌, ◌∷◌, Some, None, IfSome, option_map, if◌then◌else◌};
 ghost use Rattle.std.specs.Char.{is_ascii_graphic};
@@ -11,7 +11,7 @@ use smi_tree::first_word;
 /// The most bytes of a tag.
 const MOST: usize = 16;
 
-/// A tag chosen by whoever typed a line: 1 to 16 printable bytes, no blanks.
+/// A tag chosen by the client: 1 to 16 printable bytes, no blanks.
 #[derive(Clone, Copy)]
 pub struct Tag {
     bytes: [u8; MOST],
@@ -69,7 +69,7 @@ pub fn tagged(line: &[u8]) -> Option<(Tag, &[u8])>
     }
 }
 
-/// A line that is handled: its number, its tag, and what stands behind that.
+/// A line that is handled: its number, its tag, and what follows that.
 #[derive(Clone, Copy)]
 pub(crate) struct TaggedLine<'a> {
     /// Its number, from 1.

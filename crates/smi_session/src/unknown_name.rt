@@ -57,7 +57,7 @@ impl NameKind {
     }
 }
 
-/// Returns what the first name behind the verb of an order stands for, and the second one. None if there is no such.
+/// Returns what the first name after the verb of an order stands for, and the second one. None if there is no such.
 fn kinds_of_order(verb: &[u8]) -> (Option<NameKind>, Option<NameKind>)
     ensures { result ≡ spec.kinds_of_order verb.now }
 {
@@ -126,7 +126,7 @@ fn unknown_of_two<'a>(
     }
 }
 
-/// Returns the first unknown name of an order that has a verb: its operator, or a name behind the verb.
+/// Returns the first unknown name of an order that has a verb: its operator, or a name after the verb.
 fn unknown_of_order<'a>(tree: &Tree, operators: &[u16], text: &'a [u8]) -> Option<UnknownName<'a>>
     ensures { option_map (λ u. (u.name.now, u.message.now)) result
         ≡ spec.unknown_of_order tree.now operators.now (words text.now) }

@@ -191,7 +191,7 @@ module _ (h : Hierarchy) (number boot : ℕ) (s : Display) (from : ℕ) where
       (showed_stays (told_state x v state) (acceptance boot (s.shown x) echo v)) refl)
   notice_stays (body.Unwatch x echo) = refl
 
--- What a station has at hand comes to what is defined.
+-- What a station has at hand results in what is defined.
 
 module _ (h : Hierarchy) (s : Station) (grants : Grants) (display : Display)
     (same : display.conditions ≡ s.display.conditions) where

@@ -1,4 +1,4 @@
--- What a domain's objects show anew, in two steps: its devices move, and then its unit.
+-- What a domain's objects newly show, in two steps: its devices move, and then its unit.
 use Rattle.std.proofs.Common.{ℕ, ◌≡◌, ◌≤◌, ◌<◌, ◌+◌, Bool, true, false, List, [], ◌∷◌, ◌++◌, ◌⊎◌, inl, inr}
 use Rattle.std.proofs.Common.{Option, Some, None, refl, sym, ap, ◌∙◌, subst, arith}
 use Rattle.std.specs.Prelude.{◌==◌, ◌||◌, not, IfSome, option_map, if◌then◌else◌}
@@ -76,7 +76,7 @@ any_not {X = X} test x (y ∷ ys) f a = by (test y) refl f (λ g there. any_not 
     by true is f rest = absurd cc
     by false is f rest = elim a [ inl same ↦ ap test same ∙ is | inr there ↦ rest f there ]
 
--- Objects that come to a state.
+-- Objects that enter a state.
 
 -- the object's state is another one, or nothing has changed
 abbrev pub Comes_to : Option Condition → Option Condition → Type 0
@@ -119,7 +119,7 @@ module _ (boot : ℕ) (old mid new : ℕ → Option Condition) (devices : List �
   device_stays x a =
       elim (stirs.last x) [ inl is ↦ is | inr b ↦ absurd (stirs.apart (subst (λ y. In y devices) b.1 a)) ]
 
-  -- what is shown anew in the two steps is what is shown anew in one
+  -- what is newly shown in the two steps is what is newly shown in one
   pub stirs_shown : changes_at boot old mid devices ++ if_any (change_at boot mid new d)
       ≡ changes_at boot old new (devices ++ d ∷ [])
   stirs_shown =
@@ -151,7 +151,7 @@ module _ (boot : ℕ) (old mid new : ℕ → Option Condition) (devices : List �
     )
   ]
 
-  -- where none has come to the last sequence, each may change once more
+  -- if none has reached the last sequence, each may change once more
   pub stirs_room : (h : Hierarchy) → ((x : ℕ) → HasRoom old x) → ((x : ℕ) → IfSome (new x) (IsCondition h))
       → is_spent (changes_at boot old new (devices ++ d ∷ [])) ≡ false → (x : ℕ) → HasRoom new x
   stirs_room h room sound unspent x = elim (changed x) [
@@ -222,7 +222,7 @@ followed_then h before after mid d x = by (are_same before after)
     by true = inl refl
     by false = here (x == d) refl
 
--- one device alone may show something anew
+-- one device alone may change
 pub reported_shown : (h : Hierarchy) (boot : ℕ) (old : ℕ → Option Condition) (d object state : ℕ)
     → Apart same (device_objects h d) → In object (device_objects h d)
     → if_any (change_at boot old (reported old object state) object)
@@ -236,7 +236,7 @@ reported_shown h boot old d object state apart there =
         (ap (λ b. if b then option_map (come_to state) (old y) else old y) other)
         ∙ ap (λ b. if b then option_map (shown boot y) (old y) else None) (differs_not (old y))
 
--- what does not change shows nothing anew
+-- what does not change shows nothing new
 pub unchanged_shown : (boot : ℕ) (old : ℕ → Option Condition) (objects : List ℕ) → changes_at boot old old objects ≡ []
 unchanged_shown boot old [] = refl
 unchanged_shown boot old (x ∷ xs) = ap (λ (o : Option Shown). cons_option o (changes_at boot old old xs))

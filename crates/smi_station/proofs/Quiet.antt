@@ -46,7 +46,7 @@ module _ (h : Hierarchy) (number : ℕ) (s : Station) (g : GrantStep) (n : Notic
   pub quiet_out : with_notice (with_step nothing_out g) n ≡ (put_together h number s g n s.display.conditions []).out
   quiet_out = parts_together h number s g n s.display.conditions [] [] [] refl refl
 
--- whoever could change still may
+-- what could change still may
 pub quiet_room : (s t : Display) → t.conditions ≡ s.conditions → MayChange s → MayChange t
 quiet_room s t same room x = subst (λ (cs : ℕ → Option Condition). HasRoom cs x) (sym same) (room x)
 

@@ -37,7 +37,7 @@ use Rattle.smi_station.proofs.Outcomes.{listed_follows, parts_together, station_
 use Rattle.smi_station.proofs.Passing.{reported_first, reported_shown}
 use Rattle.smi_station.proofs.Stirred.{all_shown, shown_sends, stirred_display, stirred_room, unit_room}
 
--- a device stands among its domain's
+-- a device is among its domain's
 pub device_among : (h : Hierarchy) (device : ℕ) (row : Device) → entry h.devices device ≡ Some row
     → In (domain_count h + device) (device_objects h row.domain)
 device_among h device row at = in_mapped (λ n. domain_count h + n) device (devices_of h row.domain) (by device at)

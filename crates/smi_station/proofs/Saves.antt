@@ -53,7 +53,7 @@ module _ (h : Hierarchy) (number : ℕ) (s : Station) (what : Happening) where
       each None = refl
       each (Some x) = refl
 
-  -- and so where it asks for a row that memory was refused for
+  -- and so if it asks for a row that memory was refused for
   pub wanted_saves : (g : Grants) → s.grants ≡ g → refusal_of h number g what ≡ None
       → is_some (grant_step h number g what).row ≡ true → true ≡ is_some (after h number s what).saved
   wanted_saves g same is wanted =

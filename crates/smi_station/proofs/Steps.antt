@@ -50,7 +50,7 @@ pub running : (k : Kept) (d : Displayed) (b : Bool) (now : Core) → core_with k
     → b ≡ false
 running k d b now view runs = ap (λ (c : Core). c.is_stopped) view ∙ runs
 
--- a step that was made, or came to a fault
+-- a step that was made, or ended in a fault
 pub made_steps : (Q : Type 0) (k0 k2 : Kept) (d0 d2 : Displayed) (stopped : Bool) (o : Outcome) (out : Out)
     (r : Result Heard StepFault)
     → OnOk r (station_with k2 d2 stopped ≡ o.station) → IfOk r (λ heard. heard ≡ o.heard) → OnOk r (out ≡ o.out)
@@ -95,7 +95,7 @@ made_core k0 k2 d0 d2 stopped (Err e) halves room now still kept tidy = record {
   room = λ is. subst (λ (d : Displayed). MayChange (display_of d)) (sym kept.1) room;
 }
 
--- where it runs on whatever comes
+-- if it runs on whatever comes
 pub runs_on : (d2 : Displayed) (r : Result Heard StepFault) → OnOk r (MayChange (display_of d2))
     → OnOk r (false ≡ false → MayChange (display_of d2))
 runs_on d2 (Ok x) room = λ is. room

@@ -73,7 +73,7 @@ module _ (d0 d1 d2 : Displayed) (g : Grants) (before : Listed) (mid : ℕ → Op
     apart = no_device d0.tree d within;
   }
 
-  -- what is shown anew
+  -- what is newly shown
   pub all_shown : second ≡ passed_in d0.tree d0.published.boot (conditions_of d0.published)
       (conditions_of d2.published) (Some d)
   all_shown =

@@ -28,7 +28,7 @@ for_entry (Err NotStored) row entry is = tt
 for_entry (Err Stopped) row entry is = tt
 for_entry (Err Memory) row entry is = rw is (with_entry row)
 
--- for nothing, where it was made
+-- for nothing, if it was made
 pub for_nothing : {X : Type 0} (r : Result X StepFault) (P : Type 0) → IsOk r → IfMemory r P
 for_nothing (Ok x) P made = tt
 for_nothing (Err fault) P made = absurd cc

@@ -53,7 +53,7 @@ tree_of c = c.kept.tree
 abbrev pub number_of : Core → ℕ
 number_of c = c.kept.number
 
--- A step of the station comes to what is defined: the station afterwards, what it made of the event, and what is
+-- A step of the station results in what is defined: the station afterwards, what it made of the event, and what is
 -- handed out; on a fault nothing is.
 pub record Steps (before after : Core) (o : Outcome) (handed : Out) (r : Result Heard StepFault) : Type 0 where
   pub station : OnOk r (station_of after ≡ o.station)
@@ -78,7 +78,7 @@ pub record IsOf (h : Hierarchy) (n : ℕ) (c : Core) : Type 0 where
   pub tree : tree_of c ≡ h
   pub number : number_of c ≡ n
 
--- the station that a start comes to
+-- the station after a start
 abbrev pub begun : Result Core OpenFault → Result Station OpenFault
 begun (Ok core) = Ok (station_of core)
 begun (Err fault) = Err fault

@@ -49,7 +49,7 @@ link_in c who d = link_of (tree_of c) (number_of c) (station_of c) who d
 abbrev pub mode_in : Core → ℕ → Option Mode
 mode_in c d = mode_of (tree_of c) (number_of c) (station_of c) d
 
--- What an open comes to: a station with its store, or a fault and the store.
+-- How an open ends: with a station with its store, or a fault and the store.
 
 abbrev pub core_in : {S : Type 0} → Result (Whole S) (OpenFault × S) → Result Core OpenFault
 core_in (Ok s) = Ok s.core
@@ -59,7 +59,7 @@ abbrev pub store_in : {S : Type 0} → Result (Whole S) (OpenFault × S) → S
 store_in (Ok s) = s.store
 store_in (Err e) = e.1
 
--- what a restart comes to: the station as it is then, or a fault
+-- how a restart ends: with the station as it is then, or a fault
 abbrev pub restarted : {X : Type 0} → Core → Result X OpenFault → Result Core OpenFault
 restarted c (Ok x) = Ok c
 restarted c (Err fault) = Err fault

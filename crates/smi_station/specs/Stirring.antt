@@ -19,7 +19,7 @@ use Rattle.smi_protocol.specs.Display.{Display}
 use Rattle.smi_protocol.specs.Showing.{members_of, passed_in, shown_to_all}
 use Rattle.smi_station_display.specs.Members.{Listed, followed_by, listed_of, nobody}
 
--- the members of the domain as they are, nobody where there is no domain
+-- the members of the domain as they are, nobody if there is no domain
 abbrev pub members_in : Hierarchy → Grants → Display → Option ℕ → Listed
 members_in h g s None = nobody
 members_in h g s (Some d) = listed_of (members_of h g s.conditions s.shown d)
@@ -29,7 +29,7 @@ abbrev pub action_by : Hierarchy → ℕ → Command → Option ℕ
 action_by h d (Do a) = if accepts h d a then Some a else None
 action_by h d _ = None
 
--- it moves them where it runs
+-- it moves them if it runs
 abbrev pub action_of : Hierarchy → Grants → Body → Option ℕ
 action_of h g (body.Run d who e n c) = if admits (g.records d) who e n then action_by h d c else None
 action_of h g _ = None
@@ -56,7 +56,7 @@ abbrev pub stirred : Hierarchy → Grants → Display → Listed → Option ℕ 
 stirred h g s before action None = s.conditions
 stirred h g s before action (Some d) = stirred_in h g s before (acted_by h s.conditions d action) d
 
--- whoever watches is sent what is shown anew
+-- the watchers are sent what is newly shown
 abbrev pub shown_anew : Hierarchy → ℕ → ℕ → Display → (ℕ → Option Condition) → Option ℕ → List Message
 shown_anew h number boot s new domain = flat_map (shown_to_all h number s.watchers)
     (passed_in h boot s.conditions new domain)

@@ -1,4 +1,4 @@
-//! A datagram that comes to a station: it is refused, or what it asks of the grants is planned, saved and made, and
+//! A datagram that reaches a station: it is refused, or what it asks of the grants is planned, saved and made, and
 //! the display follows.
 
 ghost use Rattle.std.specs.Prelude.{◌≡◌, ◌≤◌, true, false, is_some, length, None, IfOk, IfSome, OnOk, OnErr};
@@ -163,7 +163,7 @@ fn same_or_memory(done: Result<(), AllocError>) -> Result<Heard, StepFault>
     }
 }
 
-/// A datagram that is not refused comes; but for a watch. The station stops where one of its objects has come to the
+/// Handles a datagram that is not refused, but for a watch. The station stops if one of its objects has reached the
 /// last sequence.
 fn hear<S: Stable>(
     kept: &mut GrantTable<'_>,

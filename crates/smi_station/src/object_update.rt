@@ -1,4 +1,4 @@
-//! What an event makes a station's objects show anew.
+//! What an event changes at a station's objects.
 
 ghost use Rattle.std.specs.Prelude.{◌≡◌, true, false, IfSome, None};
 ghost use Rattle.smi_message.specs.Message.{is_body};
@@ -85,7 +85,7 @@ fn action_in(tree: &Tree, change: &Change) -> Option<u16>
     }
 }
 
-/// The members of the domain, nobody where there is none.
+/// Returns the members of the domain, nobody if there is none.
 fn members_in(display: &Displayed<'_>, kept: &GrantTable<'_>, domain: Option<u16>) -> Members
     requires { IfSome domain (IsBetween 1 (domain_count display.now.tree)) }
     ensures { result ≡ members_in display.now.tree (grants_of kept.now) (display_of display.now) domain }
@@ -122,7 +122,7 @@ pub(crate) fn snapshot_before(
     }
 }
 
-/// The devices of a domain move, if an action runs there; what they show anew.
+/// Moves the devices of a domain, if an action runs there. Returns their changes.
 fn move_devices(display: &mut Displayed<'_>, domain: u16, action: Option<u16>) -> Changes
     requires domain { IsBetween 1 (domain_count display.old.tree) domain }
     requires room { MayChange (display_of display.old) }
@@ -149,8 +149,8 @@ ghost use Rattle.std.specs.List.{AllByRecursion};
 ghost use Rattle.smi_protocol.specs.SoundDisplay.{IsShown};
 ghost use Rattle.smi_publish.specs.Published.{most_changes};
 
-/// The devices of the domain that was found move, and its unit follows; what they show anew is told to whoever
-/// watches them. Whether one of them has come to the last sequence.
+/// Moves the devices of the domain that was found, has its unit follow, and sends what they newly show to their
+/// watchers. Returns true if one of them has reached the last sequence.
 pub(crate) fn update_objects(
     display: &mut Displayed<'_>,
     kept: &GrantTable<'_>,

@@ -1,4 +1,4 @@
-//! An order that comes to a station: it is refused, or what it asks of the grants is planned, saved and made, and the
+//! An order that reaches a station: it is refused, or what it asks of the grants is planned, saved and made, and the
 //! display follows.
 
 ghost use Rattle.std.specs.Prelude.{◌≡◌, true, false, is_some, ℕ, None, IfOk, IfSome, OnOk, OnErr};

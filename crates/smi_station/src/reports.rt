@@ -17,7 +17,7 @@ use smi_station_display::Displayed;
 use smi_station_grants::GrantTable;
 use smi_station_output::Out;
 
-/// What one object shows anew, if it does.
+/// Returns the change of one object, if it has changed.
 fn changes_of(shown: Option<Shown>) -> Changes
     ensures { result ≡ if_any shown }
 {
@@ -52,7 +52,8 @@ ghost use Rattle.smi_tree.specs.Roles.{is_kept_by};
 ghost use Rattle.smi_tree.specs.Lawful.{IsBetween};
 ghost use Rattle.smi_tree.specs.Lookups.{device_count, domain_count};
 
-/// A device that the station keeps reports its state. Whether one of its objects has come to the last sequence.
+/// Reports the state of a device that the station keeps. Returns true if one of its objects has reached the
+/// last sequence.
 fn report(
     kept: &GrantTable<'_>,
     display: &mut Displayed<'_>,

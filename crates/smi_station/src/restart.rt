@@ -62,7 +62,7 @@ impl<'a, S: Stable> Station<'a, S> {
     ghost use Rattle.smi_station.specs.Core.{IsOf, IsStoredIn, begun, number_of, station_of, tree_of};
     ghost use Rattle.smi_station.specs.Readers.{restarted};
 
-    /// The station starts again on its own store, as one that is given up and opened anew: where the rows say all that
+    /// Starts the station again on its own store, as one that is given up and opened again: if the rows say all that
     /// it keeps, it keeps the same, one boot later, and has lost what it showed. All memory is taken and all rows are
     /// read before the raised boot is saved.
     ///

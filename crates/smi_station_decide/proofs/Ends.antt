@@ -1,4 +1,4 @@
--- How a domain stands after it was told of a child, and who is told so.
+-- The state of a domain after it was told of a child, and who is told so.
 use Rattle.std.proofs.Common.{ℕ, ◌≡◌, Bool, true, false, List, [], ◌∷◌, refl, sym, ap, ◌∙◌}
 use Rattle.std.specs.Prelude.{◌&&◌, not, if◌then◌else◌, unwrap_or}
 use Rattle.std.proofs.lemmas.Bool.{and_parts}
@@ -43,7 +43,7 @@ module _ (h : Hierarchy) (number : ℕ) (g : Grants) (p d : ℕ) (r : Standing) 
   holder_stays true = ap (λ (z : Standing). z.holder) (put_here g.records p (ended_record on p))
   holder_stays false = refl
 
-  -- its command ends where it was at work and is not
+  -- its command ends if it was at work and is not
   end_told : (b : Bool) → ends h on p ≡ b → told_end h number p (g.records p) ((ended b on p).records p)
       ≡ ended_sends h number b on p
   end_told true is =

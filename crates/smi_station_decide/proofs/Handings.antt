@@ -1,4 +1,4 @@
--- What a keeper hands out is how the domain stands after it.
+-- What a keeper hands out is the domain's record after it.
 use Rattle.std.proofs.Common.{ℕ, ◌≡◌, Bool, true, List, [], ◌∷◌, refl, sym, ap, ◌∙◌, subst}
 use Rattle.std.specs.Prelude.{◌==◌, if◌then◌else◌}
 use Rattle.std.proofs.lemmas.Bool.{and_parts}
@@ -94,7 +94,7 @@ module _ (h : Hierarchy) (number : ℕ) (g : Grants) (from d : ℕ) (out : Out) 
         ∙ sym (ap (λ b. with_step out (if b then ran h number g from d e n c busy own
         else answered h number g from d)) runs)
 
--- a command runs where nothing is at work
+-- a command runs if nothing is at work
 pub settled_there : (g : Grants) (d : ℕ) (who : Holder) (e n : ℕ) → admits (g.records d) who e n ≡ true
     → is_settled (g.records d).phase ≡ true
 settled_there g d who e n t =

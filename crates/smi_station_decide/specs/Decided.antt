@@ -1,4 +1,4 @@
--- What an operator's order comes to, decided once: what the operator's link becomes, or why the order is refused.
+-- What an operator's order results in, decided once: what the operator's link becomes, or why the order is refused.
 use Rattle.std.specs.Prelude.{ℕ, Bool, true, false, if◌then◌else◌, [], Option, Some, None, Result, Ok, Err, nat_le}
 use Rattle.smi_grant.specs.declared.Command.{Command}
 use Rattle.smi_grant.specs.declared.Command.TheVariants.{Do, Include, Exclude, Manual, Ignore}

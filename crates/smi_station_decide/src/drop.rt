@@ -23,7 +23,7 @@ use smi_protocol::Entry;
 use smi_station_grants::{Change, GrantTable};
 use smi_station_output::{Entries, Out};
 
-/// A drop comes: who drops is told how the domain stands after it.
+/// Handles a drop: its sender is told the domain's record after it.
 pub fn decide_drop(
     out: &mut Out,
     kept: &GrantTable<'_>,
@@ -49,7 +49,7 @@ pub fn decide_drop(
     change
 }
 
-/// What a drop leaves that comes to this change: the domain becomes free, where it does.
+/// Returns what a drop with this change leaves: the domain becomes free, if it does.
 fn freed(domain: u16, change: &Change) -> Entries
     ensures { (h : Hierarchy) (number : ℕ) (g : Grants) (from : ℕ) (holder : grant_holder.Holder) (epoch : ℕ)
         → change.now ≡ handed_by domain (drop_after (g.records domain) holder epoch)

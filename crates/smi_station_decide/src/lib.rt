@@ -11,7 +11,7 @@
 //! while the tables are still as before. They hand out what the definition of the same event sends, answers and issues
 //! (`with_step`, specs/Handing).
 //!
-//! - `run_comes` answers what a command comes to that the record admits (`Begins`, specs/Begun). The change that is
+//! - `run_comes` answers the result of a command that the record admits (`Begins`, specs/Begun). The change that is
 //!   made of it has `Plans` (`begun_planned`, proofs/Verdicts). It looks at each child once (`command_effect`): for
 //!   what becomes of it, for the code with which the command begins, and for whether a child will have to answer.
 //! - An order is decided in one place (`decided`, specs/Decided). What is decided is refused as the definition refuses

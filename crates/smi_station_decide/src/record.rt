@@ -1,4 +1,4 @@
-//! The record of a domain: how it stands after a change, and who is told.
+//! The record of a domain after a change, and who is told it.
 
 ghost use Rattle.std.specs.Prelude.{◌≡◌, ◌∷◌, [], false, true};
 ghost use Rattle.smi_grant.specs.Record as record_spec;
@@ -35,7 +35,7 @@ pub(crate) fn record_after(kept: &GrantTable<'_>, change: &Change, domain: u16) 
     after.record(domain)
 }
 
-/// A station is told how a domain stands.
+/// Sends a station the domain's record.
 pub(crate) fn send_record(out: &mut Out, kept: &GrantTable<'_>, to: u16, domain: u16, told: Record)
     requires to { IsBetween 1 (station_count kept.now.tree) to }
     requires domain { IsBetween 1 (domain_count kept.now.tree) domain }
@@ -50,7 +50,7 @@ pub(crate) fn send_record(out: &mut Out, kept: &GrantTable<'_>, to: u16, domain:
     out.send(datagram);
 }
 
-/// A station asks about a domain: it is told how the domain stands.
+/// Handles a question about a domain: its sender is told the record.
 pub fn answer_ask(out: &mut Out, kept: &GrantTable<'_>, from: u16, domain: u16)
     requires sound { IsSound kept.now.tree (grants_of kept.now) }
     requires from { IsBetween 1 (station_count kept.now.tree) from }

@@ -54,7 +54,7 @@ pub struct BegunCommand {
     pub children: CommandedChildren,
 }
 
-/// What a command comes to: whether a child has to answer, the largest of the codes with which it begins, the domain's
+/// The result of a command: whether a child has to answer, the largest of the codes with which it begins, the domain's
 /// own and its children's, and what it does to these.
 #[derive(Drop)]
 struct CommandEffect {
@@ -65,7 +65,7 @@ struct CommandEffect {
 
 // ---- what is decided and handed out
 
-/// A command comes: who sent it is told how the domain stands after it, and where it runs, the children's links
+/// Handles a command: its sender is told the domain's record after it, and if it runs, the children's links
 /// that it has changed are asked for what they are due.
 ///
 /// Its error is that memory was refused for a command that runs; then nothing is handed out.
@@ -162,7 +162,7 @@ fn run_comes(
     }))
 }
 
-/// What a command of a domain comes to, by one look at each of its children.
+/// Returns the result of a command of a domain, by one look at each of its children.
 ///
 /// Its error is that memory was refused.
 fn command_effect(
@@ -423,7 +423,7 @@ fn of_child(known: &CommandedChildren, domain: u16, command: Command) -> Option<
     }
 }
 
-/// What becomes of a command's target, where it is a child of the domain.
+/// Returns what becomes of a command's target, if it is a child of the domain.
 fn at_target(known: &CommandedChildren, domain: u16, target: u16) -> Option<Entry>
     ensures { (h : Hierarchy) (g : Grants) (c : Command) → AreSo h g domain c known.now
         → if_any result ≡ keeping.entries_at h g domain c target }

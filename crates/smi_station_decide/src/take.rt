@@ -23,7 +23,7 @@ use smi_protocol::Entry;
 use smi_station_grants::{Change, GrantTable};
 use smi_station_output::{Entries, Out};
 
-/// A take comes: who takes is told how the domain stands after it.
+/// Handles a take: its sender is told the domain's record after it.
 pub fn decide_take(
     out: &mut Out,
     kept: &GrantTable<'_>,
@@ -51,7 +51,7 @@ pub fn decide_take(
     change
 }
 
-/// What a take leaves that comes to this change: the domain is granted, where it is.
+/// Returns what a take with this change leaves: the domain is granted, if it is.
 fn granted(domain: u16, holder: Holder, change: &Change) -> Entries
     ensures { (h : Hierarchy) (number : ℕ) (g : Grants) (from seen : ℕ)
         → change.now ≡ handed_by domain (take_after (g.records domain) holder seen)

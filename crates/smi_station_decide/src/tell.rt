@@ -76,7 +76,7 @@ fn listener(kept: &GrantTable<'_>, domain: u16, news: &Record) -> Option<Holder>
     listening_parent(kept, domain, news)
 }
 
-/// The parent of a domain, where it is kept here and the record changes its link.
+/// Returns the parent of a domain, if it is kept here and the record changes its link.
 fn listening_parent(kept: &GrantTable<'_>, domain: u16, news: &Record) -> Option<Holder>
     ensures { result ≡ find (λ who. hearing.hears ((grants_of kept.now).links who domain) who news.now)
         (hearing.parent_here kept.now.tree kept.now.number (parent_of kept.now.tree domain)) }
@@ -308,7 +308,7 @@ fn order_of(domain: u16, command: Command) -> Order
     }
 }
 
-/// A take has come to its grant.
+/// A take is granted.
 fn learned(holder: Holder, domain: u16, old: &Link, new: &Link) -> Option<Entry>
     ensures { if_any result ≡ hearing.learned holder domain old.now new.now }
 {
@@ -392,7 +392,7 @@ fn parent_told(kept: &GrantTable<'_>, parent: u16, child: u16, news: &Record) ->
     }
 }
 
-/// Whether the command of a domain ends, where it has this link to one of its children.
+/// Returns true if the command of a domain ends that has this link to one of its children.
 fn ends(kept: &GrantTable<'_>, domain: u16, child: u16, link: &Link) -> bool
     requires least { 1 ≤ domain }
     requires most { domain ≤ domain_count kept.now.tree }
@@ -402,7 +402,7 @@ fn ends(kept: &GrantTable<'_>, domain: u16, child: u16, link: &Link) -> bool
     !is_settled(kept.record(domain).phase) && !waits_with(kept, domain, child, link)
 }
 
-/// Whether a domain waits for a child, where it has this link to one of them.
+/// Returns true if a domain with this link to one of its children waits for that child.
 fn waits_with(kept: &GrantTable<'_>, domain: u16, child: u16, link: &Link) -> bool
     requires least { 1 ≤ domain }
     requires most { domain ≤ domain_count kept.now.tree }

@@ -52,7 +52,7 @@ entry_map {X = X} f xs n d same = by (n == 0)
     by true = sym same
     by false = read xs (n - 1)
 
--- tables in which nothing stands
+-- empty tables
 entry_replicate : {X : Type 0} (d : X) (n m : ℕ) → entry_or (replicate n d) m d ≡ d
 entry_replicate {X = X} d n m = by (m == 0)
   where
@@ -276,7 +276,7 @@ told_is h number boot s from echo t same is =
     rw (eq-eqb echo boot same, is) (shown_after s t
     (if is_newer_than_last (s.shown t.object) t.version then Accepted else NotNewer))
 
--- What is shown anew can be told.
+-- What is newly shown can be told.
 
 module _ (s : Displayed) (now : IsDisplayed s) (old : ℕ → Option Condition) where
   pub change_shown : (boot x : ℕ) → boot ≡ s.published.boot

@@ -54,7 +54,7 @@ nobody_left from (w ∷ ws) = by (is_of from w) refl (nobody_left from ws)
     by true is rest = rest
     by false is rest = rw is rest
 
--- and is added anew
+-- and is added again
 pub left_adds : (from : ℕ) (lists : List (List Watcher)) (x echo : ℕ)
     → answer_in (listed (left_by from lists) x) from echo ≡ Added
 left_adds from lists x echo =

@@ -16,7 +16,7 @@ use Rattle.smi_protocol.specs.Showing.{Member}
 use Rattle.smi_protocol.proofs.Lists.{In, from_numbers}
 use Rattle.smi_station_display.specs.Members.{Listed, added, listed_of, nobody, one_more}
 
--- a list of which the first so many have changed
+-- a list of which this many at the front have changed
 pub so_far : {X : Type 0} → (X → X) → List X → ℕ → List X
 so_far f [] i = []
 so_far f (x ∷ xs) zero = x ∷ xs
@@ -92,7 +92,7 @@ drop_next xs i d within = drop-cons xs i d within ∙ ap (λ n. get_or xs i d �
     later : (i : ℕ) → suc i ≡ i + 1
     later i = omega arith
 
--- so many devices, children and operators at most
+-- how many devices, children and operators at most
 pub few_devices : (h : Hierarchy) → IsTree h → (d : ℕ) → length (devices_of h d) ≤ MOST_DEVICES_OF_A_DOMAIN
 few_devices h tree d = subst (λ n. n ≤ MOST_DEVICES_OF_A_DOMAIN) (sym (numbers_counted (is_device_of d) h.devices))
     (tree.lawful.devices.of_domain d)
@@ -105,7 +105,7 @@ pub few_operators : (h : Hierarchy) → IsTree h → (number : ℕ) → length (
 few_operators h tree number = subst (λ n. n ≤ 8) (sym (numbers_counted _ h.homes))
     (tree.lawful.operators.of_station number)
 
--- what stands at a place of a list stands in it
+-- what is at a place of a list is in it
 pub in_at : {X : Type 0} (xs : List X) (i : ℕ) (d : X) → i < length xs → In (get_or xs i d) xs
 in_at [] i d within = absurd (omega (arith, within))
 in_at (x ∷ xs) zero d within = inl refl

@@ -11,11 +11,11 @@ pub record Listed : Type 0 where
   pub objects : List ℕ
   pub states : List ℕ
 
--- so many members a domain may have: its devices and its children
+-- how many members a domain may have: its devices and its children
 abbrev pub most_members : ℕ
 most_members = MOST_MEMBERS
 
--- so many places, of which the first hold something
+-- a number of places, of which the first hold something
 pub record IsStored (places : List ℕ) (count : ℕ) : Type 0 where
   pub all : length places ≡ most_members
   pub within : count ≤ most_members

@@ -12,7 +12,7 @@ use Rattle.smi_protocol.specs.Ticking.{Owed, first_place, is_before, next_place,
 use Rattle.smi_protocol.specs.declared.ResendCursor.{ResendCursor}
 use Rattle.smi_protocol.specs.declared.ResendCursor.TheVariants as place
 
--- where it begins, what it sent last, and how many more it may send
+-- its beginning, what it sent last, and how many more it may send
 pub record Resend : Type 0 where
   pub from : ResendCursor
   pub last : ResendCursor

@@ -131,7 +131,7 @@ impl<'a> Displayed<'a> {
         }
     }
 
-    /// A record is told: whoever has asked about the domain is answered, and asks no more.
+    /// A record is told: those who have asked about the domain are answered, and ask no more.
     pub fn record_comes(&mut self, out: &mut Out, domain: u16, news: &Record)
         requires room { length out.old.answers + 8 ≤ most_answers }
         ensures display { display_of self.new
@@ -144,7 +144,7 @@ impl<'a> Displayed<'a> {
         self.forget_questions(domain);
     }
 
-    /// Whoever has asked about the domain is answered.
+    /// Answers those who have asked about the domain.
     fn answer_askers(&self, out: &mut Out, domain: u16, news: &Record)
         requires room { length out.old.answers + 8 ≤ most_answers }
         ensures { out.new

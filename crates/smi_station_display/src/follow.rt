@@ -1,4 +1,4 @@
-//! What a domain's objects show anew, and who is told.
+//! What a domain's objects newly show, and who is told.
 
 ghost use Rattle.std.specs.Prelude.{◌≡◌};
 ghost use Rattle.smi_protocol.specs.Showing.{is_spent};
@@ -11,7 +11,7 @@ use smi_publish::Changes;
 use smi_station_grants::GrantTable;
 use smi_station_output::Out;
 
-/// Whether one of these objects has come to the last sequence, after which its station stops.
+/// Returns true if one of these objects has reached the last sequence, after which its station stops.
 fn is_spent(changes: &[Shown]) -> bool
     ensures { result ≡ is_spent changes.now }
 {
@@ -34,8 +34,8 @@ impl<'a> Displayed<'a> {
     ghost use Rattle.smi_station_display.specs.Following.{followed_at};
     ghost use Rattle.smi_station_display.specs.Listening.{KeepsTheRest};
 
-    /// A domain's unit follows its members, which were these, and what the domain's objects show anew is told to
-    /// whoever watches them; whether one of them has come to the last sequence.
+    /// Re-evaluates the unit if its members differ from these, and sends STATE for each changed object to its watchers.
+    /// Returns true if one of the objects has reached the last sequence.
     pub fn publish_changes(
         &mut self,
         out: &mut Out,

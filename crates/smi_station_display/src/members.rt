@@ -1,7 +1,7 @@
 use smi_base::{MOST_CHILDREN, MOST_DEVICES_OF_A_DOMAIN};
 use std::marker::Model;
 
-/// So many members a domain may have: its devices and its children.
+/// How many members a domain may have: its devices and its children.
 pub const MOST_MEMBERS: usize = MOST_DEVICES_OF_A_DOMAIN + MOST_CHILDREN;
 
 /// The members of a domain and their states. The lists lie in the value itself, so it takes no memory; contracts see

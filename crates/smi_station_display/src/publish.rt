@@ -37,7 +37,7 @@ impl<'a> Displayed<'a> {
     ghost use Rattle.smi_station_display.specs.Listening.{KeepsTheRest};
     ghost use Rattle.smi_station_display.specs.Members.{added, followed_by, listed_of};
 
-    /// The state of an object of the station, 0 where it keeps none.
+    /// Returns the state of an object of the station, 0 if it keeps none.
     fn state_of(&self, object: u16) -> u16
         ensures { result ≡ option_map_or (λ c. c.state) ((display_of self.now).conditions object) 0 }
     {
@@ -49,7 +49,7 @@ impl<'a> Displayed<'a> {
 
     ghost use Rattle.std.specs.Option.{option_map_or};
 
-    /// The state that an object was shown to be in last, 0 where it was not shown yet.
+    /// Returns the state that an object was shown in last, 0 if it was not shown yet.
     fn shown_state_of(&self, object: u16) -> u16
         ensures { result ≡ option_map_or (λ s. s.state) ((display_of self.now).shown object) 0 }
     {
@@ -108,7 +108,7 @@ impl<'a> Displayed<'a> {
         members
     }
 
-    /// Every device of a domain moves by its class; what they show anew, by number.
+    /// Moves every device of a domain by its class. Returns the changes, by number.
     pub fn act(&mut self, domain: u16, action: u16) -> Changes
         requires least { 1 ≤ domain }
         requires most { domain ≤ domain_count self.old.tree }
@@ -124,7 +124,7 @@ impl<'a> Displayed<'a> {
         self.publisher.run_action(self.tree, domain, action)
     }
 
-    /// A device reports its state; what it shows anew.
+    /// Reports the state of a device. Returns its change.
     pub fn report(&mut self, device: u16, state: u16) -> Option<Shown>
         requires device { IsBetween 1 (device_count self.old.tree) device }
         requires state { IsBetween 1 (state_count self.old.tree) state }
@@ -143,7 +143,7 @@ impl<'a> Displayed<'a> {
             .report(self.tree.domain_count() + device, state)
     }
 
-    /// A unit follows its members, where they are not what they were; what it shows anew.
+    /// Re-evaluates a unit if its members have changed. Returns its change.
     pub fn follow(&mut self, domain: u16, before: &Members, after: &Members) -> Option<Shown>
         requires room { HasRoom (display_of self.old).conditions domain }
         ensures display { display_of self.new ≡ record
@@ -162,7 +162,7 @@ impl<'a> Displayed<'a> {
         self.publisher.evaluate(self.tree, domain, after.states())
     }
 
-    /// Whoever watches an object is told what it shows.
+    /// Tells the watchers of an object what it shows.
     fn show_to_all(&self, out: &mut Out, shown: Shown)
         requires { IsShown self.now.tree shown }
         ensures { out.new
@@ -176,7 +176,7 @@ impl<'a> Displayed<'a> {
         }
     }
 
-    /// Whoever watches the objects that show something anew is told so.
+    /// Tells the watchers of the objects that have changed.
     pub fn send_changes(&self, out: &mut Out, changes: &[Shown])
         requires { AllByRecursion (IsShown self.now.tree) changes.now }
         ensures { out.new

@@ -10,7 +10,7 @@ use smi_station_output::Out;
 use smi_tree::Tree;
 use std::marker::Model;
 
-/// The number of a place's kind, by which places stand.
+/// Returns the number of a place's kind, by which places are ordered.
 fn kind(place: ResendCursor) -> u8
     ensures { result ≡ kind_of place }
 {
@@ -24,7 +24,7 @@ fn kind(place: ResendCursor) -> u8
 
 ghost use Rattle.smi_station_display.specs.Sweeping.{kind_of};
 
-/// Whether one place stands before another.
+/// Returns true if one place precedes another.
 fn is_before(a: ResendCursor, b: ResendCursor) -> bool
     ensures { result ≡ ticking.is_before a b }
 {
@@ -77,7 +77,7 @@ fn next_place(tree: &Tree, place: ResendCursor) -> ResendCursor
 
 ghost use Rattle.smi_station_display.specs.Sweeping.{IsPlace};
 
-/// A sweep: where it begins, what it sent last, and how many more datagrams it may send.
+/// A sweep: its beginning, what it sent last, and how many more datagrams it may send.
 #[derive(Drop)]
 pub(crate) struct Resend {
     from: ResendCursor,

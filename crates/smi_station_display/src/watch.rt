@@ -16,7 +16,7 @@ use smi_view::Acceptance;
 use smi_watchers::{WatchFault, Watchers};
 use std::alloc::AllocError;
 
-/// A station is put into the list of an object, and first taken out of all where it was started again; whether
+/// Puts a station into the list of an object, and first takes it out of all if it was started again. Returns whether
 /// there was room for it.
 fn listen(
     watchers: &mut Watchers,

@@ -1,4 +1,4 @@
--- The children of a domain: who is among them, and that none stands twice.
+-- The children of a domain: who is among them, and that none occurs twice.
 use Rattle.std.proofs.Common.{◌≡◌, ℕ, zero, suc, ◌+◌, ◌-◌, ◌<◌, ◌≤◌, Bool, true, false, List, [], ◌∷◌, length, get_or}
 use Rattle.std.proofs.Common.{take, Option, Some, None, refl, ◌∙◌, arith}
 use Rattle.std.specs.Prelude.{◌==◌, ◌||◌, if◌then◌else◌, slice_get, option_and_then}
@@ -11,7 +11,7 @@ use Rattle.smi_tree.specs.declared.row.Domain.{Domain}
 use Rattle.smi_tree.specs.Roles.{is_parent}
 use Rattle.smi_station_grants.specs.Children.{is_among}
 
--- no number stands before the first
+-- no number is before the first
 none_before : {X : Type 0} (test : X → Bool) (first : ℕ) (rows : List X) (x : ℕ) → x < first
     → is_among (numbers_from test first rows) x ≡ false
 none_before test first [] x below = refl
@@ -91,7 +91,7 @@ at_least test first (row ∷ rows) i d within = by_test (λ j w. at_least test (
     by_test rest true w = by_place rest i w
     by_test rest false w = omega (arith, rest i w)
 
--- none stands twice
+-- none occurs twice
 fresh_numbers : {X : Type 0} (test : X → Bool) (first : ℕ) (rows : List X) (i d : ℕ)
     → i < length (numbers_from test first rows)
     → is_among (take i (numbers_from test first rows)) (get_or (numbers_from test first rows) i d) ≡ false

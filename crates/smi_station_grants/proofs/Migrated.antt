@@ -1,4 +1,4 @@
--- Rows written anew one after the other come to all rows in their newest schemas.
+-- Rows rewritten one after the other are all rows in their newest schemas.
 use Rattle.std.proofs.Common.{ℕ, zero, suc, ◌≡◌, ◌≤◌, ◌<◌, ◌+◌, ◌*◌, ◌^◌, ◌⊎◌, inl, inr, Bool, true, false, List, []}
 use Rattle.std.proofs.Common.{◌∷◌, length, take, Option, Some, None, Result, Ok, Err, refl, sym, ap, ◌∙◌, subst, arith}
 use Rattle.std.specs.Prelude.{◌==◌, ◌&&◌, not, nat_lt, count_by, if◌then◌else◌, option_and_then, option_map}
@@ -93,7 +93,7 @@ take_earlier (suc n) (r ∷ xs) j k b rising first is =
     by false false here i rest = rest i
 
 module _ (h : Hierarchy) (number : ℕ) where
-  -- a row that is told, anew where it is of an older schema
+  -- a row that is told, rewritten if it is of an older schema
   abbrev renewed_of : Saved → Option Row → Option Saved
   renewed_of r None = None
   renewed_of r (Some said) = if is_older r.key r.bytes then Some (saved r.key (newest_bytes said)) else None
@@ -203,7 +203,7 @@ module _ (h : Hierarchy) (number : ℕ) where
       by (Ok o) said rest later = at_key o said rest later (same_key r.key k) refl is
       by (Err fault) said rest later = absurd cc
 
-  -- the row of a key anew, or as it was, is in its newest schema
+  -- the row of a key, rewritten or as before, is in its newest schema
   newest_at : (k : Key) (b : List ℕ) (o : Option Row) → said_to h number (saved k b) ≡ Ok o
       → first_of (anew_at k b) (Some b) ≡ (if k.station == number then in_newest_if (read (row_of h k b)) (Some b)
       else Some b)

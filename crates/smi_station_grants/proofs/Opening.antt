@@ -48,7 +48,7 @@ not_behind a b first = grind (arith, nat_tests)
 pub not_itself : (a : Key) → is_before a a ≡ false
 not_itself a = grind (arith, nat_tests)
 
--- what does not stand after a key is not in a list that rises from it
+-- what is not after a key is not in a list that rises from it
 pub not_found : (low : Key) (list : List Saved) (k : Key) → rises_after low list ≡ true → is_before low k ≡ false
     → found_in list k ≡ None
 not_found low [] k rising early = refl
@@ -315,7 +315,7 @@ boot_sound h g boot sound = record {
 }
 
 module _ (h : Hierarchy) (number : ℕ) (list : List Saved) where
-  -- whatever the rows, what they come to is what some rows mean
+  -- whatever the rows, their result is what some rows mean
   pub started_sound : (k : Grants) → started h number list ≡ Ok k → IsSound h k × (is_boot k.boot ≡ true)
   started_sound k is =
       let s = started_is h number list k is in

@@ -1,4 +1,4 @@
--- What a migration has to save anew, whole or in part, and how many rows that are.
+-- What a migration has to save again, whole or in part, and how many rows that are.
 use Rattle.std.proofs.Common.{ℕ, ◌≡◌, ◌<◌, ◌^◌, ◌⊎◌, inl, inr, Bool, true, false, List, [], ◌∷◌, length, take, Some}
 use Rattle.std.proofs.Common.{None, refl, sym, ap, ◌∙◌, subst}
 use Rattle.std.specs.Prelude.{count_by, if◌then◌else◌}
@@ -65,7 +65,7 @@ listed_once (r ∷ xs) (s ∷ ys) x y same = elim (either_before r.key s.key) [
             ∙ ap (λ u. if u then Some s.bytes else found_in ys k)
             (ap (λ j. same_key j k) (sym (same-is r.key s.key here)) ∙ is)
 
--- What is to be saved anew.
+-- What is to be saved again.
 
 -- the same list by another name
 pub named_so : {h : Hierarchy} {number : ℕ} {rows : Rows} {items had : List Saved} → had ≡ items
@@ -98,7 +98,7 @@ module _ {h : Hierarchy} {number : ℕ} {rows : Rows} {items : List Saved} (to :
       ∙ ap (λ (xs : List Saved). count_by (is_renewed number) xs)
       (listed_once to.list list to.listing.rises listing.rises (λ k. to.listing.same k ∙ sym (listing.same k)))
 
-  -- so many there are
+  -- this many there are
   pub are_counted : (n : ℕ) → n ≡ length items → Counts number rows n
   are_counted n is = record {
     list = to.list;

@@ -146,7 +146,7 @@ read_lawful b m is =
     let kind = passed (is_kind (slice_index b 2) (slice_index b 3)) _ bad.Kind m layout in
     read_fields b m kind
 
--- whatever comes to a station that runs
+-- whatever reaches a station that runs
 pub event_stored : (h : Hierarchy) (number : ℕ) (s : Station) (rows : Rows) (e : Event) → IsTree h
     → IsStored h number s.grants rows
     → IsStored h number (after_event h number s e).station.grants (with_saved (after_event h number s e).saved rows)
@@ -177,7 +177,7 @@ event_stored h number s rows (event.Report device state) tree stored =
     after_stored h number s rows (Reports device state) tree tt stored
 event_stored h number s rows event.Tick tree stored = after_stored h number s rows Ticks tree tt stored
 
--- Rows written anew.
+-- Rows rewritten.
 
 -- rows that say the same mean the same
 same_meaning : (h : Hierarchy) (number : ℕ) (before after : Rows) → SaysTheSame h before after
@@ -189,7 +189,7 @@ same_meaning h number before after same =
     (λ x. ap links_of (same (key number 0 x)))
     ∙ sym (in_rows h number before)
 
--- a row that is read is read when it is written anew
+-- a row that is read is read when it is rewritten
 newest_read : (h : Hierarchy) (k : Key) (o : Option (List ℕ)) → option_and_then (λ b. fault_in (row_of h k b)) o ≡ None
     → option_and_then (λ b. fault_in (row_of h k b)) (in_newest_if (option_and_then (λ b. read (row_of h k b)) o) o)
     ≡ None

@@ -202,7 +202,7 @@ module _ (h : Hierarchy) (number : ℕ) where
       ∙ ap (λ (b : Bool). length (if b then replicate (domain_count h) (Out 0) else replicate 0 (Out 0))) here
       ∙ length-replicate (domain_count h) (Out 0)
 
-  -- tables in which nothing stands
+  -- empty tables
   pub first_is : (a b c d n : ℕ) (k : Kept) → k.boot ≡ 0 → k.records ≡ replicate a fresh → k.gathered ≡ replicate b 0
       → k.modes ≡ replicate c Included → k.child_links ≡ replicate d (Out 0)
       → k.operator_links ≡ tables n → grants_of k ≡ no_grants

@@ -1,4 +1,4 @@
--- Results that come to what they are to be.
+-- Results that are what they are to be.
 use Rattle.std.proofs.Common.{◌≡◌, Result, Ok, Err, refl, ap}
 use Rattle.smi_protocol.specs.declared.fault.OpenFault.{OpenFault}
 use Rattle.smi_protocol.specs.declared.fault.OpenFault.TheVariants.{NoSuchStation, Row, BootsSpent, Store, Memory}

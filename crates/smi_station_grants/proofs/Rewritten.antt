@@ -1,4 +1,4 @@
--- What is written anew reads as before.
+-- What is rewritten reads as before.
 use Rattle.std.proofs.Common.{ℕ, ◌≡◌, ◌≤◌, Bool, true, false, List, [], ◌∷◌, length, Some, None, Ok, refl, sym, ap}
 use Rattle.std.proofs.Common.{◌∙◌, subst, arith}
 use Rattle.std.specs.Prelude.{◌==◌, ◌&&◌, nat_le, if◌then◌else◌}
@@ -197,7 +197,7 @@ module _ (h : Hierarchy) (k : Key) (b : List ℕ) (r : Row) (is : IsRow h k b r)
     is.1,
   )
 
-  -- what is written anew reads as it did
+  -- what is rewritten reads as it did
   pub newest_reads : row_of h k (newest_bytes r) ≡ Ok r
   newest_reads = row_is_read h k (newest_bytes r) r newest_row
 

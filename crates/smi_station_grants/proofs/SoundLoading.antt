@@ -129,7 +129,7 @@ later low y (x ∷ links) rises (inr a) =
     let rest = later x.domain y links r.1 a in
     omega (arith, less, rest)
 
--- where they rise, each is the link to its domain
+-- if they rise, each is the link to its domain
 stored_once : (low : ℕ) (y : StoredLink) (links : List StoredLink) → rises_above low links ≡ true → In y links
     → stored_at links y.domain ≡ y
 stored_once low y [] rises a = absurd a
@@ -230,7 +230,7 @@ fresh_kept h d = record {
   children = tt;
 }
 
--- a row is read where it is a row
+-- a row is read if it is a row
 pub said_row : (h : Hierarchy) (rows : Rows) (k : Key) (r : Row) → said h rows k ≡ Some r → (b : List ℕ) × IsRow h k b r
 said_row h rows k r is = by (rows k) is
   where

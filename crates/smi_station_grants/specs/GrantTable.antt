@@ -16,7 +16,7 @@ use Rattle.smi_rows.specs.declared.Mode.TheVariants.{Included}
 use Rattle.smi_protocol.specs.Grants.{Grants}
 use Rattle.smi_station_grants.specs.Entries.{entry_or}
 
--- Records, gathered codes, modes and the links of parents to their children stand by domain, the links of
+-- Records, gathered codes, modes and the links of parents to their children are by domain, the links of
 -- operators by operator and domain.
 pub record Kept : Type 0 where
   pub tree : Hierarchy

@@ -5,8 +5,8 @@ use Rattle.smi_protocol.specs.declared.event.StepFault.{StepFault}
 use Rattle.smi_station_grants.specs.Change.{with_saved}
 use Rattle.smi_station_grants.specs.Save.{IfKept, IfKnown, IfStopped, IfCounted, IfUnfailed}
 
--- A step that saves this row, if any, comes to this result. While the store is honest: after a step the row is
--- there; where nothing was saved the rows are as before; and where nobody knows, they are one or the other. So are
+-- A step that saves this row, if any, has this result. While the store is honest: after a step the row is
+-- there; if nothing was saved the rows are as before; and if nobody knows, they are one or the other. So are
 -- those that an open finds after a stop at any moment, whatever the result, also where the store has shut itself. It
 -- saves once at most. The store failed where a step was not stored, or stopped, and in no other; and it left a doubt
 -- where one stopped, and in no other.

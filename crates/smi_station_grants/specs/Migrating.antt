@@ -1,4 +1,4 @@
--- Rows of older schemas written anew in the newest.
+-- Rows of older schemas rewritten in the newest.
 use Rattle.std.specs.Prelude.{ℕ, ◌≡◌, ◌⊎◌, ◌==◌, ◌&&◌, not, true, false, Bool, List, [], ◌∷◌, Option, Some, None}
 use Rattle.std.specs.Prelude.{option_map, count_by, take, Result, Ok, Err, if◌then◌else◌}
 use Rattle.std.specs.List.{filter_map}
@@ -63,7 +63,7 @@ pub record IsPartly (h : Hierarchy) (number : ℕ) (before after : Rows) : Type 
   pub rising : (j k : Key) → is_before j k ≡ true → (after j ≡ in_newest h number before j) ⊎ (after k ≡ before k)
   pub same : SaysTheSame h before after
 
--- the faults stand in their order; none is about boots
+-- the faults are in their order; none is about boots
 abbrev pub Migrates : {X : Type 0} → Hierarchy → ℕ → Rows → Result X OpenFault → Type 0
 Migrates h number rows (Ok x) = IsStation h number true × AllRead h number rows
 Migrates h number rows (Err open_fault.NoSuchStation) = IsStation h number false
@@ -78,7 +78,7 @@ IfRefused (Err open_fault.NoSuchStation) P = P
 IfRefused (Err (open_fault.Row k code)) P = P
 IfRefused _ P = Unit {0}
 
--- so many of the station's rows are of older schemas
+-- how many of the station's rows are of older schemas
 pub record Counts (number : ℕ) (rows : Rows) (n : ℕ) : Type 0 where
   pub list : List Saved
   pub listing : IsListing rows list
@@ -96,7 +96,7 @@ abbrev pub all_told : Hierarchy → ℕ → List Saved → Result (Unit {0}) Ope
 all_told h number [] = Ok tt
 all_told h number (r ∷ more) = and_then (λ said. all_told h number more) (said_to h number r)
 
--- a row of the station anew, where it is of an older schema
+-- a row of the station, rewritten if it is of an older schema
 abbrev pub renewal : Hierarchy → ℕ → Saved → Option Saved
 renewal h number r =
     if is_renewed number r then option_map (λ said. saved r.key (newest_bytes said)) (read (row_of h r.key r.bytes))
@@ -110,14 +110,14 @@ abbrev pub over : Rows → List Saved → Rows
 over rows [] = rows
 over rows (r ∷ more) = over (with_row r.key r.bytes rows) more
 
--- rows that are read and of which these are to be saved anew
+-- rows that are read and of which these are to be saved again
 pub record IsToRenew (h : Hierarchy) (number : ℕ) (rows : Rows) (anew : List Saved) : Type 0 where
   pub list : List Saved
   pub listing : IsListing rows list
   pub told : all_told h number list ≡ Ok tt
   pub renewed : anew ≡ renewals h number list
 
--- so many of them, the first ones
+-- the first ones, this many
 pub record IsSavedPartly (before : Rows) (list : List Saved) (after : Rows) : Type 0 where
   pub count : ℕ
   pub rows : IsSame after (over before (take count list))

@@ -25,7 +25,7 @@ Comes (Err open_fault.BootsSpent) y = y ≡ Err open_fault.BootsSpent
 Comes (Err (open_fault.Store fault)) y = y ≡ Err (open_fault.Store fault)
 Comes (Err open_fault.Memory) y = Unit {0}
 
--- what is left where nothing was refused
+-- what is left if nothing was refused
 abbrev pub leaving : {X Y : Type 0} → Y → Result X OpenFault → Result Y OpenFault
 leaving y (Ok x) = Ok y
 leaving y (Err fault) = Err fault
@@ -70,7 +70,7 @@ abbrev pub restored : Hierarchy → ℕ → Grants → List Saved → Result Gra
 restored h number g [] = Ok g
 restored h number g (r ∷ more) = and_then (λ k. restored h number k more) (taken h number g r)
 
--- one start more, where there is one left
+-- one start more, if there is one left
 abbrev pub raised : Grants → Result Grants OpenFault
 raised g = if nat_le last_boot g.boot then Err open_fault.BootsSpent else Ok (record g { boot = g.boot + 1 })
 

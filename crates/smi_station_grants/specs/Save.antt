@@ -1,11 +1,11 @@
--- What a step that saves a row comes to.
+-- How a step that saves a row ends.
 use Rattle.std.specs.Prelude.{ℕ, List, Result, Ok, Err, Option, Some, None}
 use Rattle.smi_rows.specs.declared.key.Key.{Key}
 use Rattle.smi_rows.specs.Store.{Saved, saved}
 use Rattle.smi_protocol.specs.declared.event.StepFault.{StepFault}
 use Rattle.smi_protocol.specs.declared.event.StepFault.TheVariants.{NotStored, Stopped, Memory}
 
--- the row with this key and these bytes, where there is one
+-- the row with this key and these bytes, if there is one
 abbrev pub row_with : Option Key → List ℕ → Option Saved
 row_with None bytes = None
 row_with (Some key) bytes = Some (saved key bytes)

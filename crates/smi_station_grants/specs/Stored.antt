@@ -19,8 +19,8 @@ pub record IsStored (h : Hierarchy) (number : ℕ) (g : Grants) (rows : Rows) : 
   pub read : AllRead h number rows
   pub means : grants_in h number rows ≡ g
 
--- What a start on such rows comes to: a restart of the station that kept these grants, or no start is left. A
--- fault of the store, and out of memory, come where they come.
+-- How a start on such rows ends: with a restart of the station that kept these grants, or no start is left. A
+-- fault of the store, and out of memory, may come at any place.
 abbrev pub Restarts : Hierarchy → ℕ → Grants → Result Station OpenFault → Type 0
 Restarts h number g (Ok s) = (g.boot ≢ last_boot) × (s ≡ opened h number g)
 Restarts h number g (Err open_fault.NoSuchStation) = ⊥

@@ -6,7 +6,7 @@ use smi_grant::{Command, Record};
 #[derive(Drop)]
 pub enum Change {
     Nothing,
-    /// A domain comes to another holder, or becomes free.
+    /// A domain gets another holder, or becomes free.
     HolderChanged {
         domain: u16,
         record: Record,

@@ -79,7 +79,7 @@ impl CommandedChildren {
         self.children.as_slice()
     }
 
-    /// What the command does to a child; none where it is no child of the domain.
+    /// Returns what the command does to a child; none if it is no child of the domain.
     pub fn of(&self, child: u16) -> Option<ChildChange>
         ensures { result ≡ change_for self.now child }
     {

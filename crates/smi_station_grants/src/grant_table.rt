@@ -106,7 +106,7 @@ impl<'a> GrantTable<'a> {
         entry_of(&self.modes, domain, Mode::Included)
     }
 
-    /// The link of a holder to a domain, `Out(0)` where there is none.
+    /// Returns the link of a holder to a domain, `Out(0)` if there is none.
     pub fn link(&self, holder: Holder, domain: u16) -> Link
         ensures { result ≡ (grants_of self.now).links holder domain }
     {

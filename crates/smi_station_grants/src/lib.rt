@@ -6,7 +6,7 @@
 //!
 //! [`save_and_apply`] writes the row of a [`Change`], saves it, and then makes the change. [`kept_of_rows`] makes the
 //! tables from a list of rows, [`loaded_kept`] from a store, and [`save_boot`] saves the raised boot. [`migrate`]
-//! saves a station's rows of older schemas anew in the newest. [`law`] says that once is enough, and that a station's
+//! saves a station's rows of older schemas again in the newest. [`law`] says that once is enough, and that a station's
 //! rows say exactly what it keeps, so that it restarts with just that.
 //!
 //! # How it is proved
@@ -19,7 +19,7 @@
 //! `Change` is what a step will change, and `PlannedView` the grants as it will leave them (`after_of`). Records,
 //! codes, modes and links read there are those of the changed grants, and `row` is the row that the definition saves.
 //!
-//! What a command does to the children stands in a list of all children, in their order (`AreSo`, specs/Commanded).
+//! What a command does to the children is in a list of all children, in their order (`AreSo`, specs/Commanded).
 //! Who asks of one, or goes over all, reads it there (`proofs/KnownChildren`). When it is made (`command_children`)
 //! the tables are those of the definition over all children (`proofs/Among`, `ChildTables`).
 //!
@@ -34,22 +34,22 @@
 //!
 //! ## Rows that are taken
 //!
-//! `kept_of_rows` takes rows by rising key, one after the other (`restored`, `specs/Restoring`). That this comes to
+//! `kept_of_rows` takes rows by rising key, one after the other (`restored`, `specs/Restoring`). That this results in
 //! what all of them mean (`grants_in` of `smi_protocol`) is `row_taken` of `proofs/Taking`: with one row more, the
 //! grants that rows mean are those before it with what it says. The first row that is refused is that of the least key
 //! (`first_refused`, `proofs/Opening`).
 //!
 //! `grants_sound` (`proofs/SoundLoading`) says of any rows at all that the grants that they mean are sound
-//! (`IsSound`). A row that reads back has links in range and known to the tree, waits for children exactly where it is
+//! (`IsSound`). A row that reads back has links in range and known to the tree, waits for children exactly when it is
 //! busy, and has each child once.
 //!
-//! `loaded_kept` is that over a store, and `save_boot` saves the raised boot. In its clauses stand `Opens` of
+//! `loaded_kept` is that over a store, and `save_boot` saves the raised boot. In its clauses are `Opens` of
 //! `smi_protocol` and what each fault leaves. A station begins with these grants and its first states
 //! (`beginning_with`).
 //!
-//! ## Rows that are written anew
+//! ## Rows that are rewritten
 //!
-//! `migrate` reads all rows, writes those of older schemas anew, and saves them one after the other. The rows are then
+//! `migrate` reads all rows, rewrites those of older schemas, and saves them one after the other. The rows are then
 //! in their newest schemas (`in_newest`, `specs/Migrating`). At each stop some first part of them is, by rising key,
 //! and all say what they said (`IsPartly`). A later schema can say all that an earlier one can (`proofs/Rewritten`).
 //! What was saved is found among the rows as it was listed (`proofs/Migrated`).
@@ -67,7 +67,7 @@
 //!   `smi_protocol`).
 //! - So the rows mean the grants after the step (`proofs/SavedAgain`).
 //! - No soundness is asked for, since whatever rows mean is sound.
-//! - `proofs/Restarting` has the beginning, starts, events, rows written anew, and what a start on such rows comes to
+//! - `proofs/Restarting` has the beginning, starts, events, rows rewritten, and how a start on such rows ends
 //!   (`Restarts`).
 #![tactic(auto)]
 

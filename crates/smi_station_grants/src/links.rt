@@ -41,7 +41,7 @@ impl Links {
     ghost use Rattle.smi_station_grants.specs.Entries.{entry_or};
     ghost use Rattle.smi_station_grants.specs.GrantTable.{count_in_use};
 
-    /// The links to so many domains, of none of which anything was heard.
+    /// Returns links to this many domains, of none of which anything was heard.
     pub fn new(alloc: Global, domains: usize) -> Result<Links, AllocError>
         ensures { IfOk result (λ links. links ≡ replicate domains (Out 0)) }
     {
@@ -49,7 +49,7 @@ impl Links {
         Ok(Links { links, in_use: 0 })
     }
 
-    /// The link to a domain, `Out(0)` where none stands.
+    /// Returns the link to a domain, `Out(0)` if there is none.
     pub fn link(&self, domain: u16) -> Link
         ensures { result ≡ entry_or self.now domain (Out 0) }
     {

@@ -1,4 +1,4 @@
-//! Rows of older schemas written anew.
+//! Rows of older schemas rewritten.
 
 ghost use Rattle.std.specs.Prelude.{◌≡◌, ◌++◌, [], Some, None, if◌then◌else◌, IfOk, IfErr, OnOk};
 ghost use Rattle.std.specs.List.{cons_option};
@@ -16,7 +16,7 @@ use smi_rows::{Key, Row, SavedRow, write_boot};
 use smi_tree::Tree;
 use std::alloc::{AllocError, Global};
 
-/// The station's rows of older schemas, written anew, in the order of the list. All of the station's are read.
+/// The station's rows of older schemas, rewritten, in the order of the list. All of the station's are read.
 pub(crate) fn renewals(
     alloc: Global,
     tree: &Tree,
@@ -55,7 +55,7 @@ fn renew(
     }
 }
 
-/// The row anew, where it is the station's and of an older schema.
+/// Returns the row rewritten, if it is the station's and of an older schema.
 fn renewal(
     alloc: Global,
     tree: &Tree,
@@ -72,7 +72,7 @@ fn renewal(
     }
 }
 
-/// A row that says this, anew where it is of an older schema.
+/// Returns a row that says this, rewritten if it is of an older schema.
 fn anew(alloc: Global, row: &SavedRow, said: &Row) -> Result<Option<SavedRow>, OpenFault>
     requires { HasFewLinks said.now }
     ensures anew { IfOk

@@ -1,4 +1,4 @@
-//! A station's rows of older schemas are saved anew in the newest.
+//! A station's rows of older schemas are rewritten in the newest.
 
 ghost use Rattle.std.specs.Prelude.{◌≡◌, ◌⊎◌, ◌<◌, ◌≤◌, ◌+◌, ◌^◌, length, List, count_by, Err, IfOk, IfErr, OnOk};
 ghost use Rattle.std.specs.Prelude.{false};
@@ -18,11 +18,11 @@ use smi_rows::{SavedRow, Stable};
 use smi_tree::Tree;
 use std::alloc::Global;
 
-/// Saves the station's rows of older schemas anew in the newest schema of their kind, by rising key, and answers how
+/// Saves the station's rows of older schemas again in the newest schema of their kind, by rising key, and answers how
 /// many they were. A row of another station is left alone, and so is one in its newest schema.
 ///
 /// `NoSuchStation` comes first, then the fault of the least key whose row is refused, both before anything is saved.
-/// A fault of the store, and `Memory`, come where they come, and leave rows that say what they said. The store failed
+/// A fault of the store, and `Memory`, may come at any place, and leave rows that say what they said. The store failed
 /// where its fault is answered, and nowhere else; that memory was refused where `Memory` is, tests alone see.
 pub fn migrate<S: Stable>(
     alloc: Global,
@@ -39,7 +39,7 @@ pub fn migrate<S: Stable>(
     ensures count { S.is_honest store.new → IfOk result (λ n. Counts number (S.rows store.old) n) }
     ensures counted { S.is_honest store.new → (list : List Saved) → IsListing (S.rows store.old) list
         → IfOk result (λ n. n ≡ count_by (is_renewed number) list) }
-    // Whatever it answers, and where it stops, some of the rows are saved by rising key, and all say what they said.
+    // Whatever it answers, and whenever it stops, some of the rows are saved by rising key, and all say what they said.
     ensures partly { S.is_honest store.new → S.is_open store.old → S.is_open store.new
         → IsPartly tree.now number (S.rows store.old) (S.rows store.new) }
     ensures crash { S.is_honest store.new → S.is_open store.old → (r : Rows) → S.may_find store.new r
@@ -67,7 +67,7 @@ pub fn migrate<S: Stable>(
     }
 }
 
-/// The rows of the store that are to be saved anew.
+/// Returns the rows of the store that are to be saved again.
 fn loaded_renewals<S: Stable>(
     alloc: Global,
     tree: &Tree,

@@ -28,7 +28,7 @@ impl<'k, 'a> Model for PlannedView<'k, 'a> {
     ghost view = { λ a. record { kept = a.kept.now; change = a.change.now } };
 }
 
-/// A link as it is stored, none where nothing was ever heard of the domain.
+/// Returns a link as it is stored, none if nothing was ever heard of the domain.
 fn stored_if(domain: u16, link: Link, mode: Mode) -> Option<StoredLink>
     ensures { result ≡ stored_if domain link mode }
 {
@@ -126,7 +126,7 @@ impl<'k, 'a> PlannedView<'k, 'a> {
         }
     }
 
-    /// Makes the row ready that the change has saved, if any: its key is answered, and its bytes stand in the room.
+    /// Makes the row ready that the change has saved, if any: its key is answered, and its bytes are in the buffer.
     pub fn row(&self, room: &mut RowBuffer) -> Result<Option<Key>, AllocError>
         requires { IsChange self.now.kept.tree self.now.kept.number (grants_of self.now.kept) self.now.change }
         ensures row { IfOk result (λ key. row_with key room.new ≡ saved_by self.now.kept.tree self.now.kept.number

@@ -34,7 +34,7 @@ impl RowBuffer {
         }
     }
 
-    /// Room for any row of a tree of so many domains.
+    /// Returns a buffer with room for any row of a tree of this many domains.
     ///
     /// It fails only where memory ran out, which tests alone see.
     pub fn new(alloc: Global, domains: u16) -> Result<RowBuffer, AllocError> {

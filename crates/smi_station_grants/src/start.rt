@@ -21,7 +21,7 @@ use std::alloc::Global;
 /// What a station keeps that starts on this store: what its rows mean, and its boot raised by one, which is still to
 /// be saved.
 ///
-/// The faults stand in the order of [`kept_of_rows`]; a fault of the store, and `Memory`, come where they come. The
+/// The faults are in the order of [`kept_of_rows`]; a fault of the store, and `Memory`, may come at any place. The
 /// rows stay. That memory was refused where `Memory` is answered, tests alone see.
 pub fn loaded_kept<'a, S: Stable>(
     alloc: Global,

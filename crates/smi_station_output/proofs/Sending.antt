@@ -27,7 +27,7 @@ pub sent_twice : (before a b : List Message) → sent_after (sent_after before a
 sent_twice before [] b = refl
 sent_twice before (m ∷ a) b = sent_twice (sent_one before m) a b
 
--- a list that is sent is cut where no more may be sent
+-- a list that is sent is cut if no more may be sent
 cut : (before more : List Message) → length before ≤ most_sent
     → sent_after before more ≡ take most_sent (before ++ more)
 cut before [] few = sym (ap (take most_sent) (append-nil before) ∙ take_all most_sent before few)

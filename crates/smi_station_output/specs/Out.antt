@@ -23,12 +23,12 @@ most_answers = MOST_ANSWERS
 abbrev pub most_entries : ℕ
 most_entries = MOST_ENTRIES
 
--- so many places, of which the first hold something
+-- a number of places, of which the first hold something
 pub record IsStored {X : Type 0} (most : ℕ) (places : List X) (count : ℕ) : Type 0 where
   pub all : length places ≡ most
   pub within : count ≤ most
 
--- one more datagram, where there is room for it
+-- one more datagram, if there is room for it
 abbrev pub sent_one : List Message → Message → List Message
 sent_one before m = if nat_lt (length before) most_sent then before ++ m ∷ [] else before
 
@@ -42,7 +42,7 @@ abbrev pub answered_after : List Answer → List Answer → List Answer
 answered_after before [] = before
 answered_after before (a ∷ more) = answered_after (before ++ a ∷ []) more
 
--- what a save leaves takes the place of what there was, where it leaves anything
+-- what a save leaves takes the place of what there was, if it leaves anything
 abbrev pub kept_after : List Entry → List Entry → List Entry
 kept_after [] before = before
 kept_after (e ∷ more) before = e ∷ more

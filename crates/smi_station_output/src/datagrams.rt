@@ -13,7 +13,7 @@ use smi_grant::{Holder, Record, Shown};
 use smi_message::{Body, Datagram};
 use smi_tree::Tree;
 
-/// The keeper tells how a domain stands.
+/// Returns the datagram in which the keeper tells a domain's record.
 pub fn tell(tree: &Tree, number: u16, to: u16, domain: u16, told: Record) -> Datagram
     requires from { (1 ≤ number) × (number ≤ station_count tree.now) }
     requires to { (1 ≤ to) × (to ≤ station_count tree.now) }

@@ -115,7 +115,7 @@ impl Out {
         &self.kept
     }
 
-    /// The states that objects of the station pass through: what they show anew, devices by number, then the unit.
+    /// The states that objects of the station pass through: devices by number, then the unit.
     pub fn transitions(&self) -> &Changes
         ensures { result.now ≡ self.now.passed }
     {
@@ -174,7 +174,7 @@ impl Out {
         self.shown = Some(shown);
     }
 
-    /// The save of the step leaves this, where it leaves anything.
+    /// Sets what the save of the step leaves, if it leaves anything.
     pub fn set_entries(&mut self, entries: Entries)
         ensures { self.new ≡ record self.old { kept = kept_after entries self.old.kept } }
     {

@@ -1,5 +1,5 @@
 //! Migrations of rows of older schemas, also such that stop in the middle (docs/FORMATS.md, "Stable rows"): how many
-//! rows were saved anew, what the rows are then, and that another one saves the rest, and a third nothing.
+//! rows were saved again, what the rows are then, and that another one saves the rest, and a third nothing.
 
 use crate::starts::{BOOT_1, HELD_1, HELD_2, SHORT_1, StoredRows, TAKEN_1, filled, has, rows_of};
 use crate::tables;

@@ -22,7 +22,7 @@ const RUN: u8 = 4;
 
 const TELL: u8 = 5;
 
-/// What comes to a station: an order, a report, a tick, or the datagram that was sent as this one, from 1.
+/// What reaches a station: an order, a report, a tick, or the datagram that was sent as this one, from 1.
 #[derive(Clone, Copy)]
 pub(crate) enum PlayedInput {
     Order(u16, Order),
@@ -40,7 +40,7 @@ pub(crate) enum Expected {
     Bytes(&'static [Bytes], bytes::Saved),
 }
 
-/// What comes to which station.
+/// Which station an event reaches.
 #[derive(Clone, Copy)]
 pub(crate) struct Play {
     pub station: u16,

@@ -10,7 +10,7 @@ use smi_station_output::Out;
 use std::alloc::{AllocError, Global};
 use std::test::Fail;
 
-/// What comes to a station.
+/// An event of a station.
 #[derive(Clone, Copy)]
 pub(crate) enum RefusedInput {
     /// The take of "A take".
@@ -35,9 +35,9 @@ pub(crate) enum Wanted {
     Fault(StepFault),
     /// A row is saved all the same.
     Saved(StepFault),
-    /// A row is saved, and so many datagrams are sent.
+    /// A row is saved, and this many datagrams are sent.
     Done(usize),
-    /// Nothing is saved, and so many are sent.
+    /// Nothing is saved, and this many are sent.
     Same(usize),
 }
 

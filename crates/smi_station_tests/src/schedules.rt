@@ -163,7 +163,7 @@ fn lines_have_faults<R: Abort>(rt: &R, tree: &Tree) {
     lines_have(rt, tree, Fault::UnknownName, &UNKNOWN_NAMES);
 }
 
-/// A line with blanks after it, of so many bytes.
+/// Returns a line with blanks after it, of this many bytes.
 fn long_line(alloc: Global, line: &[u8], length: usize) -> Result<Vec<u8>, AllocError> {
     let mut long = vec![in alloc; b' '; length]?;
     for (place, byte) in line.iter().enumerate() {
@@ -185,7 +185,7 @@ fn lines_are_too_long<R: Abort>(rt: &R, alloc: Global, tree: &Tree) -> Result<()
     Ok(())
 }
 
-// One function owns the tree, and drops it in one place: each place is dear to prove.
+// One function owns the tree, and drops it in one place, because each place is expensive to prove.
 #[test]
 fn lines(rt: HostRuntime) -> Result<(), Fail> {
     let tree = Tree::read(rt.alloc(), WORKED)?;

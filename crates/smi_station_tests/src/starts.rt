@@ -90,7 +90,7 @@ fn told(station: &Tried<'_>) -> StartResult {
     ))
 }
 
-/// What a start at a store comes to, and the store then.
+/// How a start at a store ends, and the store then.
 fn started(alloc: Global, tree: &Tree, station: u16, store: Store) -> (StartResult, Store) {
     match Station::open(alloc, tree, station, store) {
         Ok(station) => (told(&station), station.into_stable()),
@@ -98,7 +98,7 @@ fn started(alloc: Global, tree: &Tree, station: u16, store: Store) -> (StartResu
     }
 }
 
-/// A station, the rows of its store before and after the start, and what it comes to.
+/// A station, the rows of its store before and after the start, and how it ends.
 type Start = (u16, StoredRows, StoredRows, StartResult);
 
 fn starts() -> [Start; 7] {
@@ -118,7 +118,7 @@ fn starts() -> [Start; 7] {
             rows_of(NEXT, TAKEN_1, HELD),
             Ok((3, Some(Holder::Operator(2)))),
         ),
-        // A migration has stopped behind the boot.
+        // A migration has stopped after the boot.
         (
             A,
             rows_of(BOOT, TAKEN_1, HELD),

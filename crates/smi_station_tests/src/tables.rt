@@ -1,7 +1,7 @@
 //! The tables that these tests go over, and the trees, stations and stores that they are gone over with.
 //!
-//! Whatever owns one of those is dear to prove at each of its ends. So one function owns each, and what is tested
-//! stands in functions over references. For the same reason a station is asked for a step in one place.
+//! Each place that drops one of those is expensive to prove. So one function owns each, and what is tested
+//! is in functions over references. For the same reason a station is asked for a step in one place.
 
 use crate::{bytes, migrations, plays, refusals, starts};
 use smi_protocol::{Event, Heard, StepFault};

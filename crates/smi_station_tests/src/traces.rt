@@ -168,7 +168,7 @@ fn orders_are_read<R: Abort>(rt: &R, alloc: Global, tree: &Tree) -> Result<(), A
     Ok(())
 }
 
-/// What BOB is told who asked how TPC stands.
+/// What BOB is told who asked about TPC.
 fn asked(record: Record) -> Entry {
     Entry::Told {
         operator: 2,
@@ -348,7 +348,7 @@ fn all_are_read<R: Abort>(rt: &R, alloc: Global, tree: &Tree) -> Result<(), Allo
     objects_are_sent(rt, alloc, tree)
 }
 
-// One function owns the tree, and drops it in one place: each place is dear to prove.
+// One function owns the tree, and drops it in one place, because each place is expensive to prove.
 #[test]
 fn traces(rt: HostRuntime) -> Result<(), Fail> {
     let tree = Tree::read(rt.alloc(), WORKED)?;
@@ -368,7 +368,7 @@ const LINES: [Line; 2] = [
     }),
 ];
 
-/// A writer that has room for so many bytes of a trace has that prefix of it.
+/// A writer that has room for this many bytes of a trace has that prefix of it.
 fn prefixes_are_written<R: Abort>(rt: &R, alloc: Global, tree: &Tree) -> Result<(), Unwritten> {
     let want = b"booted B 1\nfreed TPC 2\n";
     let mut text = Vec::new(alloc);

@@ -97,7 +97,7 @@ fn code(told: Option<Told>) -> Option<u16> {
     }
 }
 
-/// Whether the operator's one order, at its seat, fares as the trial says. All that is dear to let go is another's.
+/// Whether the operator's one order, at its seat, fares as the trial says. All that is expensive to drop is another's.
 fn over_link<J: BoardId, R: Wait>(
     rt: &R,
     station: &mut Station<'_, MemoryStable>,

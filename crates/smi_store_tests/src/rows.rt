@@ -85,7 +85,7 @@ fn holds_of(case: Case, alloc: Global, tree: &Tree) -> Result<bool, Fail> {
     }
 }
 
-// One function owns the tree: whatever owns one is dear to prove.
+// One function owns the tree, because each owner is expensive to prove.
 fn holds(case: Case, alloc: Global) -> Result<bool, Fail> {
     let tree = Tree::read(alloc, PAIR)?;
     holds_of(case, alloc, &tree)

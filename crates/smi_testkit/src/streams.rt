@@ -29,7 +29,7 @@ impl Read for Trickle<'_> {
     }
 }
 
-/// A writer that takes one byte at once, has room for so many, and may fail at its flush.
+/// A writer that takes one byte at once, has room for this many, and may fail at its flush.
 #[derive(Drop)]
 pub struct Narrow {
     pub written: Vec<u8>,

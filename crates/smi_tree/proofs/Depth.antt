@@ -39,7 +39,7 @@ pub option-cases : (r : Option ℕ) → (r ≡ None) ⊎ ((n : ℕ) × (r ≡ So
 option-cases None = inl refl
 option-cases (Some n) = inr (n, refl)
 
--- parents stand before their children
+-- parents are before their children
 pub record AreBelow (domains : List Domain) : Type 0 where
   pub below : (domain parent : ℕ) → parent_in domains domain ≡ Some parent → (1 ≤ parent) × (parent < domain)
 
@@ -92,7 +92,7 @@ depth-last domains row below room =
           omega (arith, more, free.1, same, further))
     ]
 
--- a new domain lies one deeper than its parent, and the others where they were
+-- a new domain lies one deeper than its parent, and the others as before
 pub depth-push : (domains : List Domain) (row : Domain) → AreBelow domains →
     ((parent : ℕ) → row.parent ≡ Some parent → (parent ≤ length domains) × (depth_in domains parent < 8)) →
     ((domain : ℕ) → depth_in domains domain ≤ 8) →

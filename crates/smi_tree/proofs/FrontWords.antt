@@ -17,7 +17,7 @@ fails : (b : Bool) → not b ≡ true → b ≡ false
 fails true h = cc
 fails false h = refl
 
--- what stands before the first mark is the first part
+-- what is before the first mark is the first part
 slice_split-after : (p : ℕ → Bool) (word : List ℕ) (mark : ℕ) (text : List ℕ) → p mark ≡ true
     → is_whole p word ≡ true → slice_split p (word ++ mark ∷ text) ≡ word ∷ slice_split p text
 slice_split-after p [] mark text cut whole = rw cut refl

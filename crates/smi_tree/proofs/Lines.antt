@@ -13,7 +13,7 @@ pub with_lines-none : (number : ℕ) (h : Hierarchy) (left : List (List ℕ)) �
 unfolding with_lines
 with_lines-none number h left none = rw none refl
 
--- a line that stands
+-- a lawful line
 pub with_lines-line : (number : ℕ) (h next : Hierarchy) (line : List ℕ) (more left : List (List ℕ))
     → left ≡ line ∷ more →
     with_line h line ≡ Ok next → with_lines number h left ≡ with_lines (number + 1) next more

@@ -1,4 +1,4 @@
--- The numbers of names: where a name stands, and what one more changes.
+-- The numbers of names: the place of a name, and what one more changes.
 use Rattle.std.proofs.Common.{◌≡◌, ℕ, ◌+◌, Bool, true, false, cond, List, [], ◌∷◌, ◌++◌, length, Option, Some, None}
 use Rattle.std.proofs.Common.{option_map, refl, ap, ◌∙◌, sym, arith, IfSome}
 use Rattle.std.specs.Prelude.{if◌then◌else◌, ◌||◌}

@@ -35,7 +35,7 @@ abbrev IsDeclared : Declaration → Type 0
 IsDeclared (declares.Tree n) = IsBetween 1 65535 n
 IsDeclared _ = Unit {0}
 
--- everything but the `tree` line stands after it
+-- everything but the `tree` line is after it
 abbrev MayFollow : Hierarchy → Declaration → Type 0
 MayFollow h (declares.Tree n) = Unit {0}
 MayFollow h _ = 1 ≤ h.number

@@ -33,7 +33,7 @@ towards-step done domains domain at parent within above =
     let more : 8 - done ≡ suc (8 - (done + 1)) = omega arith in
     ap (λ (n : ℕ). towards n domains domain at) more ∙ towards-up (8 - (done + 1)) domains domain at parent above
 
--- there is a way to a domain exactly where it is among those above
+-- there is a way to a domain exactly when it is among those above
 pub is_some-towards : (n : ℕ) (domains : List Domain) (domain at : ℕ) →
     is_some (towards n domains domain at) ≡ list_any (λ above. above == domain) (ancestors n domains at)
 is_some-towards zero domains domain at =

@@ -23,11 +23,11 @@ use Rattle.smi_tree.specs.declared.declaration.Quantifier.{Quantifier}
 use Rattle.smi_tree.specs.declared.declaration.Declaration.{Declaration}
 use Rattle.smi_tree.specs.declared.declaration.Declaration.TheVariants as declares
 
--- the number of a name that has to stand above
+-- the number of a name that has to be above
 abbrev pub known : List (List ℕ) → List ℕ → Result ℕ Fault
 known names name = ok_or (number_of names name) UnknownName
 
--- the number and the table of a class that has to stand above
+-- the number and the table of a class that has to be above
 unfoldable pub known_class : Hierarchy → List ℕ → Result (ℕ × ClassTable) Fault
 known_class h name = do
   class ← known h.class_names name
@@ -109,7 +109,7 @@ with_rule h which class state target = do
       else Err OverLimit)
       else Err OtherKind
 
--- the number of a parent that has to stand above, where there is one
+-- the number of a parent that has to be above, if there is one
 unfoldable pub known_parent : Hierarchy → Option (List ℕ) → Result (Option ℕ) Fault
 known_parent h None = Ok None
 known_parent h (Some name) = do

@@ -8,7 +8,7 @@ use Rattle.smi_tree.specs.declared.row.Device.{Device}
 abbrev pub count_at : List ℕ → ℕ → ℕ
 count_at counts domain = slice_index_or counts domain 0
 
--- one more is counted for a domain, and all else stands as it did
+-- one more is counted for a domain, and all else is as before
 abbrev pub IsCountedUp : List ℕ → ℕ → List ℕ → Type 0
 IsCountedUp old domain new = (other : ℕ) → count_at new other
     ≡ (if domain == other then count_at old other + 1 else count_at old other)

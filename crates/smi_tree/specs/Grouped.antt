@@ -16,7 +16,7 @@ pub record IsGrouped {X : Type 0} (belongs : ℕ → X → Bool) (owners : ℕ) 
 abbrev pub is_number_of : Option ℕ → ℕ → Bool
 is_number_of found owner = option_map_or (λ other. other == owner) found false
 
--- so many groups, with no numbers
+-- this many groups, with no numbers
 pub record IsEmpty (owners : ℕ) (groups : List (Vec ℕ)) : Type 0 where
   pub all : length groups ≡ owners
   pub each : (place : ℕ) (other : Vec ℕ) → place < owners → (slice_index_or groups place other).items ≡ []

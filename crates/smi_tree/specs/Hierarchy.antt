@@ -40,7 +40,7 @@ pub record IsEntry {X : Type 0} (rows : List X) (number : ℕ) (row : X) : Type 
 abbrev pub parent_in : List Domain → ℕ → Option ℕ
 parent_in domains domain = option_and_then (λ row. row.parent) (entry domains domain)
 
--- the domains above a domain, the nearest first, as far as so many
+-- the domains above a domain, the nearest first, at most this many
 unfoldable pub ancestors : ℕ → List Domain → ℕ → List ℕ
 ancestors zero domains domain = []
 ancestors (suc more) domains domain =

@@ -52,7 +52,7 @@ pub record IsMove (states actions : ℕ) (classes : List ClassTable) (row : Move
   pub action : IsBetween 1 actions row.action
   pub to : IsBetween 1 states row.to
 
--- a domain is of a unit class, and its parent stands before it
+-- a domain is of a unit class, and its parent is before it
 pub record IsDomain (stations : ℕ) (classes : List ClassTable) (domain : ℕ) (row : Domain) : Type 0 where
   pub station : IsBetween 1 stations row.station
   pub class : kind_in classes row.class ≡ Some kind.Unit

@@ -66,7 +66,7 @@ towards (suc more) domains domain target =
     option_and_then (λ parent. if parent == domain then Some target else towards more domains domain parent)
     (parent_in domains target)
 
--- the child of a domain that a target is below or is, where it is below the domain
+-- the child of a domain that a target is below or is, if it is below the domain
 abbrev pub child_towards : Hierarchy → ℕ → ℕ → Option ℕ
 child_towards h domain target = towards MOST_LEVELS h.domains domain target
 
@@ -92,7 +92,7 @@ first_state h object =
     option_map (λ table. table.first)
     (if nat_le object (domain_count h) then class_of_domain h object else class_of_device h (object - domain_count h))
 
--- where a class goes from a state by an action: where it has no row, it stays
+-- where a class goes from a state by an action: if it has no row, it stays
 abbrev pub moved_by : Hierarchy → ℕ → ℕ → ℕ → ℕ
 moved_by h class state action = option_map_or (λ row. row.to) (move_in h.moves class state action) state
 

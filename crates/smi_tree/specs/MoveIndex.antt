@@ -4,7 +4,7 @@ use Rattle.std.specs.List.{slice_index_or}
 use Rattle.smi_tree.specs.Hierarchy.{move_in, is_move_at}
 use Rattle.smi_tree.specs.declared.row.Move.{Move}
 
--- what stands under an action, under a state and an action, under all three
+-- what is under an action, under a state and an action, under all three
 abbrev pub move_by : List (Option Move) → ℕ → Option Move
 move_by moves action = slice_index_or moves action None
 
@@ -14,7 +14,7 @@ move_from moves state action = move_by (slice_index_or moves state []) action
 abbrev pub move_at : List (List (List (Option Move))) → ℕ → ℕ → ℕ → Option Move
 move_at moves class state action = move_from (slice_index_or moves class []) state action
 
--- a row has been put under its numbers, and all else stands as it did
+-- a row has been put under its numbers, and all else is as before
 abbrev pub IsPutBy : List (Option Move) → Move → List (Option Move) → Type 0
 IsPutBy old row new = (action : ℕ) → move_by new action
     ≡ (if row.action == action then Some row else move_by old action)
@@ -31,6 +31,6 @@ IsPutAt old row new =
     move_at new class state action ≡ (if is_move_at class state action row then Some row
     else move_at old class state action)
 
--- under each class, state and action stands the row that the moves have for them
+-- under each class, state and action is the row that the moves have for them
 pub record IsMoveIndex (rows : List Move) (index : List (List (List (Option Move)))) : Type 0 where
   pub found : (class state action : ℕ) → move_at index class state action ≡ move_in rows class state action

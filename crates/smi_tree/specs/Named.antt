@@ -1,4 +1,4 @@
--- Names and numbers tell each other: no name stands twice.
+-- Names and numbers tell each other: no name occurs twice.
 use Rattle.std.specs.Prelude.{ℕ, ◌≡◌, true, false, List, Some}
 use Rattle.smi_tree.specs.Name.{number_of, is_declared}
 use Rattle.smi_tree.specs.Hierarchy.{Hierarchy, entry}
@@ -23,7 +23,7 @@ pub record HaveNames (states actions stations classes operators domains devices 
   pub operators_and_devices : AreApart operators devices
   pub domains_and_devices : AreApart domains devices
 
--- no name stands twice; operators, domains and devices share one set of names
+-- no name occurs twice; operators, domains and devices share one set of names
 abbrev pub IsNamed : Hierarchy → Type 0
 IsNamed h = HaveNames h.state_names h.action_names h.station_names h.class_names h.operator_names h.domain_names
     h.device_names

@@ -16,7 +16,7 @@ decimal digits = fold (λ value digit. 10 * value + (digit - 48)) 0 digits
 abbrev pub is_number : List ℕ → Bool
 is_number word = nat_le 1 (length word) && (nat_le (length word) 10 && list_all is_digit word)
 
--- the number that a word stands for, where it is one of this range
+-- the number that a word stands for, if it is one of this range
 abbrev pub number_within : ℕ → ℕ → List ℕ → Option ℕ
 number_within least most word =
     if is_number word && (nat_le least (decimal word) && nat_le (decimal word) most) then Some (decimal word) else None

@@ -1,4 +1,4 @@
--- Who keeps, who may hold and who stands above what, by the tree.
+-- Who keeps, who may hold and who is above what, by the tree.
 use Rattle.std.specs.Prelude.{ℕ, ◌+◌, ◌-◌, ◌==◌, nat_le, if◌then◌else◌, Bool, true, false, Option, Some, None}
 use Rattle.std.specs.Prelude.{option_and_then, option_map}
 use Rattle.std.specs.Option.{option_map_or}
@@ -43,7 +43,7 @@ keeper_of h object = option_and_then (station_of h) (domain_of h object)
 abbrev pub is_kept_by : Hierarchy → ℕ → ℕ → Bool
 is_kept_by h station object = option_map_or (λ keeper. keeper == station) (keeper_of h object) false
 
--- Who stands above what, and who may hold it.
+-- Who is above what, and who may hold it.
 
 -- the one domain is above the other
 abbrev pub is_parent : Hierarchy → ℕ → ℕ → Bool

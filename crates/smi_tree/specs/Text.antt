@@ -17,6 +17,6 @@ abbrev pub is_empty : List ℕ → Bool
 is_empty [] = true
 is_empty (b ∷ bs) = false
 
--- the words of a line: what stands between blanks
+-- the words of a line: what is between blanks
 abbrev pub words : List ℕ → List (List ℕ)
 words line = filter (λ word. not (is_empty word)) (slice_split (cuts Blank) line)

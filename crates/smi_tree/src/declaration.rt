@@ -188,7 +188,7 @@ fn name(word: Word<'_>) -> Result<Name<'_>, Fault>
     Name::read(word).ok_or(Fault::Malformed)
 }
 
-/// The one word of a text, where it is well formed as a name.
+/// Returns the one word of a text, if it is well formed as a name.
 #[inline(always)]
 #[tactic(auto, unfolding(crate::specs::Declaration::one_name))]
 pub fn one_name(text: &[u8]) -> Result<Name<'_>, Fault>
@@ -254,7 +254,7 @@ fn station_line(text: &[u8]) -> Result<Declaration<'_>, Fault>
     Ok(Declaration::Station { name, address })
 }
 
-/// The parent that a word names, none where it is a dash.
+/// Returns the parent that a word names, none if it is a dash.
 #[tactic(auto, unfolding(crate::specs::Declaration::parent))]
 fn parent(word: Word<'_>) -> Result<Option<Name<'_>>, Fault>
     ensures { result ≡ parent word.entry }
@@ -309,7 +309,7 @@ impl<'a> Declaration<'a> {
     /// What the words after a keyword declare.
     ///
     /// The count of words is tested first, and then each word from left to right.
-    // Where it is inlined, what it answers is copied twice, which takes longer than the call.
+    // Not inlined, because its answer would be copied twice, which takes longer than the call.
     #[inline(never)]
     pub(crate) fn read(keyword: Keyword, text: &'a [u8]) -> Result<Declaration<'a>, Fault>
         ensures { result ≡ declaration_of keyword (words text.now) }

@@ -21,7 +21,7 @@ use smi_base::{
 };
 use std::alloc::Global;
 
-/// What stands before the first row.
+/// What is before the first row.
 const NO_MOVE: Move = Move {
     class: 0,
     from: 0,
@@ -29,7 +29,7 @@ const NO_MOVE: Move = Move {
     to: 0,
 };
 
-/// The number of a name that has to stand above.
+/// Returns the number of a name that has to be above.
 #[inline(always)]
 fn known(names: &Names, name: &Name) -> Result<u16, Fault>
     ensures { result ≡ known names.now name.now }
@@ -131,7 +131,7 @@ impl Tables {
     pub(crate) fn read_move(&mut self, text: &[u8]) -> Result<(), LineRefusal>
         ensures { Becomes self.new result (with_words_of self.old keywords.Move (words text.now)) }
     {
-        // The rows of a class mostly stand together, by state and then by action.
+        // The rows of a class are mostly together, by state and then by action.
         let last = self.moves.last().unwrap_or(NO_MOVE);
         let next = last.action.wrapping_add(1);
         let Some((kind, rest)) = self.after_class_and_state(last, text) else {
@@ -268,7 +268,7 @@ impl Tables {
         Ok(())
     }
 
-    /// The number and the table of a class that has to stand above.
+    /// Returns the number and the table of a class that has to be above.
     #[tactic(auto, unfolding(crate::specs::Additions::known_class))]
     fn known_class(&self, name: &Name) -> Result<(u16, &Class), Fault>
         ensures found { Gives (λ found. (found.0, found.1.now)) result (known_class self.now name.now) }
@@ -372,7 +372,7 @@ impl Tables {
         Ok(())
     }
 
-    /// The number of a parent that has to stand above, where there is one.
+    /// Returns the number of a parent that has to be above, if there is one.
     #[tactic(auto, unfolding(crate::specs::Additions::known_parent))]
     fn known_parent(&self, parent: &Option<Name>) -> Result<Option<u16>, Fault>
         ensures { result ≡ known_parent self.now parent.now }

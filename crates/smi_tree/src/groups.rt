@@ -41,7 +41,7 @@ impl Belongs for u16 {
     }
 }
 
-/// A group for each of so many owners, with no numbers.
+/// Returns a group for each of this many owners, with no numbers.
 fn empty_groups(alloc: Global, owners: u16) -> Result<Vec<Vec<u16>>, AllocError>
     ensures { IfOk result (λ groups. IsEmpty owners groups.items) }
 {
@@ -52,7 +52,7 @@ fn empty_groups(alloc: Global, owners: u16) -> Result<Vec<Vec<u16>>, AllocError>
     Ok(groups)
 }
 
-/// One number more for an owner, where it has a group.
+/// Adds a number for an owner, if it has a group.
 fn put(groups: &mut Vec<Vec<u16>>, owner: u16, number: u16) -> Result<(), AllocError>
     ensures { OnOk result (IsPut groups.old.items owner number groups.new.items) }
 {
@@ -63,7 +63,7 @@ fn put(groups: &mut Vec<Vec<u16>>, owner: u16, number: u16) -> Result<(), AllocE
     Ok(())
 }
 
-/// The numbers of the rows of each owner, of which there are so many.
+/// Returns the numbers of the rows of each owner, of which there are this many.
 pub(crate) fn grouped<T: Belongs>(
     alloc: Global,
     owners: u16,

@@ -12,13 +12,13 @@ pub fn tree_files_are_accepted()
     ensures { (bytes : List ℕ) (h : Hierarchy) → (tree_of bytes ≡ Ok h) ↔ IsTreeFile bytes h }
 {}
 
-/// A fault with a line is that of the first line that does not stand over the lines above it.
+/// States that a fault with a line is that of the first line that is not lawful over the lines above it.
 pub fn the_first_faulty_line_is_told()
     ensures { (bytes : List ℕ) (number code : ℕ) → 1 ≤ number → tree_of bytes ≡ Err (Line number code)
         → HasFaultyLine bytes number code }
 {}
 
-/// A fault of the whole file is that it is too long, or that every line stands and yet it is no tree.
+/// States that a fault of the whole file is that it is too long, or that every line is lawful and yet it is no tree.
 pub fn a_fault_without_a_line_is_the_files()
     ensures { (bytes : List ℕ) (code : ℕ) → tree_of bytes ≡ Err (Line 0 code) →
         ((code ≡ 11) × (MOST_BYTES_OF_A_FILE < length bytes)) ⊎ ((code ≡ 12) × IsIncomplete bytes) }

@@ -12,7 +12,7 @@
 //! Schedules are texts of the same kind of lines: what cuts and reads them ([`first_line`], [`first_word`],
 //! [`one_name`], [`number_within`] ..) is public for them.
 //!
-//! Who keeps, who may hold and who stands above what, by the tree, is what rows, datagrams and orders are measured by
+//! Who keeps, who may hold and who is above what, by the tree, is what rows, datagrams and orders are measured by
 //! (`roles`). A station keeps domains and with them their devices. A domain is held by nobody, by an operator of the
 //! tree, or by the domain above it (docs/PROTOCOL.md, "The record"). No function there takes memory.
 //!
@@ -30,15 +30,15 @@
 //!   it, or has the first fault of the tests in their order (`with_declaration`, `specs/Additions`).
 //! - `IsTree` (`specs/Lawful`) has as fields the inequalities that a caller wants: every limit, every number one that
 //!   is there, parents with lower numbers, classes of the right kind. It is the type's invariant. Each count
-//!   (`domain_count` and its like) ensures it again, so whoever has a `Tree` knows it.
-//! - `IsNamed` (`specs/Named`): no name stands twice. The name of a number has that number; operators, domains and
+//!   (`domain_count` and its like) ensures it again, so an owner of a `Tree` knows it.
+//! - `IsNamed` (`specs/Named`): no name occurs twice. The name of a number has that number; operators, domains and
 //!   devices share one set of names.
 //!
 //! The laws tell the same a second time, in other words and without the function. `law::tree_files_are_accepted`: a
-//! file is read exactly where it is short enough, each line stands over what the lines above it make, and one of each
+//! file is read exactly when it is short enough, each line is lawful over what the lines above it make, and one of each
 //! kind is there. `law::the_first_faulty_line_is_told`: a fault with a line number is the first fault of the first
-//! line that does not stand. `law::a_fault_without_a_line_is_the_files`: 11 is a file that is too long, 12 one whose
-//! lines all stand and that is yet no tree.
+//! line that is not lawful. `law::a_fault_without_a_line_is_the_files`: 11 is a file that is too long, 12 one whose
+//! lines are all lawful and that is yet no tree.
 //!
 //! How it is built: `text` (lines and words, over std's `slice_split`), `name`, `number`, `declaration` and `declare`
 //! are each proved to be a function on lists. `read` has one loop. Its invariant is that what the lines left make of
@@ -61,7 +61,7 @@
 //! - the first rule that holds (`unit_state`).
 //!
 //! Names, moves, accepted actions and devices are lists in the definitions, and are found without a scan. The names
-//! of a kind are an ordered hash set (`indexmap`), whose order is the list. The others stand beside what finds them,
+//! of a kind are an ordered hash set (`indexmap`), whose order is the list. The others are beside what finds them,
 //! and an invariant of the type says that the two agree:
 //!
 //! | What | How it is found | Definition |

@@ -186,7 +186,7 @@ impl Tree {
         }
     }
 
-    /// The state in which a unit or a device begins, where there is such an object.
+    /// Returns the state in which a unit or a device begins, if there is such an object.
     pub fn first_state(&self, object: u16) -> Option<u16>
         ensures { result ≡ first_state self.now object }
     {

@@ -58,7 +58,7 @@ impl Model for Moves {
 ghost use Rattle.std.specs.Prelude.{◌≡◌, ℕ, OnOk, OnErr};
 ghost use Rattle.smi_tree.specs.MoveIndex.{move_by, move_from, move_at, IsPutBy, IsPutFrom, IsPutAt};
 
-/// The row stands under its action.
+/// Puts the row under its action.
 fn put_by(by_action: &mut Vec<Option<Move>>, row: Move) -> Result<(), AllocError>
     ensures ok { OnOk result (IsPutBy by_action.old.items row by_action.new.items) }
     ensures err { OnErr result ((action : ℕ) → move_by by_action.new.items action
@@ -76,7 +76,7 @@ fn put_by(by_action: &mut Vec<Option<Move>>, row: Move) -> Result<(), AllocError
     Ok(())
 }
 
-/// The row stands under its state and its action.
+/// Puts the row under its state and its action.
 fn put_from(by_state: &mut Vec<StateMoves>, row: Move) -> Result<(), AllocError>
     ensures ok { OnOk result (IsPutFrom by_state.old.items row by_state.new.items) }
     ensures err { OnErr result ((state action : ℕ)
@@ -90,7 +90,7 @@ fn put_from(by_state: &mut Vec<StateMoves>, row: Move) -> Result<(), AllocError>
     by_state[place].put(row)
 }
 
-/// The row stands under its class, its state and its action.
+/// Puts the row under its class, its state and its action.
 fn put_at(by_class: &mut Vec<ClassMoves>, row: Move) -> Result<(), AllocError>
     ensures ok { OnOk result (IsPutAt by_class.old.items row by_class.new.items) }
     ensures err { OnErr result ((class state action : ℕ)

@@ -135,7 +135,8 @@ impl<'a> Name<'a> {
     ghost use Rattle.std.specs.Str.{bytes_eq};
     ghost use Rattle.smi_tree.specs.Name.{name_of, is_name};
 
-    /// The name that a word is, where it is one: 1 to 16 bytes of `A` to `Z`, `0` to `9` and `_`, the first a letter.
+    /// Returns the name that a word is, if it is one: 1 to 16 bytes of `A` to `Z`, `0` to `9` and `_`, the
+    /// first a letter.
     #[inline(always)]
     pub fn read(word: Word<'a>) -> Option<Name<'a>>
         ensures { result ≡ name_of word.entry }

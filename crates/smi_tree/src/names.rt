@@ -86,7 +86,7 @@ impl Names {
         self.names.len()
     }
 
-    /// The number of a name, where it is there.
+    /// Returns the number of a name, if it is there.
     #[inline(always)]
     pub(crate) fn number(&self, name: &Name) -> Option<u16>
         ensures place { result ≡ number_of self.now name.now }
@@ -99,7 +99,7 @@ impl Names {
         self.find(&name.sought())
     }
 
-    /// The number of the name that a text is, where it is one of these.
+    /// Returns the number of the name that a text is, if it is one of these.
     #[inline(never)]
     pub(crate) fn find(&self, sought: &Sought) -> Option<u16>
         ensures place { result ≡ number_of self.now sought.now }
@@ -109,7 +109,7 @@ impl Names {
         Some(place as u16 + 1)
     }
 
-    /// The number that a name likely has, where it is there.
+    /// Returns the number that a name likely has, if it is there.
     #[inline(always)]
     fn likely_number(&self, name: &Name) -> u16 {
         match self.likely.get(mark_of(name)) {
@@ -150,7 +150,7 @@ impl Names {
         self.names.as_slice()[usize::from(number) - 1].text()
     }
 
-    /// Puts a name at the end, where it is new and there is room for one more.
+    /// Puts a name at the end, if it is new and there is room for one more.
     pub(crate) fn add(&mut self, name: &Name, limit: usize) -> Result<(), LineRefusal>
         requires { limit < 2 ^ 16 }
         ensures { Becomes self.new result (added limit self.old name.now) }

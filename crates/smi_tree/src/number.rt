@@ -33,7 +33,7 @@ pub(crate) fn is_digit(byte: u8) -> bool
     b'0' <= byte && byte <= b'9'
 }
 
-/// The number that a word stands for, where it is one of this range.
+/// Returns the number that a word stands for, if it is one of this range.
 pub fn number_within(least: u64, most: u64, word: &[u8]) -> Option<u64>
     ensures { result ≡ number_within least most word.now }
 {

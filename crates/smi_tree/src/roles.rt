@@ -1,4 +1,4 @@
-//! Who keeps what, who stands above what, and who may hold it.
+//! Who keeps what, who is above what, and who may hold it.
 
 ghost use Rattle.std.specs.Prelude.{◌≡◌, ◌+◌, ◌≤◌, Some};
 ghost use Rattle.smi_tree.specs.Lookups.{domain_count, device_count};
@@ -58,7 +58,7 @@ pub fn is_kept_by(tree: &Tree, station: u16, object: u16) -> bool
     is_keeper(tree, station, tree.device(object - domains).domain)
 }
 
-// ---- who stands above a domain, and who may hold it
+// ---- who is above a domain, and who may hold it
 
 /// Whether the one domain is above the other.
 pub fn is_parent(tree: &Tree, domain: u16, above: u16) -> bool

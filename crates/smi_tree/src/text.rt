@@ -38,7 +38,7 @@ impl Separator {
     }
 }
 
-/// How many bytes stand before the first mark of a text, all where there is none.
+/// Returns how many bytes are before the first mark of a text, all if there is none.
 #[inline(always)]
 pub(crate) fn length_before(text: &[u8], mark: Separator) -> usize
     ensures place { result ≡ position_or_len (cuts mark) text.now }
@@ -85,7 +85,7 @@ pub(crate) fn after_word<'a>(text: &'a [u8], word: &[u8]) -> Option<&'a [u8]>
     }
 }
 
-/// How many bytes stand before the first line feed of a text, all where there is none.
+/// Returns how many bytes are before the first line feed of a text, all if there is none.
 #[inline(always)]
 pub fn length_of_line(text: &[u8]) -> usize
     ensures place { result ≡ position_or_len is_line_feed text.now }
@@ -168,7 +168,7 @@ impl<'a> Word<'a> {
     }
 }
 
-/// How many bytes stand before the first blank of a text, all where there is none, and whether each of
+/// Returns how many bytes are before the first blank of a text, all if there is none, and whether each of
 /// them is one of a name's.
 #[inline(always)]
 fn word_before_blank(text: &[u8]) -> (usize, bool)

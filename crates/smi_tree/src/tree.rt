@@ -17,7 +17,7 @@ use std::marker::Model;
 /// file"), and each number in it is one that is there.
 #[derive(Drop)]
 pub struct Tree {
-    // Behind a box, so that a place that drops a tree is not dear to prove.
+    // In a box, because each place that drops a tree is expensive to prove.
     pub(crate) parts: Box<Parts>,
 }
 
@@ -105,7 +105,7 @@ impl Tree {
         Ok(Tree::new(alloc, tables)?)
     }
 
-    // Each place that drops tables is dear to prove, so there is one.
+    // There is one place that drops tables, because each is expensive to prove.
     fn new(alloc: Global, tables: Tables) -> Result<Tree, AllocError>
         requires { IsTree tables }
         ensures { IfOk result (λ tree. tree ≡ tables) }

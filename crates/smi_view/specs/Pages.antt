@@ -30,7 +30,7 @@ turned p e = record {
 abbrev pub page : HistoryId → List Shown → CopyMeaning
 page n rows = record { entries = entries_of rows; rows = rows; name = n }
 
--- whoever knows of a history knows that of this copy
+-- what is known of a history is known of this copy
 abbrev pub Knows : BoardCopy → Option HistoryId → Type 0
 Knows x v = (n : HistoryId) → v ≡ Some n → n ≡ name_of x.mark.seen.book
 

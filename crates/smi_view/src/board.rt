@@ -208,7 +208,7 @@ impl<J: BoardId> Board<J> {
     }
 }
 
-/// A board with no publications and nothing pending, and so many glances of it, one for each reading
+/// Opens a board with no publications and nothing pending, and this many glances of it, one for each reading
 /// thread, which have seen nothing and were told nothing.
 ///
 /// It fails only where memory ran out, which tests alone see.
@@ -237,7 +237,7 @@ pub fn open_board<J: BoardId, R: Wait>(
     }
 }
 
-/// A board with room for so many glances.
+/// Returns a board with room for this many glances.
 fn open_writer<J: BoardId, R: Wait>(
     rt: &R,
     alloc: Global,

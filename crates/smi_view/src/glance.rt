@@ -69,7 +69,7 @@ impl<J: BoardId> News<J> {
     ghost use Rattle.std.specs.Prelude.{◌↔◌, IsTrue};
 
     /// Whether a glance of that board has seen nothing but the beginning of these publications. It may have seen
-    /// more, where they were told before its last reading.
+    /// more, if they were told before its last reading.
     pub fn meet(&self, glance: &Glance<J>) -> bool
         ensures { IsTrue result ↔ IsPrefix glance.now.seen self.now }
     {
@@ -108,7 +108,7 @@ fn look<J: BoardId>(
 
 impl<J: BoardId> Glance<J> {
     /// The last row of an object among some of the publications, which begin with all that this glance
-    /// has seen and was told; none where they have no row of it. They are what it has seen from then on.
+    /// has seen and was told; none if they have no row of it. They are what it has seen from then on.
     ///
     /// `NoReading` changes nothing.
     pub fn read(&mut self, object: u16) -> Result<Option<Shown>, NoReading>

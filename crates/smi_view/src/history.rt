@@ -197,7 +197,7 @@ impl<J: BoardId> Rows<J> {
 }
 
 /// Rows with which the history of some board begins. The copies of a board have no type parameter, so
-/// which board it is stands in a mark's value and not in its type.
+/// which board it is, a mark's value says and not its type.
 #[derive(Drop)]
 pub struct HistoryMark {
     count: u64,

@@ -1,4 +1,4 @@
-//! What follows for whoever reads a board.
+//! What follows for a reader of a board.
 
 ghost use Rattle.std.specs.Prelude.{IfOk, IfSome};
 ghost use Rattle.smi_view.specs.Rising.{IsReadAfter, IsRising};

@@ -1,7 +1,7 @@
 //! What stations, operators and observers are shown.
 //!
 //! A [`View`] has the last state of each object that was told in an answer to this start of the station. Told states
-//! may be late, repeated, or answers to an earlier start: [`View::accept`] takes one exactly where it answers the
+//! may be late, repeated, or answers to an earlier start: [`View::accept`] takes one exactly when it answers the
 //! station's present boot and is newer than the last one that it took, so that what is shown never goes back.
 //!
 //! A [`Board`] shows them to other threads. The station's thread puts rows on it and publishes them; each reading
@@ -31,9 +31,9 @@
 //! ## The board
 //!
 //! - The rows that were put on a board are a history that only grows (`specs/History`). A word of `logbook` counts
-//!   them. Whoever knows a count knows that its rows begin all others of that history (`Rows`, whose contracts see
+//!   them. A count says that its rows begin all others of that history (`Rows`, whose contracts see
 //!   the list; `proofs/Counting`, `proofs/Beginnings`).
-//! - The board stands on `left_right` under a rule (`specs/Pages`). `Keeps` says that the map of a copy is that of
+//! - The board is built on `left_right` under a rule (`specs/Pages`). `Keeps` says that the map of a copy is that of
 //!   the rows which its mark counts, and that the copy is of the history that each thread knows of. `Finds` is what a
 //!   reading and a publication do. That each step keeps the rule is `proofs/Naming`.
 //! - `specs/Shows` names what the two ends show: `publications` and `pending`, `seen` and `told`. `specs/Rows` has
@@ -41,7 +41,7 @@
 //!   `proofs/LastRows`.
 //!
 //! That nothing goes back for one glance follows. `seen` of `read` says that what is seen begins with what was seen
-//! before; `covers` says that it begins with all that was told. Rows of one object stand in the order in which they
+//! before; `covers` says that it begins with all that was told. Rows of one object are in the order in which they
 //! were put. That what is told was published is `tell`'s clause; that board and glance have one history is in their
 //! types.
 //!

@@ -59,7 +59,7 @@ impl Picture {
     ghost use Rattle.smi_view.specs.Noted.{Showed, TakesIn, Told};
     ghost use Rattle.smi_view.specs.Pictured.{domain_of, object_of};
 
-    /// A picture of so many objects and domains, of which nothing was seen or heard.
+    /// Returns a picture of this many objects and domains, of which nothing was seen or heard.
     ///
     /// It fails only where memory ran out, which tests alone see.
     pub fn new(alloc: Global, objects: u16, domains: u16) -> Result<Picture, AllocError>
@@ -142,7 +142,8 @@ impl Picture {
         self.domains[usize::from(domain) - 1] = Some(told_after(&had, told, now));
     }
 
-    /// A state was shown at this time. It is kept where it is the first of its object, or newer than what was had; one
+    /// Notes that a state was shown at this time. It is kept if it is the first of its object, or newer than
+    /// what was had; one
     /// of an object that is not there is nowhere.
     #[tactic(auto, using(crate::proofs::Notes::takes_shown, crate::proofs::Notes::takes_no_shown))]
     pub fn show(&mut self, shown: Shown, now: u64)
@@ -153,7 +154,7 @@ impl Picture {
         }
     }
 
-    /// A record of a domain was told at this time: the domain is heard then. The record is kept where it is the first,
+    /// A record of a domain was told at this time: the domain is heard then. The record is kept if it is the first,
     /// or has come further than what was had; one of a domain that is not there is nowhere.
     #[tactic(auto, using(crate::proofs::Notes::takes_told, crate::proofs::Notes::takes_no_told))]
     pub fn tell(&mut self, domain: u16, told: &Record, now: u64)

@@ -62,7 +62,7 @@ from_none s i (w ∷ ws) none = let head = none_head (is_of s w) i _ none in (he
 pub none_of : (s : ℕ) (ws : List Watcher) → position (is_of s) ws ≡ None → NoneOf s ws
 none_of s ws none = from_none s 0 ws (sym (position_from-zero (is_of s) ws) ∙ none)
 
--- a station that has left stands nowhere
+-- a station that has left is nowhere
 pub left_none : (s : ℕ) (ws : List Watcher) → NoneOf s (others_of s ws)
 left_none s [] = tt
 left_none s (w ∷ ws) =
@@ -71,7 +71,7 @@ left_none s (w ∷ ws) =
       | false ↦ λ e. (e, left_none s ws)
     ]) refl
 
--- In an audience no station stands twice.
+-- In an audience no station occurs twice.
 
 none_at : (s : ℕ) (ws : List Watcher) → ((j : ℕ) (d : Watcher) → j < length ws → s ≢ (get_or ws j d).station)
     → NoneOf s ws
@@ -90,7 +90,7 @@ none_mid : (s : ℕ) (A B : List Watcher) (v : Watcher) → NoneOf s (A ++ v ∷
 none_mid s [] B v h = h.0
 none_mid s (a ∷ A) B v h = none_mid s A B v h.1
 
--- the others stand before and after
+-- the others are before and after
 pub before_none : (A B : List Watcher) (v : Watcher) → AllPairs AreApart (A ++ v ∷ B) → NoneOf v.station A
 before_none [] B v a = tt
 before_none (w ∷ A) B v a =
@@ -218,7 +218,7 @@ pub find_split : (A B : List Watcher) (v : Watcher) → AllPairs AreApart (A ++ 
     → find (is_of v.station) (A ++ v ∷ B) ≡ Some v
 find_split A B v a = find_split_at A B v (before_none A B v a)
 
--- whether a number is so many
+-- whether a number is this
 pub so_many : (k m : ℕ) → true ≡ nat_eq k m → k ≡ m
 so_many k m e = grind (arith, nat_tests)
 

@@ -304,7 +304,7 @@ fresh_at p q [] f m = absurd m
 fresh_at p q (r ∷ rs) f (inl e) = ap (λ (z : Spot). is_same p.at z.at) e ∙ f.0
 fresh_at p q (r ∷ rs) f (inr m) = fresh_at p q rs f.1 m
 
--- a cell that stands in no list is given back
+-- a cell that is in no list is given back
 pub freed_axis : (axis : Axis) (qs : ℕ → List Spot) (n : Net) (p : Spot) → ((i : ℕ) → Fresh (Some p) (qs i))
     → IsAxis axis qs n → IsAxis axis qs (without_cell p n)
 freed_axis axis qs n p free A = record {
@@ -450,7 +450,7 @@ stays_held a i p n q t =
     let l2 : Sides = record (neighbours a i n1 y) { before = x } in
     put_held a i y l2 n1 q (put_held a i x l1 n q t)
 
--- a cell that is held stands in both of its lists, and may be taken out of them
+-- a cell that is held is in both of its lists, and may be taken out of them
 module _ (rows columns : ℕ → List Spot) (n : Net) (M : IsMesh rows columns n) (p : Spot)
     (held : IsSome (found p.at n.held)) where
   it : (c : Cell) × (found p.at n.held ≡ Some c)

@@ -28,7 +28,7 @@ lists_of n = map (λ (head : Sides). watchers_from n head.after) n.objects
 abbrev pub station_heads : ℕ
 station_heads = 129
 
--- the cells stand in both of their lists, and each object's list is an audience
+-- the cells are in both of their lists, and each object's list is an audience
 pub record IsKept (n : Net) : Type 0 where
   pub whole : IsWhole n
   pub audiences : (i : ℕ) → IsAudience (unwrap_or (slice_get (lists_of n) i) [])

@@ -1,4 +1,4 @@
--- Cells that stand in two lists at once.
+-- Cells that are in two lists at once.
 use Rattle.std.specs.Prelude.{◌≡◌, ℕ, ◌<◌, if◌then◌else◌, nat_eq, ◌++◌, ◌⊎◌, List, [], ◌∷◌, length, Some, None}
 use Rattle.smi_watchers.specs.declared.cell.Cell.{Cell}
 use Rattle.smi_watchers.specs.declared.cell.Spot.{Spot}
@@ -32,7 +32,7 @@ pub record IsAxis (axis : Axis) (qs : ℕ → List Spot) (n : Net) : Type 0 wher
   pub apart : (i : ℕ) → Apart None (qs i)
   pub belongs : (i : ℕ) (p : Spot) → In p (qs i) → Belongs axis i p n
 
--- each cell stands in its list
+-- each cell is in its list
 abbrev pub AllIn : Axis → (ℕ → List Spot) → Net → Type 0
 AllIn axis qs n = (p : Spot) (c : Cell) → found p.at n.held ≡ Some c
     → (list_of axis c < length (heads axis n)) × In p (qs (list_of axis c))
@@ -43,7 +43,7 @@ pub record IsMesh (rows columns : ℕ → List Spot) (n : Net) : Type 0 where
   pub in_row : AllIn Object rows n
   pub in_column : AllIn Station columns n
 
--- the cells stand in some lists so
+-- the cells are in some lists so
 abbrev pub IsWhole : Net → Type 0
 IsWhole n = (rows : ℕ → List Spot) × (columns : ℕ → List Spot) × IsMesh rows columns n
 

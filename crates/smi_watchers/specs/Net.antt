@@ -69,7 +69,7 @@ with_next axis list k v n = with_links axis list k (record (neighbours axis list
 abbrev pub with_prev : Axis → ℕ → Option Spot → Option Spot → Net → Net
 with_prev axis list k v n = with_links axis list k (record (neighbours axis list n k) { before = v }) n
 
--- the place and what stands beside it are there
+-- the place and its neighbours are there
 abbrev pub IsLinked : Axis → ℕ → Spot → Net → Type 0
 IsLinked axis list p n = IsNode axis list (Some p) n × IsNode axis list (prev axis list n (Some p)) n
     × IsNode axis list (next axis list n (Some p)) n

@@ -7,7 +7,7 @@ use Rattle.smi_watchers.specs.declared.lists.Axis.TheVariants.{Object}
 use Rattle.smi_watchers.specs.Held.{found}
 use Rattle.smi_watchers.specs.Net.{Net, cell_at, next}
 
--- at most so many places from a node on
+-- at most this many places from a node on
 abbrev pub trace : ℕ → Net → Option Spot → List Spot
 trace zero n m = []
 trace (suc k) n None = []

@@ -8,7 +8,7 @@ use Rattle.smi_watchers.specs.declared.watcher.Watcher.{Watcher}
 use Rattle.smi_watchers.specs.declared.answer.WatchAnswer.{WatchAnswer}
 use Rattle.smi_watchers.specs.declared.answer.WatchAnswer.TheVariants.{Added, Replaced, Present, Older}
 
--- so many stations may watch an object at a time
+-- how many stations may watch an object at a time
 abbrev pub most_watchers : ℕ
 most_watchers = MOST_WATCHERS
 
@@ -59,7 +59,7 @@ IsFullFor station ws = length (others_of station ws) ≡ most_watchers
 abbrev pub AreApart : Watcher → Watcher → Type 0
 AreApart v w = v.station ≢ w.station
 
--- at most so many watchers, and no station twice
+-- not too many watchers, and no station twice
 pub record IsAudience (ws : List Watcher) : Type 0 where
   pub few : length ws ≤ most_watchers
   pub once : AllPairs AreApart ws
@@ -86,6 +86,6 @@ left_by station lists = map (others_of station) lists
 abbrev pub entries_of : ℕ → List (List Watcher) → ℕ
 entries_of station lists = sum_by (count_by (is_of station)) lists
 
--- a station has left every list and watches one object anew
+-- a station has left every list and watches one object again
 abbrev pub renewed : List (List Watcher) → ℕ → ℕ → ℕ → List (List Watcher)
 renewed lists object station echo = watched (left_by station lists) object station echo

@@ -13,7 +13,7 @@ use std_alloc::room::Vacant;
 
 /// The cells, each in a block of its own on the heap. It takes no space.
 ///
-/// It can be let go only by [`Cells::end`], where no cell is left: a forgotten cell is refused.
+/// It can be let go only by [`Cells::end`], when no cell is left: a forgotten cell is refused.
 pub(crate) struct Cells {
     ghost held: { List (Ptr × Cell) },
 }

@@ -6,7 +6,7 @@
 //! [`Watchers::renew`] put a station in, [`Watchers::unwatch`] and [`Watchers::leave`] take it out,
 //! and [`Watchers::nth`], [`Watchers::count`] and [`Watchers::walk`] read a list.
 //!
-//! Each entry is a cell of its own, which stands in the list of its object and in that of its
+//! Each entry is a cell of its own, which is in the list of its object and in that of its
 //! station, so that a station leaves in as many looks as it has entries: [`Watchers::visits`].
 //!
 //! The layer above may rely on this: the lists are what the rules of docs/PROTOCOL.md, "Watching",
@@ -28,15 +28,15 @@
 //!
 //! ## Three layers
 //!
-//! Each cell stands in two doubly linked lists, its object's and its station's.
+//! Each cell is in two doubly linked lists, its object's and its station's.
 //!
 //! - `Cells` owns the cells, and is the only code that follows a pointer. It reads, writes, makes and gives back one
 //!   whole cell. Which cell lies where is ghost data (`specs/Held`), which `also_owns` ties to the memory
-//!   (`specs/Memory`). `Cells` is linear: it ends only where no cell is left, so a body which forgets one is refused.
+//!   (`specs/Memory`). `Cells` is linear: it ends only when no cell is left, so a body which forgets one is refused.
 //! - `Lists` has the heads and links the cells, without a pointer and without `unsafe`. Its contracts are functions
 //!   on the cells and the heads (`specs/Net`). A head is the node `None` of its ring, so unlinking is two writes
-//!   wherever the cell stands, and one code serves both lists (`Axis`). `steps` goes along an object's list.
-//! - `Watchers` has the invariant `IsKept` (`specs/Kept`). The cells stand in both of their lists (`IsMesh`,
+//!   wherever the cell is, and one code serves both lists (`Axis`). `steps` goes along an object's list.
+//! - `Watchers` has the invariant `IsKept` (`specs/Kept`). The cells are in both of their lists (`IsMesh`,
 //!   `specs/Mesh`): each list is a ring of places, none twice, and each cell is in the two that its numbers name.
 //!   Each object's list is an audience. The lists that callers see are what a walk along the cells reads
 //!   (`lists_of`).
@@ -62,13 +62,13 @@
 //!
 //! That a `Watchers` may go to another thread is proved. What `Cells` owns, blocks of `Global` and plain data in
 //! them, says the same to every thread (`proofs/Crosses`, cited by the `Send` of `Cells` in `proofs/cells`). `Spot`
-//! is a number. A test moves one into a thread, and is proved too. `unsafe` stands in `cells.rt` and before the
+//! is a number. A test moves one into a thread, and is proved too. `unsafe` is in `cells.rt` and before the
 //! `Send` of `Cells` and of `Spot`; nothing beyond the toolchain is trusted.
 //!
 //! Not said by a contract: how many looks a body makes that it does not count. `make bench` shows that a leaving
 //! takes time by its entries and not by all cells. Only tested: that ample memory suffices (`tests/growths_test.py`).
 //! 1,000,000 random calls at 640 objects and 128 stations answer as plain lists do (`smi_part_tests`). Drawn schedules
-//! run with no error and no leak that valgrind sees (`tests/schedules_test.py`, where there is valgrind).
+//! run with no error and no leak that valgrind sees (`tests/schedules_test.py`, if there is valgrind).
 #![tactic(auto)]
 
 mod answer;

@@ -1,4 +1,4 @@
-//! The lists in which the cells stand: linking, without a pointer.
+//! The lists in which the cells are: linking, without a pointer.
 use crate::answer::WatchAnswer;
 use crate::cell::{Cell, Sides, Spot};
 use crate::cells::Cells;
@@ -17,7 +17,7 @@ pub(crate) enum Axis {
 /// The cells, and the head of each list.
 ///
 /// A head is the node `None` of its list's ring, so that a cell is linked and unlinked in the same
-/// way wherever it stands. Contracts see the cells and the heads.
+/// way wherever it is. Contracts see the cells and the heads.
 pub(crate) struct Lists {
     cells: Cells,
     objects: Vec<Sides>,
@@ -96,7 +96,7 @@ impl Lists {
         cells.end();
     }
 
-    /// What stands before and after a node of a list's ring: a cell, or the head where there is none.
+    /// Returns what is before and after a node of a list's ring: a cell, or the head if there is none.
     fn links(&self, axis: Axis, list: usize, node: Option<Spot>) -> Sides
         requires { IsNode axis list node self.now }
         ensures { result ≡ neighbours axis list self.now node }
@@ -216,7 +216,7 @@ impl Lists {
         }
     }
 
-    /// Where the cell of a station stands in an object's list, if it does.
+    /// Returns the place of a station's cell in an object's list, if it is there.
     pub fn place_of(&self, object: usize, station: u16) -> Option<Spot>
         requires whole { IsWhole self.now }
         requires object { object < length self.now.objects }
@@ -247,7 +247,7 @@ impl Lists {
         self.cells.fill(room, cell)
     }
 
-    /// A cell's block goes back to where it came from.
+    /// Gives a cell's block back.
     fn free(&mut self, place: Spot)
         requires { IsSome (found place.at self.old.held) }
         ensures { self.new ≡ without_cell place self.old }

@@ -13,7 +13,7 @@ pub const MOST_WATCHERS: usize = 64;
 /// A list for each station, found by its number, 1 to 128; the list of number 0 stays empty.
 const STATION_LISTS: u16 = 129;
 
-/// A cell that stands in no list.
+/// A cell that is in no list.
 const NO_LINKS: Sides = Sides {
     before: None,
     after: None,
@@ -24,7 +24,7 @@ const NO_LINKS: Sides = Sides {
 /// An object's list has at most 64 entries, and at most one of each station. Contracts see the list
 /// of these lists, that of object 1 first, and how many cells the last leaving looked at.
 ///
-/// Each entry is a cell of its own on the heap, which stands in the list of its object and in that
+/// Each entry is a cell of its own on the heap, which is in the list of its object and in that
 /// of its station. It is given back once: when it is taken out, or when the `Watchers` is dropped.
 pub struct Watchers {
     lists: Lists,
@@ -102,7 +102,7 @@ impl Watchers {
 
     /// A station, 1 to 128, watches an object with this boot of its own as echo.
     ///
-    /// It becomes the last in the object's list; where it is there already, the newer echo stays in
+    /// It becomes the last in the object's list; if it is there already, the newer echo stays in
     /// its place. `Full` comes exactly where 64 other stations watch the object, `Memory` only where
     /// the list had to grow and could not. Neither changes anything.
     pub fn watch(&mut self, object: u16, station: u16, echo: u32) -> Result<WatchAnswer, WatchFault>
@@ -132,7 +132,7 @@ impl Watchers {
         Ok(WatchAnswer::Added)
     }
 
-    /// A station, 1 to 128, leaves every list and then watches an object anew, the last in its list.
+    /// A station, 1 to 128, leaves every list and then watches an object again, the last in its list.
     ///
     /// `Memory` changes nothing. `Full` comes where 64 other stations watch the object: the station
     /// has left every list then.
@@ -212,7 +212,7 @@ impl Watchers {
     /// A station, 1 to 128, leaves every list; how many entries it had.
     ///
     /// It takes cells from the beginning of the station's own list alone, and counts its looks at a front
-    /// cell anew: [`Watchers::visits`] tells how many they were.
+    /// cell: [`Watchers::visits`] tells how many they were.
     pub fn leave(&mut self, station: u16) -> usize
         requires station_least { 1 ≤ station }
         requires station_most { station ≤ MOST_STATIONS }

@@ -30,7 +30,7 @@ is_ours hosts None = false
 abbrev pub reads_only : List ℕ → Bool
 reads_only method = bytes_eq method (codes "GET") || bytes_eq method (codes "HEAD")
 
--- what stands at a place; with the version as its query, a picture that whoever asks has
+-- what is at a place; with the version as its query, a picture that the client has
 abbrev pub place_route : List ℕ → Option (List ℕ) → List ℕ → Bool → Route
 place_route path query version has_orders =
     if bytes_eq path (codes "/") then route_to.Page
@@ -39,14 +39,14 @@ place_route path query version has_orders =
     else (if bytes_eq path (codes "/metrics") then route_to.Metrics
     else (if has_orders && bytes_eq path (codes "/api/orders") then route_to.Orders else route_to.NotFound))))
 
--- whoever asks stands on a page of this very host
+-- the request comes from a page of this very host
 abbrev pub is_own_page : Option (List ℕ) → Option (List ℕ) → Bool
 is_own_page (Some host) (Some origin) = starts_with (λ a b. a == b) origin (codes "http://")
     && bytes_eq (drop (length (codes "http://")) origin) host
 is_own_page (Some host) None = false
 is_own_page None origin = false
 
--- it is the page that was served with this key, where it was served
+-- it is the page that was served with this key, at its address
 abbrev pub is_trusted : List ℕ → PartsState → Bool
 is_trusted key q = is_text q.key key && is_own_page q.host q.origin
 
@@ -112,13 +112,13 @@ body_of snapshot route_to.NoOrder = codes "this is no order of an operator of th
 body_of snapshot route_to.ConsoleDown = codes "there is no connection with the console"
 body_of snapshot route_to.QueueFull = codes "too many orders wait"
 
--- what a page may do: run what is in it, and ask where it came from
+-- what a page may do: run what is in it, and ask its own host
 abbrev pub policy : List ℕ
 policy = codes "default-src 'none'; script-src 'unsafe-inline'; style-src 'unsafe-inline'; connect-src 'self'; "
     ++ codes "img-src data:; base-uri 'none'; form-action 'none'; frame-ancestors 'none'"
 
 -- what every answer carries: nobody keeps it, takes it for another kind of text or shows it in a frame, and a page
--- runs what is in it and asks where it came from
+-- runs what is in it and asks its own host
 abbrev pub security_headers : List (List ℕ × List ℕ)
 security_headers = (codes "cache-control", codes "no-store") ∷ (codes "x-content-type-options", codes "nosniff")
     ∷ (codes "x-frame-options", codes "DENY") ∷ (codes "referrer-policy", codes "no-referrer")
@@ -174,6 +174,6 @@ abbrev pub left_by : Route → WebService → List ℕ → WebService
 left_by route_to.Given w line = record w { orders = option_map (λ o. ordered o line) w.orders }
 left_by _ w line = w
 
--- what became of the orders is told anew, where orders may be given
+-- what became of the orders is told again, if orders may be given
 abbrev pub orders_told : WebService → WebService
 orders_told w = record w { snapshot = option_map_or (λ o. with_orders w.snapshot o.relay o.time) w.orders w.snapshot }

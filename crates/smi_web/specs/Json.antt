@@ -10,11 +10,11 @@ unfoldable pub flag : Bool → List ℕ
 flag true = codes "true"
 flag false = codes "false"
 
--- what stands before a text that so many others precede
+-- what comes before a text that this many others precede
 abbrev pub separator : List ℕ → ℕ → List ℕ
 separator between place = if place == 0 then [] else between
 
--- the texts of the numbers from 1 on, so many, with the same between two of them
+-- the texts of the numbers from 1 on, this many, with the same between two of them
 abbrev pub listed : List ℕ → (ℕ → List ℕ) → ℕ → List ℕ
 listed between text zero = []
 listed between text (suc n) = listed between text n ++ separator between n ++ text (suc n)

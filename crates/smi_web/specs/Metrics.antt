@@ -51,12 +51,12 @@ help_text metric.Epoch = codes "How often the domain has changed hands."
 help_text metric.Outcome = codes "How the last command of the domain ended, 0 where it was done or is not settled."
 help_text metric.Age = codes "How long ago the keeper of the domain was last heard."
 
--- what stands above the samples of a metric
+-- what is above the samples of a metric
 unfoldable pub head_text : List ℕ → List ℕ → List ℕ → List ℕ
 head_text name help kind =
     codes "# HELP " ++ name ++ codes " " ++ help ++ codes "\n# TYPE " ++ name ++ codes " " ++ kind ++ codes "\n"
 
--- 1 for the state in which an object is; nothing where none was shown
+-- 1 for the state in which an object is; nothing if none was shown
 abbrev pub seen_sample : Hierarchy → ℕ → Option Sight → List ℕ
 seen_sample h x None = []
 seen_sample h x (Some seen) =
@@ -66,7 +66,7 @@ seen_sample h x (Some seen) =
 abbrev pub state_sample : Hierarchy → Pictured → ℕ → List ℕ
 state_sample h p x = seen_sample h x (object_of p x)
 
--- the metric of a domain; nothing where it was never heard
+-- the metric of a domain; nothing if it was never heard
 abbrev pub heard_sample : Hierarchy → Metric → ℕ → ℕ → Option Hearing → List ℕ
 heard_sample h metric now d None = []
 heard_sample h metric now d (Some had) =

@@ -31,7 +31,7 @@ nothing = record { orders = []; next = 1; first = 1; unsent = []; is_open = fals
 abbrev pub is_waiting : OrderRelayState → RelayedOrder → Bool
 is_waiting r e = order.is_waiting r.first e
 
--- where the oldest order stands that does not wait, where those before the order `first` wait no more
+-- the place of the oldest order that does not wait, if those before the order `first` wait no more
 abbrev pub first_over : ℕ → List RelayedOrder → Option ℕ
 first_over first orders = position (λ e. not (order.is_waiting first e)) orders
 
@@ -65,23 +65,23 @@ with_errand r e = record r {
   unsent = r.unsent ++ order.sent_of e;
 }
 
--- an order is given, where there is room
+-- an order is given, if there is room
 abbrev pub given : OrderRelayState → List ℕ → ℕ → OrderRelayState
 given r line now = if has_room r then with_errand r (order.order_of r.next line now) else r
 
--- so many bytes are sent
+-- this many bytes are sent
 abbrev pub sent : ℕ → OrderRelayState → OrderRelayState
 sent count r = record r { unsent = drop count r.unsent }
 
--- where the order stands that a line answers
+-- the place of the order that a line answers
 abbrev pub place_of : OrderRelayState → List ℕ → Option ℕ
 place_of r line = position (order.is_answered_by r.first line) r.orders
 
--- the order at this place changes, where there is one
+-- the order at this place changes, if there is one
 abbrev pub changed_at : (RelayedOrder → RelayedOrder) → ℕ → List RelayedOrder → List RelayedOrder
 changed_at f i orders = option_map_or (λ e. set orders i (f e)) (slice_get orders i) orders
 
--- a line is heard: it answers the order that waits behind its tag, and nothing else changes
+-- a line is heard: it answers the order that waits with its tag, and nothing else changes
 abbrev pub heard : OrderRelayState → List ℕ → ℕ → OrderRelayState
 heard r line now =
     option_map_or (λ i. record r { orders = changed_at (order.answered line now) i r.orders }) (place_of r line) r

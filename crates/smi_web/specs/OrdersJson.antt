@@ -9,7 +9,7 @@ use Rattle.smi_web.specs.Outcome.{code_of, words_of}
 use Rattle.smi_web.specs.OrderRelay.{OrderRelayState, is_waiting}
 use Rattle.smi_web.specs.Json.{flag, listed, quoted}
 
--- when it was answered; now, where it was not
+-- when it was answered; now, if it was not
 abbrev pub end_of : RelayedOrder → ℕ → ℕ
 end_of e now = option_map_or (λ answer. answer.at) e.answer now
 

@@ -8,7 +8,7 @@ use Rattle.smi_tree.specs.Number.{number_within}
 abbrev pub rest_of : List ℕ → List ℕ → Option (List ℕ)
 rest_of front text = if starts_with (λ a b. a == b) text front then Some (drop (length front) text) else None
 
--- behind `told` stand the words of the order, and then its code
+-- after `told` come the words of the order, and then its code
 abbrev pub code_of : List ℕ → List ℕ → Option ℕ
 code_of line answer =
     option_and_then (λ order. option_and_then (λ told. option_and_then (λ behind.

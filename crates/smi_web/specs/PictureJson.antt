@@ -14,7 +14,7 @@ use Rattle.smi_view.specs.declared.Hearing.{Hearing}
 use Rattle.smi_view.specs.declared.Sight.{Sight}
 use Rattle.smi_web.specs.Json.{listed, quoted}
 
--- the state that was shown, its version, and when; null where none was
+-- the state that was shown, its version, and when; null if none was
 abbrev pub sight_text : Hierarchy → Option Sight → List ℕ
 sight_text h None = codes "null"
 sight_text h (Some seen) =
@@ -40,14 +40,14 @@ grant_text h r =
     codes "{\"holder\":" ++ holder_text h r.holder
     ++ codes ",\"epoch\":" ++ decimal r.epoch
 
--- its last command and how that stands
+-- its last command and whether that has ended
 abbrev pub last_text : grants.Standing → List ℕ
 last_text r =
     codes ",\"last\":" ++ decimal r.last
     ++ codes ",\"busy\":" ++ busy_text r.phase
     ++ codes ",\"outcome\":" ++ decimal r.outcome
 
--- the record that was told, when it was told first, and when the domain was last heard of; null where none was
+-- the record that was told, when it was told first, and when the domain was last heard of; null if none was
 abbrev pub hearing_text : Hierarchy → Option Hearing → List ℕ
 hearing_text h None = codes "null"
 hearing_text h (Some had) =

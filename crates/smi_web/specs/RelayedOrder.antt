@@ -26,11 +26,11 @@ is_waiting first e = not (is_some e.answer) && nat_le first e.number
 abbrev pub is_answered_by : ℕ → List ℕ → RelayedOrder → Bool
 is_answered_by first line e = is_waiting first e && starts_with (λ a b. a == b) line e.tag
 
--- what the console said, where it is plain text
+-- what the console said, if it is plain text
 abbrev pub said : List ℕ → List ℕ
 said text = if list_all is_plain text then text else codes "?"
 
--- the answer that a line is: what stands behind the tag, and when it came
+-- the answer that a line is: what follows the tag, and when it came
 abbrev pub answer_by : RelayedOrder → List ℕ → ℕ → Reply
 answer_by e line now = record { text = said (drop (length e.tag) line); at = now }
 

@@ -11,7 +11,7 @@ use Rattle.smi_web.specs.declared.tree_json.Kind.{Kind}
 use Rattle.smi_web.specs.declared.tree_json.Kind.TheVariants as kind
 use Rattle.smi_web.specs.Json.{flag, listed, quoted}
 
--- null where there is none
+-- null if there is none
 abbrev pub or_null : Option (List ℕ) → List ℕ
 or_null (Some text) = text
 or_null None = codes "null"
@@ -46,7 +46,7 @@ place_text h d =
     ++ codes ",\"station\":" ++ or_null (option_map (λ s. quoted (station_word h s)) (station_of h d))
     ++ codes ",\"parent\":" ++ or_null (option_map (λ p. quoted (domain_word h p)) (parent_of h d))
 
--- a domain, where it stands, and the actions that it accepts
+-- a domain, its station and parent, and the actions that it accepts
 abbrev pub domain_shape : Hierarchy → ℕ → List ℕ
 domain_shape h d = place_text h d ++ accepted_text h d ++ codes "]}"
 
@@ -66,7 +66,7 @@ kind_text h kind.Operator n = operator_shape h n
 kind_text h kind.Domain n = domain_shape h n
 kind_text h kind.Device n = device_shape h n
 
--- what stands before the list of a kind, and how many there are
+-- what comes before the list of a kind, and how many there are
 abbrev pub before_text : Kind → List ℕ
 before_text kind.State = codes ",\"states\":["
 before_text kind.Action = codes "],\"actions\":["

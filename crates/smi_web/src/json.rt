@@ -15,7 +15,7 @@ pub(crate) fn put(text: &mut Vec<u8>, piece: &[u8]) -> Result<(), AllocError>
     text.extend_from_slice(piece)
 }
 
-/// A number, behind a piece.
+/// Writes a piece, and after it a number.
 pub(crate) fn put_number(text: &mut Vec<u8>, before: &[u8], number: u64) -> Result<(), AllocError>
     ensures { OnOk result (text.new.items ≡ text.old.items ++ before.now ++ decimal number) }
 {
@@ -33,7 +33,7 @@ fn put_called(text: &mut Vec<u8>, name: Option<&[u8]>, number: u16) -> Result<()
     }
 }
 
-/// A name in quotes, behind a piece.
+/// Writes a piece, and after it a name in quotes.
 pub(crate) fn put_quoted(
     text: &mut Vec<u8>,
     before: &[u8],
@@ -49,7 +49,7 @@ pub(crate) fn put_quoted(
     put(text, b"\"")
 }
 
-/// Whether something holds, behind a piece.
+/// Writes a piece, and after it whether something holds.
 #[tactic(auto, unfolding(crate::specs::Json::flag))]
 pub(crate) fn put_flag(text: &mut Vec<u8>, before: &[u8], is: bool) -> Result<(), AllocError>
     ensures { OnOk result (text.new.items ≡ text.old.items ++ before.now ++ flag is) }
@@ -58,7 +58,7 @@ pub(crate) fn put_flag(text: &mut Vec<u8>, before: &[u8], is: bool) -> Result<()
     put(text, if is { b"true" } else { b"false" })
 }
 
-/// A text in quotes, behind a piece. It has nothing that had to be escaped.
+/// Writes a piece, and after it a text in quotes. It has nothing that had to be escaped.
 pub(crate) fn put_text(text: &mut Vec<u8>, before: &[u8], piece: &[u8]) -> Result<(), AllocError>
     ensures { OnOk result (text.new.items ≡ text.old.items ++ before.now ++ quoted piece.now) }
 {

@@ -15,7 +15,7 @@ pub(crate) trait Listing {
         ensures { OnOk result (into.new.items ≡ into.old.items ++ text self.now number) };
 }
 
-/// What stands before the text that so many others precede.
+/// Writes what comes before the text that this many others precede.
 fn put_separator(text: &mut Vec<u8>, between: &[u8], place: u16) -> Result<(), AllocError>
     ensures { OnOk result (text.new.items ≡ text.old.items ++ separator between.now place) }
 {
@@ -26,7 +26,7 @@ fn put_separator(text: &mut Vec<u8>, between: &[u8], place: u16) -> Result<(), A
     }
 }
 
-/// One text more, behind so many others.
+/// Writes one text more, after this many others.
 fn put_next<L: Listing>(
     text: &mut Vec<u8>,
     between: &[u8],
@@ -57,7 +57,7 @@ pub(crate) fn put_listed<L: Listing>(
     Ok(())
 }
 
-/// A list of these texts in JSON, whose brackets are in what stands before and after it.
+/// A list of these texts in JSON, whose brackets are in what comes before and after it.
 pub(crate) fn put_list<L: Listing>(
     text: &mut Vec<u8>,
     before: &[u8],

@@ -108,7 +108,7 @@ fn put_value(text: &mut Vec<u8>, metric: Metric, now: u64, had: &Hearing) -> Res
     }
 }
 
-/// What stands above the samples of a metric.
+/// Writes what is above the samples of a metric.
 #[tactic(auto, unfolding(crate::specs::Metrics::head_text))]
 fn put_head(text: &mut Vec<u8>, name: &[u8], help: &[u8], kind: &[u8]) -> Result<(), AllocError>
     ensures { OnOk result (text.new.items ≡ text.old.items ++ head_text name.now help.now kind.now) }

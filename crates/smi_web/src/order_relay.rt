@@ -164,8 +164,8 @@ impl OrderRelay {
         }
     }
 
-    /// Gives an order now, where there is room: it is one order more, and its line, behind its tag, the last that is
-    /// to be sent. Where there is no room nothing changes.
+    /// Gives an order now, if there is room: it is one order more, and its line, after its tag, the last that is
+    /// to be sent. If there is no room nothing changes.
     ///
     /// It fails only where memory ran out, which tests alone see, and changes nothing then.
     pub fn give(&mut self, line: &[u8], now: u64) -> Result<(), AllocError>

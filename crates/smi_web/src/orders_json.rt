@@ -22,7 +22,7 @@ use crate::outcome::{code_of, words_of};
 use crate::relayed_order::{RelayedOrder, Reply};
 use std::alloc::{AllocError, Global};
 
-/// When an order was answered; now, where it was not.
+/// Returns when an order was answered; now, if it was not.
 fn end_of(order: &RelayedOrder, now: u64) -> u64
     ensures { result ≡ end_of order.now now }
 {

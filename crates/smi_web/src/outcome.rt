@@ -19,7 +19,7 @@ fn rest_of<'a>(front: &[u8], text: &'a [u8]) -> Option<&'a [u8]>
     }
 }
 
-/// The code with which an order was answered: behind `told` stand the words of the order, and then its code. Nothing
+/// The code with which an order was answered: after `told` come the words of the order, and then its code. Nothing
 /// where something else was said.
 pub fn code_of(line: &[u8], answer: &[u8]) -> Option<u64>
     ensures { result ≡ spec.code_of line.now answer.now }

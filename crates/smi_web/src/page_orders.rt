@@ -12,7 +12,7 @@ use std::alloc::AllocError;
 pub struct PageOrders {
     /// The tree of whose operators they are.
     pub tree: Tree,
-    /// What the page has to show as its `Authorization`. It stands in the page, and in no other.
+    /// What the page has to show as its `Authorization`. It is in the page, and in no other.
     pub key: Bytes,
     pub relay: OrderRelay,
     /// What time it is, in milliseconds.
@@ -22,7 +22,7 @@ pub struct PageOrders {
 impl PageOrders {
     ghost use Rattle.smi_web.specs.Answers.{ordered};
 
-    /// Gives an order now, where there is room.
+    /// Gives an order now, if there is room.
     ///
     /// It fails only where memory ran out, which tests alone see, and changes nothing then.
     pub fn give(&mut self, line: &[u8]) -> Result<(), AllocError>

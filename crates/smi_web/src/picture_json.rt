@@ -84,7 +84,7 @@ fn put_grant(text: &mut Vec<u8>, tree: &Tree, record: &Record) -> Result<(), All
     put_number(text, b",\"epoch\":", record.epoch)
 }
 
-/// The last command of a domain and how it stands.
+/// Writes the last command of a domain, and whether it has ended.
 fn put_last(text: &mut Vec<u8>, record: &Record) -> Result<(), AllocError>
     ensures { OnOk result (text.new.items ≡ text.old.items ++ last_text record.now) }
 {

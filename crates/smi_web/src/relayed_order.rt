@@ -49,14 +49,14 @@ fn tag_of(alloc: Global, number: u64) -> Result<Bytes, AllocError>
     shared(text)
 }
 
-/// What the console said, where it is plain text.
+/// Returns what the console said, if it is plain text.
 fn said(text: &[u8]) -> &[u8]
     ensures { result.now ≡ spec.said text.now }
 {
     if is_all_plain(text) { text } else { b"?" }
 }
 
-/// A line without its first bytes, so many.
+/// Returns a line without this many of its first bytes.
 fn behind(line: &[u8], count: usize) -> &[u8]
     ensures { result.now ≡ drop count line.now }
 {

@@ -145,7 +145,7 @@ fn is_own_page(host: Option<&[u8]>, origin: Option<&[u8]>) -> bool
     }
 }
 
-/// Returns true if the page asks that was served with this key, from where it was served.
+/// Returns true if the page asks that was served with this key, from its own address.
 fn is_trusted(key: &[u8], parts: &RequestParts<'_>) -> bool
     ensures { result ≡ spec.is_trusted key.now parts.now }
 {

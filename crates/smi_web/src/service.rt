@@ -26,7 +26,7 @@ pub struct WebService {
     pub orders: Option<PageOrders>,
 }
 
-/// What a page may do: run what stands in it, and ask where it came from.
+/// What a page may do: run what is in it, and ask its own host.
 const CSP: &str =
     "default-src 'none'; script-src 'unsafe-inline'; style-src 'unsafe-inline'; connect-src 'self'; img-src data:; base-uri 'none'; form-action 'none'; frame-ancestors 'none'";
 

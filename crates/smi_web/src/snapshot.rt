@@ -23,7 +23,7 @@ pub struct Snapshot {
     pub tree: Bytes,
     pub picture: Bytes,
     pub metrics: Bytes,
-    /// The orders that were given from the page; nothing, where none can be.
+    /// The orders that were given from the page; nothing, if none can be.
     pub orders: Bytes,
 }
 

@@ -25,7 +25,7 @@ use smi_schedule::names;
 use smi_tree::Tree;
 use std::alloc::{AllocError, Global};
 
-/// The station of an operator, where there is such an operator.
+/// Returns the station of an operator, if there is such an operator.
 fn home_of(tree: &Tree, operator: u16) -> Option<u16>
     ensures { result ≡ entry tree.now.homes operator }
 {
@@ -36,7 +36,7 @@ fn home_of(tree: &Tree, operator: u16) -> Option<u16>
     }
 }
 
-/// The station of a domain, where there is such a domain.
+/// Returns the station of a domain, if there is such a domain.
 fn station_of(tree: &Tree, domain: u16) -> Option<u16>
     ensures { result ≡ station_of tree.now domain }
 {
@@ -47,7 +47,7 @@ fn station_of(tree: &Tree, domain: u16) -> Option<u16>
     }
 }
 
-/// The domain of a device, where there is such a device.
+/// Returns the domain of a device, if there is such a device.
 fn domain_of(tree: &Tree, device: u16) -> Option<u16>
     ensures { result ≡ option_map (λ row. row.domain) (entry tree.now.devices device) }
 {
@@ -117,7 +117,7 @@ fn put_accepted(text: &mut Vec<u8>, tree: &Tree, domain: u16) -> Result<(), Allo
     Ok(())
 }
 
-/// Where a domain stands.
+/// Writes the station and the parent of a domain.
 #[tactic(auto, unfolding(crate::specs::TreeJson::place_text))]
 fn put_place(text: &mut Vec<u8>, tree: &Tree, number: u16) -> Result<(), AllocError>
     ensures { OnOk result (text.new.items ≡ text.old.items ++ place_text tree.now number) }
@@ -185,7 +185,7 @@ impl<'a> Listing for All<'a> {
 }
 
 impl Kind {
-    /// What stands before the list of a kind.
+    /// Writes what comes before the list of a kind.
     fn before(self) -> &'static [u8]
         ensures { result.now ≡ before_text self }
     {

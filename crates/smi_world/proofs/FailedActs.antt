@@ -63,7 +63,7 @@ module _ (h : Hierarchy) (number : ℕ) (s : Station) (p : Post) (is : IsPost h 
     sends = ap (λ (z : Out). z.datagrams) handed;
   }
 
-  -- What comes to one that has stopped is not made.
+  -- What reaches one that has stopped is not made.
   pub stopped_fails : (how : Plan) (l : Left) (what : Happening) → (p.station.core.is_stopped || p.is_down) ≡ true
       → Makes h number p l (idle s) → Makes h number p l (fail_act h number how what s)
   stopped_fails how l what stopped makes =

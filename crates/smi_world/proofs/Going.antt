@@ -148,14 +148,14 @@ module _ (h : Hierarchy) (w : World) (input : Bytes) (number : ℕ) (x : Held) (
         ∙ fault_line h number line (lines rest) ∙ stands number h (item_in h line) (lines rest) ok;
   }
 
-  -- all is written where no further line leaves anything
+  -- all is written if no further line leaves anything
   all_written : trace_from h v (items_before_fault h (lines later)) ≡ []
       → Appends before now (trace_text h (trace_from h w (items_before_fault h (lines input))))
   all_written nothing =
       subst (λ (ls : List Line). Appends before now (trace_text h ls))
       (sym (all_there ∙ ap (λ (ls : List Line). gone.done ++ ls) nothing ∙ append-nil gone.done)) gone.written
 
-  -- what a stream comes to
+  -- how a stream ends
   abbrev pub Comes : Streamed → Type 0
   Comes how = (how ≡ ending_of h (lines input))
       × Appends before now (trace_text h (trace_from h w (items_before_fault h (lines input))))
@@ -272,7 +272,7 @@ if_some (Some text) P Q is follows = follows text is
 pub anyway : (A B : Type 0) → B → A → B
 anyway A B is other = is
 
--- These lines were made, and that much of the text is left to be cut, where it is known.
+-- These lines were made, and that much of the text is left to be cut, if it is known.
 pub record Going (h : Hierarchy) (w : World) (input : Bytes) (number : ℕ) (x : Held) (before now text : Option Bytes)
     : Type 0 where
   pub later : Bytes

@@ -1,4 +1,4 @@
--- The stations of a world as they are kept: one of them changes, and one more stands after them.
+-- The stations of a world as they are kept: one of them changes, and one more is after them.
 use Rattle.std.proofs.Common.{ℕ, zero, suc, ◌≡◌, ◌≢◌, ◌<◌, ◌+◌, Bool, true, false, List, [], ◌∷◌, ◌++◌, length}
 use Rattle.std.proofs.Common.{slice_index_or, slice_set, inl, inr, refl, sym, subst, arith}
 use Rattle.std.specs.Prelude.{◌⊎◌, ◌==◌, if◌then◌else◌}
@@ -77,7 +77,7 @@ module _ (h : Hierarchy) where
 -- What one of them has made is what the item makes of the world.
 module _ (h : Hierarchy) (w : World) (posts : List Post) (number i : ℕ) (at : number ≡ 1 + i)
     (within : i < length posts) (are : ArePosts h 1 posts w.stations) where
-  -- the station of this number stands there
+  -- the station of this number is there
   pub there : (d : Post) → IsPost h number (slice_index_or posts i d) (w.stations number)
   there d = subst (λ n. IsPost h n (slice_index_or posts i d) (w.stations n)) (sym at)
       (post_at h 1 i posts w.stations d within are)

@@ -11,7 +11,7 @@ use Rattle.smi_schedule.specs.Naming.{has_item}
 use Rattle.smi_world.specs.Posts.{Held, IsAt}
 use Rattle.smi_world.specs.Running.{FirstUnnamed, Named}
 
--- the lines so far, and those that are left from the world that was come to, are all
+-- the lines so far, and those that are left from the world that was reached, are all
 pub record MadeSo (h : Hierarchy) (x : Held) (lines : List Line) (items : List Item) (all : List Line) : Type 0 where
   pub world : World
   pub is : IsAt x world

@@ -1,4 +1,4 @@
--- What comes to a station, as the definitions say it.
+-- An event of a station, as the definitions say it.
 use Rattle.std.specs.Prelude.{ℕ, ◌==◌, if◌then◌else◌, Option, Some, None}
 use Rattle.smi_protocol.specs.Happening.{Happening, Comes, Reports, Ticks}
 use Rattle.smi_protocol.specs.Step.{ordered_or_reported}
@@ -16,7 +16,7 @@ happening coming.Tick = Ticks
 abbrev pub arrival_in : Arrival → schedule.Arrival
 arrival_in a = schedule.arrival (happening a.what) a.station
 
--- what comes to this station
+-- the event of this station
 abbrev pub what_comes_to : ℕ → Option Arrival → Option Coming
 what_comes_to number None = None
 what_comes_to number (Some a) = if a.station == number then Some a.what else None

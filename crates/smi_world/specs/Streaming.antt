@@ -41,11 +41,11 @@ IsDone streamed.ReadFault = ⊥
 IsDone streamed.WriteFault = ⊥
 IsDone streamed.Memory = ⊥
 
--- so many lines are looked for at most
+-- how many lines are looked for at most
 abbrev pub most_lines : ℕ
 most_lines = 2 ^ 64 - 2
 
--- of what was read no whole line is left: these lines are made, and bytes without a line feed stand before what the
+-- of what was read no whole line is left: these lines are made, and bytes without a line feed are before what the
 -- reader still has
 pub record IsAllMade (input : List ℕ) (made : List (List ℕ)) (unread : List ℕ) : Type 0 where
   pub rest : List ℕ
@@ -59,7 +59,7 @@ pub record MadeOfRead (input : List ℕ) (unread before now : Option (List ℕ))
   pub all : length made < most_lines → IfSome unread (IsAllMade input made)
   pub written : Appends before now (text made)
 
--- the world after a line that stands, and the lines that it leaves
+-- the world after a lawful line, and the lines that it leaves
 abbrev pub world_after : Hierarchy → World → Result (Option Item) Fault → World
 world_after h w (Ok None) = w
 world_after h w (Ok (Some x)) = (turn h w x).world

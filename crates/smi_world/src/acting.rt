@@ -22,7 +22,7 @@ pub(crate) fn is_stopped(post: &Post<'_>) -> bool
     post.station.is_stopped() || post.is_down
 }
 
-/// Something comes to the station.
+/// Has something reach the station.
 pub(crate) fn arrive(post: &mut Post<'_>, what: &Coming, left: &mut Left) -> Result<(), AllocError>
     ensures makes { (h : Hierarchy) (number : ℕ) (s : Defined) → IsPost h number post.old s
         → OnOk result (Makes h number post.new left.new (step_act h number (happening what.now) s)) }

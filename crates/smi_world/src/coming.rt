@@ -1,4 +1,4 @@
-//! What comes to a station.
+//! An event of a station.
 
 ghost use Rattle.std.specs.Prelude.{◌≡◌, IfSome, option_map};
 ghost use Rattle.smi_tree.specs.Lawful.{IsBetween};
@@ -12,7 +12,7 @@ use smi_message::Datagram;
 use smi_protocol::{Deed, Order, Request};
 use smi_tree::Tree;
 
-/// What comes to a station.
+/// An event of a station.
 #[derive(Clone, Copy)]
 pub(crate) enum Coming {
     /// A datagram that was sent.
@@ -25,14 +25,14 @@ pub(crate) enum Coming {
     Tick,
 }
 
-/// Something comes to a station.
+/// Something reaches a station.
 #[derive(Clone, Copy)]
 pub(crate) struct Arrival {
     pub station: u16,
     pub what: Coming,
 }
 
-/// A datagram comes to its receiver, if the tree has that station.
+/// Has a datagram reach its receiver, if the tree has that station.
 fn delivery(tree: &Tree, sent: Option<&Datagram>) -> Option<Arrival>
     ensures arrival { option_map arrival_in result ≡ schedule.delivery tree.now (option_copied sent.entry) }
     ensures within { IfSome result (λ a. IsBetween 1 (station_count tree.now) a.station) }
@@ -49,7 +49,7 @@ fn delivery(tree: &Tree, sent: Option<&Datagram>) -> Option<Arrival>
 
 ghost use Rattle.std.specs.Prelude.{option_copied};
 
-/// The datagram that was sent so many before the newest.
+/// Returns the datagram that was sent this many before the newest.
 fn sent_before(sent: &[Datagram], before: u64) -> Option<&Datagram>
     ensures { option_copied result ≡ schedule.sent_before before sent.now }
 {
@@ -74,7 +74,7 @@ fn sent_at(sent: &[Datagram], number: u64) -> Option<&Datagram>
 
 ghost use Rattle.std.specs.Prelude.{◌==◌, ◌-◌, if◌then◌else◌, None, slice_get};
 
-/// A report comes to the device's station.
+/// Has a report reach the device's station.
 fn report_of(tree: &Tree, device: u16, state: u16) -> Option<Arrival>
     ensures arrival { option_map arrival_in result ≡ schedule.arrival_at tree.now (Reports device state) }
     ensures within { IfSome result (λ a. IsBetween 1 (station_count tree.now) a.station) }
@@ -93,7 +93,7 @@ ghost use Rattle.smi_protocol.specs.Happening.{Reports};
 
 use smi_station_output::object_home;
 
-/// An order comes to the operator's station, and a report in it to the device's.
+/// Has an order reach the operator's station, and a report in it the device's.
 fn order_of(tree: &Tree, operator: u16, order: &Order) -> Option<Arrival>
     ensures arrival { option_map arrival_in result
         ≡ schedule.arrival_at tree.now (ordered_or_reported operator order.now) }

@@ -73,7 +73,7 @@ fn stream_seed<W: Write>(
     }
 }
 
-/// The trace of the first so many items that a seed draws, written while they are drawn: the text of the trace that
+/// Writes the trace of the first items that a seed draws, this many, while they are drawn: the text of the trace that
 /// [`run`](crate::run) answers for them, so that it is safe at every moment. At the end the writer is flushed.
 ///
 /// Where a write or the flush fails, or memory runs out, a prefix of the text is written.

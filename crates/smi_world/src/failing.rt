@@ -88,7 +88,7 @@ fn fail_after(post: &mut Post<'_>, what: &Coming, left: &mut Left) -> Result<(),
 
 ghost use Rattle.std.specs.Prelude.{◌||◌};
 
-/// The save of what comes to a station that runs fails so.
+/// Has the save of an event of a station that runs fail so.
 fn fail_save(
     post: &mut Post<'_>,
     how: Plan,
@@ -115,7 +115,7 @@ fn fail_save(
     }
 }
 
-/// Something comes to the station, and the save of its step fails so. A step that saves nothing can't fail.
+/// Has something reach the station, and the save of its step fail so. A step that saves nothing can't fail.
 pub(crate) fn fail(
     post: &mut Post<'_>,
     how: Plan,

@@ -12,7 +12,7 @@ pub struct Left {
     pub(crate) station: u16,
     /// The boot with which the station has started, if it has.
     pub(crate) started: Option<u32>,
-    /// What the step has handed out, with what its save left and what the station's objects show anew.
+    /// What the step has handed out, with what its save left and what the station's objects newly show.
     pub(crate) out: Out,
     /// How many datagrams were sent before.
     pub(crate) before: u64,
@@ -48,7 +48,7 @@ ghost use Rattle.std.specs.Prelude.{◌≡◌, ◌++◌, ◌+◌, ◌≤◌, map
 ghost use Rattle.smi_protocol.specs.declared.item.Line.TheVariants as line;
 ghost use Rattle.smi_protocol.specs.declared.entry.Entry.TheVariants as entry;
 
-/// One line more for each object that shows something anew.
+/// Adds a line for each object that has changed.
 fn push_passed(lines: &mut Vec<Line>, passed: &[Shown]) -> Result<(), AllocError>
     ensures { OnOk result (lines.new.items ≡ lines.old.items ++ map line.Entry (map entry.Passed passed.now)) }
 {
@@ -110,7 +110,7 @@ ghost use Rattle.smi_tree.specs.Lookups.{domain_count, device_count};
 ghost use Rattle.smi_publish.specs.Published.{shown_at};
 ghost use Rattle.smi_publish.specs.Publishing.{first_condition};
 
-/// One line more for what an object shows, where it is kept.
+/// Adds a line for what an object shows, if it is kept.
 fn push_shown(lines: &mut Vec<Line>, shown: Option<Shown>) -> Result<(), AllocError>
     ensures { OnOk result (lines.new.items ≡ lines.old.items ++ map line.Entry (map entry.Passed (if_any shown))) }
 {

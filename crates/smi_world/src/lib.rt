@@ -4,7 +4,7 @@
 //! [`World`] makes one item after the other, and [`run`] makes those of a whole schedule; every trace is safe at every
 //! moment.
 //!
-//! An item concerns one station. Something comes to it (`coming`), and it makes its step, starts again, or stops after
+//! An item concerns one station. Something reaches it (`coming`), and it makes its step, starts again, or stops after
 //! its save (`acting`, `failing`); what is left of that is a [`Left`]. Which station that is, and whether the item
 //! names what the tree has, is told by `task` and `naming`.
 //!
@@ -19,7 +19,7 @@
 //!   sent. Every call takes any defined world that the one in code is, and says which one it is afterwards. The
 //!   invariant of `World` keeps that one of them can be reached (`IsReached`). So `run` ends with the defined trace,
 //!   and the law speaks of it.
-//! - A stream (`proofs/Going`, `Begun`, `Drawing`) keeps which lines are made, which world they have come to, that
+//! - A stream (`proofs/Going`, `Begun`, `Drawing`) keeps which lines are made, which world they have led to, that
 //!   what they left is written, and what text is left to be cut. Where the reader's bytes are known, and with them
 //!   all lines, each way out of it says which part of the text of the whole trace is written.
 //! - What a step leaves in the trace is read off what it hands out: what its save leaves, the states that its objects

@@ -17,7 +17,7 @@ use smi_tree::Tree;
 use std::alloc::Global;
 use std::io::{Read, Write};
 
-/// So many rounds are made at most.
+/// How many rounds are made at most.
 const MOST_ROUNDS: u32 = 10_000;
 
 /// Whether a holder at a station waits for nothing of a domain.
@@ -115,7 +115,7 @@ fn pass_time<W: Write>(
     Ok(())
 }
 
-/// What was sent after so many datagrams comes, each once; how many there were then.
+/// Delivers what was sent after this many datagrams, each once. Returns how many there were then.
 fn deliver_behind<W: Write>(
     alloc: Global,
     world: &mut World<'_>,
@@ -159,7 +159,7 @@ pub enum Settled {
     /// The schedule did not end well, and nothing was made after it; or what came after it could not be written, or
     /// memory ran out.
     Unsettled(Streamed),
-    /// The world is at rest after so many more items.
+    /// The world is at rest after this many more items.
     Rests(u64),
     /// The world is not at rest after ten thousand rounds.
     Restless,
@@ -226,7 +226,7 @@ impl<R: Read> Source for Lined<'_, R> {
     }
 }
 
-/// So many items that a seed draws.
+/// This many items that a seed draws.
 #[derive(Drop)]
 struct Draws {
     drawer: Drawer,
@@ -248,7 +248,7 @@ impl Source for Draws {
     }
 }
 
-/// Makes a schedule's items, leads the world to rest where they ended well, and writes the lines of all.
+/// Makes a schedule's items, leads the world to rest if they ended well, and writes the lines of all.
 fn make_and_settle<S: Source, W: Write>(
     alloc: Global,
     world: &mut World<'_>,
@@ -301,7 +301,7 @@ pub fn stream_settled<R: Read, W: Write>(
     flushed(settled, writer)
 }
 
-/// The same of so many items that a seed draws.
+/// Does the same with this many items that a seed draws.
 pub fn stream_drawn_settled<W: Write>(
     alloc: Global,
     tree: &Tree,

@@ -16,7 +16,7 @@ use smi_station::Station;
 use smi_station_output::Out;
 use std::alloc::AllocError;
 
-/// An event comes to a station that runs. A store in memory never fails, so that only memory may run out.
+/// Has an event reach a station that runs. A store in memory never fails, so that only memory may run out.
 fn step(
     station: &mut Station<'_, MemoryStable>,
     event: Event<'_>,
@@ -62,7 +62,7 @@ fn step_with(
     }
 }
 
-/// Something comes to a station that runs; what the step leaves.
+/// Has something reach a station that runs. Returns what the step leaves.
 pub(crate) fn make(
     station: &mut Station<'_, MemoryStable>,
     what: &Coming,

@@ -33,7 +33,7 @@ pub enum Streamed {
     Memory,
 }
 
-/// What is used anew for each item.
+/// What is reused for each item.
 #[derive(Drop)]
 pub(crate) struct Buffers {
     left: Left,
@@ -195,7 +195,7 @@ ghost use Rattle.std.specs.Str.Lines.{lines};
 ghost use Rattle.smi_protocol.specs.Schedule.{trace_from};
 ghost use Rattle.smi_schedule.specs.Schedule.{items_before_fault};
 
-/// What is used anew for each item, empty.
+/// Returns what is reused for each item, empty.
 pub(crate) fn new_buffers(alloc: Global) -> Buffers {
     Buffers {
         left: Left::new(),

@@ -54,7 +54,7 @@ fn comes(arrival: Option<Arrival>) -> Option<Task>
     }
 }
 
-/// What comes to this station, if anything does.
+/// Returns what reaches this station, if anything does.
 fn coming_to(station: u16, arrival: Option<Arrival>) -> Option<Coming>
     ensures { result ≡ what_comes_to station arrival }
 {
@@ -66,7 +66,7 @@ fn coming_to(station: u16, arrival: Option<Arrival>) -> Option<Coming>
 
 ghost use Rattle.smi_world.specs.Coming.{what_comes_to};
 
-/// A station stops after its save, or starts again where it makes no step.
+/// Stops a station after its save, or starts it again if it makes no step.
 fn stops_after(station: u16, arrival: Option<Arrival>) -> Task
     ensures task { (h : Hierarchy) (w : World)
         → turn_of h w (Some result) ≡ schedule.stopped_behind h w station (option_map arrival_in arrival) }
@@ -98,7 +98,7 @@ fn stops(station: u16, moment: Moment, arrival: Option<Arrival>) -> Task
 
 ghost use Rattle.smi_world.specs.Tasks.{stopped_at};
 
-/// A station's save fails, where it makes a step.
+/// Has a station's save fail, if it makes a step.
 fn fails(station: u16, how: Plan, arrival: Option<Arrival>) -> Option<Task>
     ensures task { (h : Hierarchy) (w : World)
         → turn_of h w result ≡ schedule.failing h w station (option_map arrival_in arrival) how }

@@ -142,7 +142,7 @@ fn waits_ten_milliseconds(rt: HostRuntime) -> Result<(), Fail> {
     Ok(())
 }
 
-/// A clock that goes on by three milliseconds at each look, from a start; it stands still, or can't be read, where it
+/// A clock that goes on by three milliseconds at each look, from a start; it stops, or can't be read, if it
 /// is told so.
 #[derive(Drop)]
 struct Looked {
@@ -161,7 +161,7 @@ impl Clock for Looked {
     }
 }
 
-/// Of so many calls of `receive` each that told that nothing has come, as a bit from the lowest.
+/// Returns which of this many calls of `receive` told that nothing has come, as a bit each from the lowest.
 fn nothings<L: DatagramLink>(link: &mut L, calls: u32) -> u64 {
     let mut buffer = [0u8; 45];
     let mut seen: u64 = 0;
@@ -214,7 +214,7 @@ fn nothings_in_turn(
 
 /// Datagrams wait in the socket all the time. The first call begins a patience of ten milliseconds; at those three,
 /// six and nine milliseconds later some of it is left, and at twelve none: the fifth call is told that nothing has
-/// come, and the sixth begins anew. Where no datagram waits, a call waits for no longer than what is left.
+/// come, and the sixth begins again. If no datagram waits, a call waits for no longer than what is left.
 #[test]
 fn nothing_comes_in_time_whatever_waits(rt: HostRuntime) -> Result<(), Fail> {
     let (first, second) = free_addresses(&rt)?;

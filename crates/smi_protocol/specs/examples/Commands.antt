@@ -98,7 +98,7 @@ watcher_restarts =
     ∷ line (deliver 16) (showed A TPC 1 1 READY ∷ passed DCS 2 1 READY ∷ []) []
     ∷ []
 
--- The keeper restarts: its states begin anew, in a later boot.
+-- The keeper restarts: its states begin again, in a later boot.
 abbrev pub keeper_restarts : List Line
 keeper_restarts =
     watched

@@ -36,7 +36,7 @@ with_child h l m =
           l) { modes = put s.grants.modes 2 m };
     }
 
--- ANN's first command comes to DCS
+-- ANN's first command reaches DCS
 abbrev pub runs : Hierarchy → Station → Command → Outcome
 runs h s c = after h A s (Comes (record { from = A; to = A; tree = 17; body = body.Run DCS (Operator ANN) 1 1 c }))
 

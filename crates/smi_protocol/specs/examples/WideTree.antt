@@ -20,7 +20,7 @@ SEC = 3
 abbrev pub named : ℕ → ℕ → List ℕ
 named letter n = letter ∷ (65 + n / 16) ∷ (65 + n % 16) ∷ []
 
--- so many different names
+-- this many different names
 abbrev pub names : ℕ → ℕ → List (List ℕ)
 names letter count = map (named letter) (range_with_len 1 count)
 

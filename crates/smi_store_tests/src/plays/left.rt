@@ -119,7 +119,7 @@ pub(super) fn are_so<S>(station: &Station<'_, S>, lines: &[Line]) -> bool {
     })
 }
 
-/// Whether an item, after so many datagrams were sent, left all that the step has handed out, in its order.
+/// Whether an item, after this many datagrams were sent, left all that the step has handed out, in its order.
 pub(super) fn are_left(out: &Out, lines: &[Line], before: usize) -> bool {
     let mut seen = Seen {
         sent: 0,

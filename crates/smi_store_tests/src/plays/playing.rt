@@ -66,7 +66,7 @@ fn are_kept(one: Option<Vec<SavedRow>>, other: Option<Vec<SavedRow>>) -> bool {
     }
 }
 
-/// Whether the station tells of itself what the lines say. One that has stopped does not know how its row stands.
+/// Whether the station tells of itself what the lines say. One that has stopped does not know its row.
 fn is_told<S: Played + Drop>(station: &PlayedStation<'_, S>, made: Made, lines: &[Line]) -> bool {
     made == Made::Heard(Err(StepFault::Stopped)) || are_so(station, lines)
 }
@@ -109,7 +109,8 @@ fn make<Q: Played + Drop>(
         && is_told(other, made, lines)
 }
 
-/// Whether an item that comes to no station has left nothing, and one that comes to a station what it makes of it.
+/// Returns true if an item that reaches no station has left nothing, and one that reaches a station what it
+/// makes of it.
 fn turns<Q: Played + Drop>(
     alloc: Global,
     tree: &Tree,

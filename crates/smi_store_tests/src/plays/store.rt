@@ -18,7 +18,7 @@ impl Played for MemoryStable {
     }
 }
 
-/// A store that has to be given up by a call, which is given up where it is dropped.
+/// A store that has to be given up by a call, and is given up when it is dropped.
 pub(crate) struct Closing<S: OnDisks> {
     store: S,
 }

@@ -25,7 +25,7 @@ pub(super) struct Turn<'a> {
     pub event: Event<'a>,
 }
 
-/// A datagram comes to its receiver.
+/// A datagram reaches its receiver.
 fn delivered(sent: Option<&[u8; 44]>) -> Option<(u16, Event<'_>)> {
     let bytes = sent?;
     Some((
@@ -46,7 +46,7 @@ fn reported(tree: &Tree, device: u16, state: u16) -> Option<(u16, Event<'static>
     Some((tree.domain(domain).station, Event::Report(device, state)))
 }
 
-/// What comes to which station.
+/// Which station an event reaches.
 fn coming<'a>(tree: &Tree, sent: &'a [[u8; 44]], deed: &Deed) -> Option<(u16, Event<'a>)> {
     match *deed {
         Deed::Deliver(number) => delivered(sent.get((number as usize).wrapping_sub(1))),
@@ -76,7 +76,7 @@ fn started<'a>(station: u16) -> Turn<'a> {
     }
 }
 
-/// What comes to this station, and what is then made of it.
+/// The event of this station, and what is then made of it.
 fn at<'a>(station: u16, doing: StationTurn, coming: Option<(u16, Event<'a>)>) -> Option<Turn<'a>> {
     match coming {
         Some((there, event)) if there == station => Some(Turn {

@@ -78,7 +78,7 @@ fn operator_fault(place: usize, value: u8) -> u16 {
         (0, 1..=3) => 0,
         (0, _) => 2,
         (1, 1..) => 3,
-        // One link stands there.
+        // One link is there.
         (2, 1..) => 1,
         (3, 1) => 0,
         (3, _) => 1,

@@ -114,7 +114,7 @@ fn links_of(alloc: Global, tree: &Tree, key: Key, bytes: &[u8]) -> Result<Vec<St
     }
 }
 
-/// Domain 2, held at epoch 1, with so many commands pending: do action 1, 2 and so on.
+/// Domain 2, held at epoch 1, with this many commands pending: do action 1, 2 and so on.
 fn held(count: u16) -> StoredLink {
     let mut pending = Pending::new();
     for action in 1..=count {

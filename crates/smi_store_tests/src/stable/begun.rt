@@ -8,7 +8,7 @@ use std::alloc::Global;
 use std::io;
 use std::test::Fail;
 
-/// What stands at some places of a file that was begun, by SQLite's "Database File Format": the header's string, the
+/// What is at some places of a file that was begun, by SQLite's "Database File Format": the header's string, the
 /// size of a page, a log ahead of the file, the three fractions, one page, schema format 4, UTF-8; and a page of a
 /// table that has no cells.
 const FIELDS: [(usize, &[u8]); 9] = [
@@ -115,7 +115,7 @@ fn save_times<S: Stable>(store: &mut S, saves: u8) -> Result<(), StoreFault> {
     Ok(())
 }
 
-/// How many bytes of a log are written: zeros lie behind them.
+/// How many bytes of a log are written: zeros follow them.
 fn written(log: &[u8]) -> usize {
     log.iter()
         .rposition(|byte| *byte != 0)

@@ -1,4 +1,4 @@
-//! A station over SQL on disks that stop after so many calls: what it answers fits the rows that the next open finds,
+//! A station over SQL on disks that stop after this many calls: what it answers fits the rows that the next open finds,
 //! which are the old or the new ones, and a station that is opened on them goes on.
 
 use super::disks::{FusedFiles, OnDisks, back, blank, copied};
@@ -24,7 +24,7 @@ const FIRST: &[u8] = &[2, 0, 0, 0, 0, 0, 0, 1];
 /// More calls than an open and a save make.
 const MOST_CALLS: u64 = 1_000;
 
-/// What an open and a step came to.
+/// How an open and a step ended.
 #[derive(Clone, Copy, PartialEq, Eq)]
 enum End {
     /// The store was not opened.
@@ -33,7 +33,7 @@ enum End {
     NotOpened(OpenFault),
     /// The domain was taken.
     Stepped(Result<Heard, StepFault>),
-    /// The station was opened, and goes on where it was asked to.
+    /// The station was opened, and goes on if it was asked to.
     Opened,
     /// It does not go on.
     Wrong,
@@ -183,7 +183,7 @@ fn limits(which: usize, calls: u64) -> (u64, u64) {
     }
 }
 
-/// What the run comes to on copies of the disks that stop so, where the rows fit that.
+/// Returns how the run ends on copies of the disks that stop so, if the rows fit that.
 fn end_of<S: OnDisks<Disks = FusedFiles>>(
     alloc: Global,
     tree: &Tree,
@@ -202,14 +202,14 @@ fn end_of<S: OnDisks<Disks = FusedFiles>>(
     })
 }
 
-/// How often the station was not opened, and how often it stopped, before a run came to its end.
+/// How often the station was not opened, and how often it stopped, before a run ended.
 #[derive(Clone, Copy)]
 struct StopCounts {
     not_opened: u64,
     stopped: u64,
 }
 
-/// Counts the calls upwards until a run comes to its end.
+/// Counts the calls upwards until a run ends.
 fn count_ends<S: OnDisks<Disks = FusedFiles>>(
     alloc: Global,
     tree: &Tree,

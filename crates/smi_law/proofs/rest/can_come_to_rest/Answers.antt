@@ -1,4 +1,4 @@
--- Stopped stations start, and then all that is under way comes to its end.
+-- Stopped stations start, and then all that is under way ends.
 use Rattle.std.proofs.Common.{true}
 use Rattle.smi_protocol.specs.Schedule.{first_world}
 use Rattle.smi_law.specs.World.{opens}

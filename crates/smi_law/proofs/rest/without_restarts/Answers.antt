@@ -1,4 +1,4 @@
--- All that is under way comes to its end, no station stops, and what no longer waits was told.
+-- All that is under way ends, no station stops, and what no longer waits was told.
 use Rattle.std.proofs.Common.{false}
 use Rattle.smi_grant.specs.declared.Holder.TheVariants.{Operator}
 use Rattle.smi_law.proofs.Answers.{all_told, list_keeps}

@@ -2,7 +2,7 @@ use Rattle.std.proofs.Common.{◌≡◌, ◌+◌, drop}
 use Rattle.smi_rows.specs.Listed.{place_of}
 use Rattle.smi_rows.proofs.memory.place_of.Given as goal
 
--- all so far stand before the key
+-- all so far are before the key
 abbrev pub invariant-loop-row : goal.invariant-loop-row
 invariant-loop-row l = record {
   place : l.place ≡ l.row-index;

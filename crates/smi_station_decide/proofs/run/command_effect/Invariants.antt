@@ -10,7 +10,7 @@ use Rattle.smi_station_grants.specs.declared.commanded.CommandedChild.{Commanded
 use Rattle.smi_station_decide.proofs.run.command_effect.Given as goal
 
 -- The first children are known, and what is known of each is so; whether one has to answer, and the largest code, are
--- those of all with what the children that are left come to.
+-- those of all with the codes of the children that are left.
 abbrev pub invariant-loop-child : goal.invariant-loop-child
 invariant-loop-child l = record {
   children : map (λ (x : CommandedChild). x.child) l.known.items ≡ take l.child-index l.children;

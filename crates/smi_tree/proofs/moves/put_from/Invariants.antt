@@ -2,7 +2,7 @@ use Rattle.std.proofs.Common.{◌≡◌, ℕ, ◌+◌, ◌-◌, vec_len}
 use Rattle.smi_tree.specs.MoveIndex.{move_from}
 use Rattle.smi_tree.proofs.moves.put_from.Given as goal
 
--- what stands there stands there still
+-- what is there stays there
 abbrev pub invariant-loop-alloc : goal.invariant-loop-alloc
 invariant-loop-alloc l = (state action : ℕ)
     → move_from l.by_state.items state action ≡ move_from l.fn.by_state.items state action

@@ -5,7 +5,7 @@ use Rattle.smi_tree.specs.Text.{cuts}
 use Rattle.smi_tree.specs.declared.text.Separator.TheVariants.{Blank}
 use Rattle.smi_tree.proofs.text.word_before_blank.Given as goal
 
--- no blank stands before this place, and the bytes before it are as it was found
+-- no blank is before this place, and the bytes before it are as found
 abbrev pub invariant-loop-place : goal.invariant-loop-place
 invariant-loop-place l = record {
   free : (k : ℕ) → k < l.place → cuts Blank (get_or l.text k 0) ≡ false;

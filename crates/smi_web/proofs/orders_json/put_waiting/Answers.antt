@@ -4,7 +4,7 @@ use Rattle.smi_web.specs.OrdersJson.{waiting_text}
 use Rattle.smi_web.specs.Json.{flag}
 use Rattle.smi_web.proofs.orders_json.put_waiting.Goals as goal
 
--- the four pieces, one behind the other
+-- the four pieces, one after the other
 pub returns : goal.returns
 unfolding waiting_text
 returns c =

@@ -5,7 +5,7 @@ use Rattle.smi_world.specs.Posts.{IsAt}
 use Rattle.smi_world.proofs.Drawing.{Drawing}
 use Rattle.smi_world.proofs.drawn.stream_items.Given as goal
 
--- so many items are made and written, and so many are left
+-- this many items are made and written, and the others are left
 abbrev pub invariant-loop : goal.invariant-loop
 invariant-loop g l = record {
   tree : l.world.tree ≡ l.fn.world.tree;

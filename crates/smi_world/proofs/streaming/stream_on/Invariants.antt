@@ -5,7 +5,7 @@ use Rattle.smi_world.specs.Posts.{IsAt}
 use Rattle.smi_world.proofs.Going.{Going}
 use Rattle.smi_world.proofs.streaming.stream_on.Given as goal
 
--- so many lines are made, and that is left
+-- this many lines are made, and that is left
 abbrev pub invariant-loop-number : goal.invariant-loop-number
 invariant-loop-number g l = record {
   tree : l.world.tree ≡ l.fn.world.tree;

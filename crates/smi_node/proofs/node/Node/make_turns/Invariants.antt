@@ -5,7 +5,7 @@ use Rattle.smi_node.specs.Served.{carrying}
 use Rattle.smi_node.specs.Turning.{MadeTurns}
 use Rattle.smi_node.proofs.node.Node.make_turns.Given as goal
 
--- so many turns are made, and the node has what it had
+-- this many turns are made, and the node has what it had
 abbrev pub invariant-loop : goal.invariant-loop
 invariant-loop g l =
     let s = g.S.Stable in

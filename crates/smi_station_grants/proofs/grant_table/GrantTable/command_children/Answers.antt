@@ -18,7 +18,7 @@ use Rattle.smi_station_grants.proofs.grant_table.GrantTable.command_children.Goa
 abbrev child_of : CommandedChild → ℕ
 child_of y = y.child
 
--- a child at its place in the list of all, where it stands for the first time
+-- a child at its place in the list of all, if it is there for the first time
 record Place (h : Hierarchy) (d : ℕ) (xs : List ℕ) (i x : ℕ) : Type 0 where
   listed : xs ≡ children_of h d
   within : i < length xs

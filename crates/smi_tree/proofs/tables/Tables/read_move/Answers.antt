@@ -8,7 +8,7 @@ use Rattle.smi_tree.specs.declared.fault.LineRefusal.{LineRefusal}
 use Rattle.smi_tree.proofs.MoveLines.{pair, move-read_last, move-read_after, move-unknown, known-number}
 use Rattle.smi_tree.proofs.tables.Tables.read_move.Goals as goal
 
--- what a step left, where what is said of it comes to the same
+-- what a step left, if what is said of it is the same
 same-said : {X Y : Type 0} (new : X) (r : Result Y LineRefusal) (said other : Result X Fault) → said ≡ other
     → Becomes new r other → Becomes new r said
 same-said new r said other same h = rw same h
