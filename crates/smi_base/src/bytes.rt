@@ -1,7 +1,7 @@
 ghost use Rattle.std.specs.Prelude.{◌≡◌, ◌+◌, ◌<◌, length};
 ghost use Rattle.smi_base.specs.Bytes.{u16_at, u32_at, u64_at};
 
-/// The number in the two bytes from a place on.
+/// Returns the number in the two bytes from a place on.
 #[inline(always)]
 pub fn u16_at(b: &[u8], at: usize) -> u16
     requires { at + 1 < length b.now }
@@ -10,7 +10,7 @@ pub fn u16_at(b: &[u8], at: usize) -> u16
     u16::from_be_bytes([b[at], b[at + 1]])
 }
 
-/// The number in the four bytes from a place on.
+/// Returns the number in the four bytes from a place on.
 #[inline(always)]
 pub fn u32_at(b: &[u8], at: usize) -> u32
     requires { at + 3 < length b.now }
@@ -19,7 +19,7 @@ pub fn u32_at(b: &[u8], at: usize) -> u32
     u32::from_be_bytes([b[at], b[at + 1], b[at + 2], b[at + 3]])
 }
 
-/// The number in the eight bytes from a place on.
+/// Returns the number in the eight bytes from a place on.
 #[inline(always)]
 pub fn u64_at(b: &[u8], at: usize) -> u64
     requires { at + 7 < length b.now }

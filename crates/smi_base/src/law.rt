@@ -10,7 +10,7 @@ ghost use Rattle.smi_base.specs.declared.trees.TheConstants.{MOST_BYTES_OF_A_NAM
 ghost use Rattle.smi_base.specs.declared.trees.TheConstants.{MOST_BYTES_OF_A_FILE};
 ghost use Rattle.smi_base.specs.declared.numbers.TheConstants.{LAST_BOOT, LAST_SEQUENCE, MOST_LINKS, MOST_SENT};
 
-/// What a tree has at most.
+/// States what a tree has at most.
 pub fn limits_of_trees()
     ensures states { MOST_STATES ≡ 64 }
     ensures actions { MOST_ACTIONS ≡ 64 }
@@ -27,14 +27,14 @@ pub fn limits_of_trees()
     ensures objects { MOST_OBJECTS ≡ MOST_DOMAINS + MOST_DEVICES }
 {}
 
-/// What the file of a tree has at most.
+/// States what the file of a tree has at most.
 pub fn limits_of_files()
     ensures name { MOST_BYTES_OF_A_NAME ≡ 16 }
     ensures line { MOST_BYTES_OF_A_LINE ≡ 200 }
     ensures file { MOST_BYTES_OF_A_FILE ≡ 262144 }
 {}
 
-/// How far a station counts, and what one step of it does at most.
+/// States how far a station counts, and what one step of it does at most.
 pub fn limits_of_stations()
     ensures boot { LAST_BOOT ≡ 4000000000 }
     ensures sequence { LAST_SEQUENCE ≡ 4000000000 }

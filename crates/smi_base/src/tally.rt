@@ -21,7 +21,7 @@ impl Model for Tally {
 impl Tally {
     ghost use Rattle.std.specs.Prelude.{◌≡◌, ◌+◌};
 
-    /// A count of nothing.
+    /// Returns a count of nothing.
     pub fn zero() -> Tally
         ensures { result.count ≡ 0 }
     {

@@ -16,7 +16,7 @@ pub enum LinkHeard {
     Settled(Settlements),
 }
 
-/// What a told record makes of a link, and what the holder learns by it.
+/// Returns what a told record makes of a link, and what the holder learns by it.
 ///
 /// `me` is the link's holder, an operator or a domain. The table of docs/PROTOCOL.md, "Hearing a
 /// record", has the rule for each link; if none fits, nothing changes.

@@ -18,16 +18,15 @@ ghost use Rattle.smi_command.specs.Pending.{base_of};
 
 use crate::{Due, Link};
 
-/// A link that asks for its domain takes no order, so it leaves `Taking` by what it is told alone.
+/// States that a link that asks for its domain takes no order, so it leaves `Taking` by what it is told alone.
 pub fn taking_ends_by_hearing()
     ensures no_take { (s : ℕ) → IsErr (take_begun (Link.Taking s)) }
     ensures no_command { (s : ℕ) (c : Command) → IsErr (command_issued (Link.Taking s) c) }
     ensures no_drop { (s : ℕ) → IsErr (drop_begun (Link.Taking s)) }
 {}
 
-/// What a told record settles, number by number: a pending command settles exactly where the record
-/// shows that it has ended, the last one with the record's outcome and those below it unseen. The
-/// others stay, in their order.
+/// States what a told record settles, number by number: a pending command settles exactly where the record shows that
+/// it has ended, the last one with the record's outcome and those below it unseen. The others stay, in their order.
 pub fn commands_settle_by_number()
     ensures settles { (n i : ℕ) (p : List Command) (r : Standing) → i < length p →
         (i < settled_count n p r) ↔ ShowsEnd r (base_of n p + 1 + i) }
@@ -38,8 +37,8 @@ pub fn commands_settle_by_number()
         slice_get (drop (settled_count n p r) p) i ≡ slice_get p (settled_count n p r + i) }
 {}
 
-/// The epoch that a link knows of never falls: an order leaves it, and what is told never lowers it.
-/// It stays within the epochs that a domain can have.
+/// States that the epoch that a link knows of never falls: an order leaves it, and what is told never lowers it. It
+/// stays within the epochs that a domain can have.
 pub fn known_epoch_never_falls()
     ensures taken { (l m : Link) → take_begun l ≡ Ok m → known m ≡ known l }
     ensures commanded { (l : Link) (c : Command) (m : Link) →
@@ -51,10 +50,10 @@ pub fn known_epoch_never_falls()
         IsRecord r → known l ≤ last_epoch → known (told_link l me r) ≤ last_epoch }
 {}
 
-/// The law of one link. Wherever a list of events leads that one holder, the keeper, the network
-/// and strangers make, the link and the record know of one another, the numbers of pending commands
-/// are in step with the record, every run is numbered in its turn and is the one command that was
-/// issued under its number, and every `RUN` that was ever sent is spent or still pending.
+/// States the law of one link. Wherever a list of events leads that one holder, the keeper, the network and strangers
+/// make, the link and the record know of one another, the numbers of pending commands are in step with the record,
+/// every run is numbered in its turn and is the one command that was issued under its number, and every `RUN` that
+/// was ever sent is spent or still pending.
 pub fn one_link_and_its_keeper()
     ensures known { (me : Holder) (events : List Event) → is_free me ≡ false →
         KnownGrant (reached me events).kept me (reached me events).link }

@@ -38,7 +38,7 @@ impl Link {
     ghost use Rattle.std.specs.Prelude.{◌≡◌};
     ghost use Rattle.smi_command.specs.Link.{known, is_held, is_out, is_unsettled};
 
-    /// The epoch that the link knows of.
+    /// Returns the epoch that the link knows of.
     pub fn known(&self) -> u64
         ensures { result ≡ known self.now }
     {
@@ -50,21 +50,21 @@ impl Link {
         }
     }
 
-    /// Whether the holder does not have the domain and does not ask for it.
+    /// Returns true if the holder does not have the domain and does not ask for it.
     pub fn is_out(&self) -> bool
         ensures { result ≡ is_out self.now }
     {
         matches!(self, Link::Out(_))
     }
 
-    /// Whether the holder has the domain.
+    /// Returns true if the holder has the domain.
     pub fn is_held(&self) -> bool
         ensures { result ≡ is_held self.now }
     {
         matches!(self, Link::Held { .. })
     }
 
-    /// Whether something is under way: a take, a drop, or a command.
+    /// Returns true if something is under way: a take, a drop, or a command.
     pub fn is_unsettled(&self) -> bool
         ensures { result ≡ is_unsettled self.now }
     {

@@ -23,7 +23,7 @@ pub enum Refusal {
 }
 
 impl Refusal {
-    /// The refusal's number (docs/PROTOCOL.md, "Orders").
+    /// Returns the refusal's number (docs/PROTOCOL.md, "Orders").
     pub const fn code(self) -> u16
         ensures { result ≡ refusal_code self }
     {
@@ -36,7 +36,7 @@ impl Refusal {
     }
 }
 
-/// The link begins to take the domain, or the [refusal](Refusal)'s number: 23 unless it is out.
+/// Begins to take the domain. Returns the link then, or the [refusal](Refusal)'s number: 23 unless it is out.
 pub fn begin_take(link: &Link) -> Result<Link, u16>
     ensures { result ≡ take_begun link.now }
 {
@@ -46,9 +46,9 @@ pub fn begin_take(link: &Link) -> Result<Link, u16>
     }
 }
 
-/// The command is pending under the next number, or the [refusal](Refusal)'s number, the first
-/// that fits: 21 where the domain is not held, 22 where eight commands are pending, 24 where number
-/// 1,000,000 is used.
+/// Issues the command under the next number. Returns the link then, or the [refusal](Refusal)'s number, the first
+/// that fits: 21 where the domain is not held, 22 where eight commands are pending, 24 where number 1,000,000 is
+/// used.
 pub fn issue(link: &Link, command: Command) -> Result<Link, u16>
     ensures { result ≡ command_issued link.now command }
 {
@@ -74,8 +74,8 @@ pub fn issue(link: &Link, command: Command) -> Result<Link, u16>
     })
 }
 
-/// The link begins to give the domain up, or the [refusal](Refusal)'s number, the first that fits:
-/// 21 where the domain is not held, 22 where a command is pending.
+/// Begins to give the domain up. Returns the link then, or the [refusal](Refusal)'s number, the first that fits: 21
+/// where the domain is not held, 22 where a command is pending.
 pub fn begin_drop(link: &Link) -> Result<Link, u16>
     ensures { result ≡ drop_begun link.now }
 {

@@ -36,7 +36,7 @@ impl Pending {
     ghost use Rattle.std.specs.Prelude.{◌≡◌, ◌<◌, ◌≤◌, ◌↔◌, ◌++◌, ◌∷◌, [], IsTrue, IfSome, drop, length, slice_get};
     ghost use Rattle.smi_command.specs.Pending.{most_pending, base_of};
 
-    /// No command is pending.
+    /// Returns a list without pending commands.
     pub fn new() -> Pending
         ensures { result ≡ [] }
     {
@@ -46,7 +46,7 @@ impl Pending {
         }
     }
 
-    /// How many commands are pending.
+    /// Returns how many commands are pending.
     pub fn len(&self) -> usize
         ensures value { result ≡ length self.now }
         ensures within { result ≤ most_pending }
@@ -54,14 +54,14 @@ impl Pending {
         self.count
     }
 
-    /// Whether no command is pending.
+    /// Returns true if no command is pending.
     pub fn is_empty(&self) -> bool
         ensures { IsTrue result ↔ (self.now ≡ []) }
     {
         self.len() == 0
     }
 
-    /// Whether no further command may be issued.
+    /// Returns true if no further command may be issued.
     pub fn is_full(&self) -> bool
         ensures full { IsTrue result ↔ (length self.now ≡ most_pending) }
         ensures within { length self.now ≤ most_pending }
@@ -69,7 +69,7 @@ impl Pending {
         self.len() == MOST_PENDING
     }
 
-    /// The command at place `i`, the oldest at 0.
+    /// Returns the command at place `i`, the oldest at 0.
     pub fn get(&self, i: usize) -> Option<Command>
         ensures value { result ≡ slice_get self.now i }
         ensures within { IfSome result (λ _. i < length self.now) }
@@ -82,21 +82,21 @@ impl Pending {
         }
     }
 
-    /// The commands, oldest first.
+    /// Returns the commands, oldest first.
     pub fn as_slice(&self) -> &[Command]
         ensures { result.now ≡ self.now }
     {
         &self.commands[..self.count]
     }
 
-    /// The number before the oldest command's, where the newest has the number `newest`.
+    /// Returns the number before the oldest command's, if the newest has the number `newest`.
     pub fn base(&self, newest: u32) -> u32
         ensures { result ≡ base_of newest self.now }
     {
         newest.saturating_sub(self.count as u32)
     }
 
-    /// One more command is pending, the newest.
+    /// Adds a pending command, the newest.
     pub fn push(&mut self, command: Command)
         requires { length self.old < most_pending }
         ensures { self.new ≡ self.old ++ command ∷ [] }

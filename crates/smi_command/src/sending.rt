@@ -3,8 +3,8 @@ ghost use Rattle.smi_command.specs.Link.{due_of};
 
 use crate::{Due, Link};
 
-/// What is due at place `i`: of pending commands the oldest has place 0, and a take or a drop
-/// has place 0 alone.
+/// Returns what is due at place `i`: of pending commands the oldest has place 0, and a take or a drop has place 0
+/// alone.
 pub fn due(link: &Link, i: usize) -> Option<Due>
     ensures { result ≡ due_of link.now i }
 {

@@ -47,8 +47,8 @@ impl Settlements {
     ghost use Rattle.smi_command.specs.Pending.{most_pending};
     ghost use Rattle.smi_command.specs.Settlements.{settlement, settled_run};
 
-    /// This many commands have settled, numbered from `first` on: the newest with `code`, and the
-    /// others unseen.
+    /// Returns that this many commands have settled, numbered from `first` on: the newest with `code`, and the others
+    /// unseen.
     pub(crate) fn run(first: u32, count: usize, code: u16) -> Settlements
         requires some { 1 ≤ count }
         requires few { count ≤ most_pending }
@@ -58,7 +58,7 @@ impl Settlements {
         Settlements { first, count, code }
     }
 
-    /// A take or a drop has settled.
+    /// Returns that a take or a drop has settled.
     pub(crate) fn change(code: u16) -> Settlements
         ensures { result ≡ settlement 0 code ∷ [] }
     {
@@ -69,7 +69,7 @@ impl Settlements {
         }
     }
 
-    /// How many have settled.
+    /// Returns how many have settled.
     pub fn len(&self) -> usize
         ensures value { result ≡ length self.now }
         ensures some { 1 ≤ result }
@@ -78,7 +78,7 @@ impl Settlements {
         self.count
     }
 
-    /// The settlement at place `i`, the least number at 0.
+    /// Returns the settlement at place `i`, the least number at 0.
     pub fn get(&self, i: usize) -> Option<Settlement>
         ensures { result ≡ slice_get self.now i }
     {

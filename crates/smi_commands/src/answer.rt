@@ -162,7 +162,7 @@ pub fn answer<R: Read, W: Write>(reader: &mut R, writer: &mut W) -> Answered
     }
 }
 
-/// What is told where the flush failed: the first fault.
+/// Returns what is told where the flush failed: the first fault.
 fn unflushed(answered: Answered) -> Answered
     ensures first { result ≡ first_fault answered }
     ensures read { result ≡ Answered.ReadFault → answered ≡ Answered.ReadFault }

@@ -31,7 +31,7 @@ pub fn tell<W: Write>(tree: &Tree, writer: &mut W) {
     }
 }
 
-/// The name of a station, nothing where the tree does not have it.
+/// Returns the name of a station, nothing if the tree does not have it.
 fn name_of(tree: &Tree, station: u16) -> &[u8] {
     if 1 <= station && station <= tree.station_count() {
         tree.station_name(station)

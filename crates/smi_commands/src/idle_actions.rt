@@ -5,7 +5,7 @@ ghost use Rattle.smi_commands.specs.Doubts as spec;
 
 use smi_tree::Tree;
 
-/// The class of a domain's unit, 0 where the tree does not have the domain.
+/// Returns the class of a domain's unit, 0 if the tree does not have the domain.
 fn class_of(tree: &Tree, domain: u16) -> u16
     ensures { result ≡ spec.class_of tree.now domain }
 {
@@ -16,7 +16,7 @@ fn class_of(tree: &Tree, domain: u16) -> u16
     }
 }
 
-/// The domain of a device, 0 where the tree does not have the device.
+/// Returns the domain of a device, 0 if the tree does not have the device.
 fn home_of(tree: &Tree, device: u16) -> u16
     ensures { result ≡ spec.home_of tree.now device }
 {
@@ -27,14 +27,14 @@ fn home_of(tree: &Tree, device: u16) -> u16
     }
 }
 
-/// Whether a device goes to another state from some state by this action.
+/// Returns true if a device goes to another state from some state by this action.
 fn stirs(tree: &Tree, device: u16, action: u16) -> bool
     ensures { result ≡ spec.stirs tree.now device action }
 {
     (0..tree.state_count() + 1).any(|from| tree.moved(device, from, action) != from)
 }
 
-/// Whether a domain is of this class, or lies below one that is.
+/// Returns true if a domain is of this class, or lies below one that is.
 fn lies_under(tree: &Tree, class: u16, domain: u16) -> bool
     ensures { result ≡ spec.lies_under tree.now class domain }
 {
@@ -43,7 +43,7 @@ fn lies_under(tree: &Tree, class: u16, domain: u16) -> bool
     })
 }
 
-/// Whether the action moves some device of a domain of this class, or below one.
+/// Returns true if the action moves some device of a domain of this class, or below one.
 fn stirs_below(tree: &Tree, class: u16, action: u16) -> bool
     ensures { result ≡ spec.stirs_below tree.now class action }
 {
@@ -52,7 +52,7 @@ fn stirs_below(tree: &Tree, class: u16, action: u16) -> bool
     })
 }
 
-/// Whether a domain is the first of its class.
+/// Returns true if a domain is the first of its class.
 fn is_first_of_class(tree: &Tree, domain: u16) -> bool
     ensures { result ≡ spec.is_first_of_class tree.now domain }
 {
@@ -60,8 +60,8 @@ fn is_first_of_class(tree: &Tree, domain: u16) -> bool
     !(0..domain).any(|other| class_of(tree, other) == class)
 }
 
-/// Whether a domain is the first of its class, accepts the action, and neither it nor any domain of its class has a
-/// device, in it or below, that the action moves.
+/// Returns true if a domain is the first of its class, accepts the action, and neither it nor any domain of its class
+/// has a device, in it or below, that the action moves.
 pub fn is_idle(tree: &Tree, domain: u16, action: u16) -> bool
     ensures { result ≡ spec.is_idle tree.now domain action }
 {

@@ -39,7 +39,7 @@ impl Model for Keeper {
 impl Keeper {
     ghost use Rattle.smi_grant.specs.Record.{fresh};
 
-    /// The keeper of a domain that nobody has held yet.
+    /// Returns the keeper of a domain that nobody has held yet.
     pub fn new() -> Keeper
         ensures { result ≡ fresh }
     {
@@ -48,8 +48,8 @@ impl Keeper {
         }
     }
 
-    /// What the keeper answers to 44 bytes: the record as it is afterwards. A refusal changes
-    /// nothing, and names the first test that the bytes fail.
+    /// Returns what the keeper answers to 44 bytes: the record as it is afterwards. A refusal changes nothing, and
+    /// names the first test that the bytes fail.
     #[tactic(auto, unfolding(crate::specs::Keeper::answer_to))]
     pub fn answer(&mut self, bytes: &[u8]) -> Result<[u8; 44], DatagramRefusal>
         ensures { MatchResult result
@@ -88,7 +88,7 @@ impl Keeper {
     }
 }
 
-/// The record after what a datagram says, if it speaks of the domain and comes from an operator.
+/// Returns the record after what a datagram says, if it speaks of the domain and comes from an operator.
 #[tactic(auto, unfolding(crate::specs::Keeper::said_after))]
 fn said_after(current: &Record, body: &Body) -> Result<Record, DatagramRefusal>
     requires { is_body body.now ≡ true }

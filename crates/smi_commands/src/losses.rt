@@ -25,7 +25,7 @@ impl Model for Losses {
 }
 
 impl Losses {
-    /// Nothing was lost yet.
+    /// Returns a count of nothing lost.
     pub(crate) fn new() -> Losses
         ensures { result.count ≡ 0 }
     {

@@ -21,7 +21,7 @@ impl Status {
     ghost use Rattle.std.specs.Prelude.{◌≡◌};
     ghost use Rattle.smi_commands.specs.Status.{status_code};
 
-    /// The exit status, 0 to 4.
+    /// Returns the exit status, 0 to 4.
     pub fn code(self) -> u8
         ensures { result ≡ status_code self }
     {

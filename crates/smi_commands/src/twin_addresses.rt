@@ -5,7 +5,7 @@ ghost use Rattle.smi_commands.specs.Doubts as spec;
 
 use smi_tree::Tree;
 
-/// Whether both are stations of the tree, and have the same address.
+/// Returns true if both are stations of the tree, and have the same address.
 fn has_same_address(tree: &Tree, station: u16, other: u16) -> bool
     ensures { result ≡ spec.has_same_address tree.now station other }
 {
@@ -17,7 +17,7 @@ fn has_same_address(tree: &Tree, station: u16, other: u16) -> bool
     one.port == two.port && one.host == two.host
 }
 
-/// The first station before this one that has the same address, if any does.
+/// Returns the first station before this one that has the same address, if any does.
 pub fn twin(tree: &Tree, station: u16) -> Option<u16>
     ensures { result ≡ spec.twin tree.now station }
 {

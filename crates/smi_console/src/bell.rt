@@ -12,7 +12,7 @@ pub(crate) struct Bell {
 }
 
 impl Bell {
-    /// A bell of a node that is reached at this address, over a socket at any port.
+    /// Makes a bell of a node that is reached at this address, over a socket at any port.
     pub(crate) fn hung<R: Net>(rt: &R, own: SocketAddr) -> io::Result<Bell> {
         let socket = UdpSocket::bind(rt, "0.0.0.0:0")?;
         Ok(Bell { socket, own })

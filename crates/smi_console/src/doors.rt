@@ -52,7 +52,7 @@ fn unix_door<R: Files + Net>(rt: &R, path: &str) -> io::Result<UnixListener> {
 }
 
 impl Door {
-    /// A door at this place.
+    /// Opens a door at this place.
     pub(crate) fn open<R: Files + Net>(rt: &R, place: &ListenAddress) -> io::Result<Door> {
         match place {
             ListenAddress::Path(path) => Ok(Door::Unix(unix_door(rt, path.as_str())?)),

@@ -72,7 +72,7 @@ fn front_of<G: StateReader + Drop>(
     SessionService::open(alloc, office, glance, stats, picture)
 }
 
-/// The seats of a station's operators and one for reports, at the front, and their desk.
+/// Builds the seats of a station's operators and one for reports, at the front, and their desk.
 fn seated_front<G: StateReader + Drop>(
     alloc: Global,
     setup: &NodeSetup,
@@ -97,7 +97,8 @@ struct Ends<L: Drop, G: StateReader + Drop> {
     bell: Bell,
 }
 
-/// The seats of a station's operators and one for reports, at the front, their desk, and last the station's link.
+/// Builds the seats of a station's operators and one for reports, at the front, their desk, and last the station's
+/// link.
 fn posted<K: Linking, G: StateReader + Drop>(
     alloc: Global,
     setup: &NodeSetup,
@@ -112,7 +113,7 @@ fn posted<K: Linking, G: StateReader + Drop>(
     Ok(Ends { side, front, bell })
 }
 
-/// The hall of a node, with its doors, and a waker to it.
+/// Opens the hall of a node, with its doors, and a waker to it.
 fn hall_of<H: Files + Net + AllocGlobal>(
     rt: &H,
     setup: &NodeSetup,
@@ -137,7 +138,7 @@ struct BothSides<L: Drop, G: StateReader + Drop> {
     journal_ways: KeeperWays,
 }
 
-/// The seats of a station and its link, and then the hall of its node.
+/// Builds the seats of a station and its link, and then the hall of its node.
 fn both_sides<K: Linking, G: StateReader + Drop, H: Files + Net + AllocGlobal>(
     rt: &H,
     setup: &NodeSetup,
@@ -219,7 +220,7 @@ fn keep_journal<
     }
 }
 
-/// The station's seats and its link are made, and the threads of its consoles begin, in this order.
+/// Makes the station's seats and its link, and begins the threads of its consoles, in this order.
 fn manned<
     K: Linking,
     G: StateReader + Drop + Send + 'static,
@@ -249,7 +250,7 @@ fn manned<
     Ok(side.into_service(rt.alloc(), forwarder)?)
 }
 
-/// The only one of these glances.
+/// Returns the only one of these glances.
 fn only<G: Drop>(glances: Vec<G>) -> Result<G, Halt> {
     let mut glances = glances;
     glances.pop().ok_or(Halt::Memory)
@@ -258,8 +259,8 @@ fn only<G: Drop>(glances: Vec<G>) -> Result<G, Halt> {
 /// What a station is served with by a node.
 pub(crate) type Fitted<'a, H> = Service<UdpLink<&'a H>, EventForwarder<H>>;
 
-/// What an open station is served with by a node whose front has the only one of these glances: its seats, its link,
-/// and the threads of its consoles, in this order.
+/// Returns what an open station is served with by a node whose front has the only one of these glances: its seats,
+/// its link, and the threads of its consoles, in this order.
 pub(crate) fn fitted<
     'a,
     G: StateReader + Drop + Send + 'static,

@@ -50,7 +50,7 @@ enum Read {
 }
 
 impl ConsoleGuest {
-    /// A guest of this number, who has typed nothing.
+    /// Returns a connection of this number, over which nothing was typed.
     ///
     /// Its error is that memory was refused.
     pub(crate) fn new(
@@ -74,27 +74,27 @@ impl ConsoleGuest {
         })
     }
 
-    /// Who types.
+    /// Returns its session.
     pub(crate) fn caller(&mut self) -> &mut Session {
         &mut self.caller
     }
 
-    /// Its number.
+    /// Returns its number.
     pub(crate) fn number(&self) -> u64 {
         self.caller.number()
     }
 
-    /// Whether it is to go.
+    /// Returns true if it is to be closed.
     pub(crate) fn leaves(&self) -> bool {
         self.leaves
     }
 
-    /// It is to go.
+    /// Marks it to be closed.
     pub(crate) fn leave(&mut self) {
         self.leaves = true;
     }
 
-    /// What the system says of its connection.
+    /// Takes in what the system says of its connection.
     pub(crate) fn hear_of(&mut self, event: &Event) {
         self.can_read = self.can_read || event.is_readable() || event.is_read_closed();
         self.can_write = self.can_write || event.is_writable();
@@ -123,7 +123,7 @@ impl ConsoleGuest {
         Ok(Read::Nothing)
     }
 
-    /// The next line that it typed.
+    /// Returns the next line that it typed.
     fn next_line(&mut self) -> Result<Option<Vec<u8>>, AllocError> {
         for _ in 0..READS {
             if let Some(line) = self.splitter.next_line()? {
@@ -138,7 +138,7 @@ impl ConsoleGuest {
         Ok(None)
     }
 
-    /// Its lines are heard.
+    /// Handles its lines.
     fn talk<G: StateReader + Drop, R: Wait>(
         &mut self,
         rt: &R,
@@ -189,7 +189,7 @@ impl ConsoleGuest {
         }
     }
 
-    /// Whether it takes too little of what it is told.
+    /// Returns true if it takes too little of what it is told.
     fn is_stuck(&self, now: Option<Instant>) -> bool {
         let is_late = match (now, self.since) {
             (Some(now), Some(since)) => now.duration_since(since).as_secs() >= PATIENCE,
@@ -231,7 +231,7 @@ impl ConsoleGuest {
         self.caller.is_refused() && self.caller.output().is_empty()
     }
 
-    /// Whether all that it typed is answered, or nobody is there to be answered.
+    /// Returns true if all its lines are answered, or its client is gone.
     fn is_done<G: StateReader + Drop>(&self, front: &SessionService<G>) -> bool {
         self.is_over
             && self.splitter.is_empty()
@@ -241,7 +241,7 @@ impl ConsoleGuest {
                 || !self.caller.has_subscription() && !front.has_pending(self.caller.number()))
     }
 
-    /// Its lines are heard, and what it is to be told is written, as far as nothing waits.
+    /// Handles its lines, and writes what it is to be told, as far as nothing waits.
     pub(crate) fn turn<G: StateReader + Drop, R: Wait>(
         &mut self,
         rt: &R,
@@ -262,18 +262,18 @@ impl ConsoleGuest {
             || self.is_stuck(now);
     }
 
-    /// Whether it can go on without waiting.
+    /// Returns true if it can go on without waiting.
     pub(crate) fn can_go_on(&self) -> bool {
         let can_hear = !self.splitter.is_empty() || self.can_read && !self.is_over;
         can_hear && self.caller.has_room() || self.can_write && self.has_unsent()
     }
 
-    /// Whether it has something to be told.
+    /// Returns true if it has something to be told.
     fn has_unsent(&self) -> bool {
         !self.caller.output().is_empty()
     }
 
-    /// Whether it leaves once some time has passed.
+    /// Returns true if it has a deadline.
     pub(crate) fn is_timed(&self) -> bool {
         self.since.is_some()
     }

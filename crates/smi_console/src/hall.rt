@@ -61,7 +61,7 @@ pub(crate) struct Hall {
     events: Events<Global>,
 }
 
-/// An entrance at this place is added to others, known to the poll by its number.
+/// Adds a listener at this place, known to the poll by its number.
 fn add_entrance<R: Files + Net>(
     rt: &R,
     place: &ListenAddress,
@@ -77,7 +77,7 @@ fn add_entrance<R: Files + Net>(
     Ok(())
 }
 
-/// The entrances of a hall at these places are added to others, each known to the poll by its number.
+/// Adds listeners at these places, each known to the poll by its number.
 fn open_entrances<R: Files + Net>(
     rt: &R,
     places: &[ListenAddress],
@@ -90,7 +90,7 @@ fn open_entrances<R: Files + Net>(
     Ok(())
 }
 
-/// Somebody may wait at the entrance of this number, or a guest may be heard or told.
+/// Marks the listener or the connection with this token as ready.
 fn hear_of(entrances: &mut [Entrance], guests: &mut [ConsoleGuest], event: &Event) {
     let Token(number) = event.token();
     if let Some(place) = number.checked_sub(FIRST_DOOR) {
@@ -105,7 +105,7 @@ fn hear_of(entrances: &mut [Entrance], guests: &mut [ConsoleGuest], event: &Even
     }
 }
 
-/// An answer is told to the guest who gave its order, where that is one of these.
+/// Tells an answer to the connection that gave its order, if that is one of these.
 fn tell_guests<G: StateReader + Drop>(
     guests: &mut [ConsoleGuest],
     front: &mut SessionService<G>,
@@ -120,7 +120,7 @@ fn tell_guests<G: StateReader + Drop>(
 }
 
 impl Hall {
-    /// A hall with these entrances, in which nobody is.
+    /// Returns a hall with these listeners and no connection.
     fn over(alloc: Global, poll: Poll, entrances: Vec<Entrance>) -> Result<Box<Hall>, AllocError> {
         let plain = Session::new(alloc, 0, ReplyStyle::Script)?;
         let events = Events::with_capacity(alloc, EVENTS)?;
@@ -139,7 +139,7 @@ impl Hall {
         boxed(alloc, hall)
     }
 
-    /// A hall with a door at each of these places, and a waker for it.
+    /// Opens a hall that listens at each of these places, and a waker for it.
     pub(crate) fn open<R: Files + Net>(
         rt: &R,
         alloc: Global,
@@ -152,7 +152,7 @@ impl Hall {
         Ok((Hall::over(alloc, poll, entrances)?, waker))
     }
 
-    /// Who types at the standard input.
+    /// Returns the session of the standard input.
     pub(crate) fn plain(&mut self) -> &mut Session {
         &mut self.plain
     }
@@ -162,12 +162,12 @@ impl Hall {
         self.typed.tell(rt, self.alloc, self.plain.number(), line);
     }
 
-    /// Whether nobody else than the standard input can talk to the node.
+    /// Returns true if nothing but the standard input can talk to the node.
     pub(crate) fn has_no_door(&self) -> bool {
         self.entrances.is_empty()
     }
 
-    /// An answer is told to its caller, where that has not left.
+    /// Tells an answer to its session, if that is still open.
     pub(crate) fn tell_answer<G: StateReader + Drop>(
         &mut self,
         front: &mut SessionService<G>,
@@ -181,7 +181,7 @@ impl Hall {
         }
     }
 
-    /// Those who want to be told of states or of actions can't be told all any more.
+    /// Marks those that follow states or actions as lost: not all can be told any more.
     pub(crate) fn lose_followers(&mut self) {
         self.is_plain_lost = self.is_plain_lost || self.plain.has_subscription();
         for guest in self.guests.iter_mut() {
@@ -191,12 +191,12 @@ impl Hall {
         }
     }
 
-    /// Whether the caller at the standard input can't be told all any more.
+    /// Returns true if the standard input can't be told all any more.
     pub(crate) fn is_plain_lost(&self) -> bool {
         self.is_plain_lost
     }
 
-    /// A connection has come.
+    /// Takes a new connection in.
     fn welcome(&mut self, stream: Stream) -> Result<(), AllocError> {
         let mut stream = stream;
         if self.guests.len() >= MOST_GUESTS {
@@ -214,7 +214,7 @@ impl Hall {
         Ok(())
     }
 
-    /// The next connection at a door, where one waits.
+    /// Accepts the next connection of a listener, if one waits.
     fn next_comer(&mut self, place: usize) -> Option<Stream> {
         let entrance = self.entrances.get_mut(place)?;
         if !entrance.is_called {
@@ -229,7 +229,7 @@ impl Hall {
         }
     }
 
-    /// Connections that wait at the doors are taken.
+    /// Accepts the connections that wait.
     pub(crate) fn welcome_all(&mut self) {
         for place in 0..self.entrances.len() {
             for _ in 0..COMERS {
@@ -243,7 +243,7 @@ impl Hall {
         }
     }
 
-    /// Each connection is heard and told, as far as nothing waits; those that are done leave.
+    /// Reads and writes each connection, as far as nothing waits, and closes those that are done.
     pub(crate) fn serve_guests<G: StateReader + Drop, R: Wait>(
         &mut self,
         rt: &R,
@@ -257,7 +257,7 @@ impl Hall {
         self.guests.retain(|guest| !guest.leaves());
     }
 
-    /// How long to wait at most for something to come.
+    /// Returns the longest poll timeout, none if no connection has a deadline.
     fn patience<G: StateReader + Drop>(
         &self,
         front: &SessionService<G>,

@@ -28,7 +28,7 @@ struct WriterStatus {
 }
 
 impl WriterStatus {
-    /// Nothing was handed on.
+    /// Returns a status with nothing handed on.
     fn new() -> WriterStatus {
         WriterStatus {
             unwritten: AtomicUsize::new(0),
@@ -52,7 +52,7 @@ pub(crate) struct Inflow {
     progress: Arc<WriterStatus, Global>,
 }
 
-/// What both ends of an outlet know.
+/// Returns what both ends of an outlet know.
 fn progress_of_none(alloc: Global) -> Result<Arc<WriterStatus, Global>, AllocError> {
     match Arc::new(alloc, WriterStatus::new()) {
         Ok(progress) => Ok(progress),
@@ -60,7 +60,7 @@ fn progress_of_none(alloc: Global) -> Result<Arc<WriterStatus, Global>, AllocErr
     }
 }
 
-/// An outlet through which nothing was handed on, and what comes out of it.
+/// Opens an outlet through which nothing was handed on, and what comes out of it.
 pub(crate) fn open_outlet(alloc: Global) -> Result<(Outlet, Inflow), AllocError> {
     let progress = progress_of_none(alloc)?;
     let own = Arc::try_clone(&progress)?;
@@ -74,7 +74,7 @@ pub(crate) fn open_outlet(alloc: Global) -> Result<(Outlet, Inflow), AllocError>
 }
 
 impl Outlet {
-    /// Whether all that was handed on is written.
+    /// Returns true if all that was handed on is written.
     pub(crate) fn is_written(&self) -> bool {
         self.progress.unwritten.load(Ordering::SeqCst) == 0
     }

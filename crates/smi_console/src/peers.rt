@@ -12,7 +12,7 @@ use std::alloc::{AllocError, Global};
 use std::net::{Ipv4Addr, Net, SocketAddr, SocketAddrV4};
 use std::time::Clock;
 
-/// The address of a socket at this address of a tree.
+/// Returns the address of a socket at this address of a tree.
 fn socket_address(address: Address) -> SocketAddr
     ensures { address_in result ≡ Some address }
 {
@@ -21,7 +21,7 @@ fn socket_address(address: Address) -> SocketAddr
     SocketAddr::V4(SocketAddrV4::new(host, address.port))
 }
 
-/// The addresses of all stations, by number.
+/// Returns the addresses of all stations, by number.
 pub fn addresses(alloc: Global, tree: &Tree) -> Result<Vec<SocketAddr>, AllocError>
     ensures each { IfOk result (λ peers. map address_in peers.items ≡ map Some tree.now.addresses) }
     ensures count { IfOk result (λ peers. length peers.items ≡ station_count tree.now) }
@@ -33,7 +33,8 @@ pub fn addresses(alloc: Global, tree: &Tree) -> Result<Vec<SocketAddr>, AllocErr
     Ok(peers)
 }
 
-/// A bell to a station, and its link at its own address. The link reaches each station at its address of the tree.
+/// Opens a station's link at its own address, and a bell to it. The link reaches each station at its address of the
+/// tree.
 fn linked<'a, H: Net + Clock + AllocGlobal>(
     rt: &'a H,
     tree: &Tree,

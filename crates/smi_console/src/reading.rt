@@ -49,7 +49,7 @@ fn read_once<I: Read>(reader: &mut I, splitter: &mut LineSplitter) -> Result<Com
     }
 }
 
-/// The next line of the input, or how it ended. The last line may lack its line feed.
+/// Returns the next line of the input, or how it ended. The last line may lack its line feed.
 fn next_line<I: Read>(reader: &mut I, splitter: &mut LineSplitter) -> Result<Input, AllocError> {
     for _ in 0..MOST {
         if let Some(line) = splitter.next_line()? {
@@ -69,7 +69,7 @@ fn next_line<I: Read>(reader: &mut I, splitter: &mut LineSplitter) -> Result<Inp
     Ok(Input::Ended(InputEnd::ReadFault))
 }
 
-/// What the input gives next.
+/// Reads what the input gives next.
 fn next_input<I: Read>(reader: &mut I, splitter: &mut LineSplitter) -> Input {
     match next_line(reader, splitter) {
         Ok(input) => input,

@@ -22,7 +22,7 @@ impl Command {
     ghost use Rattle.std.specs.Prelude.{◌≡◌};
     ghost use Rattle.smi_grant.specs.Command.{is_in_range, verb_of, argument_of, command_of};
 
-    /// Whether the argument is one that a tree can have: actions 1 to 64, domains 1 to 128.
+    /// Returns true if the argument is one that a tree can have: actions 1 to 64, domains 1 to 128.
     pub fn is_in_range(self) -> bool
         ensures { result ≡ is_in_range self }
     {
@@ -33,7 +33,7 @@ impl Command {
         1 <= self.argument() && self.argument() <= most
     }
 
-    /// What stands for the verb in datagrams and rows, 1 to 5 in the order of the variants.
+    /// Returns the number of the verb in datagrams and rows, 1 to 5 in the order of the variants.
     pub fn verb(self) -> u16
         ensures { result ≡ verb_of self }
     {
@@ -46,7 +46,7 @@ impl Command {
         }
     }
 
-    /// The number of the action or of the target.
+    /// Returns the number of the action or of the target.
     pub fn argument(self) -> u16
         ensures { result ≡ argument_of self }
     {

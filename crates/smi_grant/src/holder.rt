@@ -12,7 +12,7 @@ impl Holder {
     ghost use Rattle.std.specs.Prelude.{◌≡◌};
     ghost use Rattle.smi_grant.specs.Holder.{is_in_range, kind_of, number_of, holder_of};
 
-    /// Whether the number is one that a tree can have: operators 1 to 32, domains 1 to 128.
+    /// Returns true if the number is one that a tree can have: operators 1 to 32, domains 1 to 128.
     pub fn is_in_range(self) -> bool
         ensures { result ≡ is_in_range self }
     {
@@ -23,7 +23,7 @@ impl Holder {
         }
     }
 
-    /// What stands for the kind of holder in datagrams and rows: 0 nobody, 1 an operator, 2 a domain.
+    /// Returns the number of the kind of holder in datagrams and rows: 0 nobody, 1 an operator, 2 a domain.
     pub fn kind(self) -> u8
         ensures { result ≡ kind_of self }
     {
@@ -34,7 +34,7 @@ impl Holder {
         }
     }
 
-    /// The number of the operator or domain, 0 for nobody.
+    /// Returns the number of the operator or domain, 0 for nobody.
     pub fn number(self) -> u16
         ensures { result ≡ number_of self }
     {
@@ -44,7 +44,7 @@ impl Holder {
         }
     }
 
-    /// The holder of this kind and number: nobody has number 0, and there are the three kinds.
+    /// Returns the holder of this kind and number: nobody has number 0, and there are the three kinds.
     pub fn from_kind(kind: u8, number: u16) -> Option<Holder>
         ensures { result ≡ holder_of kind number }
     {

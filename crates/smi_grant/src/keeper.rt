@@ -11,7 +11,7 @@ pub enum Verdict {
     Same,
 }
 
-/// A free domain is granted to a holder that has seen its epoch, while epochs are left.
+/// Grants a free domain to a holder that has seen its epoch, while epochs are left.
 ///
 /// In every other case nothing changes. `holder` is an operator or a domain.
 pub fn take(current: &Record, holder: Holder, seen: u64) -> Verdict
@@ -31,7 +31,7 @@ pub fn take(current: &Record, holder: Holder, seen: u64) -> Verdict
     }
 }
 
-/// A settled domain becomes free where its holder lets go of this epoch.
+/// Frees a settled domain if its holder lets go of this epoch.
 ///
 /// In every other case nothing changes. `holder` is an operator or a domain.
 pub fn drop_grant(current: &Record, holder: Holder, epoch: u64) -> Verdict
@@ -51,8 +51,8 @@ pub fn drop_grant(current: &Record, holder: Holder, epoch: u64) -> Verdict
     }
 }
 
-/// Whether the command of this number may run now: the holder's next one, under the present grant,
-/// while the domain is settled. `holder` is an operator or a domain.
+/// Returns true if the command of this number may run now: the holder's next one, under the present grant, while the
+/// domain is settled. `holder` is an operator or a domain.
 pub fn admit(current: &Record, holder: Holder, epoch: u64, number: u32) -> bool
     requires { is_free holder ≡ false }
     ensures { result ≡ admits current.now holder epoch number }
@@ -84,7 +84,7 @@ pub fn start(current: &Record, busy: bool, outcome: u16) -> Verdict
     })
 }
 
-/// The command at work has ended with `outcome`.
+/// Ends the command at work with `outcome`.
 pub fn settle(current: &Record, outcome: u16) -> Verdict
     requires { current.now.phase ≡ Phase.Busy }
     ensures { result ≡ Verdict.New (settled current.now outcome) }

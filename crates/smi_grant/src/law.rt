@@ -8,7 +8,7 @@ ghost use Rattle.smi_grant.specs.Rank.{RanksBelow};
 
 use crate::{Phase, Verdict};
 
-/// Each new record ranks above the one that it follows, so a record that was left never comes back.
+/// States that each new record ranks above the one that it follows, so a record that was left never comes back.
 pub fn ranks_rise()
     ensures taken { (r s : Standing) (h : Holder) (seen : ℕ) →
         take_after r h seen ≡ Verdict.New s → RanksBelow r s }

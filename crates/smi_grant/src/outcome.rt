@@ -33,7 +33,7 @@ impl Outcome {
     ghost use Rattle.std.specs.Prelude.{◌≡◌};
     ghost use Rattle.smi_grant.specs.Outcome.{outcome_code};
 
-    /// The outcome's number, 0 to 9.
+    /// Returns the outcome's number, 0 to 9.
     pub const fn code(self) -> u16
         ensures { result ≡ outcome_code self }
     {

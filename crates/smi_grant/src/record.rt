@@ -15,7 +15,7 @@ impl Phase {
     ghost use Rattle.std.specs.Prelude.{◌≡◌};
     ghost use Rattle.smi_grant.specs.Record.{phase_number, phase_of};
 
-    /// What stands for the phase in datagrams and rows: 0 settled, 1 busy.
+    /// Returns the number of the phase in datagrams and rows: 0 settled, 1 busy.
     pub fn number(self) -> u8
         ensures { result ≡ phase_number self }
     {
@@ -83,7 +83,7 @@ impl Record {
     ghost use Rattle.std.specs.Prelude.{◌≡◌};
     ghost use Rattle.smi_grant.specs.Record.{fresh, standing, checked};
 
-    /// The record of a domain that nobody has held yet.
+    /// Returns the record of a domain that nobody has held yet.
     pub const fn fresh() -> Record
         ensures { result ≡ fresh }
     {
@@ -133,7 +133,7 @@ impl Record {
 ghost use Rattle.std.specs.Prelude.{◌≡◌};
 ghost use Rattle.smi_grant.specs.Record as spec;
 
-/// Whether a settled command may have ended so: 0 to 7 or 9 (docs/PROTOCOL.md, "Outcomes").
+/// Returns true if a settled command may have ended so: 0 to 7 or 9 (docs/PROTOCOL.md, "Outcomes").
 pub fn is_outcome(outcome: u16) -> bool
     ensures { result ≡ spec.is_outcome outcome }
 {

@@ -7,8 +7,8 @@ ghost use Rattle.smi_law.specs.Example.{asked_again, busy_alone, lost_take, stop
 ghost use Rattle.smi_law.specs.Rest.{Each, IsAtRest, led};
 ghost use Rattle.smi_law.specs.UnderWay.{under_way};
 
-/// A take is lost. A tick sends it again, it comes, and so does its answer: nothing is under way any more, and the
-/// operator was told once.
+/// Shows that a lost take is made good. A tick sends it again, it comes, and so does its answer: nothing is under way
+/// any more, and the operator was told once.
 pub fn lost_take_is_made_good()
     ensures waits { under_way worked_tree lost_take ≡ 1 }
     ensures allowed { Each false worked_tree lost_take asked_again }

@@ -17,9 +17,10 @@ ghost use Rattle.smi_law.specs.Bound.{most_changes, most_items};
 ghost use Rattle.smi_law.specs.Rest.{AllChange, AllRun, HaveBoots, Settling, led};
 ghost use Rattle.smi_law.specs.UnderWay.{under_way};
 
-/// From every world of a tree that can be reached, in which no station has used its last boot, a list of items leads
-/// to rest: starts of stations that have stopped, ticks, and deliveries of datagrams that were sent. No order and no
-/// report is needed. So it is after every schedule, whatever was lost, repeated, stopped or not saved in it.
+/// States that from every world of a tree that can be reached, in which no station has used its last boot, a list of
+/// items leads to rest: starts of stations that have stopped, ticks, and deliveries of datagrams that were sent. No
+/// order and no report is needed. So it is after every schedule, whatever was lost, repeated, stopped or not saved in
+/// it.
 pub fn can_come_to_rest()
     ensures worlds { (h : Hierarchy) (past : List Entry) (w : World) → IsTree h → Reaches h past w → HaveBoots h w
         → Settling true h w }
@@ -27,9 +28,10 @@ pub fn can_come_to_rest()
         → HaveBoots h (led h (first_world h) items) → Settling true h (led h (first_world h) items) }
 {}
 
-/// Where all stations are in service, and each object may change this many times more, no station has to be started
-/// again. Whatever an operator is told about a domain in such a list is what the link to it has heard, with the codes
-/// with which it settled; and that is the end of each order that was under way, in their order, and of no other.
+/// States that if all stations are in service, and each object may change this many times more, no station has to be
+/// started again. Whatever an operator is told about a domain in such a list is what the link to it has heard, with
+/// the codes with which it settled; and that is the end of each order that was under way, in their order, and of no
+/// other.
 pub fn without_restarts()
     ensures rest { (h : Hierarchy) (past : List Entry) (w : World) → IsTree h → Reaches h past w → AllRun h w
         → AllChange h (most_changes h (under_way h w)) w → Settling false h w }
@@ -41,9 +43,9 @@ pub fn without_restarts()
         ≡ orders_waiting d (link_in h w (Operator o) d) }
 {}
 
-/// The list is no longer than a bound by what is under way and by the tree: this many lost datagrams are made
-/// good by this
-/// many ticks and deliveries. What is under way never changes an object as often as it can change from a start on.
+/// States that the list is no longer than a bound by what is under way and by the tree: this many lost datagrams are
+/// made good by this many ticks and deliveries. What is under way never changes an object as often as it can change
+/// from a start on.
 pub fn a_bounded_number()
     ensures starting { (h : Hierarchy) (past : List Entry) (w : World) → IsTree h → Reaches h past w → HaveBoots h w
         → (s : Settling true h w) × (length s.items ≤ station_count h + most_items h (under_way h w)) }

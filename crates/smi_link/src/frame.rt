@@ -24,7 +24,7 @@ impl ReceivedBytes {
     ghost use Rattle.std.specs.Prelude.{◌≡◌, ◌≤◌, take, length};
     ghost use Rattle.smi_link.specs.Link.{most_bytes};
 
-    /// A datagram as it is received: whole, or the first 45 bytes of a longer one.
+    /// Returns a datagram as it is received: whole, or the first 45 bytes of a longer one.
     pub(crate) fn of(datagram: &[u8]) -> ReceivedBytes
         ensures { result ≡ take most_bytes datagram.now }
     {

@@ -22,7 +22,7 @@ impl Model for Growth {
 impl Growth {
     ghost use Rattle.std.specs.Prelude.{◌≡◌, ◌≤◌, ◌<◌, ◌+◌, ◌++◌, ◌∷◌, [], OnOk, OnErr, IsOk, vec_len, vec_capacity};
 
-    /// Nothing was refused yet.
+    /// Returns a count of nothing refused.
     pub(crate) fn new() -> Growth
         ensures { result.count ≡ 0 }
     {

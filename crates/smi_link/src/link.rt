@@ -44,7 +44,7 @@ pub trait DatagramLink {
 
     ghost receives: { Self → ℕ };
 
-    /// The next datagram, in the beginning of the buffer.
+    /// Receives the next datagram, in the beginning of the buffer.
     ///
     /// After `Nothing` and `Fault` the rest of the buffer says nothing, and no datagram was taken.
     fn receive(&mut self, buffer: &mut [u8; 45]) -> Reception

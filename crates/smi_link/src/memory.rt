@@ -47,7 +47,7 @@ impl MemoryLink {
     ghost use Rattle.std.specs.Prelude.{◌≡◌, ◌≤◌, ◌-◌, OnOk, OnErr};
     ghost use Rattle.smi_link.specs.Memory.{opened, with_datagram, with_nothing, with_fault, failing_after, refused};
 
-    /// A link of a station, with nothing to give.
+    /// Returns a link of a station, with nothing to give.
     pub fn new(alloc: Global, station: u16) -> MemoryLink
         ensures { result ≡ opened station }
     {
@@ -63,8 +63,7 @@ impl MemoryLink {
         }
     }
 
-    /// A datagram comes, after all that is to come already; of one over 44 bytes the first 45 are
-    /// received.
+    /// Puts a datagram after all that is to come already; of one over 44 bytes the first 45 are received.
     pub fn put(&mut self, datagram: &[u8]) -> Result<(), AllocError>
         ensures ok { OnOk result (self.new ≡ with_datagram self.old datagram.now) }
         ensures err { OnErr result (self.new ≡ refused self.old) }
@@ -73,7 +72,7 @@ impl MemoryLink {
         self.growth.push(&mut self.coming, coming)
     }
 
-    /// Nothing comes, once.
+    /// Has nothing come, once.
     pub fn put_nothing(&mut self) -> Result<(), AllocError>
         ensures ok { OnOk result (self.new ≡ with_nothing self.old) }
         ensures err { OnErr result (self.new ≡ refused self.old) }
@@ -81,7 +80,7 @@ impl MemoryLink {
         self.growth.push(&mut self.coming, ToReceive::Nothing)
     }
 
-    /// The link fails, once.
+    /// Has the link fail, once.
     pub fn put_fault(&mut self) -> Result<(), AllocError>
         ensures ok { OnOk result (self.new ≡ with_fault self.old) }
         ensures err { OnErr result (self.new ≡ refused self.old) }
@@ -89,7 +88,7 @@ impl MemoryLink {
         self.growth.push(&mut self.coming, ToReceive::Fault)
     }
 
-    /// The `k`-th send from now fails, counted from 1. A later call takes the place of an earlier one.
+    /// Has the `k`-th send from now fail, counted from 1. A later call takes the place of an earlier one.
     pub fn fail_send(&mut self, k: u32)
         requires { 1 ≤ k }
         ensures { self.new ≡ failing_after self.old (k - 1) }
@@ -168,15 +167,14 @@ impl MemoryLink {
     ghost use Rattle.std.specs.Prelude.{◌≡◌, OnOk, OnErr, option_copied, slice_get};
     ghost use Rattle.smi_link.specs.Memory.{with_sent, refused};
 
-    /// What is to be given next.
+    /// Returns what is to be given next.
     fn next(&self) -> Option<&ToReceive>
         ensures { option_copied result ≡ slice_get self.now.coming self.now.place }
     {
         self.coming.get(self.place)
     }
 
-    /// What is sent is kept, and what is sent to the link's own station comes. Both allocations are made
-    /// first.
+    /// Keeps what is sent, and puts what is sent to the link's own station. Both allocations are made first.
     fn hand_on(&mut self, station: u16, datagram: &[u8; 44]) -> Result<(), AllocError>
         ensures ok { OnOk result (self.new ≡ with_sent self.old station datagram.now) }
         ensures err { OnErr result (self.new ≡ refused self.old) }

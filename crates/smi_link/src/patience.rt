@@ -17,14 +17,14 @@ pub(crate) struct Patience {
 }
 
 impl Patience {
-    /// A patience that begins with the next look.
+    /// Returns a patience that begins with the next look.
     pub(crate) fn new() -> Patience
         ensures { result.begun ≡ None }
     {
         Patience { begun: None }
     }
 
-    /// How many whole milliseconds of it are left at this moment, one that has begun counted whole.
+    /// Returns how many whole milliseconds of it are left at this moment, one that has begun counted whole.
     #[tactic(auto, unfolding(crate::specs::Patience::left_at, crate::specs::Patience::begun_at))]
     pub(crate) fn left(&mut self, now: Instant) -> u64
         ensures left { result ≡ left_at self.old.begun now }

@@ -47,7 +47,7 @@ impl<C: Clock + Drop> UdpLink<C> {
     ghost use Rattle.std.specs.Prelude.{◌≡◌, OnOk, IfOk, IfSome, slice_get};
     ghost use Rattle.smi_link.specs.Udp.{HasAddress, address_of, unsent};
 
-    /// A link over a socket, where the stations, by number from 1, are reached at these addresses.
+    /// Makes a link over a socket, whose stations, by number from 1, are reached at these addresses.
     ///
     /// Its error is that of the socket, which then is closed.
     pub fn over(socket: UdpSocket, clock: C, peers: Vec<SocketAddr>) -> io::Result<UdpLink<C>>
@@ -69,7 +69,7 @@ impl<C: Clock + Drop> UdpLink<C> {
         })
     }
 
-    /// A link of a station at its own address, the `station`-th of these from 1.
+    /// Opens a link of a station at its own address, the `station`-th of these from 1.
     ///
     /// Its error is that the station has no address, or that it could not be had.
     pub fn open<R: Net>(
@@ -91,7 +91,7 @@ impl<C: Clock + Drop> UdpLink<C> {
         UdpLink::over(UdpSocket::bind(rt, *address)?, clock, peers)
     }
 
-    /// Where a station is reached.
+    /// Returns the address of a station.
     fn address_of(&self, station: u16) -> Option<SocketAddr>
         ensures { result ≡ address_of self.now.peers station }
     {
@@ -99,7 +99,7 @@ impl<C: Clock + Drop> UdpLink<C> {
         self.peers.get(place).copied()
     }
 
-    /// How long this call may wait, in milliseconds.
+    /// Returns how long this call may wait, in milliseconds.
     fn patience(&mut self) -> u64
         ensures { self.new ≡ self.old }
     {
@@ -118,7 +118,7 @@ impl<C: Clock + Drop> UdpLink<C> {
         }
     }
 
-    /// Nothing has come: patience begins again.
+    /// Begins the patience again, because nothing has come.
     fn nothing(&mut self) -> Reception
         ensures nothing { result ≡ Reception.Nothing }
         ensures same { self.new ≡ self.old }

@@ -27,7 +27,7 @@ impl Bad {
     ghost use Rattle.std.specs.Prelude.{◌≡◌};
     ghost use Rattle.smi_message.specs.Bad.{bad_code};
 
-    /// The number of the test, 1 to 6.
+    /// Returns the number of the test, 1 to 6.
     pub fn code(self) -> u16
         ensures { result ≡ bad_code self }
     {

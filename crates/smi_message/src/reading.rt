@@ -17,7 +17,7 @@ use smi_base::{
 use smi_grant::{Command, Holder, LAST_EPOCH, LAST_NUMBER, Phase, Record, Version, is_outcome};
 use std::marker::Model;
 
-/// The datagram that the bytes spell. A refusal names the first test that they fail.
+/// Reads the datagram that the bytes spell. A refusal names the first test that they fail.
 #[inline(always)]
 pub fn decode(bytes: &[u8]) -> Result<Datagram, Bad>
     // What is read is spelled so.
@@ -46,7 +46,7 @@ fn tested(bytes: &[u8]) -> Result<Datagram, Bad>
     }
 }
 
-/// The datagram of these fields, or the first of the last two tests that fails.
+/// Returns the datagram of these fields, or the first of the last two tests that fails.
 ///
 /// What a keeper hears most is inlined; the rest is apart, since a function that would grow very large is not inlined.
 #[tactic(auto, unfolding(crate::specs::Spelling::message_at, crate::specs::Kinds::body_at))]
@@ -62,7 +62,7 @@ fn datagram_at(f: &Spelled<'_>) -> Result<Datagram, Bad>
     }
 }
 
-/// The same of the other kinds.
+/// Returns the same of the other kinds.
 #[tactic(auto, unfolding(crate::specs::Spelling::message_at, crate::specs::Kinds::body_at))]
 #[inline(never)]
 fn other_at(f: &Spelled<'_>) -> Result<Datagram, Bad>
@@ -90,7 +90,7 @@ fn other_at(f: &Spelled<'_>) -> Result<Datagram, Bad>
     }
 }
 
-/// What is left to test where the fields say this. Inlined, it tests only what this kind has.
+/// Tests what is left to test if the fields say this. Inlined, it tests only what this kind has.
 #[inline(always)]
 fn checked(f: &Spelled<'_>, said: Option<Body>) -> Result<Datagram, Bad>
     ensures { result ≡ message_where f.now said }
@@ -214,7 +214,7 @@ fn state_at(f: &Spelled<'_>) -> Body
     }
 }
 
-/// The layout in which a command is said.
+/// Returns the layout in which a command is said.
 pub(crate) fn layout_of(command: Command) -> u8
     ensures { result ≡ spec.layout_of command }
 {
@@ -232,7 +232,7 @@ fn is_between(low: u32, high: u32, number: u32) -> bool
     low <= number && number <= high
 }
 
-/// Whether a datagram may say this.
+/// Returns true if a datagram may say this.
 #[inline(always)]
 fn is_body(body: &Body) -> bool
     ensures { result ≡ message.is_body body.now }
@@ -320,7 +320,7 @@ fn is_grant_epoch(epoch: u64) -> bool
 
 // ---- the fields that a kind does not use
 
-/// Whether the fields that the kind does not use are zero.
+/// Returns true if the fields that the kind does not use are zero.
 #[inline(always)]
 fn is_rest_zero(f: &Spelled<'_>) -> bool
     ensures { result ≡ spec.is_rest_zero f.now }

@@ -22,7 +22,7 @@ impl DatagramRefusal {
     ghost use Rattle.std.specs.Prelude.{◌≡◌};
     ghost use Rattle.smi_message.specs.Bad.{refusal_code};
 
-    /// The number of the refusal, 1 to 9 in the order of the tests.
+    /// Returns the number of the refusal, 1 to 9 in the order of the tests.
     pub fn code(self) -> u16
         ensures { result ≡ refusal_code self }
     {

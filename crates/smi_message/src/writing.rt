@@ -11,14 +11,14 @@ use crate::{Body, Datagram};
 use byteorder::{BigEndian, ByteOrder};
 use smi_grant::Holder;
 
-/// The one spelling of a datagram.
+/// Returns the one spelling of a datagram.
 pub fn encode(datagram: &Datagram) -> [u8; 44]
     ensures { result ≡ spelling datagram.now }
 {
     write_fields(&fields_of(datagram.from, datagram.to, datagram.tree, &datagram.body))
 }
 
-/// The bytes of a datagram with these fields.
+/// Returns the bytes of a datagram with these fields.
 fn write_fields(fields: &Fields) -> [u8; 44]
     ensures { result ≡ bytes_of fields.now }
 {
@@ -44,7 +44,7 @@ fn write_fields(fields: &Fields) -> [u8; 44]
     out
 }
 
-/// The fields of a datagram; those that its kind does not use are zero.
+/// Returns the fields of a datagram; those that its kind does not use are zero.
 fn fields_of(from: u16, to: u16, tree: u16, body: &Body) -> Fields
     ensures { result ≡ spec.fields_of from to tree body.now }
 {

@@ -9,7 +9,7 @@ use smi_grant::Record;
 use smi_operator::Desk;
 use smi_protocol::{Answer, Mark};
 
-/// The seat of an operator: its place among the operators of the station.
+/// Returns the seat of an operator: its place among the operators of the station.
 fn seat_of(operators: &[u16], operator: u16) -> Option<usize>
     ensures { result ≡ position (λ o. o == operator) operators.now }
 {
@@ -38,7 +38,7 @@ fn place_answered(desk: &Desk, seat: usize, answer: &Answer) -> Option<usize>
     }
 }
 
-/// The order of a seat that is in work at this place ends.
+/// Ends the order of a seat that is in work at this place.
 fn end_at(desk: &mut Desk, seat: usize, place: Option<usize>, code: u16, asked: Option<Record>)
     requires { IfSome place (λ p. p < length (work_at desk.old seat)) }
     ensures { EndsAt seat place code asked desk.old desk.new }
@@ -48,7 +48,7 @@ fn end_at(desk: &mut Desk, seat: usize, place: Option<usize>, code: u16, asked: 
     }
 }
 
-/// The newest order in work of a seat ends with a code.
+/// Ends the newest order in work of a seat with a code.
 pub(crate) fn tell_newest(desk: &mut Desk, seat: Option<usize>, code: u16)
     ensures { TellsNewest seat code desk.old desk.new }
 {
@@ -58,7 +58,7 @@ pub(crate) fn tell_newest(desk: &mut Desk, seat: Option<usize>, code: u16)
     }
 }
 
-/// The newest order in work of a seat became this command.
+/// Notes which command the newest order in work of a seat became.
 pub(crate) fn mark_newest(desk: &mut Desk, seat: Option<usize>, issued: Option<Mark>)
     ensures { MarksNewest seat issued desk.old desk.new }
 {
@@ -69,7 +69,7 @@ pub(crate) fn mark_newest(desk: &mut Desk, seat: Option<usize>, issued: Option<M
     }
 }
 
-/// An answer goes to the order in work of its operator that it is of; one that is of none is dropped.
+/// Tells an answer to the order in work of its operator that it is of; one that is of none is dropped.
 fn tell_one(desk: &mut Desk, operators: &[u16], answer: &Answer)
     ensures { TellsOne operators.now answer.now desk.old desk.new }
 {
@@ -79,7 +79,7 @@ fn tell_one(desk: &mut Desk, operators: &[u16], answer: &Answer)
     }
 }
 
-/// Each answer goes to its order, one after the other.
+/// Tells each answer to its order, one after the other.
 pub(crate) fn tell_all(desk: &mut Desk, operators: &[u16], answers: &[Answer])
     ensures { TellsAll operators.now answers.now desk.old desk.new }
 {

@@ -54,7 +54,7 @@ pub struct NodeInput<'a> {
     pub seat: Option<usize>,
 }
 
-/// Whether an event is a report, which is told its code by its step alone.
+/// Returns true if an event is a report, which is told its code by its step alone.
 fn is_report(event: &Event<'_>) -> bool
     ensures { result ≡ is_report event.now }
 {

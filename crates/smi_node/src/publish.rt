@@ -8,7 +8,7 @@ use smi_view::{Board, BoardId};
 use std::alloc::AllocError;
 use std::sync::Wait;
 
-/// The state that a step showed, if any, is put on the board and published.
+/// Puts the state that a step showed, if any, on the board and publishes it.
 ///
 /// It fails only where the board was refused memory: nothing was published then.
 pub(crate) fn publish<J: BoardId, R: Wait>(

@@ -33,7 +33,7 @@ fn zero() -> AtomicU64 {
     AtomicU64::new(0)
 }
 
-/// The place of a refusal among all: those of datagrams, 1 to 9, and after them those of orders, 21 to 26.
+/// Returns the place of a refusal among all: those of datagrams, 1 to 9, and after them those of orders, 21 to 26.
 fn place_of(refusal: u16) -> Option<usize> {
     match refusal {
         1..=9 => Some(usize::from(refusal) - 1),
@@ -42,7 +42,7 @@ fn place_of(refusal: u16) -> Option<usize> {
     }
 }
 
-/// The refusal at a place.
+/// Returns the refusal at a place.
 fn refusal_at(place: usize) -> usize {
     if place < 9 {
         place.saturating_add(1)

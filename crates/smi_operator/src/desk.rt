@@ -11,14 +11,14 @@ use smi_grant::Record;
 use smi_protocol::{Mark, Order};
 
 impl Desk {
-    /// How many seats the desk has. Their numbers begin at 0.
+    /// Returns how many seats the desk has. Their numbers begin at 0.
     pub fn seat_count(&self) -> usize
         ensures { result ≡ seat_count self.now }
     {
         self.seat_ends.len()
     }
 
-    /// The next order of a seat, which is then in work.
+    /// Gives the next order of a seat, which is then in work.
     ///
     /// Returns none if the seat submitted none, if no place for its answer is free, or if it may not
     /// join the orders in work: all have to be commands on one domain, and eight at most.
@@ -57,7 +57,7 @@ impl Desk {
         });
     }
 
-    /// The order of a seat that is in work at this place, the oldest at 0, and the command that it became.
+    /// Returns the order of a seat that is in work at this place, the oldest at 0, and the command that it became.
     pub fn in_work(&self, seat: usize, place: usize) -> Option<Work>
         requires { seat < seat_count self.now }
         ensures { IfSome (seat_end self.now seat) (λ p. result

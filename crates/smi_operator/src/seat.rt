@@ -23,7 +23,7 @@ impl Seat {
         }
     }
 
-    /// The next answer, if there is one.
+    /// Takes the next answer, if there is one.
     pub fn told(&mut self) -> Option<Told>
         ensures seat { SameSeat self.old self.new }
         ensures some { IfSome result (λ t. told_to self.new ≡ told_to self.old ++ t ∷ []) }

@@ -41,7 +41,7 @@ impl SeatEnd {
         Some(order)
     }
 
-    /// The order at this place ends, unless it had. What can be handed out, is.
+    /// Ends the order at this place, unless it had ended. What can be handed out, is.
     pub(crate) fn answer_at(&mut self, place: usize, code: u16, asked: Option<Record>)
         requires { place < length self.old.work.items }
         ensures ring { SameEnd self.old self.new }
@@ -57,7 +57,7 @@ impl SeatEnd {
         hand_out(&mut self.work, &mut self.answers);
     }
 
-    /// The newest order in work became this command.
+    /// Notes which command the newest order in work became.
     pub(crate) fn mark(&mut self, mark: Mark)
         requires { 0 < length self.old.work.items }
         ensures ring { SameEnd self.old self.new }
@@ -70,7 +70,7 @@ impl SeatEnd {
         mark_newest(self.work.as_mut_slice(), mark);
     }
 
-    /// The order in work at this place.
+    /// Returns the order in work at this place.
     pub(crate) fn in_work(&self, place: usize) -> Option<Work>
         ensures { result ≡ option_map (λ e. e.work) (slice_get self.now.work.items place) }
     {
@@ -85,7 +85,7 @@ impl SeatEnd {
         self.work.len().checked_sub(1)
     }
 
-    /// The place of the oldest order in work that an answer is of.
+    /// Returns the place of the oldest order in work that an answer is of.
     pub(crate) fn place_of(&self, order: Order, mark: Option<Mark>) -> Option<usize>
         ensures { IsPlaceOf order mark self.now.work.items result }
     {

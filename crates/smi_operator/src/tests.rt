@@ -11,7 +11,7 @@ use std::test::Fail;
 
 mod threads;
 
-/// A seat and the desk at which it is the only one.
+/// Returns a seat and the desk at which it is the only one.
 fn open_one(alloc: Global) -> Result<(Seat, Desk), Fail>
     ensures { IfOk result (λ opened. seat_count opened.1 ≡ 1) }
 {

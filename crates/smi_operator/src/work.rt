@@ -43,7 +43,7 @@ impl WorkSlot {
     ghost use Rattle.std.specs.Prelude.{◌≡◌, option_map};
     ghost use Rattle.smi_operator.specs.Working.{begun, ended_by, marked_by, told_of};
 
-    /// An order comes into work.
+    /// Puts an order into work.
     pub(crate) fn begun(order: Order) -> WorkSlot
         ensures { result ≡ begun order }
     {
@@ -53,7 +53,7 @@ impl WorkSlot {
         }
     }
 
-    /// The order has ended. One that had ended before stays so.
+    /// Ends the order. One that had ended before stays so.
     pub(crate) fn ended_by(self, ending: Ending) -> WorkSlot
         ensures { result ≡ ended_by self ending }
     {
@@ -66,7 +66,7 @@ impl WorkSlot {
         }
     }
 
-    /// The order became this command.
+    /// Notes which command the order became.
     pub(crate) fn marked_by(self, mark: Mark) -> WorkSlot
         ensures { result ≡ marked_by self mark }
     {
@@ -79,7 +79,7 @@ impl WorkSlot {
         }
     }
 
-    /// What the operator is told, where the order has ended.
+    /// Returns what the operator is told, if the order has ended.
     pub(crate) fn told_if_ended(self) -> Option<Told>
         ensures { result ≡ option_map (told_of self.work.order) self.ending }
     {
@@ -92,7 +92,7 @@ impl WorkSlot {
     }
 }
 
-/// The order at this place ends, unless it had.
+/// Ends the order at this place, unless it had ended.
 pub(crate) fn end_at(work: &mut [WorkSlot], place: usize, ending: Ending)
     requires { place < length work.old }
     ensures { work.new ≡ spec.ended_at work.old place ending }
@@ -100,7 +100,7 @@ pub(crate) fn end_at(work: &mut [WorkSlot], place: usize, ending: Ending)
     work[place] = work[place].ended_by(ending);
 }
 
-/// The newest order became this command.
+/// Notes which command the newest order became.
 pub(crate) fn mark_newest(work: &mut [WorkSlot], mark: Mark)
     requires { 0 < length work.old }
     ensures { work.new ≡ spec.newest_marked work.old mark }
@@ -124,8 +124,8 @@ fn commanded(order: Order) -> Option<u16>
     }
 }
 
-/// Whether an answer is of an order in work: that of an issued command is of the order that became the command, any
-/// other of an order that is the same.
+/// Returns true if an answer is of an order in work: that of an issued command is of the order that became the
+/// command, any other of an order that is the same.
 fn is_answered_by(entry: &WorkSlot, order: Order, mark: Option<Mark>) -> bool
     ensures { Decides result (spec.IsAnsweredBy order mark entry.now.work) }
 {
@@ -137,7 +137,7 @@ fn is_answered_by(entry: &WorkSlot, order: Order, mark: Option<Mark>) -> bool
 
 ghost use Rattle.std.specs.Bool.{Decides};
 
-/// The place of the oldest order in work that an answer is of.
+/// Returns the place of the oldest order in work that an answer is of.
 pub(crate) fn place_in_work(work: &[WorkSlot], order: Order, mark: Option<Mark>) -> Option<usize>
     ensures { spec.IsPlaceOf order mark work.now result }
 {
@@ -164,7 +164,7 @@ fn are_on(work: &[WorkSlot], domain: u16) -> bool
     work.iter().all(|entry| is_on(entry.work.order, domain))
 }
 
-/// Whether a command on this domain may come into work beside these.
+/// Returns true if a command on this domain may come into work beside these.
 fn is_further(domain: Option<u16>, work: &[WorkSlot]) -> bool
     ensures value { result ≡ spec.is_further domain work.now }
     ensures room { IsTrue result → length work.now < spec.most_work }
@@ -175,7 +175,7 @@ fn is_further(domain: Option<u16>, work: &[WorkSlot]) -> bool
     }
 }
 
-/// Whether an order may come into work beside these.
+/// Returns true if an order may come into work beside these.
 pub(crate) fn may_join(work: &[WorkSlot], order: Order) -> bool
     ensures value { result ≡ spec.may_join work.now order }
     ensures room { IsTrue result → length work.now < spec.most_work }

@@ -21,7 +21,7 @@ fn shown(object: u16, boot: u32, sequence: u32, state: u16) -> Shown
     }
 }
 
-/// Whether states of object 2 are accepted as they have to be, and what was accepted last meanwhile.
+/// Returns whether states of object 2 are accepted as they have to be, and what was accepted last meanwhile.
 fn accepted_in_turn(view: &mut View) -> [bool; 11]
     requires { 2 ≤ length view.old.table }
 {
@@ -61,8 +61,8 @@ fn put_and_publish<J: BoardId, R: Wait>(
     board.publish(rt)
 }
 
-/// What two glances read, before and after they are told, and what is only put; and whether the board, and what it had
-/// told before the last publication, met them.
+/// Returns what two glances read, before and after they are told, and what is only put; and whether the board, and
+/// what it had told before the last publication, met them.
 fn shown_and_read<J: BoardId, R: Wait>(
     rt: &R,
     board: &mut Board<J>,
@@ -98,7 +98,7 @@ fn shown_and_read<J: BoardId, R: Wait>(
     ))
 }
 
-/// The readings of an open board with what met, and one reading of a board that is closed.
+/// Returns the readings of an open board with what met, and one reading of a board that is closed.
 fn over_board<J: BoardId, R: Wait>(
     rt: &R,
     alloc: Global,
@@ -164,7 +164,7 @@ fn readings_of_all<J: BoardId, R: Wait>(
     Ok(count)
 }
 
-/// How many readings of all glances are of what was published last, up to the last sequence.
+/// Returns how many readings of all glances are of what was published last, up to the last sequence.
 fn readings_in_turn<J: BoardId, R: Wait>(
     rt: &R,
     board: &mut Board<J>,

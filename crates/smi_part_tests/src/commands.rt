@@ -47,7 +47,7 @@ fn settled(heard: &LinkHeard) -> [Option<(u32, u16)>; 3] {
     [at(0), at(1), at(2)]
 }
 
-/// Whether a link that hears a record becomes this, and tells these settlements.
+/// Returns true if a link that hears a record becomes this, and tells these settlements.
 fn becomes(link: Link, heard: Record, wanted: Link, codes: [Option<(u32, u16)>; 3]) -> bool {
     let (now, what) = told(&link, BOB, &heard);
     now == wanted && settled(&what) == codes
@@ -132,7 +132,7 @@ fn records_heard_by_links_that_hold(rt: HostRuntime) {
     assert_eq!(rt; Outcome::Unseen.code(), 8);
 }
 
-/// What a link that is taking hears if nothing settles.
+/// Returns what a link that is taking hears if nothing settles.
 fn heard_while_taking(heard: Record) -> LinkHeard {
     told(&Link::Taking(0), BOB, &heard).1
 }
@@ -147,7 +147,7 @@ fn records_that_settle_nothing(rt: HostRuntime) {
     assert_eq!(rt; heard, [true; 2]);
 }
 
-/// Whether a link answers a take, a command and a drop so.
+/// Returns true if a link answers a take, a command and a drop so.
 fn obeys(
     link: Link,
     taken: Result<Link, u16>,
@@ -193,7 +193,7 @@ fn orders_given(rt: HostRuntime) {
     assert_eq!(rt; rows, [true; 7]);
 }
 
-/// A link with as many pending commands as there is room for.
+/// Returns a link with as many pending commands as there is room for.
 fn filled() -> Result<Link, u16> {
     let mut full = held(1, 0, Pending::new());
     for _ in 0..MOST_PENDING {
@@ -202,7 +202,7 @@ fn filled() -> Result<Link, u16> {
     Ok(full)
 }
 
-/// What such a link answers to a command and a drop, and what it is due last.
+/// Returns what such a link answers to a command and a drop, and what it is due last.
 fn at_the_limit() -> Result<[bool; 4], u16> {
     let full = filled()?;
     Ok([

@@ -98,7 +98,7 @@ fn which_records_there_are(rt: HostRuntime) {
     }
 }
 
-/// Whether a holder has this kind and number, and is in range.
+/// Returns true if a holder has this kind and number, and is in range.
 fn is_holder(holder: Holder, kind: u8, number: u16) -> bool {
     (holder.kind(), holder.number(), holder.is_in_range()) == (kind, number, true)
         && Holder::from_kind(kind, number) == Some(holder)
@@ -116,7 +116,7 @@ fn kinds_and_numbers_of_holders(rt: HostRuntime) {
     assert_eq!(rt; found, [true; 5]);
 }
 
-/// Whether a command has this verb and argument, and is in range.
+/// Returns true if a command has this verb and argument, and is in range.
 fn is_command(command: Command, verb: u16, argument: u16) -> bool {
     (command.verb(), command.argument(), command.is_in_range()) == (verb, argument, true)
         && Command::from_verb(verb, argument) == Some(command)

@@ -42,7 +42,7 @@ fn begins_with_sevens(buffer: &[u8; 45]) -> bool {
     &buffer[..43] == [7u8; 43].as_slice()
 }
 
-/// What comes of a datagram, and whether it begins with sevens.
+/// Returns what comes of a datagram, and whether it begins with sevens.
 fn received_of<L: DatagramLink>(
     link: &mut L,
     there: &UdpSocket,
@@ -55,7 +55,7 @@ fn received_of<L: DatagramLink>(
     Ok((reception, begins_with_sevens(&buffer)))
 }
 
-/// What comes of datagrams of 44, 43, 45 and 2,000 sevens.
+/// Returns what comes of datagrams of 44, 43, 45 and 2,000 sevens.
 fn sevens_received<L: DatagramLink>(
     link: &mut L,
     there: &UdpSocket,
@@ -70,7 +70,7 @@ fn sevens_received<L: DatagramLink>(
     ])
 }
 
-/// How many bytes come from a link to a socket, and whether they are eights.
+/// Returns how many bytes come from a link to a socket, and whether they are eights.
 fn eights_received<L: DatagramLink>(link: &mut L, there: &UdpSocket) -> io::Result<(usize, bool)> {
     let mut read = [0u8; 100];
     if link.send(1, &[8; 44]) != Ok(()) || !pass_on(link, 2) {
@@ -80,24 +80,24 @@ fn eights_received<L: DatagramLink>(link: &mut L, there: &UdpSocket) -> io::Resu
     Ok((count, begins_with_eights(&read)))
 }
 
-/// What a link answers to a send to a station that it has no address of.
+/// Returns what a link answers to a send to a station that it has no address of.
 fn sent_to_strangers<L: DatagramLink>(link: &mut L) -> [Result<(), LinkFault>; 2] {
     [link.send(3, &[8; 44]), link.send(0, &[8; 44])]
 }
 
-/// What a link answers to a send to a socket that is closed, and what it receives then.
+/// Returns what a link answers to a send to a socket that is closed, and what it receives then.
 fn sent_to_nobody<L: DatagramLink>(link: &mut L) -> (Result<(), LinkFault>, Reception) {
     let mut buffer = [0u8; 45];
     (link.send(2, &[8; 44]), link.receive(&mut buffer))
 }
 
-/// What a link receives before anything is sent.
+/// Returns what a link receives before anything is sent.
 fn received_first<L: DatagramLink>(link: &mut L) -> Reception {
     let mut buffer = [0u8; 45];
     link.receive(&mut buffer)
 }
 
-/// A link of two stations at addresses of this machine; the second is another socket's.
+/// Returns a link of two stations at addresses of this machine; the second is another socket's.
 fn udp_link(
     rt: &HostRuntime,
     second: SocketAddr,
@@ -139,7 +139,7 @@ fn whole_datagrams_over_udp(rt: HostRuntime) -> Result<(), Fail> {
     Ok(())
 }
 
-/// A link in memory into which a datagram, nothing, a fault, a long datagram and an empty one were put.
+/// Returns a link in memory into which a datagram, nothing, a fault, a long datagram and an empty one were put.
 fn five_put(alloc: Global) -> Result<MemoryLink, AllocError> {
     let mut link = MemoryLink::new(alloc, 1);
     link.put(&[1; 44])?;
@@ -150,7 +150,8 @@ fn five_put(alloc: Global) -> Result<MemoryLink, AllocError> {
     Ok(link)
 }
 
-/// What is received of these, in turn, once the first was passed on; and whether the long one was cut to 45 bytes.
+/// Returns what is received of these, in turn, once the first was passed on; and whether the long one was cut to 45
+/// bytes.
 fn received_in_turn(link: &mut MemoryLink) -> ([Reception; 5], bool) {
     let mut buffer = [0u8; 45];
     if !pass_on(link, 2) {
@@ -163,7 +164,7 @@ fn received_in_turn(link: &mut MemoryLink) -> ([Reception; 5], bool) {
     ([nothing, fault, long, empty, last], is_cut)
 }
 
-/// What a link answers to three sends of which the second is planned to fail.
+/// Returns what a link answers to three sends of which the second is planned to fail.
 fn sent_in_turn(link: &mut MemoryLink) -> [Result<(), LinkFault>; 3] {
     link.fail_send(2);
     [
@@ -173,7 +174,7 @@ fn sent_in_turn(link: &mut MemoryLink) -> [Result<(), LinkFault>; 3] {
     ]
 }
 
-/// What comes back of what the link sent to its own station, and whether it is that.
+/// Returns what comes back of what the link sent to its own station, and whether it is that.
 fn received_of_its_own(link: &mut MemoryLink) -> ([Reception; 2], bool) {
     let mut buffer = [0u8; 45];
     let first = link.receive(&mut buffer);

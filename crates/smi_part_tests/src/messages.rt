@@ -139,7 +139,7 @@ fn each_kind_has_its_bytes(rt: HostRuntime) {
     assert_eq!(rt; encode(&Datagram::tell(2, 1, 17, 1, told)), TELL);
 }
 
-/// What the layout says of a take with another value at one place: 0 if it is one too.
+/// Returns what the layout says of a take with another value at one place: 0 if it is one too.
 fn refusal_at(place: usize, value: u8) -> u16 {
     match (place, value) {
         (0 | 1, _) => 2,

@@ -20,7 +20,7 @@ fn shown(object: u16, boot: u32, sequence: u32, state: u16) -> Shown {
     }
 }
 
-/// The worked tree.
+/// Returns the worked tree.
 fn worked<R: Abort>(rt: &R, alloc: Global) -> Result<Tree, TreeFault>
     ensures { IfOk result (λ tree. domain_count tree ≡ 2) }
 {
@@ -100,7 +100,7 @@ fn stays_away<R: Abort>(rt: &R, publisher: &mut Publisher)
     assert_eq!(rt; publisher.current(3), None);
 }
 
-/// Each case, over what its station publishes after a start.
+/// Tries each case, over what its station publishes after a start.
 fn each_case<R: Abort>(rt: &R, alloc: Global, tree: &Tree) -> Result<(), Fail>
     requires { domain_count tree.now ≡ 2 }
 {

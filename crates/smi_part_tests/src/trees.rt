@@ -10,7 +10,7 @@ use std::test::Fail;
 const BEGUN: &[u8] =
     b"tree 1\nstate S\nstate T\naction A\nstation P 10.0.0.1:1\noperator O P\ndevclass D S\nmove D S A T\nunitclass U S\naccept U A\ndomain M P U -\n";
 
-/// The fault of a file, (0, 0) if it has none.
+/// Returns the fault of a file, (0, 0) if it has none.
 fn fault_of(alloc: Global, bytes: &[u8]) -> Result<(u64, u16), TreeFault> {
     match Tree::read(alloc, bytes) {
         Ok(_) => Ok((0, 0)),
@@ -19,7 +19,7 @@ fn fault_of(alloc: Global, bytes: &[u8]) -> Result<(u64, u16), TreeFault> {
     }
 }
 
-/// The fault of one more line after those of `BEGUN`.
+/// Returns the fault of one more line after those of `BEGUN`.
 fn fault_behind(alloc: Global, line: &[u8]) -> Result<(u64, u16), TreeFault> {
     let mut bytes = Vec::from_slice(alloc, BEGUN)?;
     bytes.extend_from_slice(line)?;

@@ -91,14 +91,14 @@ fn lists(alloc: Global, objects: u16) -> Result<Watchers, AllocError>
     Watchers::new(alloc, objects)
 }
 
-/// Whether an object and a station may be named.
+/// Returns true if an object and a station may be named.
 fn is_there(object: u16, objects: u16, station: u16) -> bool
     ensures { IsTrue result → (1 ≤ object) × (object ≤ objects) × (1 ≤ station) × (station ≤ 128) }
 {
     1 <= object && object <= objects && 1 <= station && station <= 128
 }
 
-/// The station at a place of an object's list, 0 past its end.
+/// Returns the station at a place of an object's list, 0 past its end.
 fn station_at(watchers: &Watchers, object: u16, place: usize) -> u16
     requires least { 1 ≤ object }
     requires most { object ≤ length watchers.now.lists }
@@ -109,7 +109,7 @@ fn station_at(watchers: &Watchers, object: u16, place: usize) -> u16
     }
 }
 
-/// Whether a call answers as it has to.
+/// Returns true if a call answers as it has to.
 fn is_answered(watchers: &mut Watchers, objects: u16, call: Call) -> bool
     requires { length watchers.old.lists ≡ objects }
     ensures { length watchers.new.lists ≡ objects }
@@ -142,7 +142,7 @@ fn is_answered(watchers: &mut Watchers, objects: u16, call: Call) -> bool
     }
 }
 
-/// How many calls answer as they have to, before the first that does not.
+/// Returns how many calls answer as they have to, before the first that does not.
 fn answered(watchers: &mut Watchers, objects: u16, calls: &[Call]) -> usize
     requires { length watchers.old.lists ≡ objects }
 {
@@ -156,7 +156,7 @@ fn answered(watchers: &mut Watchers, objects: u16, calls: &[Call]) -> usize
     count
 }
 
-/// How many entries are added where 64 stations watch each object.
+/// Returns how many entries are added where 64 stations watch each object.
 fn filled(watchers: &mut Watchers, objects: u16) -> usize
     requires { length watchers.old.lists ≡ objects }
     ensures { length watchers.new.lists ≡ objects }
@@ -172,13 +172,13 @@ fn filled(watchers: &mut Watchers, objects: u16) -> usize
     count
 }
 
-/// How many of the calls on new lists answer as they have to.
+/// Returns how many of the calls on new lists answer as they have to.
 fn tried(alloc: Global, objects: u16, calls: &[Call]) -> Result<usize, AllocError> {
     let mut watchers = lists(alloc, objects)?;
     Ok(answered(&mut watchers, objects, calls))
 }
 
-/// How many entries full lists have, and how many of the calls on them answer as they have to.
+/// Returns how many entries full lists have, and how many of the calls on them answer as they have to.
 fn tried_on_full(
     alloc: Global,
     objects: u16,
@@ -189,7 +189,7 @@ fn tried_on_full(
     Ok((entries, answered(&mut watchers, objects, calls)))
 }
 
-/// What a station that leaves full lists in a thread of its own looks at.
+/// Returns what a station that leaves full lists in a thread of its own looks at.
 fn left_in_a_thread<R: Runtime<A = Global> + Wait + Threads>(rt: &R) -> Result<u32, Fail> {
     let mut watchers = lists(rt.alloc(), 3)?;
     filled(&mut watchers, 3);
@@ -200,7 +200,7 @@ fn left_in_a_thread<R: Runtime<A = Global> + Wait + Threads>(rt: &R) -> Result<u
     Ok(child.join(rt))
 }
 
-/// Full lists of three objects are only dropped.
+/// Drops full lists of three objects.
 #[test]
 fn full_watcher_lists(rt: HostRuntime) -> Result<(), Fail> {
     for (objects, calls, wanted) in [

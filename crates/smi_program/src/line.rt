@@ -114,7 +114,7 @@ pub struct ScreenLine<'a> {
     pub accepts_older: bool,
 }
 
-/// What the words of a command line ask for, the program's own name first.
+/// Returns what the words of a command line ask for, the program's own name first.
 pub fn line_of(alloc: Global, words: &[String]) -> CommandLine<'_> {
     // No form has the word that ends the options.
     if words.iter().skip(1).any(|word| word.as_str() == "--") {
@@ -133,7 +133,7 @@ fn parsed<'a>(alloc: Global, words: &'a [String]) -> Result<CommandLine<'a>, Err
     Ok(line_in(&matches))
 }
 
-/// What the words ask for that were found to be a form.
+/// Returns what the words ask for that were found to be a form.
 fn line_in<'a>(matches: &ArgMatches<'a>) -> CommandLine<'a> {
     match matches.subcommand() {
         Some(("answer", _)) => CommandLine::Answer,
@@ -152,7 +152,7 @@ fn line_in<'a>(matches: &ArgMatches<'a>) -> CommandLine<'a> {
     }
 }
 
-/// All forms of the command line.
+/// Returns all forms of the command line.
 fn forms<'a>(alloc: Global) -> Result<Command<'a>, Error> {
     let command = Command::new(alloc, "smi").subcommand(Command::new(alloc, "answer"))?;
     let command = with_form(command, check_command(alloc))?;
@@ -186,7 +186,7 @@ fn rows_command<'a>(alloc: Global) -> Result<Command<'a>, Error> {
     with_word(alloc, Command::new(alloc, "rows"), "STORE")
 }
 
-/// A form with one more word that has to be there.
+/// Returns a form with one more word that has to be there.
 fn with_word<'a>(alloc: Global, form: Command<'a>, name: &'a str) -> Result<Command<'a>, Error> {
     Ok(form.arg(Arg::new(alloc, name).required(true))?)
 }
@@ -199,7 +199,7 @@ fn sim_command<'a>(alloc: Global) -> Result<Command<'a>, Error> {
     Ok(form.arg(flag(alloc, "settle"))?)
 }
 
-/// An option that has no value.
+/// Returns an option that has no value.
 fn flag<'a>(alloc: Global, name: &'a str) -> Arg<'a> {
     Arg::new(alloc, name).long(name).action(ArgAction::SetTrue)
 }
@@ -226,7 +226,7 @@ fn audit_line<'a>(given: &ArgMatches<'a>) -> Option<AuditLine<'a>> {
     })
 }
 
-/// The schedule of a simulation: a file, or both a seed and how many items it draws.
+/// Returns the schedule of a simulation: a file, or both a seed and how many items it draws.
 fn schedule_of<'a>(given: &ArgMatches<'a>) -> Option<Schedule<'a>> {
     match (
         given.get_str("SCHEDULE"),
@@ -242,7 +242,7 @@ fn schedule_of<'a>(given: &ArgMatches<'a>) -> Option<Schedule<'a>> {
     }
 }
 
-/// The seed that a word stands for: digits alone, at most 2^64 - 1.
+/// Returns the seed that a word stands for: digits alone, at most 2^64 - 1.
 fn seed_of(word: &str) -> Option<u64> {
     if word.as_bytes().iter().all(u8::is_ascii_digit) {
         word.parse().ok()
@@ -251,7 +251,7 @@ fn seed_of(word: &str) -> Option<u64> {
     }
 }
 
-/// The words of a station that is run: its tree, its name, its store, and how long.
+/// Returns the words of a station that is run: its tree, its name, its store, and how long.
 fn station_command<'a>(alloc: Global, name: &'a str) -> Result<Command<'a>, Error> {
     let form = with_word(alloc, Command::new(alloc, name), "TREE")?;
     let form = with_word(alloc, form, "STATION")?;
@@ -309,7 +309,7 @@ fn listening_place(word: &str, is_open: bool) -> Option<ConsolePlace<'_>> {
     }
 }
 
-/// The address and the name of a screen. One that is open to other machines has a name, and no other has one.
+/// Returns the address and the name of a screen. One that is open to other machines has a name, and no other has one.
 fn place_of<'a>(
     address: &str,
     name: Option<&'a str>,
@@ -357,7 +357,7 @@ fn node_line<'a>(given: &ArgMatches<'a>) -> Option<NodeLine<'a>> {
     })
 }
 
-/// Where a journal is written, if one is asked for. To sync none is no form.
+/// Returns where a journal is written, if one is asked for. To sync none is no form.
 fn journal_line(folder: Option<&str>, is_synced: bool) -> Option<Option<JournalOptions<'_>>> {
     match folder {
         Some(folder) => Some(Some(JournalOptions { folder, is_synced })),
@@ -369,7 +369,7 @@ fn journal_line(folder: Option<&str>, is_synced: bool) -> Option<Option<JournalO
 /// Two places at which a node may listen.
 type Places<'a> = (Option<ConsolePlace<'a>>, Option<ConsolePlace<'a>>);
 
-/// Where a node listens for consoles, at two places at most: more are no form.
+/// Returns where a node listens for consoles, at two places at most: more are no form.
 fn consoles_of<'a>(words: Option<&[&'a str]>, is_open: bool) -> Option<Places<'a>> {
     match words {
         None => Some((None, None)),
@@ -382,8 +382,8 @@ fn consoles_of<'a>(words: Option<&[&'a str]>, is_open: bool) -> Option<Places<'a
     }
 }
 
-/// How long a node serves: as many turns as a word says, without end where that is asked for, and without either the
-/// most turns. Both are no form.
+/// Returns how long a node serves: as many turns as a word says, without end where that is asked for, and without
+/// either the most turns. Both are no form.
 fn turns_of(word: Option<&str>, is_endless: bool) -> Option<Option<u32>> {
     match (word, is_endless) {
         (Some(word), false) => {

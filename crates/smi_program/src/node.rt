@@ -21,7 +21,7 @@ use std::sync::{Arc, Wait};
 use std::thread::Threads;
 use std::time::Clock;
 
-/// A tree that both threads of a node read.
+/// Returns a tree that both threads of a node read.
 fn shared<F: Write>(
     alloc: Global,
     tree: Tree,
@@ -41,7 +41,7 @@ fn turns_of(turns: Option<u32>) -> Turns {
     }
 }
 
-/// Where a console is listened for.
+/// Returns where a console is listened for.
 fn listen_address_of(alloc: Global, place: ConsolePlace<'_>) -> Result<ListenAddress, AllocError> {
     match place {
         ConsolePlace::Address(address) => Ok(ListenAddress::Address(address)),
@@ -49,7 +49,7 @@ fn listen_address_of(alloc: Global, place: ConsolePlace<'_>) -> Result<ListenAdd
     }
 }
 
-/// Where consoles are listened for.
+/// Returns where consoles are listened for.
 fn listen_addresses_of(
     alloc: Global,
     line: &NodeLine<'_>,
@@ -139,7 +139,7 @@ fn told_fault<F: Write>(fault: StoreFault, faults: &mut F) -> Status {
     }
 }
 
-/// Whether a store of this kinship may be gone on with; what is amiss is told.
+/// Tells what is amiss with a store of this kinship, if anything.
 ///
 /// A tree of another number may not, since its operators are others. One whose file says something else may, and then
 /// it is for the rows to tell whether they fit.
@@ -154,8 +154,8 @@ fn has_kin<F: Write>(kinship: Kinship, faults: &mut F) -> Result<(), Status> {
     }
 }
 
-/// The boot that a store has of a station. A row that can't be read counts as none of an older start, since the opening
-/// of the station tells its fault.
+/// Returns the boot that a store has of a station. A row that can't be read counts as none of an older start, since
+/// the opening of the station tells its fault.
 fn boot_in<S: Stable>(
     alloc: Global,
     stable: &mut S,
@@ -177,8 +177,8 @@ fn boot_in<S: Stable>(
     Ok(None)
 }
 
-/// Whether a store is no older than its label; what is amiss is told. One that is has lost what others were told since,
-/// so that its station would give away what somebody holds.
+/// Tells if a store is older than its label. One that is has lost what others were told since, so that its station
+/// would give away what somebody holds.
 fn has_age<F: Write>(age: StoreAge, accepts_older: bool, faults: &mut F) -> Result<(), Status> {
     match age {
         StoreAge::Current => Ok(()),
@@ -188,7 +188,7 @@ fn has_age<F: Write>(age: StoreAge, accepts_older: bool, faults: &mut F) -> Resu
     }
 }
 
-/// Whether a store that is open may be gone on with; what is amiss is told.
+/// Tells what is amiss with an open store, if anything.
 fn may_go_on<S: Stable, F: Write>(
     alloc: Global,
     store: &mut OpenStore<S>,
@@ -202,8 +202,8 @@ fn may_go_on<S: Stable, F: Write>(
     }
 }
 
-/// The store of a path, with its log copied into its file, or what is told of it. Nothing is saved, and one that may
-/// not be gone on with is left as it is.
+/// Returns the store of a path, with its log copied into its file, or what is told of it. Nothing is saved, and one
+/// that may not be gone on with is left as it is.
 pub(crate) fn opened<H: Stores + AllocGlobal, F: Write>(
     host: &H,
     path: &[u8],

@@ -38,7 +38,7 @@ fn told_end<F: Write>(ended: Ended, faults: &mut F) -> Status {
 /// How many random bytes a key is made of.
 const KEY: usize = 16;
 
-/// Random bytes, as the value of an `Authorization`.
+/// Returns random bytes, as the value of an `Authorization`.
 fn key_in(alloc: Global, bytes: [u8; KEY]) -> Result<Vec<u8>, AllocError> {
     let mut key = Vec::from_slice(alloc, b"Bearer ")?;
     for byte in bytes {
@@ -47,7 +47,7 @@ fn key_in(alloc: Global, bytes: [u8; KEY]) -> Result<Vec<u8>, AllocError> {
     Ok(key)
 }
 
-/// A text whose copies share its bytes.
+/// Returns a text whose copies share its bytes.
 fn kept(text: Vec<u8>) -> Result<Bytes, AllocError> {
     match Bytes::from_vec(text) {
         Ok(bytes) => Ok(bytes),
@@ -55,7 +55,7 @@ fn kept(text: Vec<u8>) -> Result<Bytes, AllocError> {
     }
 }
 
-/// Where a console is.
+/// Returns where a console is.
 fn console_address_of(
     alloc: Global,
     place: ConsolePlace<'_>,
@@ -74,7 +74,7 @@ struct Keyed {
     console: ConsoleAddress,
 }
 
-/// A page that may give orders by a key of these bytes, to the console at this place.
+/// Returns a page that may give orders by a key of these bytes, to the console at this place.
 fn page_with_key(
     alloc: Global,
     bytes: [u8; KEY],
@@ -89,14 +89,14 @@ fn page_with_key(
     })
 }
 
-/// The page of a screen may give orders from now on, of operators of this tree.
+/// Has the page of a screen give orders from now on, of operators of this tree.
 fn give(setup: &mut ScreenSetup, keyed: Keyed, tree: Tree) {
     let Keyed { page, key, console } = keyed;
     setup.page = page;
     setup.giving = Some(Giving { console, key, tree });
 }
 
-/// Random bytes, which nobody can guess.
+/// Returns random bytes, which nobody can guess.
 fn random<H: RandomSource, F: Write>(host: &H, faults: &mut F) -> Result<[u8; KEY], Status> {
     let mut bytes = [0u8; KEY];
     match host.fill_bytes(&mut bytes) {
@@ -105,7 +105,7 @@ fn random<H: RandomSource, F: Write>(host: &H, faults: &mut F) -> Result<[u8; KE
     }
 }
 
-/// The page of a screen may give orders from now on, to the console at this place.
+/// Has the page of a screen give orders from now on, to the console at this place.
 fn with_orders<H: Files + RandomSource + AllocGlobal, F: Write>(
     host: &H,
     words: &Words,
@@ -146,7 +146,7 @@ fn setup_of(
     })
 }
 
-/// The screen of a station looks, with what was set up.
+/// Runs the screen of a station, with what was set up.
 fn looked<
     H: Files
         + Stores
@@ -187,7 +187,7 @@ fn looked<
     }
 }
 
-/// What the screen of a station is run with is set up, and then it looks.
+/// Sets up what the screen of a station is run with, and runs it.
 fn set_up<
     H: Files
         + Stores

@@ -11,7 +11,7 @@ use std::rt::Files;
 /// How much of a tree file is read, in bytes: one more than the most that it may have.
 const MOST_TREE_BYTES: u64 = MOST_BYTES_OF_A_FILE as u64 + 1;
 
-/// The bytes of a tree file, or as many as show that it is too long.
+/// Returns the bytes of a tree file, or as many as show that it is too long.
 pub fn tree_bytes<H: Files + AllocGlobal>(host: &H, path: &[u8]) -> io::Result<Vec<u8>> {
     let mut bytes = Vec::new(host.alloc());
     open(host, path)?
@@ -33,7 +33,7 @@ fn read_bytes<H: Files + AllocGlobal, F: Write>(
     }
 }
 
-/// The tree of a file, or what is told of it.
+/// Returns the tree of a file, or what is told of it.
 pub fn read_tree<H: Files + AllocGlobal, F: Write>(
     host: &H,
     path: &[u8],
@@ -46,7 +46,7 @@ pub fn read_tree<H: Files + AllocGlobal, F: Write>(
     }
 }
 
-/// The tree of a file with its mark, or what is told of it.
+/// Returns the tree of a file with its mark, or what is told of it.
 pub fn read_marked<H: Files + AllocGlobal, F: Write>(
     host: &H,
     path: &[u8],

@@ -8,7 +8,7 @@ use crate::orders::ORDERS;
 use crate::page::PAGE;
 use std::alloc::{AllocError, Global};
 
-/// The script that has the key.
+/// Returns the script that has the key.
 fn script_of(alloc: Global, key: &[u8]) -> Result<Vec<u8>, AllocError>
     ensures { IfOk result (λ text. text.items ≡ script_of key.now) }
 {
@@ -18,7 +18,7 @@ fn script_of(alloc: Global, key: &[u8]) -> Result<Vec<u8>, AllocError>
     Ok(text)
 }
 
-/// A page that goes on with a key and with what it has more.
+/// Returns a page that goes on with a key and with what it has more.
 fn with_orders(alloc: Global, page: &[u8], key: &[u8], orders: &[u8]) -> Result<Vec<u8>, AllocError>
     ensures { IfOk result (λ text. text.items ≡ with_orders page.now key.now orders.now) }
 {
@@ -29,7 +29,7 @@ fn with_orders(alloc: Global, page: &[u8], key: &[u8], orders: &[u8]) -> Result<
     Ok(text)
 }
 
-/// The page that may give orders, by this key.
+/// Returns the page that may give orders, by this key.
 ///
 /// It fails only where memory ran out, which tests alone see.
 pub fn page_with_orders(alloc: Global, key: &[u8]) -> Result<Vec<u8>, AllocError>
@@ -38,7 +38,7 @@ pub fn page_with_orders(alloc: Global, key: &[u8]) -> Result<Vec<u8>, AllocError
     with_orders(alloc, PAGE.as_bytes(), key, ORDERS.as_bytes())
 }
 
-/// The bytes of the page.
+/// Returns the bytes of the page.
 pub fn page_bytes() -> &'static [u8]
     ensures { result.now ≡ PAGE.now }
 {

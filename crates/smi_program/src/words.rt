@@ -17,7 +17,7 @@ pub struct Words {
     pub bytes: Vec<Vec<u8>>,
 }
 
-/// The words of the command line. It fails only where memory ran out, which tests alone see.
+/// Returns the words of the command line. It fails only where memory ran out, which tests alone see.
 pub fn words_of<H: Env + AllocGlobal>(rt: &H) -> Result<Words, AllocError> {
     let mut words = Words {
         texts: Vec::new(rt.alloc()),
@@ -45,7 +45,7 @@ fn add(alloc: Global, words: &mut Words, bytes: &[u8]) -> Result<(), AllocError>
     Ok(())
 }
 
-/// The bytes of the first word that reads so, after the program's own name and the command.
+/// Returns the bytes of the first word that reads so, after the program's own name and the command.
 pub fn bytes_of<'a>(words: &'a Words, text: &'a str) -> &'a [u8] {
     let pairs = words.texts.iter().zip(words.bytes.iter()).skip(2);
     for (word, bytes) in pairs {
@@ -56,7 +56,7 @@ pub fn bytes_of<'a>(words: &'a Words, text: &'a str) -> &'a [u8] {
     text.as_bytes()
 }
 
-/// The bytes of the first word that reads so after the first that reads as the text before it.
+/// Returns the bytes of the first word that reads so after the first that reads as the text before it.
 pub fn bytes_after<'a>(words: &'a Words, before: &str, text: &'a str) -> &'a [u8] {
     let mut is_after = false;
     for (word, bytes) in words.texts.iter().zip(words.bytes.iter()).skip(2) {

@@ -21,31 +21,31 @@ ghost use Rattle.smi_protocol.specs.examples.Grants as grants;
 ghost use Rattle.smi_protocol.specs.examples.Commands as commands;
 ghost use Rattle.smi_protocol.specs.examples.Failing as failing;
 
-/// The tree of all examples is what the file examples/worked.tree says, and it is a tree.
+/// States that the tree of all examples is what the file examples/worked.tree says, and that it is a tree.
 pub fn worked_file()
     ensures read { tree_of worked_file ≡ Ok worked_tree }
     ensures tree { IsTree worked_tree }
 {}
 
-/// How the stations begin.
+/// Shows how the stations begin.
 pub fn opening()
     ensures first { opening_entries worked_tree A (first_opened worked_tree A) ≡ Booted A 1 ∷ passed DCS 1 0 OFF ∷ [] }
     ensures second { opening_entries worked_tree B (first_opened worked_tree B) ≡ Booted B 1 ∷ passed TPC 1 0 OFF
         ∷ passed HV 1 0 OFF ∷ [] }
 {}
 
-/// The keeper stops after the save of a grant, and answers the take when it comes again.
+/// Shows that the keeper stops after the save of a grant, and answers the take when it comes again.
 pub fn saved_but_not_told()
     ensures { Makes worked_tree grants.saved_but_not_told }
 {}
 
-/// A take, a drop, and the old take once more.
+/// Shows a take, a drop, and the old take once more.
 #[tactic(auto, unfolding(smi_tree::specs::Hierarchy::ancestors))]
 pub fn take_and_drop()
     ensures { Makes worked_tree grants.take_and_drop }
 {}
 
-/// A record that ends a take and answers a question: what the link tells comes before what was asked.
+/// Shows a record that ends a take and answers a question: what the link tells comes before what was asked.
 #[tactic(auto, unfolding(smi_tree::specs::Hierarchy::ancestors))]
 pub fn take_and_question()
     ensures played { Makes worked_tree grants.take_and_question }
@@ -54,85 +54,85 @@ pub fn take_and_question()
         ≡ Some (answer BOB (Take TPC) 0 ∷ answer_asked BOB TPC grants.held_by_BOB ∷ []) }
 {}
 
-/// The take that comes first is granted, the other is told who has it.
+/// Shows that the take that comes first is granted, and that the other is told who has it.
 #[tactic(auto, unfolding(smi_tree::specs::Hierarchy::ancestors))]
 pub fn two_operators()
     ensures { Makes worked_tree grants.two_operators }
 {}
 
-/// A child that another holds is not included, and is once it is free.
+/// Shows that a child that another holds is not included, and is once it is free.
 #[tactic(auto, unfolding(smi_tree::specs::Hierarchy::ancestors))]
 pub fn included_once_free()
     ensures { Makes worked_tree grants.included_once_free }
 {}
 
-/// An action that is not accepted, and a target that is not below.
+/// Shows an action that is not accepted, and a target that is not below.
 #[tactic(auto, unfolding(smi_tree::specs::Hierarchy::ancestors))]
 pub fn refused_commands()
     ensures { Makes worked_tree grants.refused_commands }
 {}
 
-/// A command goes through the hierarchy.
+/// Shows that a command goes through the hierarchy.
 #[tactic(auto, unfolding(smi_tree::specs::Hierarchy::ancestors))]
 pub fn configured()
     ensures { Makes worked_tree commands.configured }
 {}
 
-/// No drop while a command is pending.
+/// Shows that there is no drop while a command is pending.
 #[tactic(auto, unfolding(smi_tree::specs::Hierarchy::ancestors))]
 pub fn no_drop_while_pending()
     ensures { Makes worked_tree commands.no_drop_while_pending }
 {}
 
-/// A repeated command runs once, before and after a restart.
+/// Shows that a repeated command runs once, before and after a restart.
 #[tactic(auto, unfolding(smi_tree::specs::Hierarchy::ancestors))]
 pub fn repeated_run()
     ensures { Makes worked_tree commands.repeated_run }
 {}
 
-/// The keeper stops after the save of a run, and the run is over.
+/// Shows that the keeper stops after the save of a run, and that the run is over.
 #[tactic(auto, unfolding(smi_tree::specs::Hierarchy::ancestors))]
 pub fn stopped_after_run()
     ensures { Makes worked_tree commands.stopped_after_run }
 {}
 
-/// A state that answers an earlier boot is not shown.
+/// Shows that a state that answers an earlier boot is not shown.
 #[tactic(auto, unfolding(smi_tree::specs::Hierarchy::ancestors))]
 pub fn watcher_restarts()
     ensures { Makes worked_tree commands.watcher_restarts }
 {}
 
-/// The states of a keeper that was started again are newer than all before.
+/// Shows that the states of a keeper that was started again are newer than all before.
 #[tactic(auto, unfolding(smi_tree::specs::Hierarchy::ancestors))]
 pub fn keeper_restarts()
     ensures { Makes worked_tree commands.keeper_restarts }
 {}
 
-/// A manual child is sent no commands.
+/// Shows that a manual child is sent no commands.
 #[tactic(auto, unfolding(smi_tree::specs::Hierarchy::ancestors))]
 pub fn manual()
     ensures { Makes worked_tree commands.manual }
 {}
 
-/// An ignored child is sent commands, and its state does not count.
+/// Shows that an ignored child is sent commands, and that its state does not count.
 #[tactic(auto, unfolding(smi_tree::specs::Hierarchy::ancestors))]
 pub fn ignored()
     ensures { Makes worked_tree commands.ignored }
 {}
 
-/// Two commands pending run in their order, and the outcome of the first was not seen.
+/// Shows that two commands pending run in their order, and that the outcome of the first was not seen.
 #[tactic(auto, unfolding(smi_tree::specs::Hierarchy::ancestors))]
 pub fn two_pending()
     ensures { Makes worked_tree commands.two_pending }
 {}
 
-/// Eight commands are pending: a ninth and a drop are refused, and all run in their order.
+/// Shows eight pending commands: a ninth and a drop are refused, and all run in their order.
 #[tactic(auto, unfolding(smi_tree::specs::Hierarchy::ancestors))]
 pub fn eight_pending()
     ensures { Makes worked_tree commands.eight_pending }
 {}
 
-/// What is told of two commands that were pending says which command of which grant each was; what is
+/// Shows that what is told of two commands that were pending says which command of which grant each was; what is
 /// issued says the same.
 #[tactic(auto, unfolding(smi_tree::specs::Hierarchy::ancestors))]
 pub fn marks_of_two_pending()
@@ -147,7 +147,7 @@ pub fn marks_of_two_pending()
         ≡ Some (Some (mark TPC 1 2)) }
 {}
 
-/// The rows that are saved: of DCS when it is granted, and of BOB when he has taken TPC and when two commands
+/// Shows the rows that are saved: of DCS when it is granted, and of BOB when he has taken TPC and when two commands
 /// are pending.
 pub fn saved_rows()
     ensures granted { option_map (λ o. o.saved) (outcome_after worked_tree grants.asked_for_DCS (deed.Deliver 1))
@@ -165,12 +165,12 @@ pub fn saved_rows()
         ∷ 0 ∷ 0 ∷ 0x02 ∷ 0 ∷ 0x01 ∷ 0 ∷ 0x01 ∷ 0 ∷ 0x01 ∷ 0 ∷ 0x01 ∷ 0 ∷ 0x02 ∷ []))) }
 {}
 
-/// An empty schedule: all stations start.
+/// Shows an empty schedule: all stations start.
 pub fn empty_schedule()
     ensures { map shown_of (trace_of worked_tree []) ≡ failing.opening_shown }
 {}
 
-/// A row that is not saved, and one of which nobody knows whether it was.
+/// Shows a row that is not saved, and one of which nobody knows whether it was.
 pub fn saves_that_fail()
     ensures not_saved { Makes worked_tree failing.not_saved }
     ensures saved_unknown { Makes worked_tree failing.saved_unknown }

@@ -18,21 +18,21 @@ ghost use Rattle.smi_protocol.specs.examples.Orders.{told_at_once};
 ghost use Rattle.smi_protocol.specs.examples.Limits.{comes, sendings, sixteen_taken, all_named, tick, subjects};
 ghost use Rattle.smi_protocol.specs.examples.Limits.{crowded, last_epoch_taken, free_at_last_epoch};
 
-/// An operator asks for sixteen domains, and is refused a seventeenth with 25.
+/// Shows that an operator asks for sixteen domains, and is refused a seventeenth with 25.
 pub fn seventeenth_domain()
     ensures refused { told_at_once wide_tree sixteen_taken (Take 17) ≡ 25 ∷ [] }
     ensures before_25 { told_at_once wide_tree sixteen_taken (Take 16) ≡ 23 ∷ [] }
 {}
 
-/// 65 places are due: the first tick sends 64, the second the last, and the third begins again.
+/// Shows 65 places that are due: the first tick sends 64, the second the last, and the third begins again.
 pub fn sixty_five_places()
     ensures first { subjects (tick all_named) ≡ range_with_len 1 64 }
     ensures second { subjects (tick (tick all_named).station) ≡ 65 ∷ [] }
     ensures third { subjects (tick (tick (tick all_named).station).station) ≡ range_with_len 1 64 }
 {}
 
-/// An object is watched by 64 stations: a 65th is not answered and not in the list. Those that are in it are
-/// answered again.
+/// Shows that an object is watched by 64 stations: a 65th is not answered and not in the list. Those that are in it
+/// are answered again.
 pub fn full_list()
     ensures unanswered { sendings (comes wide_tree crowded 1 (body.Watch 1 1)) ≡ [] }
     ensures unlisted { (comes wide_tree crowded 1 (body.Watch 1 1)).station.display.watchers
@@ -40,7 +40,8 @@ pub fn full_list()
     ensures answered { sendings (comes wide_tree crowded 65 (body.Watch 1 1)) ≡ sends STATE A 65 1 ∷ [] }
 {}
 
-/// A watch with an older echo than one before is ignored; a newer one takes the station out of all lists first.
+/// Shows that a watch with an older echo than one before is ignored; a newer one takes the station out of all lists
+/// first.
 pub fn older_echo()
     ensures ignored { sendings (comes worked_tree
         (comes worked_tree (first_opened worked_tree A) B (body.Watch DCS 2)).station B (body.Watch DCS 1)) ≡ [] }
@@ -49,7 +50,7 @@ pub fn older_echo()
         ≡ sends STATE A B DCS ∷ [] }
 {}
 
-/// A state of what is not watched is answered so, unless it answers an earlier boot.
+/// Shows that a state of what is not watched is answered so, unless it answers an earlier boot.
 pub fn unwatched_state()
     ensures answered { sendings (comes worked_tree (first_opened worked_tree A) B
         (body.State HV 1 (record { boot = 1; sequence = 0 }) 1)) ≡ sends UNWATCH A B HV ∷ [] }
@@ -57,13 +58,13 @@ pub fn unwatched_state()
         (body.State HV 1 (record { boot = 1; sequence = 0 }) 1)) ≡ [] }
 {}
 
-/// A domain whose epochs are used up can't be taken: the command ends with 9.
+/// Shows that a domain whose epochs are used up can't be taken: the command ends with 9.
 pub fn epochs_used_up()
     ensures settled { (comes worked_tree last_epoch_taken B free_at_last_epoch).kept ≡ Settled DCS 1 1 9 ∷ [] }
     ensures told { sendings (comes worked_tree last_epoch_taken B free_at_last_epoch) ≡ sends TELL A A DCS ∷ [] }
 {}
 
-/// 7 another tree, 8 another station, 9 what is not there or not from whom it may come.
+/// Shows refused datagrams: 7 another tree, 8 another station, 9 what is not there or not from whom it may come.
 pub fn refused_datagrams()
     ensures tree { (after worked_tree A (first_opened worked_tree A)
         (Comes (record { from = B; to = A; tree = 16; body = body.Ask DCS }))).heard ≡ Refused 7 }

@@ -52,7 +52,7 @@ impl Order {
     ghost use Rattle.std.specs.Prelude.{◌≡◌};
     ghost use Rattle.smi_protocol.specs.Request.{order_asking};
 
-    /// What the order asks for. No other order asks for that.
+    /// Returns what the order asks for. No other order asks for that.
     pub fn request(self) -> Request
         ensures { self ≡ order_asking result }
     {
@@ -89,7 +89,7 @@ impl OrderCode {
     ghost use Rattle.std.specs.Prelude.{◌≡◌};
     ghost use Rattle.smi_protocol.specs.OrderCode.{order_code};
 
-    /// The code's number.
+    /// Returns the code's number.
     pub const fn code(self) -> u16
         ensures { result ≡ order_code self }
     {

@@ -16,7 +16,7 @@ ghost use Rattle.smi_protocol.specs.examples.WorkedTree.{worked_tree, A, B, ANN,
 ghost use Rattle.smi_protocol.specs.examples.WideTree.{deep_tree, SEC};
 ghost use Rattle.smi_protocol.specs.examples.Orders.{linked, told_at_once, outcomes, pending};
 
-/// 26: the operator is another station's, or the tree does not have what the order names.
+/// Shows 26: the operator is another station's, or the tree does not have what the order names.
 pub fn orders_of_what_is_not_here()
     ensures operator { (after worked_tree A (first_opened worked_tree A) (Orders BOB (Take DCS))).heard ≡ Refused 26 }
     ensures domain { told_at_once worked_tree (linked worked_tree (Out 0)) (Take 3) ≡ 26 ∷ [] }
@@ -27,7 +27,7 @@ pub fn orders_of_what_is_not_here()
     ensures before_all { told_at_once worked_tree (linked worked_tree (Out 0)) (Exclude DCS 3) ≡ 26 ∷ [] }
 {}
 
-/// 26: the device is kept by another station, or the tree does not have it or its state.
+/// Shows 26: the device is kept by another station, or the tree does not have it or its state.
 pub fn reports_of_what_is_not_here()
     ensures kept_by_another { (after worked_tree A (first_opened worked_tree A) (Reports 1 2)).heard ≡ Refused 26 }
     ensures device { (after worked_tree B (first_opened worked_tree B) (Reports 2 2)).heard ≡ Refused 26 }
@@ -35,7 +35,7 @@ pub fn reports_of_what_is_not_here()
     ensures state { (after worked_tree B (first_opened worked_tree B) (Reports 1 5)).heard ≡ Refused 26 }
 {}
 
-/// 21: the domain is not held.
+/// Shows 21: the domain is not held.
 pub fn orders_without_a_grant()
     ensures out { told_at_once worked_tree (linked worked_tree (Out 0)) (Drop DCS) ≡ 21 ∷ [] }
     ensures taking { told_at_once worked_tree (linked worked_tree (Taking 0)) (Do DCS 1) ≡ 21 ∷ [] }
@@ -43,7 +43,7 @@ pub fn orders_without_a_grant()
     ensures dropped { told_at_once worked_tree (linked worked_tree (Dropping 1)) (Drop DCS) ≡ 21 ∷ [] }
 {}
 
-/// 22: eight commands are pending, or one where the domain is to be given back.
+/// Shows 22: eight commands are pending, or one if the domain is to be given back.
 pub fn orders_while_commands_are_pending()
     ensures ninth { told_at_once worked_tree (linked worked_tree (Held 1 8 (pending 8))) (Do DCS 1) ≡ 22 ∷ [] }
     ensures drop { told_at_once worked_tree (linked worked_tree (Held 1 8 (pending 8))) (Drop DCS) ≡ 22 ∷ [] }
@@ -53,7 +53,7 @@ pub fn orders_while_commands_are_pending()
         ∷ [] }
 {}
 
-/// 23: the take is under way or over. 24: the numbers of the grant are used up.
+/// Shows 23: the take is under way or over. 24: the numbers of the grant are used up.
 pub fn orders_out_of_turn()
     ensures taking { told_at_once worked_tree (linked worked_tree (Taking 0)) (Take DCS) ≡ 23 ∷ [] }
     ensures held { told_at_once worked_tree (linked worked_tree (Held 1 0 [])) (Take DCS) ≡ 23 ∷ [] }
@@ -62,7 +62,7 @@ pub fn orders_out_of_turn()
     ensures last_number { told_at_once worked_tree (linked worked_tree (Held 1 999999 [])) (Do DCS 1) ≡ [] }
 {}
 
-/// 1 to 4, 6 and 7, where the command ends at once.
+/// Shows 1 to 4, 6 and 7, if the command ends at once.
 #[tactic(auto, unfolding(smi_tree::specs::Hierarchy::ancestors))]
 pub fn outcomes_at_once()
     ensures not_accepted { outcomes worked_tree (Out 0) mode.Included (command.Do 3) ≡ 1 ∷ [] }

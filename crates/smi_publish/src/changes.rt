@@ -30,7 +30,7 @@ impl Changes {
     ghost use Rattle.std.specs.Prelude.{◌≡◌, ◌<◌, ◌≤◌, ◌↔◌, ◌++◌, ◌∷◌, [], IsTrue, length};
     ghost use Rattle.smi_publish.specs.Published.{most_changes};
 
-    /// No changes.
+    /// Returns no changes.
     pub fn new() -> Changes
         ensures { result ≡ [] }
     {

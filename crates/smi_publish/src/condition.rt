@@ -15,7 +15,7 @@ pub(crate) struct Condition {
 impl Condition {
     ghost use Rattle.std.specs.Prelude.{◌≡◌};
 
-    /// What an object in this condition shows after this boot of its station.
+    /// Returns what an object in this condition shows after this boot of its station.
     pub(crate) fn shown(self, object: u16, boot: u32) -> Shown
         ensures { result ≡ record {
           object = object;

@@ -8,7 +8,7 @@ ghost use Rattle.smi_publish.specs.Publishing.{first_condition};
 use crate::condition::Condition;
 use smi_tree::{Tree, keeper_of};
 
-/// The condition of an object at the start of a station, none where another one keeps it.
+/// Returns the condition of an object at the start of a station, none if another one keeps it.
 pub(crate) fn first_condition(tree: &Tree, station: u16, object: u16) -> Option<Condition>
     requires least { 1 ≤ object }
     requires most { object ≤ domain_count tree.now + device_count tree.now }

@@ -33,8 +33,8 @@ impl Publisher {
     ghost use Rattle.smi_publish.specs.Publishing.{first_condition, reported, acted, evaluated, device_objects};
     ghost use Rattle.smi_publish.specs.Publishing.{is_among, moved_at};
 
-    /// The objects of a station after a start, in their classes' first states, at sequence 0 of this
-    /// boot: the units of the domains that the station keeps, and the devices in them.
+    /// Returns the objects of a station after a start, in their classes' first states, at sequence 0 of this boot:
+    /// the units of the domains that the station keeps, and the devices in them.
     ///
     /// It fails only where memory ran out, which tests alone see.
     pub fn new(alloc: Global, tree: &Tree, station: u16, boot: u32) -> Result<Publisher, AllocError>
@@ -49,14 +49,14 @@ impl Publisher {
         Ok(Publisher { boot, conditions })
     }
 
-    /// The station's boot.
+    /// Returns the station's boot.
     pub fn boot(&self) -> u32
         ensures { result ≡ self.now.boot }
     {
         self.boot
     }
 
-    /// The version and the state of an object, none where the station does not keep it.
+    /// Returns the version and the state of an object, none if the station does not keep it.
     pub fn current(&self, object: u16) -> Option<Shown>
         ensures { result ≡ shown_at self.now.boot (conditions_of self.now) object }
     {
@@ -64,7 +64,7 @@ impl Publisher {
         Some(condition.shown(object, self.boot))
     }
 
-    /// Whether an object may change once more: one that the station keeps, where its sequence is below
+    /// Returns true if an object may change once more: one that the station keeps, with a sequence below
     /// 4,000,000,000.
     pub fn has_room(&self, object: u16) -> bool
         ensures { IsTrue result ↔ HasRoom (conditions_of self.now) object }

@@ -23,7 +23,7 @@ impl RowFlaw {
     ghost use Rattle.std.specs.Prelude.{◌≡◌};
     ghost use Rattle.smi_rows.specs.Fault.{fault_code};
 
-    /// The number of the test, 1 to 4.
+    /// Returns the number of the test, 1 to 4.
     pub fn code(self) -> u16
         ensures { result ≡ fault_code self }
     {

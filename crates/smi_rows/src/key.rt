@@ -20,7 +20,7 @@ impl Key {
     ghost use Rattle.std.specs.Prelude.{◌≡◌};
     ghost use Rattle.smi_rows.specs.Key.{kind_of};
 
-    /// What the row of this key is about. No row is about a domain and an operator.
+    /// Returns what the row of this key is about. No row is about a domain and an operator.
     pub fn kind(self) -> Option<RowKind>
         ensures { result ≡ kind_of self }
     {

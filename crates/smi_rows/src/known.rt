@@ -9,7 +9,7 @@ use smi_command::Link;
 use smi_grant::Holder;
 use smi_tree::{Tree, is_at, is_command_of, is_holder_of, is_keeper, is_parent};
 
-/// Whether the tree has what the row of this key names.
+/// Returns true if the tree has what the row of this key names.
 pub(crate) fn is_known(tree: &Tree, key: Key, row: &Row) -> bool
     ensures { result ≡ spec.is_known tree.now key row.now }
 {

@@ -10,7 +10,7 @@ use crate::stable::{Stable, StoreFault};
 /// How a save ended, and all rows after it.
 pub type SavedThenLoaded = (Result<(), StoreFault>, Vec<SavedRow>);
 
-/// What was saved is loaded, among the rows that were there before.
+/// Saves a row and loads it again, among the rows that were there before.
 pub fn saved_is_loaded<S: Stable>(
     store: &mut S,
     key: Key,
@@ -29,7 +29,7 @@ pub fn saved_is_loaded<S: Stable>(
     store.load()
 }
 
-/// However a save ends, what is loaded after it is as the save says: the rows with that one
+/// Saves and loads: however the save ends, what is loaded after it is as the save says: the rows with that one
 /// replaced, the rows unchanged, or for `Unsure` one of the two.
 pub fn loaded_is_as_told<S: Stable>(
     store: &mut S,
@@ -48,8 +48,8 @@ pub fn loaded_is_as_told<S: Stable>(
     Ok((saved, rows))
 }
 
-/// A row is saved and loaded, and saved again. However the second save ends, what is loaded then is
-/// as it says, over what the first one saved.
+/// Saves a row, loads it and saves it again. However the second save ends, what is loaded then is as it says, over
+/// what the first one saved.
 pub fn a_failure_leaves_what_was_saved<S: Stable>(
     store: &mut S,
     key: Key,

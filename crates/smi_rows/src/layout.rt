@@ -12,7 +12,7 @@ use smi_command::{Link, Pending};
 use smi_grant::{Command, Record};
 use std::alloc::{AllocError, Global};
 
-/// The bytes of the row of a boot.
+/// Returns the bytes of the row of a boot.
 ///
 /// Out of memory is answered where an allocation was refused, and nowhere else, which tests alone
 /// see.
@@ -27,7 +27,7 @@ impl DomainRow {
     ghost use Rattle.smi_rows.specs.Layout as spec;
     ghost use Rattle.smi_rows.specs.Schema.{newest};
 
-    /// The bytes of the row.
+    /// Returns the bytes of the row.
     ///
     /// Out of memory is answered where an allocation was refused, and nowhere else, which tests
     /// alone see.
@@ -44,7 +44,7 @@ impl OperatorRow {
     ghost use Rattle.smi_rows.specs.Layout as spec;
     ghost use Rattle.smi_rows.specs.Schema.{newest};
 
-    /// The bytes of the row.
+    /// Returns the bytes of the row.
     ///
     /// Out of memory is answered where an allocation was refused, and nowhere else, which tests
     /// alone see.
@@ -56,7 +56,7 @@ impl OperatorRow {
     }
 }
 
-/// The bytes of a row in a schema of this number.
+/// Returns the bytes of a row in a schema of this number.
 pub(crate) fn row_in(alloc: Global, schema: u8, row: &Row) -> Result<Vec<u8>, AllocError>
     requires { spec.HasFewLinks row.now }
     ensures { IfOk result (λ bytes. bytes.items ≡ spec.row_bytes schema row.now) }

@@ -36,7 +36,7 @@ impl MemoryStable {
     ghost use Rattle.smi_rows.specs.Store.{rises};
     ghost use Rattle.smi_rows.specs.Listed.{put};
 
-    /// A store without rows.
+    /// Returns a store without rows.
     pub fn new(alloc: Global) -> MemoryStable
         ensures list { result.list ≡ [] }
         ensures saves { result.saves ≡ 0 }
@@ -86,7 +86,7 @@ fn is_same(a: Key, b: Key) -> bool
     a == b
 }
 
-/// The row of this key is replaced, or put in its place.
+/// Replaces the row of this key, or puts it in its place.
 fn put(rows: &mut Vec<SavedRow>, key: Key, bytes: Vec<u8>) -> Result<(), AllocError>
     ensures ok { OnOk result (rows.new.items ≡ listed.put key bytes.items rows.old.items) }
     ensures err { OnErr result (rows.new.items ≡ rows.old.items) }

@@ -13,7 +13,7 @@ impl Mode {
     ghost use Rattle.std.specs.Prelude.{◌≡◌};
     ghost use Rattle.smi_rows.specs.Stored.{mode_number, mode_of};
 
-    /// What stands for the mode in rows, 0 to 2 in the order of the variants.
+    /// Returns the number of the mode in rows, 0 to 2 in the order of the variants.
     pub fn number(self) -> u8
         ensures { result ≡ mode_number self }
     {

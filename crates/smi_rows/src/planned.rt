@@ -43,7 +43,7 @@ pub struct PlannedStable<S> {
     pub doubted: Tally,
 }
 
-/// The plan that strikes now, and what is planned from then on.
+/// Returns the plan that strikes now, and what is planned from then on.
 fn strikes(planned: &mut Option<Planned>) -> Option<Plan>
     ensures due { result ≡ due_of planned.old }
     ensures left { planned.new ≡ left_of planned.old }
@@ -64,7 +64,7 @@ impl<S> PlannedStable<S> {
     ghost use Rattle.std.specs.Prelude.{◌≡◌, ◌≤◌, None, Some};
     ghost use Rattle.smi_rows.specs.Planned.{planned};
 
-    /// The store of these rows, with nothing planned.
+    /// Returns the store of these rows, with nothing planned.
     pub fn new(store: S) -> PlannedStable<S>
         ensures store { result.store ≡ store }
         ensures planned { result.planned ≡ None }
@@ -79,7 +79,7 @@ impl<S> PlannedStable<S> {
         }
     }
 
-    /// The `nth` save from now, from 1, fails so. An earlier plan is given up.
+    /// Has the `nth` save from now, from 1, fail so. An earlier plan is given up.
     pub fn plan(&mut self, nth: u64, plan: Plan)
         requires { 1 ≤ nth }
         ensures { self.new ≡ record self.old { planned = Some (planned nth plan) } }
@@ -87,14 +87,14 @@ impl<S> PlannedStable<S> {
         self.planned = Some(Planned { nth, plan });
     }
 
-    /// No save is planned to fail.
+    /// Has no save fail.
     pub fn unplan(&mut self)
         ensures { self.new ≡ record self.old { planned = None } }
     {
         self.planned = None;
     }
 
-    /// The store below.
+    /// Returns the store below.
     pub fn into_inner(self) -> S
         ensures { result ≡ self.store }
     {

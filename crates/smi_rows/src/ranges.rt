@@ -11,7 +11,7 @@ use smi_base::{LAST_BOOT, MOST_DOMAINS, MOST_LINKS};
 use smi_command::{Link, Pending};
 use smi_grant::{Command, LAST_EPOCH, LAST_NUMBER, Phase, Record, is_outcome};
 
-/// Whether rows of the schema can say this.
+/// Returns true if rows of the schema can say this.
 pub(crate) fn is_row_in(schema: Schema, row: &Row) -> bool
     ensures { result ≡ spec.is_row_in schema row.now }
 {

@@ -29,7 +29,7 @@ impl Row {
     ghost use Rattle.smi_rows.specs.Reading.{Reads, row_of, refused};
     ghost use Rattle.smi_rows.specs.Written.{IsWritten, IsRow};
 
-    /// What the row of this key says at a station of the tree, or the first test that it fails.
+    /// Returns what the row of this key says at a station of the tree, or the first test that it fails.
     ///
     /// Rows of the newest schema of their kind are read and those of all before it, each to the value
     /// that was written. Out of memory is answered where an allocation was refused, and nowhere else,
@@ -69,7 +69,7 @@ fn tested(alloc: Global, tree: &Tree, key: Key, bytes: &[u8]) -> Result<Row, Row
     Ok(row)
 }
 
-/// Whether the row has the length that it says.
+/// Returns true if the row has the length that it says.
 fn has_length(schema: Schema, bytes: &[u8]) -> bool
     ensures { result ≡ spec.has_length_of schema.kind schema bytes.now }
 {
@@ -91,7 +91,7 @@ fn has_links_after(schema: Schema, fixed: usize, bytes: &[u8]) -> bool
     are_cut(schema, u16_at(bytes, fixed - 2), &bytes[fixed..])
 }
 
-/// What the row says: what it seems to say, where that is in range and is written so.
+/// Returns what the row says: what it seems to say, if that is in range and is written so.
 fn said_at(alloc: Global, schema: Schema, bytes: &[u8]) -> Result<Row, RowFault>
     requires { spec.has_length_of schema.kind schema bytes.now ≡ true }
     ensures { spec.Gives (λ row. row) (spec.said_at schema bytes.now) result }

@@ -25,7 +25,7 @@ pub(crate) fn is_before(a: Key, b: Key) -> bool
     a < b
 }
 
-/// Whether the keys rise.
+/// Returns true if the keys rise.
 pub fn is_rising(list: &[SavedRow]) -> bool
     ensures { result ≡ store.rises list.now }
 {

@@ -12,7 +12,7 @@ impl RowKind {
     ghost use Rattle.std.specs.Prelude.{◌≡◌};
     ghost use Rattle.smi_rows.specs.Schema.{newest};
 
-    /// The newest schema of such rows, in which they are written.
+    /// Returns the newest schema of such rows, in which they are written.
     pub fn newest_schema(self) -> u8
         ensures { result ≡ newest self }
     {
@@ -38,21 +38,21 @@ impl Schema {
         }
     }
 
-    /// Whether links have modes other than included.
+    /// Returns true if links have modes other than included.
     pub fn has_modes(self) -> bool
         ensures { result ≡ has_modes self }
     {
         self.kind == RowKind::Domain && self.number == 2
     }
 
-    /// The greatest verb of a command.
+    /// Returns the greatest verb of a command.
     pub fn last_verb(self) -> u16
         ensures { result ≡ last_verb self }
     {
         if self.number == 1 { 3 } else { 5 }
     }
 
-    /// How many commands of a link may be pending.
+    /// Returns how many commands of a link may be pending.
     pub fn most_pending(self) -> usize
         ensures { result ≡ most_pending_in self }
     {

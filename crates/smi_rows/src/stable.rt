@@ -80,8 +80,8 @@ pub trait Stable {
         ensures doubt { IfUnsure result (doubts self.old < doubts self.new) }
         ensures sure { IfSure result (doubts self.new ≡ doubts self.old) };
 
-    /// All rows, by rising key. The rows stay, whatever the answer, and a store that failed for good
-    /// lists none.
+    /// Loads all rows, by rising key. The rows stay, whatever the answer, and a store that failed for good lists
+    /// none.
     fn load(&mut self) -> Result<Vec<SavedRow>, StoreFault>
         ensures loaded { is_honest self.new → IfOk
             result (λ list. is_open self.old × IsListing (rows self.old) list.items) }

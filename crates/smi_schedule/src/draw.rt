@@ -11,7 +11,7 @@ use smi_tree::Tree;
 use std::alloc::{AllocError, Global};
 use std::marker::Model;
 
-/// The number from 1 to `count` that a part of a word picks.
+/// Returns the number from 1 to `count` that a part of a word picks.
 fn pick(part: u32, count: u16) -> u16
     requires { 1 ≤ count }
     ensures { result ≡ spec.pick part count }
@@ -19,7 +19,7 @@ fn pick(part: u32, count: u16) -> u16
     1 + (part % u32::from(count)) as u16
 }
 
-/// The order that a word picks.
+/// Returns the order that a word picks.
 fn order_of(tree: &Tree, word: u32) -> Order
     ensures { result ≡ spec.order_of tree.now word }
 {
@@ -37,7 +37,7 @@ fn order_of(tree: &Tree, word: u32) -> Order
     }
 }
 
-/// The report that a word picks, a tick where the tree has no devices.
+/// Returns the report that a word picks, a tick where the tree has no devices.
 fn report_of(tree: &Tree, word: u32) -> Deed
     ensures { result ≡ spec.report_of tree.now word }
 {
@@ -49,7 +49,7 @@ fn report_of(tree: &Tree, word: u32) -> Deed
     Deed::Report(device, state)
 }
 
-/// The item that a word picks.
+/// Returns the item that a word picks.
 ///
 /// The last four bits say what happens, and the others which datagram, station, operator, device or order
 /// (docs/FORMATS.md, "Drawn schedules"). It takes no memory.
@@ -88,7 +88,7 @@ impl Drawer {
     ghost use Rattle.std.specs.Prelude.{◌≡◌};
     ghost use Rattle.smi_schedule.specs.Drawn as spec;
 
-    /// A drawer for a seed, any number.
+    /// Returns a drawer for a seed, any number.
     pub fn new(seed: u64) -> Drawer
         ensures { result ≡ spec.seeded seed }
     {
@@ -97,7 +97,7 @@ impl Drawer {
         }
     }
 
-    /// The next item: it takes one word. It takes no memory.
+    /// Draws the next item: it takes one word. It takes no memory.
     pub fn draw(&mut self, tree: &Tree) -> Item
         ensures item { result ≡ spec.item_of tree.now (spec.word_of self.old) }
         ensures after { self.new ≡ spec.word_taken self.old }

@@ -58,7 +58,7 @@ fn spell_freed(text: &mut Vec<u8>, tree: &Tree, domain: u16, epoch: u64) -> Resu
     end(text)
 }
 
-/// A command of a grant, and the end of the line.
+/// Adds a command of a grant, and the end of the line.
 fn push_numbered(
     text: &mut Vec<u8>,
     tree: &Tree,
@@ -113,7 +113,7 @@ fn spell_ran(
     push_numbered(text, tree, domain, epoch, number, command)
 }
 
-/// What became of a holder's link to a domain.
+/// Writes what became of a holder's link to a domain.
 fn spell_link(
     text: &mut Vec<u8>,
     tree: &Tree,
@@ -162,7 +162,7 @@ fn spell_settled(
     end(text)
 }
 
-/// What an object shows, and the end of the line.
+/// Adds what an object shows, and the end of the line.
 pub(crate) fn push_shown(text: &mut Vec<u8>, tree: &Tree, shown: Shown) -> Result<(), AllocError>
     ensures { OnOk result (text.new.items ≡ line_of text.old.items (shown_words tree.now shown)) }
 {
@@ -203,7 +203,7 @@ fn spell_told(text: &mut Vec<u8>, tree: &Tree, operator: u16, told: &Told) -> Re
     end(text)
 }
 
-/// The text of an entry, in place of what was there.
+/// Writes the text of an entry, in place of what was there.
 pub(crate) fn spell_entry(text: &mut Vec<u8>, tree: &Tree, entry: &Entry) -> Result<(), AllocError>
     ensures { OnOk result (text.new.items ≡ entry_text tree.now entry.now) }
 {

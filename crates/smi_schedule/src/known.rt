@@ -49,7 +49,7 @@ fn action(tree: &Tree, name: &Name) -> Result<u16, Fault>
     tree.action_named(name.text()).ok_or(Fault::UnknownName)
 }
 
-/// Two domains.
+/// Returns two domains.
 fn domains(tree: &Tree, first: &Name, second: &Name) -> Result<(u16, u16), Fault>
     ensures { result ≡ spec.domains tree.now first.now second.now }
 {
@@ -58,7 +58,7 @@ fn domains(tree: &Tree, first: &Name, second: &Name) -> Result<(u16, u16), Fault
     Ok((first, second))
 }
 
-/// An order of what the tree has.
+/// Returns an order of what the tree has.
 #[tactic(auto, unfolding(crate::specs::Known::order_known))]
 fn order_known(tree: &Tree, said: &SaidOrder) -> Result<Order, Fault>
     ensures { result ≡ spec.order_known tree.now said.now }
@@ -93,7 +93,7 @@ fn order_known(tree: &Tree, said: &SaidOrder) -> Result<Order, Fault>
     }
 }
 
-/// A deed of what the tree has.
+/// Returns a deed of what the tree has.
 #[tactic(auto, unfolding(crate::specs::Known::deed_known))]
 fn deed_known(tree: &Tree, said: &SaidDeed) -> Result<Deed, Fault>
     ensures { result ≡ spec.deed_known tree.now said.now }
@@ -115,7 +115,7 @@ fn deed_known(tree: &Tree, said: &SaidDeed) -> Result<Deed, Fault>
     }
 }
 
-/// What a line says, where the tree has what it names.
+/// Returns what a line says, if the tree has what it names.
 #[tactic(auto, unfolding(crate::specs::Known::known))]
 pub(crate) fn known(tree: &Tree, said: &Said) -> Result<Item, Fault>
     ensures { result ≡ spec.known tree.now said.now }

@@ -87,7 +87,7 @@ impl Lines {
     ghost use Rattle.smi_tree.specs.Text.{is_line_feed};
     ghost use Rattle.smi_schedule.specs.Lines.{left, Cuts, CutsText, HasNoLine};
 
-    /// No line is cut yet, and nothing is read.
+    /// Returns a cutter that has read and cut nothing.
     pub fn new(alloc: Global) -> Lines
         ensures line { result.line ≡ [] }
         ensures rest { result.rest ≡ [] }
@@ -101,14 +101,14 @@ impl Lines {
         }
     }
 
-    /// The line that was cut last.
+    /// Returns the line that was cut last.
     pub fn line(&self) -> &[u8]
         ensures { result.now ≡ self.now.line }
     {
         self.line.as_slice()
     }
 
-    /// What was read and is not cut.
+    /// Returns what was read and is not cut.
     fn rest(&self) -> &[u8]
         ensures { result.now ≡ self.now.rest }
     {

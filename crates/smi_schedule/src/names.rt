@@ -6,7 +6,7 @@ ghost use Rattle.smi_tree.specs.Lookups.{object_name};
 
 use smi_tree::Tree;
 
-/// The name of the station of this number.
+/// Returns the name of the station of this number.
 pub fn station(tree: &Tree, number: u16) -> Option<&[u8]>
     ensures { option_map (λ n. n.now) result ≡ entry tree.now.station_names number }
 {
@@ -17,7 +17,7 @@ pub fn station(tree: &Tree, number: u16) -> Option<&[u8]>
     }
 }
 
-/// The name of the operator of this number.
+/// Returns the name of the operator of this number.
 pub fn operator(tree: &Tree, number: u16) -> Option<&[u8]>
     ensures { option_map (λ n. n.now) result ≡ entry tree.now.operator_names number }
 {
@@ -28,7 +28,7 @@ pub fn operator(tree: &Tree, number: u16) -> Option<&[u8]>
     }
 }
 
-/// The name of the domain of this number.
+/// Returns the name of the domain of this number.
 pub fn domain(tree: &Tree, number: u16) -> Option<&[u8]>
     ensures { option_map (λ n. n.now) result ≡ entry tree.now.domain_names number }
 {
@@ -39,7 +39,7 @@ pub fn domain(tree: &Tree, number: u16) -> Option<&[u8]>
     }
 }
 
-/// The name of the device of this number.
+/// Returns the name of the device of this number.
 pub fn device(tree: &Tree, number: u16) -> Option<&[u8]>
     ensures { option_map (λ n. n.now) result ≡ entry tree.now.device_names number }
 {
@@ -50,7 +50,7 @@ pub fn device(tree: &Tree, number: u16) -> Option<&[u8]>
     }
 }
 
-/// The name of the object of this number.
+/// Returns the name of the object of this number.
 pub fn object(tree: &Tree, number: u16) -> Option<&[u8]>
     ensures { option_map (λ n. n.now) result ≡ object_name tree.now number }
 {
@@ -61,7 +61,7 @@ pub fn object(tree: &Tree, number: u16) -> Option<&[u8]>
     }
 }
 
-/// The name of the state of this number.
+/// Returns the name of the state of this number.
 pub fn state(tree: &Tree, number: u16) -> Option<&[u8]>
     ensures { option_map (λ n. n.now) result ≡ entry tree.now.state_names number }
 {
@@ -72,7 +72,7 @@ pub fn state(tree: &Tree, number: u16) -> Option<&[u8]>
     }
 }
 
-/// The name of the action of this number.
+/// Returns the name of the action of this number.
 pub fn action(tree: &Tree, number: u16) -> Option<&[u8]>
     ensures { option_map (λ n. n.now) result ≡ entry tree.now.action_names number }
 {

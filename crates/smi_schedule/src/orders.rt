@@ -22,7 +22,7 @@ use smi_rows::Mode;
 use smi_tree::Tree;
 use std::alloc::AllocError;
 
-/// A holder, after a blank.
+/// Adds a holder, after a blank.
 pub(crate) fn push_holder(text: &mut Vec<u8>, tree: &Tree, holder: Holder) -> Result<(), AllocError>
     ensures { OnOk result (text.new.items ≡ text.old.items ++ 32 ∷ holder_word tree.now holder) }
 {
@@ -33,7 +33,7 @@ pub(crate) fn push_holder(text: &mut Vec<u8>, tree: &Tree, holder: Holder) -> Re
     }
 }
 
-/// A mode, after a blank.
+/// Adds a mode, after a blank.
 pub(crate) fn push_mode(text: &mut Vec<u8>, mode: Mode) -> Result<(), AllocError>
     ensures { OnOk result (text.new.items ≡ text.old.items ++ 32 ∷ mode_word mode) }
 {
@@ -53,7 +53,7 @@ fn push_phase(text: &mut Vec<u8>, phase: Phase) -> Result<(), AllocError>
     }
 }
 
-/// A word, and the domain that it is about.
+/// Adds a word, and the domain that it is about.
 fn push_with_domain(
     text: &mut Vec<u8>,
     tree: &Tree,
@@ -66,7 +66,7 @@ fn push_with_domain(
     push_called(text, names::domain(tree, domain), domain)
 }
 
-/// A word, and the object that it is about.
+/// Adds a word, and the object that it is about.
 fn push_with_object(
     text: &mut Vec<u8>,
     tree: &Tree,
@@ -79,7 +79,7 @@ fn push_with_object(
     push_called(text, names::object(tree, object), object)
 }
 
-/// A word, and the domain and the target that it is about.
+/// Adds a word, and the domain and the target that it is about.
 fn push_with_target(
     text: &mut Vec<u8>,
     tree: &Tree,
@@ -94,7 +94,7 @@ fn push_with_target(
     push_called(text, names::domain(tree, target), target)
 }
 
-/// A command.
+/// Adds a command.
 pub(crate) fn push_command(
     text: &mut Vec<u8>,
     tree: &Tree,
@@ -114,7 +114,7 @@ pub(crate) fn push_command(
     }
 }
 
-/// An order.
+/// Adds an order.
 pub(crate) fn push_order(text: &mut Vec<u8>, tree: &Tree, order: Order) -> Result<(), AllocError>
     ensures { OnOk result (text.new.items ≡ with_words text.old.items (order_words tree.now order)) }
 {
@@ -150,7 +150,7 @@ fn push_record(text: &mut Vec<u8>, tree: &Tree, asked: &Record) -> Result<(), Al
     push_number(text, u64::from(asked.outcome))
 }
 
-/// The code of an order, or the record that was asked for.
+/// Adds the code of an order, or the record that was asked for.
 pub(crate) fn push_answer(
     text: &mut Vec<u8>,
     tree: &Tree,

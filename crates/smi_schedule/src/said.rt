@@ -47,7 +47,7 @@ pub(crate) enum Said<'a> {
     Fail(Name<'a>, Plan, SaidDeed<'a>),
 }
 
-/// The first word of a text and what follows it; with none, the line has too few words.
+/// Returns the first word of a text and what follows it; with none, the line has too few words.
 fn next_word(text: &[u8]) -> Result<(Word<'_>, &[u8]), Fault>
     ensures { Gives (λ cut. (cut.0, words cut.1.now)) result (spec.next_word (words text.now)) }
 {
@@ -68,7 +68,7 @@ fn one_number(least: u64, text: &[u8]) -> Result<u64, Fault>
     number_within(least, MOST, word.text()).ok_or(Fault::Malformed)
 }
 
-/// What the words after an order's word say.
+/// Returns what the words after an order's word say.
 fn order_of(word: OrderWord, text: &[u8]) -> Result<SaidOrder<'_>, Fault>
     ensures { result ≡ spec.order_of word (words text.now) }
 {
@@ -101,7 +101,7 @@ fn order_of(word: OrderWord, text: &[u8]) -> Result<SaidOrder<'_>, Fault>
     }
 }
 
-/// An operator, what is ordered, and of what.
+/// Returns an operator, what is ordered, and of what.
 #[tactic(auto, unfolding(crate::specs::Said::order_line))]
 fn order_line(text: &[u8]) -> Result<SaidDeed<'_>, Fault>
     ensures { result ≡ spec.order_line (words text.now) }
@@ -114,7 +114,7 @@ fn order_line(text: &[u8]) -> Result<SaidDeed<'_>, Fault>
     Ok(SaidDeed::Order(operator, order))
 }
 
-/// What the words after a deed's word say.
+/// Returns what the words after a deed's word say.
 fn deed_of(word: DeedWord, text: &[u8]) -> Result<SaidDeed<'_>, Fault>
     ensures { result ≡ spec.deed_of word (words text.now) }
 {
@@ -130,7 +130,7 @@ fn deed_of(word: DeedWord, text: &[u8]) -> Result<SaidDeed<'_>, Fault>
     }
 }
 
-/// A deed inside a line.
+/// Returns a deed inside a line.
 #[tactic(auto, unfolding(crate::specs::Said::deed_in))]
 fn deed_in(text: &[u8]) -> Result<SaidDeed<'_>, Fault>
     ensures { result ≡ spec.deed_in (words text.now) }
@@ -140,7 +140,7 @@ fn deed_in(text: &[u8]) -> Result<SaidDeed<'_>, Fault>
     deed_of(word, rest)
 }
 
-/// A station, the moment at which it stops, and in which deed.
+/// Returns a station, the moment at which it stops, and in which deed.
 #[tactic(auto, unfolding(crate::specs::Said::stop_line))]
 fn stop_line(text: &[u8]) -> Result<Said<'_>, Fault>
     ensures { result ≡ spec.stop_line (words text.now) }
@@ -153,7 +153,7 @@ fn stop_line(text: &[u8]) -> Result<Said<'_>, Fault>
     Ok(Said::Stop(station, moment, deed))
 }
 
-/// A station, how its save fails, and in which deed.
+/// Returns a station, how its save fails, and in which deed.
 #[tactic(auto, unfolding(crate::specs::Said::fail_line))]
 fn fail_line(text: &[u8]) -> Result<Said<'_>, Fault>
     ensures { result ≡ spec.fail_line (words text.now) }
@@ -166,7 +166,7 @@ fn fail_line(text: &[u8]) -> Result<Said<'_>, Fault>
     Ok(Said::Fail(station, plan, deed))
 }
 
-/// What the words after a line's first word say.
+/// Returns what the words after a line's first word say.
 ///
 /// The words that a line says by itself are tested first, then the count of its words, then its names and numbers.
 pub(crate) fn said_of(word: LineWord, text: &[u8]) -> Result<Said<'_>, Fault>

@@ -65,7 +65,7 @@ fn read_line(
     }
 }
 
-/// The items of the lines of a text, or its first faulty line.
+/// Returns the items of the lines of a text, or its first faulty line.
 fn read_lines(alloc: Global, tree: &Tree, bytes: &[u8]) -> Result<Vec<Item>, ScheduleFault>
     ensures { Reads (λ items. items.items) result (items_of tree.now (lines bytes.now)) }
 {
@@ -81,7 +81,7 @@ fn read_lines(alloc: Global, tree: &Tree, bytes: &[u8]) -> Result<Vec<Item>, Sch
     Ok(items)
 }
 
-/// The items that the lines of a text let happen, or its first faulty line with its first fault.
+/// Returns the items that the lines of a text let happen, or its first faulty line with its first fault.
 ///
 /// A text of more than 256 KiB is refused before its lines. Out of memory is answered only where an allocation was
 /// refused, which tests alone see.

@@ -25,7 +25,7 @@ fn push_kind(text: &mut Vec<u8>, body: &Body) -> Result<(), AllocError>
     }
 }
 
-/// The domain or the object that a datagram is about.
+/// Adds the domain or the object that a datagram is about.
 fn push_subject(text: &mut Vec<u8>, tree: &Tree, body: &Body) -> Result<(), AllocError>
     ensures { OnOk result (text.new.items ≡ text.old.items ++ 32 ∷ subject_word tree.now body.now) }
 {
@@ -41,7 +41,7 @@ fn push_subject(text: &mut Vec<u8>, tree: &Tree, body: &Body) -> Result<(), Allo
     }
 }
 
-/// The text of a datagram with its number, in place of what was there.
+/// Writes the text of a datagram with its number, in place of what was there.
 pub(crate) fn spell_sent(
     text: &mut Vec<u8>,
     tree: &Tree,

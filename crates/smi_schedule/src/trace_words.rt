@@ -8,7 +8,7 @@ use smi_grant::Version;
 use std::alloc::AllocError;
 use std::io::Write;
 
-/// The first word of a line, in place of what was there.
+/// Puts the first word of a line, in place of what was there.
 pub(crate) fn begin(text: &mut Vec<u8>, word: &[u8]) -> Result<(), AllocError>
     ensures { OnOk result (text.new.items ≡ word.now) }
 {
@@ -16,7 +16,7 @@ pub(crate) fn begin(text: &mut Vec<u8>, word: &[u8]) -> Result<(), AllocError>
     text.extend_from_slice(word)
 }
 
-/// A further word, after a blank.
+/// Adds a word, after a blank.
 pub(crate) fn push_word(text: &mut Vec<u8>, word: &[u8]) -> Result<(), AllocError>
     ensures { OnOk result (text.new.items ≡ text.old.items ++ 32 ∷ word.now) }
 {
@@ -24,14 +24,14 @@ pub(crate) fn push_word(text: &mut Vec<u8>, word: &[u8]) -> Result<(), AllocErro
     text.extend_from_slice(word)
 }
 
-/// A number, after a blank.
+/// Adds a number, after a blank.
 pub(crate) fn push_number(text: &mut Vec<u8>, number: u64) -> Result<(), AllocError>
     ensures { OnOk result (text.new.items ≡ text.old.items ++ 32 ∷ decimal number) }
 {
     write!(text, " {number}").map_err(|_| AllocError)
 }
 
-/// A name, or the number where the tree has no such thing, after a blank.
+/// Adds a name, or the number if the tree has no such thing, after a blank.
 pub(crate) fn push_called(
     text: &mut Vec<u8>,
     name: Option<&[u8]>,
@@ -45,7 +45,7 @@ pub(crate) fn push_called(
     }
 }
 
-/// The end of a line.
+/// Ends the line.
 pub(crate) fn end(text: &mut Vec<u8>) -> Result<(), AllocError>
     ensures { OnOk result (text.new.items ≡ text.old.items ++ 10 ∷ []) }
 {
@@ -53,7 +53,7 @@ pub(crate) fn end(text: &mut Vec<u8>) -> Result<(), AllocError>
     Ok(())
 }
 
-/// A boot and a sequence, after a blank.
+/// Adds a boot and a sequence, after a blank.
 pub(crate) fn push_version(text: &mut Vec<u8>, version: Version) -> Result<(), AllocError>
     ensures { OnOk result (text.new.items ≡ text.old.items ++ 32 ∷ version_word version) }
 {

@@ -97,7 +97,7 @@ impl OrderWord {
     }
 }
 
-/// The word that says where a station stops.
+/// Returns the word that says where a station stops.
 pub(crate) fn moment_of(word: &[u8]) -> Option<Moment>
     ensures { result ≡ moment_of word.now }
 {
@@ -108,7 +108,7 @@ pub(crate) fn moment_of(word: &[u8]) -> Option<Moment>
     }
 }
 
-/// The word that says how a save fails.
+/// Returns the word that says how a save fails.
 pub(crate) fn plan_of(word: &[u8]) -> Option<Plan>
     ensures { result ≡ plan_of word.now }
 {

@@ -51,7 +51,7 @@ impl ConsoleStream {
         }
     }
 
-    /// Whether it is made.
+    /// Returns true if it is made.
     fn is_made(&self) -> bool {
         match self {
             ConsoleStream::Unix(stream) => stream.peer_addr().is_ok(),
@@ -100,12 +100,12 @@ pub struct NodeConsole {
     next_try: u64,
 }
 
-/// Whether a stream that never waits has nothing to read, or no room to write, as yet.
+/// Returns true if a stream that never waits has nothing to read, or no room to write, as yet.
 fn is_to_be_tried_again(kind: ErrorKind) -> bool {
     matches!(kind, ErrorKind::WouldBlock | ErrorKind::Interrupted)
 }
 
-/// What a fault of a stream makes of its connection.
+/// Returns what a fault of a stream makes of its connection.
 fn after_fault(error: io::Error) -> Standing {
     if is_to_be_tried_again(error.kind()) {
         Standing::Sound
@@ -115,7 +115,7 @@ fn after_fault(error: io::Error) -> Standing {
 }
 
 impl Connected {
-    /// The lines that have come are heard.
+    /// Handles the lines that have come.
     fn hear(&mut self, relay: &mut OrderRelay, now: u64) -> Result<(), AllocError> {
         for _ in 0..LINES {
             match self.splitter.next_line()? {
@@ -157,7 +157,7 @@ impl Connected {
         }
     }
 
-    /// What a connection does in a turn that may only be on its way.
+    /// Makes the turn of a connection that may only be on its way.
     fn turn(&mut self, relay: &mut OrderRelay, now: u64) -> Standing {
         if !relay.is_open() {
             if !self.stream.is_made() {
@@ -177,7 +177,7 @@ impl Connected {
 }
 
 impl NodeConsole {
-    /// A console with which there is no connection yet.
+    /// Returns a console without a connection.
     pub fn new(alloc: Global, place: ConsoleAddress) -> NodeConsole {
         NodeConsole {
             alloc,

@@ -51,8 +51,8 @@ impl Gate {
     ghost use Rattle.std.specs.Prelude.{◌≡◌, ◌≤◌, ◌<◌, IfOk};
     ghost use Rattle.smi_screen.specs.Gate.{most_guests};
 
-    /// A gate at an address, through which nobody has come. Its guests' headers are kept under these keys, so that
-    /// nobody can choose names that are expensive to look up.
+    /// Opens a gate at an address, through which nobody has come. Its guests' headers are kept under these keys, so
+    /// that nobody can choose names that are expensive to look up.
     pub fn open<R: Net<Listener = TcpListener, Stream = TcpStream>>(
         rt: &R,
         alloc: Global,
@@ -71,7 +71,7 @@ impl Gate {
         })
     }
 
-    /// How many guests there are.
+    /// Returns how many guests there are.
     pub fn guests(&self) -> usize
         ensures value { result ≡ self.now.guests }
         ensures most { result ≤ most_guests }
@@ -128,7 +128,7 @@ impl Gate {
         }
     }
 
-    /// One turn: who waits is let in, each guest has a turn of its own, and who is leaving goes.
+    /// Makes one turn: lets in who waits, gives each guest a turn of its own, and closes those that are leaving.
     pub fn turn<S: Service>(&mut self, service: &mut S, now: u64) {
         self.let_in(now);
         for guest in self.guests.iter_mut() {

@@ -17,13 +17,13 @@ pub struct Guest<T> {
     is_leaving: bool,
 }
 
-/// Whether a stream that never waits has nothing to read, or no room to write, as yet.
+/// Returns true if a stream that never waits has nothing to read, or no room to write, as yet.
 fn is_to_be_tried_again(kind: ErrorKind) -> bool {
     matches!(kind, ErrorKind::WouldBlock | ErrorKind::Interrupted)
 }
 
 impl<T: Read + Write> Guest<T> {
-    /// A guest who comes now.
+    /// Returns a guest who comes now.
     pub fn new(stream: T, connection: Connection, now: u64) -> Guest<T> {
         Guest {
             stream,
@@ -33,12 +33,12 @@ impl<T: Read + Write> Guest<T> {
         }
     }
 
-    /// Until when it may stay, in milliseconds.
+    /// Returns until when it may stay, in milliseconds.
     pub fn until(&self) -> u64 {
         self.until
     }
 
-    /// Whether it is done, or its time is up, or its stream has failed.
+    /// Returns true if it is done, or its time is up, or its stream has failed.
     pub fn is_leaving(&self) -> bool {
         self.is_leaving
     }
@@ -64,7 +64,7 @@ impl<T: Read + Write> Guest<T> {
         }
     }
 
-    /// One turn: at most one read, what has been read is answered, and at most one write.
+    /// Makes one turn: at most one read, answers to what has been read, and at most one write.
     pub fn turn<S: Service>(&mut self, service: &mut S, now: u64) {
         if now >= self.until {
             self.is_leaving = true;

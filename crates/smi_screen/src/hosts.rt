@@ -7,8 +7,8 @@ fn bytes_of(alloc: Global, text: String) -> Result<Vec<u8>, AllocError> {
     Vec::from_slice(alloc, text.as_bytes())
 }
 
-/// The values of `Host` that a screen at this address answers to: the address itself; this machine's own name, where
-/// the address is its own; and a name, where one is given. Each has the port.
+/// Returns the values of `Host` that a screen at this address answers to: the address itself; this machine's own
+/// name, if the address is its own; and a name, if one is given. Each has the port.
 pub fn hosts_of(
     alloc: Global,
     http: SocketAddr,

@@ -26,7 +26,7 @@ pub(crate) struct House {
 }
 
 impl House {
-    /// A house whose first frame is still to be made.
+    /// Returns a house whose first frame is still to be made.
     pub(crate) fn new(
         alloc: Global,
         window: WebService,
@@ -57,7 +57,7 @@ impl House {
         let _ = self.window.renew_orders(self.alloc);
     }
 
-    /// Orders that were given go to their console, and what it says is heard.
+    /// Sends the orders that were given to their console, and handles what it says.
     fn relay_orders<R: Net>(&mut self, rt: &R, now: u64) {
         if let (Some(console), Some(orders)) = (&mut self.console, &mut self.window.orders) {
             orders.time = now;
@@ -65,7 +65,8 @@ impl House {
         }
     }
 
-    /// One turn, some milliseconds after the start: orders go on, a frame is made, and the guests have their turn.
+    /// Makes one turn, some milliseconds after the start: orders go on, a frame is made, and the guests have their
+    /// turn.
     pub(crate) fn turn<R: Net + Clock>(
         &mut self,
         rt: &R,

@@ -18,7 +18,7 @@ use smi_protocol::{Answer, Order};
 use smi_station_output::Out;
 use smi_view::Picture;
 
-/// A state that a step showed.
+/// Notes a state that a step showed.
 #[tactic(auto, using(smi_view::proofs::Notes::takes_none))]
 fn note_shown(picture: &mut Picture, shown: Option<Shown>, now: u64)
     ensures { TakesIn (shown_notes shown now) picture.old picture.new }
@@ -29,7 +29,7 @@ fn note_shown(picture: &mut Picture, shown: Option<Shown>, now: u64)
     }
 }
 
-/// The record that an order was answered with, if it is a question.
+/// Notes the record that an order was answered with, if it is a question.
 #[tactic(auto, using(smi_view::proofs::Notes::takes_none))]
 fn note_asked(picture: &mut Picture, order: Order, told: &Option<Record>, now: u64)
     ensures { TakesIn (asked_notes order told.now now) picture.old picture.new }
@@ -46,7 +46,7 @@ fn note_answer(picture: &mut Picture, answer: &Answer, now: u64)
     note_asked(picture, answer.told.order, &answer.told.asked, now);
 }
 
-/// All answers of a step.
+/// Notes all answers of a step.
 fn note_answers(picture: &mut Picture, answers: &[Answer], now: u64)
     ensures { TakesIn (flat_map (answer_notes now) answers.now) picture.old picture.new }
 {
@@ -55,7 +55,7 @@ fn note_answers(picture: &mut Picture, answers: &[Answer], now: u64)
     }
 }
 
-/// All that a step showed and answered.
+/// Notes all that a step showed and answered.
 #[tactic(auto, using(smi_view::proofs::Notes::takes_both))]
 pub(crate) fn note_handed(picture: &mut Picture, out: &Out, now: u64)
     ensures { TakesIn (handed_notes out.now now) picture.old picture.new }
@@ -64,7 +64,7 @@ pub(crate) fn note_handed(picture: &mut Picture, out: &Out, now: u64)
     note_answers(picture, out.answers(), now);
 }
 
-/// The record that a datagram tells.
+/// Notes the record that a datagram tells.
 #[tactic(auto, using(smi_view::proofs::Notes::takes_none))]
 fn note_body(picture: &mut Picture, body: &Body, now: u64)
     ensures { TakesIn (body_notes body.now now) picture.old picture.new }
@@ -81,7 +81,7 @@ fn note_body(picture: &mut Picture, body: &Body, now: u64)
     }
 }
 
-/// The record in the bytes of a datagram, if they are one and it tells one.
+/// Notes the record in the bytes of a datagram, if they are one and it tells one.
 #[tactic(auto, using(smi_view::proofs::Notes::takes_none))]
 pub(crate) fn note_datagram(picture: &mut Picture, bytes: &[u8], now: u64)
     ensures { TakesIn (datagram_notes bytes.now now) picture.old picture.new }

@@ -37,8 +37,8 @@ impl Pace {
         }
     }
 
-    /// The next object that is to be watched, each once. That it is watched again after its station has begun again is
-    /// the station's own care.
+    /// Returns the next object that is to be watched, each once. That it is watched again after its station has begun
+    /// again is the station's own care.
     pub(crate) fn next_watch(&mut self) -> Option<u16> {
         if self.watched < self.objects {
             self.watched += 1;
@@ -48,7 +48,7 @@ impl Pace {
         }
     }
 
-    /// The next domain that is to be asked about, one after the other, if it is time.
+    /// Returns the next domain that is to be asked about, one after the other, if it is time.
     pub(crate) fn next_question(&mut self, now: u64) -> Option<u16> {
         if now.saturating_sub(self.asked_at) < BETWEEN_QUESTIONS {
             return None;
@@ -63,7 +63,7 @@ impl Pace {
         Some(self.asked)
     }
 
-    /// Whether it is time for a tick.
+    /// Returns true if it is time for a tick.
     pub(crate) fn is_tick(&mut self, now: u64) -> bool {
         if now.saturating_sub(self.ticked_at) < BETWEEN_TICKS {
             return false;

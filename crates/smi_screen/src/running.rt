@@ -75,7 +75,7 @@ pub struct ScreenSetup {
     pub turns: Option<u32>,
 }
 
-/// Why there is no socket: out of memory, or this.
+/// Returns why there is no socket: out of memory, or this.
 fn refused(error: io::Error, other: Ended) -> Ended {
     if error.kind() == ErrorKind::OutOfMemory {
         Ended::Memory
@@ -84,7 +84,7 @@ fn refused(error: io::Error, other: Ended) -> Ended {
     }
 }
 
-/// A gate at an address.
+/// Opens a gate at an address.
 fn gate_at<R: Net<Listener = TcpListener, Stream = TcpStream>>(
     rt: &R,
     alloc: Global,
@@ -97,7 +97,7 @@ fn gate_at<R: Net<Listener = TcpListener, Stream = TcpStream>>(
     }
 }
 
-/// The picture of a screen, and its house once its gate is open.
+/// Makes the picture of a screen, and its house once its gate is open.
 fn housed<R: Net<Listener = TcpListener, Stream = TcpStream> + AllocGlobal>(
     rt: &R,
     tree: &Tree,
@@ -118,7 +118,7 @@ fn housed<R: Net<Listener = TcpListener, Stream = TcpStream> + AllocGlobal>(
     }
 }
 
-/// What a screen works with, in a box, because each place that drops one is expensive to prove.
+/// Returns what a screen works with, in a box, because each place that drops one is expensive to prove.
 fn server_of<R: Net<Listener = TcpListener, Stream = TcpStream> + Wait + Clock + AllocGlobal>(
     rt: &R,
     tree: &Tree,
@@ -138,7 +138,7 @@ fn server_of<R: Net<Listener = TcpListener, Stream = TcpStream> + Wait + Clock +
     }
 }
 
-/// The link of a station, which takes its peers out of the setup.
+/// Opens the link of a station, which takes its peers out of the setup.
 fn linked<'a, R: Net + Clock + AllocGlobal>(
     rt: &'a R,
     setup: &mut ScreenSetup,
@@ -176,7 +176,7 @@ fn how_it_ended(looked: Result<(), Ended>) -> Ended {
     }
 }
 
-/// The station is opened on its store, and looks.
+/// Opens the station on its store, and has it look.
 fn opened<
     S: Stable,
     R: Net<Listener = TcpListener, Stream = TcpStream> + Wait + Clock + AllocGlobal,

@@ -40,7 +40,7 @@ pub(crate) struct ScreenServer {
 }
 
 impl ScreenServer {
-    /// A server whose time begins at a moment, with its picture and its house.
+    /// Returns a server whose time begins at a moment, with its picture and its house.
     pub(crate) fn new(
         operator: u16,
         start: Instant,
@@ -86,7 +86,7 @@ impl ScreenServer {
         Ok(())
     }
 
-    /// The station looks, in the name of its operator.
+    /// Has the station look, in the name of its operator.
     fn look<S: Stable, L: DatagramLink>(
         &mut self,
         station: &mut Station<'_, S>,
@@ -106,8 +106,8 @@ impl ScreenServer {
         }
     }
 
-    /// What follows a look that went well: orders go on, a frame is made, the guests have their turn, and faults are
-    /// counted.
+    /// Does what follows a look that went well: orders go on, a frame is made, the guests have their turn, and faults
+    /// are counted.
     fn go_on<R: Net + Clock>(
         &mut self,
         rt: &R,
@@ -123,7 +123,7 @@ impl ScreenServer {
         self.count(came)
     }
 
-    /// What follows a look. The picture stays, and the station has stopped by it or not at all.
+    /// Does what follows a look. The picture stays, and the station has stopped by it or not at all.
     fn follow<R: Net + Clock>(
         &mut self,
         rt: &R,
@@ -140,8 +140,8 @@ impl ScreenServer {
         }
     }
 
-    /// One turn: the station looks, orders go on, a frame is made, and the guests have their turn. Of all that, the
-    /// station is told nothing but what the look tells it.
+    /// Makes one turn: the station looks, orders go on, a frame is made, and the guests have their turn. Of all that,
+    /// the station is told nothing but what the look tells it.
     fn turn<S: Stable, L: DatagramLink, R: Net + Clock>(
         &mut self,
         rt: &R,

@@ -17,7 +17,7 @@ pub(crate) struct Stage {
     pub(crate) console: Option<NodeConsole>,
 }
 
-/// What the window of a page has that may give orders, and the console that they go to.
+/// Returns what the window of a page has that may give orders, and the console that they go to.
 fn ordering(alloc: Global, giving: Giving) -> (PageOrders, NodeConsole) {
     let Giving { console, key, tree } = giving;
     let orders = PageOrders {
@@ -29,7 +29,7 @@ fn ordering(alloc: Global, giving: Giving) -> (PageOrders, NodeConsole) {
     (orders, NodeConsole::new(alloc, console))
 }
 
-/// A stage on which nothing was seen, with what the setup has for it.
+/// Returns a stage on which nothing was seen, with what the setup has for it.
 fn stage_with(alloc: Global, setup: &mut ScreenSetup, picture: Picture, frame: Snapshot) -> Stage {
     let hosts = replace(&mut setup.hosts, Vec::new(alloc));
     let (orders, console) = match replace(&mut setup.giving, None) {
@@ -50,7 +50,7 @@ fn stage_with(alloc: Global, setup: &mut ScreenSetup, picture: Picture, frame: S
     }
 }
 
-/// A stage on which nothing was seen, with what the setup has for it, which is taken out of it.
+/// Returns a stage on which nothing was seen, with what the setup has for it, which is taken out of it.
 ///
 /// It is handed out in a box, because each place that drops one is expensive to prove.
 pub(crate) fn staged(

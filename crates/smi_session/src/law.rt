@@ -16,8 +16,8 @@ ghost use Rattle.smi_session.specs.StationEvent.{AreInOrder};
 ghost use Rattle.smi_session.specs.declared.seat_queue.PendingOrder.{PendingOrder};
 ghost use Rattle.smi_session.specs.declared.station_event.StationEvent.{StationEvent};
 
-/// An order goes to the seat that the node serves as its operator's, and a report to the last one, which is nobody's.
-/// The queues of a table that was opened are over its seats, in their order.
+/// States that an order goes to the seat that the node serves as its operator's, and a report to the last one, which
+/// is nobody's. The queues of a table that was opened are over its seats, in their order.
 pub fn orders_go_to_their_operators_seat()
     ensures operator { (operators : List ℕ) (operator : ℕ) → list_any (λ o. o == operator) operators ≡ true
         → operator_of_seat operators (length operators + 1) (place_of operators (Some operator)) ≡ Some operator }
@@ -30,20 +30,20 @@ pub fn orders_go_to_their_operators_seat()
         → IsOpened operators seats reports t → length operators ≡ length seats → t.operators ≡ operators }
 {}
 
-/// The answer of a seat that is told is that of the order with its number: the first answer that of the first order,
-/// and so on.
+/// States that the answer of a seat that is told is that of the order with its number: the first answer that of the
+/// first order, and so on.
 pub fn answers_are_of_their_orders()
     ensures { (a b : SeatQueueState) (p : PendingOrder) (told : Told) → IsInStep a → TellsOldest p told a b
         → slice_get (submitted a.seat) (length (told_to a.seat)) ≡ Some p.order }
 {}
 
-/// The lines of bytes are those of the whole, however these were cut into blocks.
+/// States that the lines of bytes are those of the whole, however these were cut into blocks.
 pub fn blocks_do_not_matter()
     ensures { (line : List ℕ) (blocks : List (List ℕ)) → lines_of_blocks line blocks ≡ lines_of line (concat blocks) }
 {}
 
-/// The states of one object that are told rise, and none is newer than what is had of the object: that was so before an
-/// event is recorded, and is so afterwards.
+/// States that the states of one object that are told rise, and none is newer than what is had of the object: that
+/// was so before an event is recorded, and is so afterwards.
 pub fn recorded_states_rise()
     ensures { (e : StationEvent) (a b : ServiceState) → AreInOrder a.picture a.events → Records e a b
         → AreInOrder b.picture b.events }

@@ -57,7 +57,7 @@ impl Tag {
     }
 }
 
-/// The tag of a line and what state_tag it, where its first word is an `@` and a tag.
+/// Returns the tag of a line and what follows it, if its first word is an `@` and a tag.
 pub fn tagged(line: &[u8]) -> Option<(Tag, &[u8])>
     ensures tag { option_map (λ r. tag_text r.0) result ≡ tag_of (words line.now) }
     ensures rest { IfSome result (λ r. words line.now ≡ (64 ∷ tag_text r.0) ∷ words r.1.now) }

@@ -42,7 +42,7 @@ struct WatchAsked {
     echo: u32,
 }
 
-/// The watch that a datagram is, if it is one.
+/// Returns the watch that a datagram is, if it is one.
 fn watched_in(body: &Body) -> Option<WatchAsked>
     ensures watch { IfSome result (λ watched. body.now ≡ Watch watched.object watched.echo) }
     ensures other { result ≡ None → is_watch body.now ≡ false }
@@ -71,7 +71,7 @@ impl<'a> Core<'a> {
     ghost use Rattle.smi_station_grants.specs.Leaving.{Leaves};
     ghost use Rattle.smi_station.specs.Wanting.{adds, adds_taken, wants_memory};
 
-    /// A datagram comes.
+    /// Handles a datagram.
     pub(crate) fn datagram<S: Stable>(
         &mut self,
         store: &mut S,
@@ -96,7 +96,7 @@ impl<'a> Core<'a> {
         }
     }
 
-    /// A datagram that is not refused comes.
+    /// Handles a datagram that is not refused.
     fn accept<S: Stable>(
         &mut self,
         store: &mut S,
@@ -129,7 +129,7 @@ impl<'a> Core<'a> {
         }
     }
 
-    /// A watch that is not refused comes.
+    /// Handles a watch that is not refused.
     fn watch(
         &mut self,
         out: &mut Out,
@@ -153,7 +153,7 @@ impl<'a> Core<'a> {
     }
 }
 
-/// A watch saves nothing, and memory may run out for it.
+/// Returns what a watch does to the store: it saves nothing, and memory may run out for it.
 fn same_or_memory(done: Result<(), AllocError>) -> Result<Heard, StepFault>
     ensures { result ≡ same_or_memory done }
 {
@@ -216,8 +216,8 @@ fn hear<S: Stable>(
     }
 }
 
-/// The change of the grants that a datagram asks for, and what is sent and answered for it. A watch, an unwatch and
-/// a state ask for none.
+/// Returns the change of the grants that a datagram asks for, and what is sent and answered for it. A watch, an
+/// unwatch and a state ask for none.
 ///
 /// Its error is that memory was refused for a change that saves a row; then nothing is handed out.
 pub(crate) fn plan(
@@ -272,7 +272,7 @@ pub(crate) fn plan(
     }
 }
 
-/// A change is saved and then made. A fault leaves the grants unchanged, and nothing is handed out.
+/// Saves a change and then makes it. A fault leaves the grants unchanged, and nothing is handed out.
 pub(crate) fn apply_change<S: Stable>(
     kept: &mut GrantTable<'_>,
     store: &mut S,

@@ -13,8 +13,8 @@ use smi_message::{Body, Datagram};
 use smi_station_display::Displayed;
 use smi_station_output::Out;
 
-/// What a datagram does to the display, and what is sent and answered for it; but for a watch, for which memory may run
-/// out.
+/// Makes what a datagram does to the display, and what is sent and answered for it; but for a watch, for which memory
+/// may run out.
 pub(crate) fn update_display(display: &mut Displayed<'_>, out: &mut Out, datagram: &Datagram)
     requires accepted { refusal_of_message display.old.tree display.old.number datagram.now ≡ None }
     requires other { is_watch datagram.now.body ≡ false }

@@ -13,10 +13,10 @@ ghost use Rattle.smi_protocol.specs.declared.fault.OpenFault.{OpenFault};
 ghost use Rattle.smi_station_grants.specs.Change.{with_saved};
 ghost use Rattle.smi_station_grants.specs.Stored.{IsStored, Restarts};
 
-/// A station whose rows say all that it keeps makes a step, and its process ends at any moment of that. The rows that
-/// are then found are those of before or of after the step (the clause `crash` of what a step leaves,
-/// specs/Leaving.antt), and a station that opens on them is the one of before or the one of after the step, one boot
-/// later. Nothing of a step is half kept.
+/// States what follows if a station whose rows say all that it keeps makes a step, and its process ends at any moment
+/// of that. The rows that are then found are those of before or of after the step (the clause `crash` of what a step
+/// leaves, specs/Leaving.antt), and a station that opens on them is the one of before or the one of after the step,
+/// one boot later. Nothing of a step is half kept.
 pub fn a_stopped_step_restarts()
     ensures { (h : Hierarchy) (number : ℕ) (s : Station) (e : Event) (before found : Rows)
         (r : Result Station OpenFault) → IsTree h → IsBetween 1 (station_count h) number

@@ -35,7 +35,7 @@ pub(crate) struct BeforeStep {
     pub before: Members,
 }
 
-/// The domain whose members a datagram may change.
+/// Returns the domain whose members a datagram may change.
 fn domain_of(tree: &Tree, body: &Body) -> Option<u16>
     ensures { result ≡ showing.domain_of_body tree.now body.now }
 {
@@ -51,7 +51,7 @@ fn domain_of(tree: &Tree, body: &Body) -> Option<u16>
     }
 }
 
-/// The action by which a command moves the devices of its domain.
+/// Returns the action by which a command moves the devices of its domain.
 fn action_by(tree: &Tree, domain: u16, command: Command) -> Option<u16>
     ensures { result ≡ action_by tree.now domain command }
 {
@@ -68,7 +68,7 @@ fn action_by(tree: &Tree, domain: u16, command: Command) -> Option<u16>
     }
 }
 
-/// The action by which a change moves the devices of its domain: a command that runs does.
+/// Returns the action by which a change moves the devices of its domain: a command that runs does.
 fn action_in(tree: &Tree, change: &Change) -> Option<u16>
     ensures { result ≡ action_in tree.now change.now }
 {
@@ -96,7 +96,7 @@ fn members_in(display: &Displayed<'_>, kept: &GrantTable<'_>, domain: Option<u16
     }
 }
 
-/// What a datagram finds, before the change that it asks for is made.
+/// Returns what a datagram finds, before the change that it asks for is made.
 pub(crate) fn snapshot_before(
     display: &Displayed<'_>,
     kept: &GrantTable<'_>,
@@ -187,7 +187,7 @@ pub(crate) fn update_objects(
     }
 }
 
-/// The same in this domain.
+/// Does the same in this domain.
 fn update_objects_in(
     display: &mut Displayed<'_>,
     kept: &GrantTable<'_>,

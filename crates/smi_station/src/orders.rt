@@ -31,7 +31,7 @@ pub(crate) struct Reported {
     state: u16,
 }
 
-/// The report that an order holds, if it holds one.
+/// Returns the report that an order holds, if it holds one.
 pub(crate) fn reported_in(order: &Order) -> Option<Reported>
     ensures report { IfSome result (λ reported. order.now ≡ Report reported.device reported.state) }
     ensures other { (operator : ℕ) → result ≡ None
@@ -48,7 +48,7 @@ pub(crate) fn reported_in(order: &Order) -> Option<Reported>
     }
 }
 
-/// An operator is told why its order was refused.
+/// Answers an operator why its order was refused.
 fn refusal(operator: u16, order: &Order, code: u16) -> Answer
     ensures { result ≡ answer operator order.now code }
 {
@@ -71,7 +71,7 @@ impl<'a> Core<'a> {
     ghost use Rattle.smi_station.specs.Core.{Steps, number_of, station_of, tree_of};
     ghost use Rattle.smi_station_grants.specs.Leaving.{Leaves};
 
-    /// An operator orders.
+    /// Handles an order of an operator.
     pub(crate) fn order<S: Stable>(
         &mut self,
         store: &mut S,
@@ -98,7 +98,7 @@ impl<'a> Core<'a> {
         }
     }
 
-    /// An operator orders, and does not report.
+    /// Handles an order of an operator that is no report.
     fn obey_or_refuse<S: Stable>(
         &mut self,
         store: &mut S,
@@ -136,7 +136,7 @@ impl<'a> Core<'a> {
     }
 }
 
-/// An order of an operator of the station that is not refused comes, with what was decided of it.
+/// Handles an order of an operator of the station that is not refused, with what was decided of it.
 fn accept_order<S: Stable>(
     kept: &mut GrantTable<'_>,
     display: &mut Displayed<'_>,

@@ -13,7 +13,7 @@ impl<'a> Core<'a> {
     ghost use Rattle.smi_station.specs.Core.{number_of, station_of, tree_of};
     ghost use Rattle.smi_station.specs.Readers.{current_of, link_in, mode_in, operators_in, record_in};
 
-    /// The tree of the station.
+    /// Returns the tree of the station.
     pub(crate) fn tree(&self) -> &'a Tree
         ensures value { result.now ≡ tree_of self.now }
         ensures lawful { IsTree (tree_of self.now) }
@@ -21,7 +21,7 @@ impl<'a> Core<'a> {
         self.kept.tree()
     }
 
-    /// The operators of the station.
+    /// Returns the operators of the station.
     pub(crate) fn operators(&self) -> &'a [u16]
         ensures { result.now ≡ operators_in self.now }
     {
@@ -29,21 +29,21 @@ impl<'a> Core<'a> {
         tree.operators(self.kept.number())
     }
 
-    /// How often the station has started.
+    /// Returns how often the station has started.
     pub(crate) fn boot(&self) -> u32
         ensures { result ≡ (station_of self.now).grants.boot }
     {
         self.display.boot()
     }
 
-    /// Whether the station has stopped.
+    /// Returns true if the station has stopped.
     pub(crate) fn is_stopped(&self) -> bool
         ensures { result ≡ (station_of self.now).is_stopped }
     {
         self.is_stopped
     }
 
-    /// The record of a domain that the station keeps.
+    /// Returns the record of a domain that the station keeps.
     pub(crate) fn record(&self, domain: u16) -> Option<Record>
         ensures { result ≡ record_in self.now domain }
     {
@@ -54,7 +54,7 @@ impl<'a> Core<'a> {
         }
     }
 
-    /// The link to a domain of a holder that may hold it, where the station speaks for the holder.
+    /// Returns the link to a domain of a holder that may hold it, if the station speaks for the holder.
     pub(crate) fn link(&self, holder: Holder, domain: u16) -> Option<Link>
         ensures { result ≡ link_in self.now holder domain }
     {
@@ -66,7 +66,7 @@ impl<'a> Core<'a> {
         }
     }
 
-    /// The mode in which a domain of the station holds this child.
+    /// Returns the mode in which a domain of the station holds this child.
     pub(crate) fn mode(&self, domain: u16) -> Option<Mode>
         ensures { result ≡ mode_in self.now domain }
     {
@@ -77,7 +77,7 @@ impl<'a> Core<'a> {
         }
     }
 
-    /// What an object of the station shows.
+    /// Returns what an object of the station shows.
     pub(crate) fn current(&self, object: u16) -> Option<Shown>
         ensures { result ≡ current_of (station_of self.now) object }
     {

@@ -31,7 +31,7 @@ fn changes_of(shown: Option<Shown>) -> Changes
 
 ghost use Rattle.smi_protocol.specs.Messages.{if_any};
 
-/// The domain of a device of the station.
+/// Returns the domain of a device of the station.
 fn domain_of(kept: &GrantTable<'_>, device: u16) -> u16
     requires kept { is_kept_by kept.now.tree kept.now.number (domain_count kept.now.tree + device) ≡ true }
     requires least { 1 ≤ device }
@@ -83,7 +83,7 @@ fn report(
     is_spent
 }
 
-/// Time passes.
+/// Handles a tick.
 fn tick(kept: &GrantTable<'_>, display: &mut Displayed<'_>, out: &mut Out)
     requires halves { AreHalves kept.now display.old }
     requires room { MayChange (display_of display.old) }
@@ -104,7 +104,7 @@ impl<'a> Core<'a> {
     ghost use Rattle.smi_protocol.specs.Step.{after, nothing_out};
     ghost use Rattle.smi_station.specs.Core.{Steps, number_of, station_of, tree_of};
 
-    /// A device reports.
+    /// Handles a report of a device.
     pub(crate) fn report(
         &mut self,
         out: &mut Out,
@@ -124,7 +124,7 @@ impl<'a> Core<'a> {
         Ok(Heard::Same)
     }
 
-    /// Time passes.
+    /// Handles a tick.
     pub(crate) fn tick(&mut self, out: &mut Out) -> Result<Heard, StepFault>
         requires runs { self.old.is_stopped ≡ false }
         requires empty { out.old ≡ nothing_out }

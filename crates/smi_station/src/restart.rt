@@ -15,7 +15,7 @@ impl<'a> Core<'a> {
     ghost use Rattle.smi_station.specs.Core.{IsOf, IsStoredIn, begun, number_of, station_of, tree_of};
     ghost use Rattle.smi_station.specs.Readers.{restarted};
 
-    /// The station starts again on its store.
+    /// Starts the station again on its store.
     fn restart<S: Stable>(&mut self, alloc: Global, store: &mut S) -> Result<(), OpenFault>
         ensures anew { S.is_honest store.new → S.is_open store.old → IsStoredIn (S.rows store.old) self.old →
             Restarts (tree_of self.old) (number_of self.old) (station_of self.old).grants

@@ -16,7 +16,7 @@ use smi_station_grants::{GrantTable, has_station, loaded_kept, save_boot};
 use smi_tree::Tree;
 use std::alloc::Global;
 
-/// What a station shows that starts with these grants.
+/// Returns what a station shows that starts with these grants.
 fn with_display<'a>(
     alloc: Global,
     tree: &'a Tree,
@@ -52,7 +52,7 @@ ghost use Rattle.smi_protocol.specs.Opening.{first_display};
 ghost use Rattle.smi_protocol.specs.Sound.{IsSound};
 ghost use Rattle.smi_station.specs.Core.{station_of};
 
-/// What a station starts with on this store; its raised boot is still to be saved. The rows stay.
+/// Returns what a station starts with on this store; its raised boot is still to be saved. The rows stay.
 fn loaded<'a, S: Stable>(
     alloc: Global,
     tree: &'a Tree,
@@ -87,7 +87,7 @@ fn loaded<'a, S: Stable>(
     }
 }
 
-/// A station starts on this store: all memory is taken and all rows are read before its raised boot is saved.
+/// Starts a station on this store: all memory is taken and all rows are read before its raised boot is saved.
 pub(crate) fn start<'a, S: Stable>(
     alloc: Global,
     tree: &'a Tree,

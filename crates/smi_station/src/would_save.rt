@@ -18,7 +18,7 @@ use smi_station_decide::{check_datagram, decide_order};
 use smi_station_grants::{Change, GrantTable};
 use smi_station_output::Out;
 
-/// Whether a change has a row to save.
+/// Returns true if a change has a row to save.
 fn has_row(change: &Change) -> bool
     ensures { result ≡ is_some (touched change.now) }
 {
@@ -31,7 +31,7 @@ fn has_row(change: &Change) -> bool
     }
 }
 
-/// Whether a step with this event would save a row.
+/// Returns true if a step with this event would save a row.
 fn is_saved(kept: &GrantTable<'_>, scratch: &mut Out, event: Event<'_>) -> bool
     requires sound { IsSound kept.now.tree (grants_of kept.now) }
     ensures { (s : Defined) → s.grants ≡ grants_of kept.now
@@ -46,7 +46,7 @@ fn is_saved(kept: &GrantTable<'_>, scratch: &mut Out, event: Event<'_>) -> bool
     }
 }
 
-/// The same of bytes.
+/// Returns the same of bytes.
 fn is_saved_for_bytes(kept: &GrantTable<'_>, scratch: &mut Out, bytes: &[u8]) -> bool
     requires sound { IsSound kept.now.tree (grants_of kept.now) }
     requires empty { scratch.old ≡ nothing_out }
@@ -59,7 +59,7 @@ fn is_saved_for_bytes(kept: &GrantTable<'_>, scratch: &mut Out, bytes: &[u8]) ->
     }
 }
 
-/// The same of a datagram.
+/// Returns the same of a datagram.
 fn is_saved_for_datagram(kept: &GrantTable<'_>, scratch: &mut Out, datagram: &Datagram) -> bool
     requires sound { IsSound kept.now.tree (grants_of kept.now) }
     requires empty { scratch.old ≡ nothing_out }
@@ -76,7 +76,7 @@ fn is_saved_for_datagram(kept: &GrantTable<'_>, scratch: &mut Out, datagram: &Da
     }
 }
 
-/// The same of an order, which may hold a report.
+/// Returns the same of an order, which may hold a report.
 fn is_saved_for_order(kept: &GrantTable<'_>, operator: u16, what: &Order) -> bool
     requires sound { IsSound kept.now.tree (grants_of kept.now) }
     ensures { (s : Defined) → s.grants ≡ grants_of kept.now
@@ -88,7 +88,7 @@ fn is_saved_for_order(kept: &GrantTable<'_>, operator: u16, what: &Order) -> boo
     }
 }
 
-/// The same of an order that holds none.
+/// Returns the same of an order that holds none.
 fn is_saved_if_taken(kept: &GrantTable<'_>, operator: u16, what: &Order) -> bool
     requires sound { IsSound kept.now.tree (grants_of kept.now) }
     ensures { (s : Defined) → s.grants ≡ grants_of kept.now
@@ -105,8 +105,8 @@ impl<'a, S> Station<'a, S> {
     ghost use Rattle.smi_protocol.specs.Step.{after_event};
     ghost use Rattle.smi_station.specs.Core.{number_of, station_of, tree_of};
 
-    /// Whether a step with this event would save a row, were the station to run. Nothing changes but `scratch`, which
-    /// holds nothing meaningful afterwards.
+    /// Returns true if a step with this event would save a row, were the station to run. Nothing changes but
+    /// `scratch`, which holds nothing meaningful afterwards.
     pub fn saves(&self, scratch: &mut Out, event: Event<'_>) -> bool
         ensures { result
             ≡ is_some (after_event (tree_of self.now.core) (number_of self.now.core) (station_of self.now.core)
@@ -121,7 +121,7 @@ impl<'a> Core<'a> {
     ghost use Rattle.smi_protocol.specs.Step.{after_event};
     ghost use Rattle.smi_station.specs.Core.{number_of, station_of, tree_of};
 
-    /// Whether a step with this event would save a row, were the station to run.
+    /// Returns true if a step with this event would save a row, were the station to run.
     fn saves(&self, scratch: &mut Out, event: Event<'_>) -> bool
         ensures { result
             ≡ is_some (after_event (tree_of self.now) (number_of self.now) (station_of self.now) event.entry).saved }

@@ -12,8 +12,8 @@ use smi_tree::{
     Tree, has_domain, has_object, is_at, is_command_of, is_holder_of, is_keeper, is_kept_by,
 };
 
-/// Why a station does not take a datagram: 7 it is of another tree, 8 for another station, 9 it names what the
-/// tree does not have, or not there.
+/// Returns why a station does not take a datagram: 7 it is of another tree, 8 for another station, 9 it names what
+/// the tree does not have, or not there.
 pub fn check_datagram(tree: &Tree, number: u16, datagram: &Datagram) -> Option<u16>
     ensures { result ≡ spec.refusal_of_message tree.now number datagram.now }
 {
@@ -33,7 +33,7 @@ pub fn check_datagram(tree: &Tree, number: u16, datagram: &Datagram) -> Option<u
     }
 }
 
-/// Whether what a datagram names is there, and is kept by the station that its kind requires.
+/// Returns true if what a datagram names is there, and is kept by the station that its kind requires.
 fn is_body_of(tree: &Tree, from: u16, to: u16, body: &Body) -> bool
     ensures { result ≡ spec.is_body_of tree.now from to body.now }
 {
@@ -62,14 +62,14 @@ fn is_body_of(tree: &Tree, from: u16, to: u16, body: &Body) -> bool
     }
 }
 
-/// Whether a station may speak for a holder of the domain.
+/// Returns true if a station may speak for a holder of the domain.
 pub fn speaks_for(tree: &Tree, from: u16, domain: u16, holder: Holder) -> bool
     ensures { result ≡ spec.speaks_for tree.now from domain holder }
 {
     is_holder_of(tree, domain, holder) && is_at(tree, holder, from)
 }
 
-/// Whether the tree has what a command names beside its domain.
+/// Returns true if the tree has what a command names beside its domain.
 fn has_named(tree: &Tree, command: Command) -> bool
     ensures { result ≡ has_named tree.now command }
 {
@@ -82,7 +82,7 @@ fn has_named(tree: &Tree, command: Command) -> bool
     }
 }
 
-/// Whether the tree has what an order names.
+/// Returns true if the tree has what an order names.
 fn is_order_of(tree: &Tree, order: &Order) -> bool
     ensures { result ≡ spec.is_order_of tree.now order.now }
 {
@@ -96,14 +96,14 @@ fn is_order_of(tree: &Tree, order: &Order) -> bool
     }
 }
 
-/// Whether the operator is the station's, and the tree has what the order names.
+/// Returns true if the operator is the station's, and the tree has what the order names.
 pub(crate) fn is_order_here(tree: &Tree, number: u16, operator: u16, order: &Order) -> bool
     ensures { result ≡ spec.is_order_here tree.now number operator order.now }
 {
     is_at(tree, Holder::Operator(operator), number) && is_order_of(tree, order)
 }
 
-/// Whether the station keeps the device, and the tree has the state.
+/// Returns true if the station keeps the device, and the tree has the state.
 pub fn is_report_here(tree: &Tree, number: u16, device: u16, state: u16) -> bool
     ensures { result ≡ spec.is_report_here tree.now number device state }
 {

@@ -65,7 +65,7 @@ fn freed(domain: u16, change: &Change) -> Entries
     Entries::one(freed)
 }
 
-/// A drop comes.
+/// Decides a drop.
 fn drop_comes(kept: &GrantTable<'_>, domain: u16, holder: Holder, epoch: u64) -> Change
     requires least { 1 ≤ domain }
     requires most { domain ≤ domain_count kept.now.tree }

@@ -13,7 +13,7 @@ use smi_grant::Holder;
 use smi_station_output::{Out, request};
 use smi_tree::Tree;
 
-/// All that a holder's link is due, the oldest command first.
+/// Sends all that a holder's link is due, the oldest command first.
 pub(crate) fn send_due(
     out: &mut Out,
     tree: &Tree,
@@ -37,7 +37,7 @@ pub(crate) fn send_due(
     }
 }
 
-/// What a holder's link is due, if anything.
+/// Sends what a holder's link is due, if anything.
 pub(crate) fn send_if_due(
     out: &mut Out,
     tree: &Tree,

@@ -120,7 +120,7 @@ fn take_link(kept: &GrantTable<'_>, operator: u16, domain: u16) -> Result<Link, 
     }
 }
 
-/// What the link becomes, as a decided order.
+/// Returns what the link becomes, as a decided order.
 fn linked(
     domain: u16,
     command: Option<Command>,
@@ -170,7 +170,7 @@ pub fn obey(out: &mut Out, kept: &GrantTable<'_>, operator: u16, decided: &Decid
     }
 }
 
-/// The newest that a holder's link is due.
+/// Sends the newest that a holder's link is due.
 fn send_newest(out: &mut Out, tree: &Tree, number: u16, holder: Holder, domain: u16, link: &Link)
     requires number { IsBetween 1 (station_count tree.now) number }
     requires domain { IsBetween 1 (domain_count tree.now) domain }
@@ -186,7 +186,7 @@ fn send_newest(out: &mut Out, tree: &Tree, number: u16, holder: Holder, domain: 
     send_if_due(out, tree, number, holder, domain, due(link, newest));
 }
 
-/// How many commands of a link are pending.
+/// Returns how many commands of a link are pending.
 fn pending_count(link: &Link) -> usize
     ensures { result ≡ length (pending_of link.now) }
 {
@@ -196,7 +196,7 @@ fn pending_count(link: &Link) -> usize
     }
 }
 
-/// A command has its number, or a grant is given up.
+/// Returns that a command has its number, or that a grant is given up.
 fn ordered(operator: u16, domain: u16, command: Option<Command>, link: &Link) -> Option<Entry>
     ensures { if_any result ≡ ordering.order_entries operator domain command link.now }
 {
@@ -217,7 +217,7 @@ fn ordered(operator: u16, domain: u16, command: Option<Command>, link: &Link) ->
     }
 }
 
-/// Which command of which grant was issued, where one was.
+/// Returns which command of which grant was issued, if one was.
 fn issued(domain: u16, command: Option<Command>, link: &Link) -> Option<Mark>
     ensures { result ≡ ordering.issued_by domain command link.now }
 {

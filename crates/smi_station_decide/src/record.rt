@@ -27,7 +27,7 @@ pub(crate) fn is_settled(phase: Phase) -> bool
     }
 }
 
-/// The record of a domain after a change that is still to come.
+/// Returns the record of a domain after a change that is still to come.
 pub(crate) fn record_after(kept: &GrantTable<'_>, change: &Change, domain: u16) -> Record
     ensures { result ≡ (changed kept.now.tree (grants_of kept.now) change.now).records domain }
 {

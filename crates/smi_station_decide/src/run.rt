@@ -128,7 +128,7 @@ pub fn decide_run(
     }
 }
 
-/// A command comes. Where the domain's record admits it, it begins; else nothing comes of it.
+/// Decides a command. Where the domain's record admits it, it begins; else nothing comes of it.
 ///
 /// Its error is that memory was refused for a command that the record admits.
 fn run_comes(
@@ -201,7 +201,7 @@ fn command_effect(
     })
 }
 
-/// What the children's links are due that a command has changed, by child.
+/// Sends what the children's links are due that a command has changed, by child.
 fn send_to_children(out: &mut Out, kept: &GrantTable<'_>, domain: u16, known: &CommandedChildren)
     requires domain { IsBetween 1 (domain_count kept.now.tree) domain }
     requires asked { All (MayBeAsked kept.now.tree) known.now }
@@ -228,7 +228,7 @@ fn send_to_children(out: &mut Out, kept: &GrantTable<'_>, domain: u16, known: &C
 
 // ---- at one child
 
-/// What a command of a domain does to a child.
+/// Returns what a command of a domain does to a child.
 fn child_change(
     tree: &Tree,
     domain: u16,
@@ -330,7 +330,7 @@ fn relinked_or(otherwise: Outcome, link: Result<Link, u16>) -> ChildChange
     }
 }
 
-/// The code of the outcome that comes of one child.
+/// Returns the code of the outcome that comes of one child.
 fn code_of(change: &ChildChange) -> u16
     ensures { result ≡ spec.code_of (meant change.now) }
 {
@@ -342,7 +342,7 @@ fn code_of(change: &ChildChange) -> u16
 
 // ---- at the domain
 
-/// The code of a command at its domain, whatever becomes of it at the children.
+/// Returns the code of a command at its domain, whatever becomes of it at the children.
 fn code_at_domain(tree: &Tree, domain: u16, command: Command) -> u16
     ensures { result ≡ code_at_domain tree.now domain command }
 {
@@ -360,14 +360,14 @@ fn code_at_domain(tree: &Tree, domain: u16, command: Command) -> u16
     }
 }
 
-/// What a domain has gathered when a command begins: the command's own code while it is busy.
+/// Returns what a domain has gathered when a command begins: the command's own code while it is busy.
 fn gathered_at_first(busy: bool, own: u16) -> u16
     ensures { result ≡ (if busy then own else 0) }
 {
     if busy { own } else { 0 }
 }
 
-/// The record of a domain at which the next command has begun.
+/// Returns the record of a domain at which the next command has begun.
 fn started(standing: &Record, busy: bool, code: u16) -> Record
     requires held { is_free standing.now.holder ≡ false }
     requires settled { is_settled standing.now.phase ≡ true }
@@ -382,8 +382,8 @@ fn started(standing: &Record, busy: bool, code: u16) -> Record
 
 // ---- what a command leaves in a trace
 
-/// A command that runs: that it has run, what becomes of its target, and that it has ended, if it has with this
-/// record of its domain.
+/// Returns the entries of a command that runs: that it has run, what becomes of its target, and that it has ended, if
+/// it has with this record of its domain.
 fn ran(
     known: &CommandedChildren,
     domain: u16,
@@ -409,7 +409,7 @@ fn ran(
     )
 }
 
-/// What a command leaves of the child that it is about.
+/// Returns what a command leaves of the child that it is about.
 fn of_child(known: &CommandedChildren, domain: u16, command: Command) -> Option<Entry>
     ensures { (h : Hierarchy) (g : Grants) → AreSo h g domain command known.now
         → if_any result ≡ keeping.child_entries h g domain command }
@@ -434,7 +434,7 @@ fn at_target(known: &CommandedChildren, domain: u16, target: u16) -> Option<Entr
     }
 }
 
-/// A child is let go, or comes into a mode.
+/// Returns that a child is let go, or comes into a mode.
 fn child_changed(domain: u16, child: u16, change: &ChildChange) -> Option<Entry>
     ensures { if_any result ≡ keeping.let_go_of domain child (meant change.now)
         ++ keeping.mode_changed child (meant change.now) }
@@ -453,7 +453,7 @@ fn child_changed(domain: u16, child: u16, change: &ChildChange) -> Option<Entry>
     }
 }
 
-/// A command has ended, if it has with this record of its domain.
+/// Returns that a command has ended, if it has with this record of its domain.
 fn ended(domain: u16, epoch: u64, number: u32, standing: Record) -> Option<Entry>
     ensures { if_any result ≡ at_rest domain epoch number standing }
 {

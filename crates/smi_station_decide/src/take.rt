@@ -71,7 +71,7 @@ fn granted(domain: u16, holder: Holder, change: &Change) -> Entries
     Entries::one(granted)
 }
 
-/// A take comes.
+/// Decides a take.
 fn take_comes(kept: &GrantTable<'_>, domain: u16, holder: Holder, seen: u64) -> Change
     requires least { 1 ≤ domain }
     requires most { domain ≤ domain_count kept.now.tree }
@@ -84,7 +84,7 @@ fn take_comes(kept: &GrantTable<'_>, domain: u16, holder: Holder, seen: u64) -> 
     handed_by(domain, take(&kept.record(domain), holder, seen))
 }
 
-/// A verdict as a change.
+/// Returns a verdict as a change.
 pub(crate) fn handed_by(domain: u16, verdict: Verdict) -> Change
     ensures change { result ≡ handed_by domain verdict }
     ensures quiet { runs result ≡ None }

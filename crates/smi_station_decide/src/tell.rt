@@ -35,7 +35,7 @@ use smi_station_grants::{Change, GrantTable};
 use smi_station_output::{Entries, Out};
 use smi_tree::{holder_station, is_keeper};
 
-/// A record is told: the first holder here whose link it changes hears it, if there is one.
+/// Decides a record that is told: the first holder here whose link it changes hears it, if there is one.
 pub fn decide_tell(out: &mut Out, kept: &GrantTable<'_>, domain: u16, news: &Record) -> Change
     requires sound { IsSound kept.now.tree (grants_of kept.now) }
     requires domain { IsBetween 1 (domain_count kept.now.tree) domain }
@@ -60,7 +60,7 @@ pub fn decide_tell(out: &mut Out, kept: &GrantTable<'_>, domain: u16, news: &Rec
 
 // ---- who listens
 
-/// The first holder here whose link a record changes: an operator of the station, by number, or else the
+/// Returns the first holder here whose link a record changes: an operator of the station, by number, or else the
 /// domain's parent.
 fn listener(kept: &GrantTable<'_>, domain: u16, news: &Record) -> Option<Holder>
     ensures { result ≡ listener kept.now.tree kept.now.number (grants_of kept.now) domain news.now }
@@ -92,7 +92,7 @@ fn listening_parent(kept: &GrantTable<'_>, domain: u16, news: &Record) -> Option
     }
 }
 
-/// Whether a record changes the link of this holder.
+/// Returns true if a record changes the link of this holder.
 fn hears(link: &Link, holder: Holder, news: &Record) -> bool
     requires { is_free holder ≡ false }
     ensures { result ≡ hearing.hears link.now holder news.now }
@@ -104,7 +104,7 @@ fn hears(link: &Link, holder: Holder, news: &Record) -> bool
     }
 }
 
-/// Whether a record that was told has changed the link.
+/// Returns true if a record that was told has changed the link.
 fn is_heard(heard: &LinkHeard) -> bool
     ensures { result ≡ hearing.is_heard heard.now }
 {
@@ -114,7 +114,7 @@ fn is_heard(heard: &LinkHeard) -> bool
     }
 }
 
-/// Whether a record shows more commands of the link's grant than the link has issued.
+/// Returns true if a record shows more commands of the link's grant than the link has issued.
 fn is_ahead(link: &Link, news: &Record) -> bool
     ensures { result ≡ hearing.is_ahead link.now news.now }
 {
@@ -126,7 +126,7 @@ fn is_ahead(link: &Link, news: &Record) -> bool
 
 // ---- at an operator's link
 
-/// An operator's link is told a record that it listens to: what it is due now is sent, and what has settled is
+/// Tells an operator's link a record that it listens to: what it is due now is sent, and what has settled is
 /// answered.
 fn tell_operator(
     out: &mut Out,
@@ -154,7 +154,7 @@ fn tell_operator(
     operator_told(kept, operator, domain, news)
 }
 
-/// An operator's link is told a record.
+/// Tells an operator's link a record.
 fn operator_told(kept: &GrantTable<'_>, operator: u16, domain: u16, news: &Record) -> Change
     requires { MayOrder kept.now.tree kept.now.number operator domain }
     ensures { Plans kept.now.tree kept.now.number (grants_of kept.now)
@@ -169,7 +169,7 @@ fn operator_told(kept: &GrantTable<'_>, operator: u16, domain: u16, news: &Recor
     }
 }
 
-/// What has settled with a record is answered, if anything.
+/// Answers what has settled with a record, if anything.
 fn answer_heard(out: &mut Out, operator: u16, domain: u16, link: &Link, heard: &LinkHeard)
     requires room { length out.old.answers ≡ 0 }
     ensures answers { out.new
@@ -186,7 +186,7 @@ fn answer_heard(out: &mut Out, operator: u16, domain: u16, link: &Link, heard: &
     }
 }
 
-/// What has settled is answered, one after the other.
+/// Answers what has settled, one after the other.
 fn send_answers(out: &mut Out, operator: u16, domain: u16, link: &Link, settlements: &Settlements)
     requires room { length out.old.answers ≡ 0 }
     ensures answers { out.new
@@ -201,7 +201,7 @@ fn send_answers(out: &mut Out, operator: u16, domain: u16, link: &Link, settleme
     }
 }
 
-/// One more answer, if there is one.
+/// Adds an answer, if there is one.
 fn send_if_any(out: &mut Out, answer: Option<Answer>)
     requires { length out.old.answers < most_answers }
     ensures { out.new ≡ record out.old { answers = answered_after out.old.answers (if_any answer) } }
@@ -212,7 +212,7 @@ fn send_if_any(out: &mut Out, answer: Option<Answer>)
     }
 }
 
-/// What is answered for the settlement at a place, if there is one.
+/// Returns what is answered for the settlement at a place, if there is one.
 fn answer_for(
     operator: u16,
     domain: u16,
@@ -226,7 +226,7 @@ fn answer_for(
     answer_at(operator, domain, link, i, settlement)
 }
 
-/// What is answered for the settlement at a place: the order is read off the link as it was.
+/// Returns what is answered for the settlement at a place: the order is read off the link as it was.
 fn answer_at(
     operator: u16,
     domain: u16,
@@ -254,7 +254,7 @@ fn answer_at(
     }
 }
 
-/// An operator is told the code of an order to take or to drop a domain.
+/// Tells an operator the code of an order to take or to drop a domain.
 fn ended(operator: u16, order: Order, code: u16) -> Answer
     ensures { result ≡ answer operator order code }
 {
@@ -269,7 +269,7 @@ fn ended(operator: u16, order: Order, code: u16) -> Answer
     }
 }
 
-/// An operator is told the code of a command that was issued.
+/// Tells an operator the code of a command that was issued.
 fn settled(
     operator: u16,
     domain: u16,
@@ -295,7 +295,7 @@ fn settled(
     }
 }
 
-/// The order that gives a command to a domain.
+/// Returns the order that gives a command to a domain.
 fn order_of(domain: u16, command: Command) -> Order
     ensures { result ≡ happening.order_of domain command }
 {
@@ -308,7 +308,7 @@ fn order_of(domain: u16, command: Command) -> Order
     }
 }
 
-/// A take is granted.
+/// Returns that a take is granted.
 fn learned(holder: Holder, domain: u16, old: &Link, new: &Link) -> Option<Entry>
     ensures { if_any result ≡ hearing.learned holder domain old.now new.now }
 {
@@ -324,8 +324,8 @@ fn learned(holder: Holder, domain: u16, old: &Link, new: &Link) -> Option<Entry>
 
 // ---- at a domain's link to a child
 
-/// A domain's link to a child is told a record that it listens to: where its command ends with it, its holder is
-/// told so, and what the link is due now is sent.
+/// Tells a domain's link to a child a record that it listens to: where its command ends with it, its holder is told
+/// so, and what the link is due now is sent.
 fn tell_parent(
     out: &mut Out,
     kept: &GrantTable<'_>,
@@ -360,7 +360,7 @@ fn tell_parent(
     change
 }
 
-/// A parent's link to a child is told a record.
+/// Tells a parent's link to a child a record.
 fn parent_told(kept: &GrantTable<'_>, parent: u16, child: u16, news: &Record) -> Change
     requires least { 1 ≤ parent }
     requires most { parent ≤ domain_count kept.now.tree }
@@ -424,7 +424,7 @@ fn waits_with(kept: &GrantTable<'_>, domain: u16, child: u16, link: &Link) -> bo
     false
 }
 
-/// The largest code, of this one and those with which commands have settled.
+/// Returns the largest code, of this one and those with which commands have settled.
 fn gathered_with(code: u16, heard: &LinkHeard) -> u16
     ensures { result ≡ hearing.gathered_with code (hearing.settlements_in heard.now) }
 {
@@ -440,7 +440,7 @@ fn gathered_with(code: u16, heard: &LinkHeard) -> u16
     largest
 }
 
-/// The record of a domain whose command has ended.
+/// Returns the record of a domain whose command has ended.
 fn settled_record(standing: &Record, code: u16) -> Record
     requires { is_settled standing.now.phase ≡ false }
     ensures { result ≡ keeper.settled standing.now code }
@@ -451,7 +451,7 @@ fn settled_record(standing: &Record, code: u16) -> Record
     }
 }
 
-/// Where a domain's command ends with this record of it, the domain's holder is told so.
+/// Tells the domain's holder this record, if the domain's command ends with it.
 fn send_end(out: &mut Out, kept: &GrantTable<'_>, domain: u16, standing: Record)
     requires domain { IsBetween 1 (domain_count kept.now.tree) domain }
     requires told { is_standing standing ≡ true }
@@ -474,7 +474,7 @@ fn send_end(out: &mut Out, kept: &GrantTable<'_>, domain: u16, standing: Record)
     }
 }
 
-/// The command of a domain has ended, if it has with this record of it.
+/// Returns that the command of a domain has ended, if it has with this record of it.
 fn rested(domain: u16, old: Record, new: Record) -> Option<Entry>
     ensures { if_any result ≡ came_to_rest domain old new }
 {

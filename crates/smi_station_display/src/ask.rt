@@ -8,7 +8,7 @@ use smi_protocol::{Answer, Order, Request, Told};
 use smi_station_grants::entry_of;
 use smi_station_output::{Out, ask, object_home, unwatch, watch};
 
-/// An operator is told the code of an order.
+/// Answers an operator with the code of an order.
 fn answered(operator: u16, order: Order, code: u16) -> Answer
     ensures { result ≡ answer operator order code }
 {
@@ -23,7 +23,7 @@ fn answered(operator: u16, order: Order, code: u16) -> Answer
     }
 }
 
-/// An operator who asked is told the record.
+/// Answers an operator who asked with the record.
 fn answered_with(operator: u16, domain: u16, news: &Record) -> Answer
     ensures { result ≡ answer_asked operator domain news.now }
 {
@@ -53,7 +53,7 @@ impl<'a> Displayed<'a> {
     ghost use Rattle.smi_station_display.specs.Displayed.{display_of};
     ghost use Rattle.smi_station_display.specs.Listening.{KeepsTheRest, forgotten};
 
-    /// An operator asks about a domain: a question that it has not been answered yet is open no longer.
+    /// Handles a question of an operator about a domain: one that it has not been answered yet is open no longer.
     fn ask(&mut self, out: &mut Out, operator: u16, domain: u16)
         requires operator { IsBetween 1 (operator_count self.old.tree) operator }
         requires domain { IsBetween 1 (domain_count self.old.tree) domain }
@@ -69,7 +69,7 @@ impl<'a> Displayed<'a> {
         out.send(ask(self.tree, self.number, domain));
     }
 
-    /// An operator names an object to be watched.
+    /// Has an operator's object be watched.
     fn watch(&mut self, out: &mut Out, operator: u16, object: u16)
         requires object { IsBetween 1 (object_count self.old.tree) object }
         requires room { length out.old.answers < most_answers }
@@ -86,7 +86,7 @@ impl<'a> Displayed<'a> {
         out.answer(answered(operator, Order::Watch(object), 0));
     }
 
-    /// An operator no longer wants an object to be watched; the unit of a child stays watched.
+    /// Ends an operator's watch of an object; the unit of a child stays watched.
     fn unwatch(&mut self, out: &mut Out, operator: u16, object: u16)
         requires object { IsBetween 1 (object_count self.old.tree) object }
         requires room { length out.old.answers < most_answers }
@@ -109,7 +109,7 @@ impl<'a> Displayed<'a> {
         out.answer(told);
     }
 
-    /// An order of an operator of the station comes: one to ask or to watch; the others leave the display alone.
+    /// Handles an order of an operator of the station: one to ask or to watch; the others leave the display alone.
     pub fn order_comes(&mut self, out: &mut Out, operator: u16, order: &Order)
         requires here { is_order_here self.old.tree self.old.number operator order.now ≡ true }
         requires room { length out.old.answers < most_answers }
@@ -131,7 +131,7 @@ impl<'a> Displayed<'a> {
         }
     }
 
-    /// A record is told: those who have asked about the domain are answered, and ask no more.
+    /// Handles a record that is told: those who have asked about the domain are answered, and ask no more.
     pub fn record_comes(&mut self, out: &mut Out, domain: u16, news: &Record)
         requires room { length out.old.answers + 8 ≤ most_answers }
         ensures display { display_of self.new
@@ -162,7 +162,7 @@ impl<'a> Displayed<'a> {
         }
     }
 
-    /// Nobody asks about the domain any more.
+    /// Forgets all questions about the domain.
     fn forget_questions(&mut self, domain: u16)
         ensures { self.new ≡ record self.old { asks = map (forgotten domain) self.old.asks } }
     {

@@ -61,7 +61,8 @@ impl<'a> Displayed<'a> {
     ghost use Rattle.smi_tree.specs.Lookups.{station_count};
     ghost use Rattle.smi_station_display.specs.Displayed.{display_of, IsDisplayed};
 
-    /// A station at its start, in this boot: its objects are in their first states, and nothing was heard of anyone.
+    /// Returns a station at its start, in this boot: its objects are in their first states, and nothing was heard of
+    /// anyone.
     ///
     /// It fails only where memory ran out, which tests alone see.
     pub fn new(
@@ -107,7 +108,7 @@ impl<'a> Displayed<'a> {
         })
     }
 
-    /// The tree that the tables are about.
+    /// Returns the tree that the tables are about.
     pub fn tree(&self) -> &'a Tree
         ensures value { result.now ≡ self.now.tree }
         ensures displayed { IsDisplayed self.now }
@@ -115,21 +116,21 @@ impl<'a> Displayed<'a> {
         self.tree
     }
 
-    /// The station's number.
+    /// Returns the station's number.
     pub fn number(&self) -> u16
         ensures value { result ≡ self.now.number }
     {
         self.number
     }
 
-    /// The station's boot.
+    /// Returns the station's boot.
     pub fn boot(&self) -> u32
         ensures value { result ≡ self.now.published.boot }
     {
         self.publisher.boot()
     }
 
-    /// What an object shows, if the station keeps it.
+    /// Returns what an object shows, if the station keeps it.
     pub fn current(&self, object: u16) -> Option<Shown>
         ensures { result ≡ shown_at self.now.published.boot (display_of self.now).conditions object }
     {

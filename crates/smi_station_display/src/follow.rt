@@ -34,8 +34,8 @@ impl<'a> Displayed<'a> {
     ghost use Rattle.smi_station_display.specs.Following.{followed_at};
     ghost use Rattle.smi_station_display.specs.Listening.{KeepsTheRest};
 
-    /// Re-evaluates the unit if its members differ from these, and sends STATE for each changed object to its watchers.
-    /// Returns true if one of the objects has reached the last sequence.
+    /// Evaluates the unit again if its members differ from these, and sends STATE for each changed object to its
+    /// watchers. Returns true if one of the objects has reached the last sequence.
     pub fn publish_changes(
         &mut self,
         out: &mut Out,

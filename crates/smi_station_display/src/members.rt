@@ -24,7 +24,7 @@ impl Model for Members {
     ghost invariant = { λ m. members.IsStored m.objects m.count × members.IsStored m.states m.count };
 }
 
-/// Whether two lists hold the same numbers.
+/// Returns true if two lists hold the same numbers.
 fn same_numbers(a: &[u16], b: &[u16]) -> bool
     ensures { result ≡ same_numbers a.now b.now }
 {
@@ -39,7 +39,7 @@ impl Members {
     ghost use Rattle.smi_protocol.specs.Showing.{member};
     ghost use Rattle.smi_station_display.specs.Members.{are_same, most_members, nobody, one_more};
 
-    /// Nobody.
+    /// Returns no members.
     pub fn new() -> Members
         ensures { result ≡ nobody }
     {
@@ -50,7 +50,7 @@ impl Members {
         }
     }
 
-    /// One more member, after the others.
+    /// Adds a member, after the others.
     pub(crate) fn push(&mut self, object: u16, state: u16)
         requires { length self.old.objects < most_members }
         ensures { self.new ≡ one_more self.old (member object state) }
@@ -60,21 +60,21 @@ impl Members {
         self.count += 1;
     }
 
-    /// The objects.
+    /// Returns the objects.
     fn objects(&self) -> &[u16]
         ensures { result.now ≡ self.now.objects }
     {
         &self.objects[..self.count]
     }
 
-    /// The states.
+    /// Returns the states.
     pub fn states(&self) -> &[u16]
         ensures { result.now ≡ self.now.states }
     {
         &self.states[..self.count]
     }
 
-    /// Whether these are the same members in the same states.
+    /// Returns true if these are the same members in the same states.
     pub fn is_same(&self, other: &Members) -> bool
         ensures { result ≡ are_same self.now other.now }
     {

@@ -11,7 +11,7 @@ use smi_rows::Mode;
 use smi_station_grants::GrantTable;
 use smi_station_output::{Out, show};
 
-/// Whether the state of a child in this mode counts.
+/// Returns true if the state of a child in this mode counts.
 fn is_counted(mode: Mode) -> bool
     ensures { result ≡ children.is_counted mode }
 {
@@ -59,7 +59,7 @@ impl<'a> Displayed<'a> {
         }
     }
 
-    /// The devices of a domain are listed.
+    /// Lists the devices of a domain.
     fn add_devices(&self, members: &mut Members, domain: u16)
         requires least { 1 ≤ domain }
         requires most { domain ≤ domain_count self.now.tree }
@@ -76,7 +76,7 @@ impl<'a> Displayed<'a> {
         }
     }
 
-    /// The children of a domain that count are listed.
+    /// Lists the children of a domain that count.
     fn add_children(&self, members: &mut Members, kept: &GrantTable<'_>, domain: u16)
         requires least { 1 ≤ domain }
         requires most { domain ≤ domain_count self.now.tree }
@@ -94,7 +94,7 @@ impl<'a> Displayed<'a> {
         }
     }
 
-    /// The members of a domain: its devices by number, and then the units of the children that count.
+    /// Returns the members of a domain: its devices by number, and then the units of the children that count.
     pub fn members(&self, kept: &GrantTable<'_>, domain: u16) -> Members
         requires least { 1 ≤ domain }
         requires most { domain ≤ domain_count self.now.tree }
@@ -143,7 +143,7 @@ impl<'a> Displayed<'a> {
             .report(self.tree.domain_count() + device, state)
     }
 
-    /// Re-evaluates a unit if its members have changed. Returns its change.
+    /// Evaluates a unit again if its members have changed. Returns its change.
     pub fn follow(&mut self, domain: u16, before: &Members, after: &Members) -> Option<Shown>
         requires room { HasRoom (display_of self.old).conditions domain }
         ensures display { display_of self.new ≡ record

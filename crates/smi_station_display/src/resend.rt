@@ -48,7 +48,7 @@ fn is_before(a: ResendCursor, b: ResendCursor) -> bool
     }
 }
 
-/// The place after a place: after the last object it is the first.
+/// Returns the place after a place: after the last object it is the first.
 fn next_place(tree: &Tree, place: ResendCursor) -> ResendCursor
     requires { IsPlace place }
     ensures { result ≡ ticking.next_place tree.now place }
@@ -100,7 +100,7 @@ impl Resend {
     ghost use Rattle.smi_protocol.specs.Ticking.{first_place, most_sent, owed};
     ghost use Rattle.smi_station_display.specs.Sweeping.{IsPlace, offered, place_after, sweeping};
 
-    /// A sweep from a place on.
+    /// Returns a sweep from a place on.
     pub(crate) fn from(place: ResendCursor) -> Resend
         ensures { result ≡ record { from = place; last = first_place; room = most_sent } }
     {
@@ -111,7 +111,7 @@ impl Resend {
         }
     }
 
-    /// One datagram is due.
+    /// Sends one datagram that is due, if it may.
     pub(crate) fn send_if_due(&mut self, out: &mut Out, place: ResendCursor, datagram: Datagram)
         requires { IsPlace place }
         ensures { sweeping self.new out.new ≡ offered (sweeping self.old out.old) (owed place datagram ∷ []) }
@@ -123,7 +123,8 @@ impl Resend {
         }
     }
 
-    /// Where the next sweep begins: after what was sent last, or at the first place where all was sent.
+    /// Returns the place where the next sweep begins: after what was sent last, or at the first place if all was
+    /// sent.
     pub(crate) fn place_after(&self, tree: &Tree) -> ResendCursor
         ensures { result ≡ place_after tree.now self.now }
     {

@@ -12,7 +12,7 @@ use smi_station_grants::{GrantTable, entry_of};
 use smi_station_output::{Out, ask, request, watch};
 use smi_tree::is_keeper;
 
-/// A take and a drop have number 0, a command its own.
+/// Returns the number of a place: 0 of a take and a drop, its own of a command.
 fn number_of(due: Due) -> u32
     ensures { result ≡ ticking.number_of_due due }
 {
@@ -40,7 +40,7 @@ impl<'a> Displayed<'a> {
     ghost use Rattle.smi_station_display.specs.Displayed.{display_of};
     ghost use Rattle.smi_station_display.specs.Sweeping.{child_owed, domain_owed, offered, sweeping};
 
-    /// What a parent's link to a child is due, if anything.
+    /// Offers what a parent's link to a child is due, if anything.
     fn offer_due_of_child(
         &self,
         sweep: &mut Resend,
@@ -65,7 +65,7 @@ impl<'a> Displayed<'a> {
         }
     }
 
-    /// All that a parent's link to a child is due.
+    /// Offers all that a parent's link to a child is due.
     fn offer_to_child(
         &self,
         sweep: &mut Resend,
@@ -88,7 +88,7 @@ impl<'a> Displayed<'a> {
         }
     }
 
-    /// What an operator's link to a domain is due, if anything.
+    /// Offers what an operator's link to a domain is due, if anything.
     fn offer_due_of_operator(
         &self,
         sweep: &mut Resend,
@@ -124,7 +124,7 @@ impl<'a> Displayed<'a> {
         }
     }
 
-    /// All that an operator's link to a domain is due.
+    /// Offers all that an operator's link to a domain is due.
     fn offer_to_domain(
         &self,
         sweep: &mut Resend,
@@ -147,7 +147,7 @@ impl<'a> Displayed<'a> {
         }
     }
 
-    /// What the domain above a child asks of it, if it is kept here.
+    /// Offers what the domain above a child asks of it, if it is kept here.
     fn offer_child(&self, sweep: &mut Resend, out: &mut Out, kept: &GrantTable<'_>, child: u16)
         requires tree { kept.now.tree ≡ self.now.tree }
         requires sound { IsSound self.now.tree (grants_of kept.now) }
@@ -166,7 +166,7 @@ impl<'a> Displayed<'a> {
         }
     }
 
-    /// What the domains of the station ask of their children.
+    /// Offers what the domains of the station ask of their children.
     fn offer_children(&self, sweep: &mut Resend, out: &mut Out, kept: &GrantTable<'_>)
         requires tree { kept.now.tree ≡ self.now.tree }
         requires sound { IsSound self.now.tree (grants_of kept.now) }
@@ -179,7 +179,7 @@ impl<'a> Displayed<'a> {
         }
     }
 
-    /// What an operator asks of domains.
+    /// Offers what an operator asks of domains.
     fn offer_links(&self, sweep: &mut Resend, out: &mut Out, kept: &GrantTable<'_>, operator: u16)
         requires tree { kept.now.tree ≡ self.now.tree }
         requires sound { IsSound self.now.tree (grants_of kept.now) }
@@ -194,7 +194,7 @@ impl<'a> Displayed<'a> {
         }
     }
 
-    /// What the operators of the station ask of domains.
+    /// Offers what the operators of the station ask of domains.
     fn offer_orders(&self, sweep: &mut Resend, out: &mut Out, kept: &GrantTable<'_>)
         requires tree { kept.now.tree ≡ self.now.tree }
         requires sound { IsSound self.now.tree (grants_of kept.now) }
@@ -208,7 +208,7 @@ impl<'a> Displayed<'a> {
         }
     }
 
-    /// The open question of an operator, if there is one.
+    /// Offers the open question of an operator, if there is one.
     fn offer_question(&self, sweep: &mut Resend, out: &mut Out, operator: u16)
         ensures { sweeping sweep.new out.new ≡ offered (sweeping sweep.old out.old)
             (owed_question self.now.tree self.now.number operator ((display_of self.now).asks operator)) }
@@ -222,7 +222,7 @@ impl<'a> Displayed<'a> {
         }
     }
 
-    /// The open questions of the station's operators.
+    /// Offers the open questions of the station's operators.
     fn offer_questions(&self, sweep: &mut Resend, out: &mut Out)
         ensures { sweeping sweep.new out.new ≡ offered (sweeping sweep.old out.old)
             (flat_map (λ o. owed_question self.now.tree self.now.number o ((display_of self.now).asks o))
@@ -234,7 +234,7 @@ impl<'a> Displayed<'a> {
         }
     }
 
-    /// The watch of an object, if the station watches it.
+    /// Offers the watch of an object, if the station watches it.
     fn offer_watch(&self, sweep: &mut Resend, out: &mut Out, object: u16)
         requires object { IsBetween 1 (object_count self.now.tree) object }
         ensures { sweeping sweep.new out.new ≡ offered (sweeping sweep.old out.old)
@@ -246,7 +246,7 @@ impl<'a> Displayed<'a> {
         }
     }
 
-    /// The objects that the station watches.
+    /// Offers the objects that the station watches.
     fn offer_watches(&self, sweep: &mut Resend, out: &mut Out)
         ensures { sweeping sweep.new out.new ≡ offered (sweeping sweep.old out.old)
             (flat_map (owed_watch self.now.tree self.now.number self.now.published.boot (display_of self.now))
@@ -268,7 +268,7 @@ impl<'a> Displayed<'a> {
     ghost use Rattle.smi_station_display.specs.Listening.{KeepsTheRest};
     ghost use Rattle.smi_station_display.specs.Sweeping.{offered, sweeping};
 
-    /// Time passes: what is due from the remembered place on is sent, as much as one step sends.
+    /// Sends what is due from the remembered place on, as much as one step sends.
     pub fn tick(&mut self, out: &mut Out, kept: &GrantTable<'_>)
         requires tree { kept.now.tree ≡ self.old.tree }
         requires boot { kept.now.boot ≡ self.old.published.boot }
@@ -284,7 +284,7 @@ impl<'a> Displayed<'a> {
         self.place = sweep.place_after(self.tree);
     }
 
-    /// All that is due.
+    /// Offers all that is due.
     fn offer_all(&self, sweep: &mut Resend, out: &mut Out, kept: &GrantTable<'_>)
         requires tree { kept.now.tree ≡ self.now.tree }
         requires boot { kept.now.boot ≡ self.now.published.boot }

@@ -65,21 +65,21 @@ impl<'a> Displayed<'a> {
     ghost use Rattle.smi_station_display.specs.Displayed.{display_of};
     ghost use Rattle.smi_station_display.specs.Listening.{KeepsTheRest, adds_watcher};
 
-    /// Whether an object is the unit of a child of a domain that the station keeps.
+    /// Returns true if an object is the unit of a child of a domain that the station keeps.
     pub(crate) fn is_child_unit(&self, object: u16) -> bool
         ensures { result ≡ is_child_unit self.now.tree self.now.number object }
     {
         is_child_unit(self.tree, self.number, object)
     }
 
-    /// Whether the station watches an object.
+    /// Returns true if the station watches an object.
     pub(crate) fn is_watched(&self, object: u16) -> bool
         ensures { result ≡ is_watched self.now.tree self.now.number (display_of self.now) object }
     {
         entry_of(&self.named, object, false) || self.is_child_unit(object)
     }
 
-    /// What an object shows is sent to a station that watches it.
+    /// Sends what an object shows to a station that watches it.
     fn send_current(&self, out: &mut Out, to: u16, echo: u32, object: u16)
         requires to_least { 1 ≤ to }
         requires to_most { to ≤ station_count self.now.tree }
@@ -97,7 +97,7 @@ impl<'a> Displayed<'a> {
         }
     }
 
-    /// A station asks to be shown an object of this one.
+    /// Handles the request of a station to be shown an object of this one.
     ///
     /// Its error is that the memory for one more watcher was refused, where its station is not in the object's list or
     /// was started again; nothing has changed then.
@@ -135,7 +135,7 @@ impl<'a> Displayed<'a> {
         Ok(())
     }
 
-    /// A station asks to be shown an object of this one no longer.
+    /// Handles the request of a station to be shown an object of this one no longer.
     pub fn unwatch_comes(&mut self, from: u16, object: u16, echo: u32)
         requires from_least { 1 ≤ from }
         requires from_most { from ≤ station_count self.old.tree }
@@ -146,7 +146,7 @@ impl<'a> Displayed<'a> {
         self.watchers.unwatch(object, from, echo);
     }
 
-    /// A station tells what an object of its own shows.
+    /// Handles what a station tells of an object of its own.
     pub fn state_comes(&mut self, out: &mut Out, from: u16, echo: u32, told: Shown)
         requires from_least { 1 ≤ from }
         requires from_most { from ≤ station_count self.old.tree }

@@ -65,14 +65,14 @@ impl CommandedChildren {
     ghost use Rattle.std.specs.Prelude.{◌≡◌};
     ghost use Rattle.smi_station_grants.specs.Commanded.{change_for};
 
-    /// What the command does to these children.
+    /// Returns what the command does to these children.
     pub fn of_list(children: Vec<CommandedChild>) -> CommandedChildren
         ensures { result ≡ children.items }
     {
         CommandedChildren { children }
     }
 
-    /// The children, each with what the command does to it.
+    /// Returns the children, each with what the command does to it.
     pub fn as_slice(&self) -> &[CommandedChild]
         ensures { result.now ≡ self.now }
     {

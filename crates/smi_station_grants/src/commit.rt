@@ -20,7 +20,7 @@ impl<'a> GrantTable<'a> {
     ghost use Rattle.smi_station_grants.specs.GrantTable.{grants_of};
     ghost use Rattle.smi_station_grants.specs.Change.{changed, IsChange};
 
-    /// The change is made.
+    /// Makes the change.
     pub fn commit(&mut self, change: &Change)
         requires { IsChange self.old.tree self.old.number (grants_of self.old) change.now }
         ensures grants { grants_of self.new ≡ changed self.old.tree (grants_of self.old) change.now }
@@ -61,7 +61,7 @@ impl<'a> GrantTable<'a> {
         }
     }
 
-    /// A command reaches one child, and does this to it.
+    /// Does to one child what a command does to it.
     fn command_child(&mut self, domain: u16, command: Command, child: u16, change: &ChildChange)
         requires parent { is_parent self.old.tree child domain ≡ true }
         requires change { meant change.now
@@ -77,7 +77,7 @@ impl<'a> GrantTable<'a> {
         self.put_child(domain, child, new_link, new_mode);
     }
 
-    /// A command reaches all children.
+    /// Does to all children what a command does to them.
     fn command_children(&mut self, domain: u16, command: Command, known: &CommandedChildren)
         requires least { 1 ≤ domain }
         requires most { domain ≤ domain_count self.old.tree }
@@ -91,7 +91,7 @@ impl<'a> GrantTable<'a> {
         }
     }
 
-    /// Another record of a domain.
+    /// Puts another record of a domain.
     pub(crate) fn put_record(&mut self, domain: u16, standing: Record)
         requires least { 1 ≤ domain }
         requires most { domain ≤ domain_count self.old.tree }
@@ -102,7 +102,7 @@ impl<'a> GrantTable<'a> {
         self.records[usize::from(domain) - 1] = standing;
     }
 
-    /// Another code that a domain has gathered.
+    /// Puts another code that a domain has gathered.
     pub(crate) fn put_gathered(&mut self, domain: u16, code: u16)
         requires least { 1 ≤ domain }
         requires most { domain ≤ domain_count self.old.tree }
@@ -113,7 +113,7 @@ impl<'a> GrantTable<'a> {
         self.gathered[usize::from(domain) - 1] = code;
     }
 
-    /// Another link of an operator of the station.
+    /// Puts another link of an operator of the station.
     pub(crate) fn put_operator_link(&mut self, operator: u16, domain: u16, link: Link)
         requires operator { is_number (operator_station_of self.old.tree operator) self.old.number ≡ true }
         requires least { 1 ≤ domain }
@@ -125,7 +125,7 @@ impl<'a> GrantTable<'a> {
         self.operator_links[usize::from(operator) - 1].put(domain, link);
     }
 
-    /// Another link to a child, and the mode in which it is held.
+    /// Puts another link to a child, and the mode in which it is held.
     pub(crate) fn put_child(&mut self, domain: u16, child: u16, link: Link, mode: Mode)
         requires parent { is_parent self.old.tree child domain ≡ true }
         ensures grants { grants_of self.new ≡ with_child (grants_of self.old) domain child link mode }

@@ -58,7 +58,7 @@ impl<'a> GrantTable<'a> {
     ghost use Rattle.smi_protocol.specs.Refusals as spec;
     ghost use Rattle.smi_station_grants.specs.GrantTable.{grants_of, IsKept};
 
-    /// The tree that the tables are about.
+    /// Returns the tree that the tables are about.
     pub fn tree(&self) -> &'a Tree
         ensures value { result.now ≡ self.now.tree }
         ensures kept { IsKept self.now }
@@ -66,40 +66,40 @@ impl<'a> GrantTable<'a> {
         self.tree
     }
 
-    /// The station's number.
+    /// Returns the station's number.
     pub fn number(&self) -> u16
         ensures value { result ≡ self.now.number }
     {
         self.number
     }
 
-    /// How often the station has started.
+    /// Returns how often the station has started.
     pub fn boot(&self) -> u32
         ensures { result ≡ (grants_of self.now).boot }
     {
         self.boot
     }
 
-    /// The allocator of the tables.
+    /// Returns the allocator of the tables.
     pub fn alloc(&self) -> Global {
         *self.records.allocator()
     }
 
-    /// The record of a domain, a fresh one where the tree has no such domain.
+    /// Returns the record of a domain, a fresh one if the tree has no such domain.
     pub fn record(&self, domain: u16) -> Record
         ensures { result ≡ (grants_of self.now).records domain }
     {
         entry_of(&self.records, domain, Record::fresh())
     }
 
-    /// The code that a domain has gathered.
+    /// Returns the code that a domain has gathered.
     pub fn gathered(&self, domain: u16) -> u16
         ensures { result ≡ (grants_of self.now).gathered domain }
     {
         entry_of(&self.gathered, domain, 0)
     }
 
-    /// The mode in which a domain is held by the one above it.
+    /// Returns the mode in which a domain is held by the one above it.
     pub fn mode(&self, domain: u16) -> Mode
         ensures { result ≡ (grants_of self.now).modes domain }
     {
@@ -138,7 +138,7 @@ impl<'a> GrantTable<'a> {
         }
     }
 
-    /// How many links of an operator of the station are not out.
+    /// Returns how many links of an operator of the station are not out.
     pub fn links_in_use(&self, operator: u16) -> usize
         requires { is_number (operator_station_of self.now.tree operator) self.now.number ≡ true }
         ensures { result ≡ spec.links_in_use self.now.tree (grants_of self.now) operator }

@@ -30,7 +30,8 @@ use smi_rows::Stable;
 use smi_tree::Tree;
 use std::alloc::Global;
 
-/// Rows are saved again once: a second time there is nothing to do, and they stay as the first time left them.
+/// Migrates twice: rows are saved again once, a second time there is nothing to do, and they stay as the first time
+/// left them.
 pub fn migrated_rows_stay<S: Stable>(
     alloc: Global,
     tree: &Tree,
@@ -46,8 +47,8 @@ pub fn migrated_rows_stay<S: Stable>(
     migrate(alloc, tree, number, store)
 }
 
-/// The rows of a station say all that it keeps, and nothing else: from the beginning, if there are none, at each
-/// start, after each step with the row that it saves, whatever comes, and wherever a migration stops
+/// States that the rows of a station say all that it keeps, and nothing else: from the beginning, if there are none,
+/// at each start, after each step with the row that it saves, whatever comes, and wherever a migration stops
 /// (specs/Stored.antt). The tables of the grants are the same at every number and holder, and not only at those of
 /// the station. A step that is refused saves nothing and changes nothing. What rows say is sound, so that is no
 /// premise.
@@ -76,8 +77,8 @@ pub fn rows_say_what_is_kept()
     ensures sound { (h : Hierarchy) (number : ℕ) (g : Grants) (rows : Rows) → IsStored h number g rows → IsSound h g }
 {}
 
-/// A station that starts on rows that say what it kept is restarted with exactly that, one boot later, unless its
-/// boots are spent. It ends in nothing else but a fault of the store, or out of memory.
+/// States that a station that starts on rows that say what it kept is restarted with exactly that, one boot later,
+/// unless its boots are spent. It ends in nothing else but a fault of the store, or out of memory.
 pub fn stored_grants_restart()
     ensures restarts { (h : Hierarchy) (number : ℕ) (g : Grants) (rows : Rows) → IsBetween 1 (station_count h) number
         → IsStored h number g rows → g.boot ≢ last_boot → Opens h number rows (Ok (opened h number g)) }

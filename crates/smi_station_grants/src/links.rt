@@ -22,7 +22,7 @@ impl Model for Links {
     ghost invariant = { λ l. l.in_use ≡ count_in_use l.links.items };
 }
 
-/// 1 where somebody holds by the link, or asks for the domain, else 0.
+/// Returns 1 if a holder holds by the link, or asks for the domain, else 0.
 fn use_of(link: &Link) -> usize
     ensures { result ≡ use_of link.now }
 {
@@ -56,14 +56,14 @@ impl Links {
         entry_of(&self.links, domain, Link::Out(0))
     }
 
-    /// How many links are not out.
+    /// Returns how many links are not out.
     pub fn in_use(&self) -> usize
         ensures { result ≡ count_in_use self.now }
     {
         self.in_use
     }
 
-    /// Another link to a domain.
+    /// Puts another link to a domain.
     pub fn put(&mut self, domain: u16, link: Link)
         requires least { 1 ≤ domain }
         requires most { domain ≤ length self.old }

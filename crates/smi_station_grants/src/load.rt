@@ -47,7 +47,7 @@ pub fn kept_of_rows<'a>(
     kept_of(alloc, tree, number, rows)
 }
 
-/// The same at a station of the tree.
+/// Returns the same at a station of the tree.
 pub(crate) fn kept_of<'a>(
     alloc: Global,
     tree: &'a Tree,
@@ -81,7 +81,7 @@ fn fresh<'a>(alloc: Global, tree: &'a Tree, number: u16) -> Result<GrantTable<'a
     }
 }
 
-/// The rows are taken, and the boot is raised.
+/// Takes the rows, and raises the boot.
 fn start(kept: &mut GrantTable<'_>, rows: &[SavedRow]) -> Result<(), OpenFault>
     requires { grants_of kept.old ≡ no_grants }
     ensures comes { Comes (leaving (grants_of kept.new) result) (started kept.old.tree kept.old.number rows.now) }
@@ -92,7 +92,7 @@ fn start(kept: &mut GrantTable<'_>, rows: &[SavedRow]) -> Result<(), OpenFault>
     raise(kept)
 }
 
-/// The boot is raised by one.
+/// Raises the boot by one.
 fn raise(kept: &mut GrantTable<'_>) -> Result<(), OpenFault>
     ensures comes { raised (grants_of kept.old) ≡ leaving (grants_of kept.new) result }
     ensures tree { kept.new.tree ≡ kept.old.tree }
@@ -106,7 +106,7 @@ fn raise(kept: &mut GrantTable<'_>) -> Result<(), OpenFault>
     Ok(())
 }
 
-/// What the rows say, one after the other, takes the place of what was known.
+/// Restores what the rows say, one after the other, in place of what was known.
 fn restore_all(kept: &mut GrantTable<'_>, rows: &[SavedRow]) -> Result<(), OpenFault>
     ensures comes { Comes (leaving (grants_of kept.new) result)
         (restored kept.old.tree kept.old.number (grants_of kept.old) rows.now) }
@@ -134,7 +134,7 @@ fn restore(kept: &mut GrantTable<'_>, row: &SavedRow) -> Result<(), OpenFault>
     }
 }
 
-/// What the row of this key says takes the place of what was known.
+/// Restores what the row of this key says, in place of what was known.
 fn put(kept: &mut GrantTable<'_>, key: Key, said: &Row)
     requires tree { IsTree kept.old.tree }
     requires own { IsOwn kept.old.tree kept.old.number key said.now }

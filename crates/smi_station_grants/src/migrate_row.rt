@@ -16,7 +16,7 @@ use smi_rows::{Key, Row, SavedRow, write_boot};
 use smi_tree::Tree;
 use std::alloc::{AllocError, Global};
 
-/// The station's rows of older schemas, rewritten, in the order of the list. All of the station's are read.
+/// Returns the station's rows of older schemas, rewritten, in the order of the list. All of the station's are read.
 pub(crate) fn renewals(
     alloc: Global,
     tree: &Tree,
@@ -34,7 +34,7 @@ pub(crate) fn renewals(
     Ok(list)
 }
 
-/// One row more.
+/// Handles one row more.
 fn renew(
     list: &mut Vec<SavedRow>,
     tree: &Tree,
@@ -92,7 +92,7 @@ fn anew(alloc: Global, row: &SavedRow, said: &Row) -> Result<Option<SavedRow>, O
     }
 }
 
-/// What a row says in the newest schema of its kind.
+/// Returns what a row says in the newest schema of its kind.
 fn newest_bytes(alloc: Global, said: &Row) -> Result<Vec<u8>, AllocError>
     requires { HasFewLinks said.now }
     ensures { IfOk result (λ bytes. bytes.items ≡ spec.newest_bytes said.now) }
@@ -104,7 +104,7 @@ fn newest_bytes(alloc: Global, said: &Row) -> Result<Vec<u8>, AllocError>
     }
 }
 
-/// Whether a row is not written in the newest schema of its kind.
+/// Returns true if a row is not written in the newest schema of its kind.
 fn is_older(key: Key, bytes: &[u8]) -> bool
     ensures { result ≡ spec.is_older key bytes.now }
 {
@@ -114,7 +114,7 @@ fn is_older(key: Key, bytes: &[u8]) -> bool
     }
 }
 
-/// The number of the schema in which a row is written.
+/// Returns the number of the schema in which a row is written.
 fn schema_in(bytes: &[u8]) -> u8
     ensures { result ≡ spec.schema_in bytes.now }
 {

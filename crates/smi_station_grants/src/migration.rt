@@ -145,7 +145,7 @@ fn save_row<S: Stable>(store: &mut S, row: &SavedRow) -> Result<(), OpenFault>
     saved(store, row.key, &row.bytes)
 }
 
-/// How many rows there are.
+/// Returns how many rows there are.
 fn count_of(rows: &[SavedRow]) -> u32
     ensures { length rows.now < 2 ^ 32 → result ≡ length rows.now }
 {

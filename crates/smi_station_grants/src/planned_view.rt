@@ -48,14 +48,14 @@ impl<'k, 'a> PlannedView<'k, 'a> {
     ghost use Rattle.smi_station_grants.specs.GrantTable.{grants_of};
     ghost use Rattle.smi_station_grants.specs.Save.{row_with};
 
-    /// The grants after this change.
+    /// Returns the grants after this change.
     pub fn of(kept: &'k GrantTable<'a>, change: &'k Change) -> PlannedView<'k, 'a>
         ensures { result ≡ record { kept = kept.now; change = change.now } }
     {
         PlannedView { kept, change }
     }
 
-    /// The record of a domain.
+    /// Returns the record of a domain.
     pub fn record(&self, domain: u16) -> Record
         ensures { result ≡ (after_of self.now).records domain }
     {
@@ -71,7 +71,7 @@ impl<'k, 'a> PlannedView<'k, 'a> {
         }
     }
 
-    /// The code that a domain has gathered.
+    /// Returns the code that a domain has gathered.
     pub fn gathered(&self, domain: u16) -> u16
         ensures { result ≡ (after_of self.now).gathered domain }
     {
@@ -86,7 +86,7 @@ impl<'k, 'a> PlannedView<'k, 'a> {
         }
     }
 
-    /// The mode in which a domain is held by the one above it.
+    /// Returns the mode in which a domain is held by the one above it.
     pub fn mode(&self, domain: u16) -> Mode
         requires { IsChange self.now.kept.tree self.now.kept.number (grants_of self.now.kept) self.now.change }
         ensures { result ≡ (after_of self.now).modes domain }
@@ -100,7 +100,7 @@ impl<'k, 'a> PlannedView<'k, 'a> {
         }
     }
 
-    /// The link of a holder to a domain.
+    /// Returns the link of a holder to a domain.
     pub fn link(&self, holder: Holder, domain: u16) -> Link
         requires { IsChange self.now.kept.tree self.now.kept.number (grants_of self.now.kept) self.now.change }
         ensures { result ≡ (after_of self.now).links holder domain }
@@ -149,7 +149,7 @@ impl<'k, 'a> PlannedView<'k, 'a> {
         }
     }
 
-    /// The row of a domain.
+    /// Writes the row of a domain.
     fn domain_row(&self, room: &mut RowBuffer, domain: u16) -> Result<Key, AllocError>
         requires change { IsChange self.now.kept.tree self.now.kept.number (grants_of self.now.kept) self.now.change }
         requires least { 1 ≤ domain }
@@ -164,7 +164,7 @@ impl<'k, 'a> PlannedView<'k, 'a> {
         Ok(self.key(domain, 0))
     }
 
-    /// The row of an operator.
+    /// Writes the row of an operator.
     fn operator_row(&self, room: &mut RowBuffer, operator: u16) -> Result<Key, AllocError>
         requires { IsChange self.now.kept.tree self.now.kept.number (grants_of self.now.kept) self.now.change }
         ensures { IfOk result (λ key. saved key room.new ≡ rows.saved_row self.now.kept.tree self.now.kept.number
@@ -187,7 +187,7 @@ impl<'k, 'a> PlannedView<'k, 'a> {
         }
     }
 
-    /// A domain's links to its children, as they are stored.
+    /// Gathers a domain's links to its children, as they are stored.
     fn child_links(&self, links: &mut Vec<StoredLink>, domain: u16) -> Result<(), AllocError>
         requires change { IsChange self.now.kept.tree self.now.kept.number (grants_of self.now.kept) self.now.change }
         requires least { 1 ≤ domain }
@@ -207,7 +207,7 @@ impl<'k, 'a> PlannedView<'k, 'a> {
         Ok(())
     }
 
-    /// An operator's links, as they are stored.
+    /// Gathers an operator's links, as they are stored.
     fn operator_links(&self, links: &mut Vec<StoredLink>, operator: u16) -> Result<(), AllocError>
         requires { IsChange self.now.kept.tree self.now.kept.number (grants_of self.now.kept) self.now.change }
         ensures links { OnOk result (links.new.items
@@ -234,7 +234,7 @@ impl<'a> GrantTable<'a> {
     ghost use Rattle.smi_station_grants.specs.GrantTable.{grants_of};
     ghost use Rattle.smi_station_grants.specs.Commanded.{AreSo};
 
-    /// The mode of a domain after a command at another one, which may be its parent.
+    /// Returns the mode of a domain after a command at another one, which may be its parent.
     fn mode_commanded(&self, known: &CommandedChildren, child: u16) -> Mode
         ensures { (d : ℕ) (c : Command) → AreSo self.now.tree (grants_of self.now) d c known.now
             → result ≡ (commanded self.now.tree (grants_of self.now) d c).modes child }
@@ -246,7 +246,7 @@ impl<'a> GrantTable<'a> {
         }
     }
 
-    /// The link of a holder to a domain after a command at another one, which may be the holder.
+    /// Returns the link of a holder to a domain after a command at another one, which may be the holder.
     fn link_commanded(
         &self,
         domain: u16,

@@ -23,7 +23,7 @@ impl<'a> GrantTable<'a> {
     ghost use Rattle.smi_station_grants.specs.GrantTable.{grants_of};
     ghost use Rattle.smi_station_grants.specs.Restored.{with_children, with_domain, with_operator};
 
-    /// What a station keeps that was never started.
+    /// Returns what a station keeps that was never started.
     ///
     /// Its error is that memory ran out.
     pub fn new(alloc: Global, tree: &'a Tree, number: u16) -> Result<GrantTable<'a>, AllocError>
@@ -53,7 +53,7 @@ impl<'a> GrantTable<'a> {
         })
     }
 
-    /// The station has started so often.
+    /// Puts how often the station has started.
     pub fn put_boot(&mut self, boot: u32)
         ensures grants { grants_of self.new ≡ record (grants_of self.old) { boot = boot } }
         ensures tree { self.new.tree ≡ self.old.tree }
@@ -62,7 +62,7 @@ impl<'a> GrantTable<'a> {
         self.boot = boot;
     }
 
-    /// What the row of a domain says takes the place of what was known of it.
+    /// Restores what the row of a domain says, in place of what was known of it.
     pub fn restore_domain(&mut self, domain: u16, row: &DomainRow)
         requires least { 1 ≤ domain }
         requires most { domain ≤ domain_count self.old.tree }
@@ -75,7 +75,7 @@ impl<'a> GrantTable<'a> {
         self.put_gathered(domain, row.gathered);
     }
 
-    /// What the row of an operator of the station says takes the place of what was known of it.
+    /// Restores what the row of an operator of the station says, in place of what was known of it.
     pub fn restore_operator(&mut self, operator: u16, row: &OperatorRow)
         requires { is_number (operator_station_of self.old.tree operator) self.old.number ≡ true }
         ensures grants { grants_of self.new ≡ with_operator self.old.tree (grants_of self.old) operator row.now }
@@ -105,7 +105,7 @@ impl<'a> GrantTable<'a> {
     }
 }
 
-/// The link to a domain, as it is stored: one that is not stored is out, and nobody was ever heard of.
+/// Returns the link to a domain, as it is stored: one that is not stored is out, and nothing was ever heard of it.
 fn stored_at(links: &[StoredLink], domain: u16) -> StoredLink
     ensures { result ≡ loading.stored_at links.now domain }
 {
@@ -121,7 +121,7 @@ fn stored_at(links: &[StoredLink], domain: u16) -> StoredLink
     }
 }
 
-/// The links of all operators, by number.
+/// Returns the links of all operators, by number.
 fn links_of_operators(alloc: Global, tree: &Tree, number: u16) -> Result<Vec<Links>, AllocError>
     ensures { IfOk result (λ tables. tables.items
         ≡ map (first_links tree.now number) (range_with_len 1 (operator_count tree.now))) }

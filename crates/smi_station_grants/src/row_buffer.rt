@@ -26,7 +26,7 @@ impl Model for RowBuffer {
 impl RowBuffer {
     ghost use Rattle.std.specs.Prelude.{◌≡◌};
 
-    /// No room at all; a row that is made ready in it takes memory.
+    /// Returns a buffer with no room at all; a row that is made ready in it takes memory.
     pub fn none(alloc: Global) -> RowBuffer {
         RowBuffer {
             links: Vec::new(alloc),
@@ -44,7 +44,7 @@ impl RowBuffer {
         Ok(RowBuffer { links, bytes })
     }
 
-    /// The bytes of the row that was made ready.
+    /// Returns the bytes of the row that was made ready.
     pub fn bytes(&self) -> &[u8]
         ensures { result.now ≡ self.now }
     {

@@ -15,7 +15,7 @@ use smi_protocol::{Heard, StepFault};
 use smi_rows::{Key, Stable, StoreFault};
 use std::mem;
 
-/// A row is saved, if there is one: with this key and these bytes.
+/// Saves a row, if there is one: with this key and these bytes.
 pub fn save_row<S: Stable>(
     store: &mut S,
     key: Option<Key>,
@@ -38,7 +38,7 @@ pub fn save_row<S: Stable>(
     }
 }
 
-/// A change is saved and then made; what a fault leaves is what was there.
+/// Saves a change and then makes it; what a fault leaves is what was there.
 pub fn save_and_apply<S: Stable>(
     kept: &mut GrantTable<'_>,
     store: &mut S,
@@ -68,7 +68,7 @@ pub fn save_and_apply<S: Stable>(
     }
 }
 
-/// The row that a change has saved is made ready, and saved.
+/// Makes the row ready that a change has saved, and saves it.
 fn save_planned<S: Stable>(
     kept: &GrantTable<'_>,
     room: &mut RowBuffer,

@@ -18,8 +18,8 @@ use smi_rows::{Key, SavedRow, Stable, StoreFault, write_boot};
 use smi_tree::Tree;
 use std::alloc::Global;
 
-/// What a station keeps that starts on this store: what its rows mean, and its boot raised by one, which is still to
-/// be saved.
+/// Returns what a station keeps that starts on this store: what its rows mean, and its boot raised by one, which is
+/// still to be saved.
 ///
 /// The faults are in the order of [`kept_of_rows`]; a fault of the store, and `Memory`, may come at any place. The
 /// rows stay. That memory was refused where `Memory` is answered, tests alone see.
@@ -57,7 +57,7 @@ pub fn loaded_kept<'a, S: Stable>(
     kept_of_rows(alloc, tree, number, &rows)
 }
 
-/// All rows of the store, by rising key.
+/// Loads all rows of the store, by rising key.
 pub(crate) fn loaded<S: Stable>(store: &mut S) -> Result<Vec<SavedRow>, OpenFault>
     ensures listing { S.is_honest store.new → IfOk
         result (λ list. S.is_open store.old × IsListing (S.rows store.old) list.items) }
@@ -84,7 +84,7 @@ pub(crate) fn loaded<S: Stable>(store: &mut S) -> Result<Vec<SavedRow>, OpenFaul
     }
 }
 
-/// The raised boot is saved. After a fault the rows are as before, but that after `Unsure` the boot is as before or as
+/// Saves the raised boot. After a fault the rows are as before, but that after `Unsure` the boot is as before or as
 /// saved.
 pub fn save_boot<S: Stable>(store: &mut S, kept: &GrantTable<'_>) -> Result<(), OpenFault>
     ensures saved { S.is_honest store.new → OnOk
@@ -118,7 +118,7 @@ pub fn save_boot<S: Stable>(store: &mut S, kept: &GrantTable<'_>) -> Result<(), 
     }
 }
 
-/// A row is saved.
+/// Saves a row.
 pub(crate) fn saved<S: Stable>(store: &mut S, key: Key, bytes: &[u8]) -> Result<(), OpenFault>
     ensures saved { S.is_honest store.new → OnOk
         result (S.is_open store.new × IsSame (S.rows store.new) (with_row key bytes.now (S.rows store.old))) }

@@ -13,7 +13,7 @@ use smi_rows::{Row, RowFault, SavedRow};
 use smi_tree::Tree;
 use std::alloc::Global;
 
-/// Whether the tree has the station.
+/// Returns true if the tree has the station.
 pub fn has_station(tree: &Tree, number: u16) -> bool
     ensures there { result ≡ is_between 1 (station_count tree.now) number }
     ensures tree { IsTree tree.now }
@@ -22,7 +22,7 @@ pub fn has_station(tree: &Tree, number: u16) -> bool
     1 <= number && number <= stations
 }
 
-/// What a row says to the station; one of another station says nothing, and is not read.
+/// Returns what a row says to the station; one of another station says nothing, and is not read.
 pub(crate) fn said_to(
     alloc: Global,
     tree: &Tree,

@@ -26,7 +26,7 @@ pub fn tell(tree: &Tree, number: u16, to: u16, domain: u16, told: Record) -> Dat
     Datagram::tell(number, to, tree.number(), domain, told)
 }
 
-/// What is due, as a datagram says it.
+/// Returns what is due, as a datagram says it.
 fn body_of(holder: Holder, domain: u16, due: Due) -> Body
     ensures { result ≡ messages.request domain holder due }
 {
@@ -55,7 +55,7 @@ fn body_of(holder: Holder, domain: u16, due: Due) -> Body
     }
 }
 
-/// A holder asks the domain's keeper for what is due.
+/// Returns the datagram in which a holder asks the domain's keeper for what is due.
 pub fn request(tree: &Tree, number: u16, holder: Holder, domain: u16, due: Due) -> Datagram
     requires from { (1 ≤ number) × (number ≤ station_count tree.now) }
     requires domain { (1 ≤ domain) × (domain ≤ domain_count tree.now) }
@@ -73,7 +73,7 @@ pub fn request(tree: &Tree, number: u16, holder: Holder, domain: u16, due: Due) 
     }
 }
 
-/// A station asks about a domain.
+/// Returns the datagram in which a station asks about a domain.
 pub fn ask(tree: &Tree, number: u16, domain: u16) -> Datagram
     requires from { (1 ≤ number) × (number ≤ station_count tree.now) }
     requires domain { (1 ≤ domain) × (domain ≤ domain_count tree.now) }
@@ -88,7 +88,7 @@ pub fn ask(tree: &Tree, number: u16, domain: u16) -> Datagram
     }
 }
 
-/// The station of an object.
+/// Returns the station of an object.
 pub fn object_home(tree: &Tree, object: u16) -> u16
     requires least { 1 ≤ object }
     requires most { object ≤ domain_count tree.now + device_count tree.now }
@@ -105,7 +105,7 @@ pub fn object_home(tree: &Tree, object: u16) -> u16
     tree.domain(device.domain).station
 }
 
-/// A station watches an object, since this boot.
+/// Returns the datagram in which a station watches an object, since this boot.
 pub fn watch(tree: &Tree, number: u16, boot: u32, object: u16) -> Datagram
     requires from { (1 ≤ number) × (number ≤ station_count tree.now) }
     requires boot { is_boot boot ≡ true }
@@ -122,7 +122,7 @@ pub fn watch(tree: &Tree, number: u16, boot: u32, object: u16) -> Datagram
     }
 }
 
-/// A station does not watch an object, in this boot.
+/// Returns the datagram in which a station does not watch an object, in this boot.
 pub fn unwatch(tree: &Tree, number: u16, boot: u32, to: u16, object: u16) -> Datagram
     requires from { (1 ≤ number) × (number ≤ station_count tree.now) }
     requires to { (1 ≤ to) × (to ≤ station_count tree.now) }
@@ -139,7 +139,7 @@ pub fn unwatch(tree: &Tree, number: u16, boot: u32, to: u16, object: u16) -> Dat
     }
 }
 
-/// What an object shows is told to one who watches it, since its boot of this number.
+/// Returns the datagram that tells what an object shows to one who watches it, since its boot of this number.
 pub fn show(tree: &Tree, number: u16, to: u16, echo: u32, shown: Shown) -> Datagram
     requires from { (1 ≤ number) × (number ≤ station_count tree.now) }
     requires to { (1 ≤ to) × (to ≤ station_count tree.now) }

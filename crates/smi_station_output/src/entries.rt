@@ -31,7 +31,7 @@ impl Entries {
     ghost use Rattle.smi_station_output.specs.Out.{kept_after};
     ghost use Rattle.smi_protocol.specs.Messages.{if_any};
 
-    /// Nothing is left.
+    /// Returns no entries.
     pub fn new() -> Entries
         ensures { result ≡ [] }
     {
@@ -45,14 +45,14 @@ impl Entries {
         }
     }
 
-    /// What is left, in its order.
+    /// Returns what is left, in its order.
     pub fn as_slice(&self) -> &[Entry]
         ensures { result.now ≡ self.now }
     {
         &self.places[..self.count]
     }
 
-    /// One more entry, after the others.
+    /// Adds an entry, after the others.
     pub fn push(&mut self, entry: Entry)
         requires { length self.old < most_entries }
         ensures { self.new ≡ self.old ++ entry ∷ [] }
@@ -61,7 +61,7 @@ impl Entries {
         self.count += 1;
     }
 
-    /// Nothing is left any more.
+    /// Takes all entries away.
     pub fn clear(&mut self)
         ensures { self.new ≡ [] }
     {
@@ -77,7 +77,7 @@ impl Entries {
         }
     }
 
-    /// One entry, if there is one.
+    /// Returns one entry, if there is one.
     pub fn one(first: Option<Entry>) -> Entries
         ensures { result ≡ if_any first }
     {
@@ -89,7 +89,7 @@ impl Entries {
         entries
     }
 
-    /// Two entries, as far as there are any.
+    /// Returns two entries, as far as there are any.
     pub fn two(first: Option<Entry>, second: Option<Entry>) -> Entries
         ensures { result ≡ if_any first ++ if_any second }
     {
@@ -101,7 +101,7 @@ impl Entries {
         entries
     }
 
-    /// Three entries, the second and the third as far as there are any.
+    /// Returns three entries, the second and the third as far as there are any.
     pub fn three(first: Entry, second: Option<Entry>, third: Option<Entry>) -> Entries
         ensures { result ≡ first ∷ if_any second ++ if_any third }
     {

@@ -48,7 +48,7 @@ impl Out {
     ghost use Rattle.smi_protocol.specs.Step.{nothing_out};
     ghost use Rattle.smi_station_output.specs.Out.{kept_after, most_answers, sent_after};
 
-    /// Nothing is handed out.
+    /// Returns an output with nothing in it.
     pub fn new() -> Out
         ensures { result ≡ nothing_out }
     {
@@ -79,7 +79,7 @@ impl Out {
         }
     }
 
-    /// The datagrams to send, in their order, each to its receiver.
+    /// Returns the datagrams to send, in their order, each to its receiver.
     pub fn datagrams(&self) -> &[Datagram]
         ensures value { result.now ≡ self.now.datagrams }
         ensures few { length result.now ≤ most_sent }
@@ -87,42 +87,42 @@ impl Out {
         &self.datagrams[..self.sent]
     }
 
-    /// The answers to tell, in their order.
+    /// Returns the answers to tell, in their order.
     pub fn answers(&self) -> &[Answer]
         ensures { result.now ≡ self.now.answers }
     {
         &self.answers[..self.answered]
     }
 
-    /// The command that was issued, if one was.
+    /// Returns the command that was issued, if one was.
     pub fn issued(&self) -> Option<Mark>
         ensures { result ≡ self.now.issued }
     {
         self.issued
     }
 
-    /// The state that was shown, if one was.
+    /// Returns the state that was shown, if one was.
     pub fn shown(&self) -> Option<Shown>
         ensures { result ≡ self.now.shown }
     {
         self.shown
     }
 
-    /// What the save of the step leaves in a trace.
+    /// Returns what the save of the step leaves in a trace.
     pub fn entries(&self) -> &Entries
         ensures { result.now ≡ self.now.kept }
     {
         &self.kept
     }
 
-    /// The states that objects of the station pass through: devices by number, then the unit.
+    /// Returns the states that objects of the station pass through: devices by number, then the unit.
     pub fn transitions(&self) -> &Changes
         ensures { result.now ≡ self.now.passed }
     {
         &self.passed
     }
 
-    /// Nothing is handed out any more.
+    /// Takes away all that was handed out.
     pub fn clear(&mut self)
         ensures { self.new ≡ nothing_out }
     {
@@ -130,7 +130,7 @@ impl Out {
         self.kept.clear();
     }
 
-    /// Nothing is handed out any more but what the save leaves.
+    /// Takes away all that was handed out, but what the save leaves.
     pub fn clear_but_entries(&mut self)
         ensures { self.new ≡ record nothing_out { kept = self.old.kept } }
     {
@@ -141,7 +141,7 @@ impl Out {
         self.passed.clear();
     }
 
-    /// One more datagram, unless there are 64.
+    /// Adds a datagram, unless there are 64.
     pub fn send(&mut self, datagram: Datagram)
         ensures { self.new ≡ record self.old { datagrams = sent_after self.old.datagrams (datagram ∷ []) } }
     {
@@ -151,7 +151,7 @@ impl Out {
         }
     }
 
-    /// One more answer.
+    /// Adds an answer.
     pub fn answer(&mut self, answer: Answer)
         requires { length self.old.answers < most_answers }
         ensures { self.new ≡ record self.old { answers = self.old.answers ++ answer ∷ [] } }
@@ -160,14 +160,14 @@ impl Out {
         self.answered += 1;
     }
 
-    /// This command was issued.
+    /// Sets the command that was issued.
     pub fn issue(&mut self, mark: Mark)
         ensures { self.new ≡ record self.old { issued = Some mark } }
     {
         self.issued = Some(mark);
     }
 
-    /// This state was shown.
+    /// Sets the state that was shown.
     pub fn show(&mut self, shown: Shown)
         ensures { self.new ≡ record self.old { shown = Some shown } }
     {
@@ -181,7 +181,7 @@ impl Out {
         self.kept.renew(entries);
     }
 
-    /// Objects of the station pass through these states.
+    /// Sets the states that objects of the station pass through.
     pub fn set_transitions(&mut self, passed: Changes)
         ensures { self.new ≡ record self.old { passed = passed } }
     {

@@ -161,7 +161,7 @@ const fn of_bob(bytes: &'static [u8]) -> Saved {
     )
 }
 
-/// BOB takes DCS, has it run an action, and is told that TPC is not held; A watches the unit of TPC.
+/// Has BOB take DCS, run an action there, and be told that TPC is not held; A watches the unit of TPC.
 pub(crate) fn sent() -> [Play; 11] {
     let configure = Order::Do(DCS, CONFIGURE);
     let manual = Order::Manual(DCS, TPC);
@@ -190,7 +190,7 @@ pub(crate) fn sent() -> [Play; 11] {
     ]
 }
 
-/// BOB takes TPC, and orders two commands there before he has heard of the first.
+/// Has BOB take TPC, and order two commands there before he has heard of the first.
 pub(crate) fn saved() -> [Play; 5] {
     let configure = Order::Do(TPC, CONFIGURE);
     let start = Order::Do(TPC, START);
@@ -218,7 +218,7 @@ pub(crate) fn saved() -> [Play; 5] {
     ]
 }
 
-/// Whether these are the bytes of what is sent.
+/// Returns true if these are the bytes of what is sent.
 pub(crate) fn are_sent(out: &Out, sent: &[Bytes]) -> bool {
     let datagrams = out.datagrams();
     datagrams.len() == sent.len()
@@ -228,7 +228,7 @@ pub(crate) fn are_sent(out: &Out, sent: &[Bytes]) -> bool {
             .all(|(datagram, bytes)| encode(datagram) == *bytes)
 }
 
-/// Whether a row is there.
+/// Returns true if a row is there.
 pub(crate) fn is_saved(list: &[SavedRow], wanted: Saved) -> bool {
     list.iter().any(|row| row.key == wanted.0 && row.bytes.as_slice() == wanted.1)
 }

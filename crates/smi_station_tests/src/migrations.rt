@@ -26,7 +26,7 @@ struct MigrationCase {
     after: StoredRows,
 }
 
-/// Migrations of which none fails.
+/// Returns migrations of which none fails.
 fn whole(station: u16, before: StoredRows, count: u32, after: StoredRows) -> MigrationCase {
     MigrationCase {
         station,
@@ -39,7 +39,7 @@ fn whole(station: u16, before: StoredRows, count: u32, after: StoredRows) -> Mig
     }
 }
 
-/// Migrations that are refused.
+/// Returns migrations that are refused.
 fn refused(station: u16, rows: StoredRows, fault: OpenFault) -> MigrationCase {
     MigrationCase {
         station,
@@ -52,7 +52,7 @@ fn refused(station: u16, rows: StoredRows, fault: OpenFault) -> MigrationCase {
     }
 }
 
-/// Migrations of station A's rows of schema 1, of which the first stops.
+/// Returns migrations of station A's rows of schema 1, of which the first stops.
 fn stopped(
     nth: u64,
     plan: Plan,
@@ -94,7 +94,7 @@ fn cases() -> [MigrationCase; 11] {
     ]
 }
 
-/// Whether a case comes out as told at a store that has its rows.
+/// Returns true if a case comes out as told at a store that has its rows.
 fn is_so(alloc: Global, tree: &Tree, store: &mut Store, case: &MigrationCase) -> bool {
     if let Some((nth, plan)) = case.fails {
         if nth > 0 {
@@ -119,7 +119,7 @@ fn is_as_told(alloc: Global, tree: &Tree, case: &MigrationCase) -> bool {
     is_so(alloc, tree, &mut store, case)
 }
 
-/// How many cases, from the first on, come out as told.
+/// Returns how many cases, from the first on, come out as told.
 pub(crate) fn count_of(alloc: Global, tree: &Tree) -> usize {
     let mut good = 0;
     for case in &cases() {

@@ -62,7 +62,7 @@ const fn row(
     }
 }
 
-/// "Configured through the hierarchy", from the first take on, and the first datagram once more.
+/// Returns "Configured through the hierarchy", from the first take on, and the first datagram once more.
 fn configured() -> [Play; 14] {
     [
         row(
@@ -112,7 +112,7 @@ fn configured() -> [Play; 14] {
     ]
 }
 
-/// "Take and drop", with an order that is not for the station, and a datagram that is for the other one.
+/// Returns "Take and drop", with an order that is not for the station, and a datagram that is for the other one.
 fn taken_and_dropped() -> [Play; 9] {
     [
         row(
@@ -145,12 +145,12 @@ fn taken_and_dropped() -> [Play; 9] {
     ]
 }
 
-/// The kind and the receiver of a datagram, by its bytes.
+/// Returns the kind and the receiver of a datagram, by its bytes.
 fn address(bytes: &Bytes) -> (u8, u16) {
     (bytes[3], u16::from_be_bytes([bytes[6], bytes[7]]))
 }
 
-/// Whether a step has handed out datagrams of these kinds to these receivers, and these answers.
+/// Returns true if a step has handed out datagrams of these kinds to these receivers, and these answers.
 fn is_as_told(out: &Out, sent: &[(u8, u16)], answers: &[(u16, u16)]) -> bool {
     let datagrams = out.datagrams();
     let given = out.answers();
@@ -164,7 +164,7 @@ fn is_as_told(out: &Out, sent: &[(u8, u16)], answers: &[(u16, u16)]) -> bool {
             == *wanted)
 }
 
-/// What is sent goes after all that was sent before.
+/// Puts what is sent after all that was sent before.
 fn keep(sent: &mut Vec<Bytes>, out: &Out) -> Result<(), AllocError> {
     for datagram in out.datagrams() {
         sent.push(encode(datagram))?;
@@ -184,7 +184,7 @@ fn event_of(sent: &[Bytes], input: PlayedInput) -> Option<Event<'_>> {
     }
 }
 
-/// Whether the store of a station has a row.
+/// Returns true if the store of a station has a row.
 fn has(station: &mut Tried<'_>, wanted: bytes::Saved) -> bool {
     match rows_in(station.stable_mut()) {
         Ok(list) => bytes::is_saved(&list, wanted),
@@ -192,7 +192,7 @@ fn has(station: &mut Tried<'_>, wanted: bytes::Saved) -> bool {
     }
 }
 
-/// One row at its station: whether it comes out as told.
+/// Plays one row at its station. Returns true if it comes out as told.
 fn act(station: &mut Tried<'_>, out: &mut Out, sent: &[Bytes], play: &Play) -> bool {
     let Some(event) = event_of(sent, play.input) else {
         return false;
@@ -207,7 +207,7 @@ fn act(station: &mut Tried<'_>, out: &mut Out, sent: &[Bytes], play: &Play) -> b
     }
 }
 
-/// How many rows, from the first on, come out as told.
+/// Returns how many rows, from the first on, come out as told.
 pub(crate) fn count_of(
     alloc: Global,
     a: &mut Tried<'_>,
@@ -254,7 +254,7 @@ fn told(station: &Tried<'_>, domain: u16) -> StationTold {
     (stands, station.current(domain), station.current(HV))
 }
 
-/// One more where A tells this of DCS at the end, and B this of TPC.
+/// Returns one more if A tells this of DCS at the end, and B this of TPC.
 fn ended(good: usize, a: &Tried<'_>, b: &Tried<'_>, of_a: StationTold, of_b: StationTold) -> usize {
     if told(a, DCS) == of_a && told(b, TPC) == of_b {
         good.wrapping_add(1)

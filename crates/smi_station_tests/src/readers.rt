@@ -16,7 +16,7 @@ impl Read for Blocked {
     }
 }
 
-/// The lines of a text, each with a bar after it, and how the reading ended.
+/// Returns the lines of a text, each with a bar after it, and how the reading ended.
 fn cut_all(
     alloc: Global,
     bytes: &[u8],

@@ -43,7 +43,7 @@ pub(crate) enum Wanted {
 
 pub(crate) type RefusalRow = (RefusedInput, Wanted);
 
-/// Of a datagram, in the order in which the tests are made.
+/// Returns the rows of a datagram, in the order in which the tests are made.
 pub(crate) fn of_datagrams() -> [RefusalRow; 17] {
     [
         (RefusedInput::Short, Wanted::Refused(1)),
@@ -69,7 +69,7 @@ pub(crate) fn of_datagrams() -> [RefusalRow; 17] {
     ]
 }
 
-/// Of an operator who holds nothing, and then takes TPC.
+/// Returns the rows of an operator who holds nothing, and then takes TPC.
 pub(crate) fn of_orders() -> [RefusalRow; 12] {
     let take = Order::Take(TPC);
     [
@@ -109,8 +109,8 @@ pub(crate) fn of_orders() -> [RefusalRow; 12] {
     ]
 }
 
-/// Of an operator who holds the first domain with the last number used and the second with eight commands pending, and
-/// takes the next fourteen.
+/// Returns the rows of an operator who holds the first domain with the last number used and the second with eight
+/// commands pending, and takes the next fourteen.
 fn of_a_crowd() -> [RefusalRow; 10] {
     [
         (RefusedInput::Order(1, Order::Do(1, 1)), Wanted::Refused(24)),
@@ -128,7 +128,7 @@ fn of_a_crowd() -> [RefusalRow; 10] {
     ]
 }
 
-/// Of an order whose save fails, and of what comes then.
+/// Returns the rows of an order whose save fails, and of what comes then.
 pub(crate) fn of_saves() -> [RefusalRow; 14] {
     let (take, drop) = (Order::Take(TPC), Order::Drop(TPC));
     let stopped = Wanted::Fault(StepFault::Stopped);
@@ -162,7 +162,7 @@ pub(crate) fn of_saves() -> [RefusalRow; 14] {
     ]
 }
 
-/// The bytes of the take come, with what the input changes of them.
+/// Takes in the bytes of the take, with what the input changes of them.
 fn read(station: &mut Tried<'_>, out: &mut Out, input: RefusedInput) -> Result<Heard, StepFault> {
     let mut bytes = TAKE;
     if let RefusedInput::Changed(place, value) = input {
@@ -194,7 +194,7 @@ fn fail_no_more(station: &mut Tried<'_>) {
     station.stable_mut().unplan();
 }
 
-/// The input comes.
+/// Takes in the input.
 fn come(
     alloc: Global,
     station: &mut Tried<'_>,
@@ -217,7 +217,7 @@ fn come(
     }
 }
 
-/// Whether the one answer is this code to the operator who ordered, and there is none to bytes.
+/// Returns true if the one answer is this code to the operator who ordered, and there is none to bytes.
 fn is_answered(out: &Out, input: RefusedInput, code: u16) -> bool {
     let answers = out.answers();
     match input {
@@ -231,7 +231,7 @@ fn is_answered(out: &Out, input: RefusedInput, code: u16) -> bool {
     }
 }
 
-/// Whether the input came out as wanted, where the rows are as before or not.
+/// Returns true if the input came out as wanted, with the rows are as before or not.
 fn is_so(row: RefusalRow, heard: Result<Heard, StepFault>, out: &Out, are_as_before: bool) -> bool {
     let sent = out.datagrams().len();
     match row.1 {
@@ -258,7 +258,7 @@ fn are_same(one: &[SavedRow], other: &[SavedRow]) -> bool {
             && a.bytes.as_slice() == b.bytes.as_slice())
 }
 
-/// Whether a row comes out as wanted at a station that has these rows.
+/// Returns true if a row comes out as wanted at a station that has these rows.
 fn is_as_wanted(
     alloc: Global,
     station: &mut Tried<'_>,
@@ -280,7 +280,7 @@ fn is_good(alloc: Global, station: &mut Tried<'_>, out: &mut Out, row: RefusalRo
     }
 }
 
-/// How many rows, from the first on, come out as wanted.
+/// Returns how many rows, from the first on, come out as wanted.
 pub(crate) fn count_of(
     alloc: Global,
     station: &mut Tried<'_>,
@@ -297,7 +297,7 @@ pub(crate) fn count_of(
     good
 }
 
-/// The row of the operator of the crowd.
+/// Returns the row of the operator of the crowd.
 fn crowded(alloc: Global) -> Result<Vec<u8>, AllocError> {
     let mut row = Vec::new(alloc);
     row.extend_from_slice(&[3, 0, 0, 16])?;
@@ -319,7 +319,7 @@ fn crowded(alloc: Global) -> Result<Vec<u8>, AllocError> {
     Ok(row)
 }
 
-/// The station is started again with the row of the operator of the crowd.
+/// Starts the station again with the row of the operator of the crowd.
 fn crowd(alloc: Global, station: &mut Tried<'_>, row: &[u8]) -> bool {
     let key = Key {
         station: A,

@@ -244,7 +244,7 @@ fn schedules_have_items<R: Abort>(rt: &R, alloc: Global, tree: &Tree) -> Result<
     Ok(())
 }
 
-/// The line and the number of a schedule's fault.
+/// Returns the line and the number of a schedule's fault.
 fn fault_of(alloc: Global, tree: &Tree, bytes: &[u8]) -> Option<ScheduleFault> {
     match read_schedule(alloc, tree, bytes) {
         Ok(_) => None,

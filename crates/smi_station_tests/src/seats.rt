@@ -79,7 +79,7 @@ fn order_second<R: Clock>(clock: &R, seat: &mut Seat, what: Order, told: &ToldCo
     }
 }
 
-/// The first operator has a seat and no order until the second was told.
+/// Plays the first operator, who has a seat and no order until the second was told.
 fn operate<R: Threads + Clock + Sync>(rt: &R, first: Seat, second: Seat, told: &ToldCount) {
     join(
         rt,
@@ -115,7 +115,7 @@ fn serve_all<J: BoardId, R: Wait + Clock>(
     false
 }
 
-/// The first two seats.
+/// Returns the first two seats.
 fn two_of(seats: Vec<Seat>) -> Option<(Seat, Seat)> {
     let mut seats = seats;
     seats.truncate(2);

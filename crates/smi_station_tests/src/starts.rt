@@ -57,7 +57,7 @@ pub(crate) fn rows_of(
     ]
 }
 
-/// A store with these rows. One that memory was refused for has fewer, so that nothing comes out as told.
+/// Returns a store with these rows. One that memory was refused for has fewer, so that nothing comes out as told.
 pub(crate) fn filled(alloc: Global, rows: StoredRows) -> Store {
     let mut store = blank(alloc);
     for (key, bytes) in rows {
@@ -72,7 +72,7 @@ fn are(list: &[SavedRow], rows: StoredRows) -> bool {
             && row.bytes.as_slice() == wanted.1)
 }
 
-/// Whether the store has these rows and no other.
+/// Returns true if the store has these rows and no other.
 pub(crate) fn has(store: &mut Store, rows: StoredRows) -> bool {
     match rows_in(store) {
         Ok(list) => are(&list, rows),
@@ -90,7 +90,7 @@ fn told(station: &Tried<'_>) -> StartResult {
     ))
 }
 
-/// How a start at a store ends, and the store then.
+/// Returns how a start at a store ends, and the store then.
 fn started(alloc: Global, tree: &Tree, station: u16, store: Store) -> (StartResult, Store) {
     match Station::open(alloc, tree, station, store) {
         Ok(station) => (told(&station), station.into_stable()),
@@ -137,14 +137,14 @@ fn starts() -> [Start; 7] {
     ]
 }
 
-/// Whether a start comes out as told.
+/// Returns true if a start comes out as told.
 fn is_as_told(alloc: Global, tree: &Tree, case: Start) -> bool {
     let (station, before, after, wanted) = case;
     let (outcome, mut store) = started(alloc, tree, station, filled(alloc, before));
     outcome == wanted && has(&mut store, after)
 }
 
-/// How many starts, from the first on, come out as told.
+/// Returns how many starts, from the first on, come out as told.
 pub(crate) fn count_of(alloc: Global, tree: &Tree) -> usize {
     let mut good = 0;
     for case in starts() {

@@ -55,7 +55,8 @@ pub(crate) enum Table {
     Migrations,
 }
 
-/// How many rows of a table, from the first on, come out as told; none where its tree is refused or no station opens.
+/// Returns how many rows of a table, from the first on, come out as told; none if its tree is refused or no station
+/// opens.
 pub(crate) fn count_of(alloc: Global, table: Table) -> usize {
     let text = if table == Table::Crowd { CROWD } else { WORKED };
     match Tree::read(alloc, text) {
@@ -111,7 +112,7 @@ fn at_both(
     }
 }
 
-/// A store that is empty, and fails at no save unless it is told to.
+/// Returns a store that is empty, and fails at no save unless it is told to.
 pub(crate) fn blank(alloc: Global) -> Store {
     PlannedStable::new(MemoryStable::new(alloc))
 }
@@ -124,7 +125,7 @@ pub(crate) fn step(
     station.step(event, out)
 }
 
-/// The rows of a store, by rising key.
+/// Returns the rows of a store, by rising key.
 pub(crate) fn rows_in(store: &mut Store) -> Result<Vec<SavedRow>, StoreFault> {
     store.load()
 }

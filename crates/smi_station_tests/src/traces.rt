@@ -104,7 +104,7 @@ const SHOWN: [(u16, u32, u32, u16, &[u8]); 5] = [
     (4, 1, 1, 5, b"passed 4 1.1 5\n"),
 ];
 
-/// The text of a line, in a buffer that had another one.
+/// Returns the text of a line, in a buffer that had another one.
 fn text_of(alloc: Global, tree: &Tree, line: &Line) -> Result<Vec<u8>, AllocError> {
     let mut text = Vec::from_slice(alloc, b"what was there")?;
     spell(&mut text, tree, line)?;
@@ -168,7 +168,7 @@ fn orders_are_read<R: Abort>(rt: &R, alloc: Global, tree: &Tree) -> Result<(), A
     Ok(())
 }
 
-/// What BOB is told who asked about TPC.
+/// Returns what BOB is told who asked about TPC.
 fn asked(record: Record) -> Entry {
     Entry::Told {
         operator: 2,
@@ -252,7 +252,7 @@ fn states_are_read<R: Abort>(rt: &R, alloc: Global, tree: &Tree) -> Result<(), A
     Ok(())
 }
 
-/// How the `number`-th datagram reads that goes from station 1 to station 2.
+/// Returns true if the `number`-th datagram reads so that goes from station 1 to station 2.
 fn is_sent(
     alloc: Global,
     tree: &Tree,
@@ -368,7 +368,7 @@ const LINES: [Line; 2] = [
     }),
 ];
 
-/// A writer that has room for this many bytes of a trace has that prefix of it.
+/// Checks that a writer that has room for this many bytes of a trace has that prefix of it.
 fn prefixes_are_written<R: Abort>(rt: &R, alloc: Global, tree: &Tree) -> Result<(), Unwritten> {
     let want = b"booted B 1\nfreed TPC 2\n";
     let mut text = Vec::new(alloc);

@@ -56,8 +56,8 @@ const fn failing(faults: (u32, u32), turns: u32, ended: Result<(), ServeFault>) 
     }
 }
 
-/// Whichever is lost of the first datagrams, of which two are the take and its answer, a later tick makes it good. A
-/// hundred faults in a row end the service, and ninety-nine do not.
+/// Returns the trials: whichever is lost of the first datagrams, of which two are the take and its answer, a later
+/// tick makes it good. A hundred faults in a row end the service, and ninety-nine do not.
 fn trials() -> [Trial; 10] {
     [
         lost(1),
@@ -97,7 +97,8 @@ fn code(told: Option<Told>) -> Option<u16> {
     }
 }
 
-/// Whether the operator's one order, at its seat, fares as the trial says. All that is expensive to drop is another's.
+/// Returns whether the operator's one order, at its seat, fares as the trial says. All that is expensive to drop is
+/// another's.
 fn over_link<J: BoardId, R: Wait>(
     rt: &R,
     station: &mut Station<'_, MemoryStable>,
@@ -161,7 +162,7 @@ fn over_tree<J: BoardId, R: Wait>(
     }
 }
 
-/// How many trials came out as told.
+/// Returns how many trials came out as told.
 fn all_over_tree<J: BoardId, R: Wait>(
     rt: &R,
     alloc: Global,

@@ -26,7 +26,7 @@ const RUN: [u8; 44] = [
     0, 0x11, 0, 0, 0, 0, 0, 0, 0, 0, 0, 0, 0, 0,
 ];
 
-/// The bytes with other values at some places.
+/// Returns the bytes with other values at some places.
 fn with(bytes: [u8; 44], changes: &[(usize, u8)]) -> [u8; 44] {
     let mut changed = bytes;
     for (place, value) in changes {
@@ -37,8 +37,8 @@ fn with(bytes: [u8; 44], changes: &[(usize, u8)]) -> [u8; 44] {
     changed
 }
 
-/// Whether a take and then this datagram are answered with the record that is taken and then with this one, if any, and
-/// whether that ends so.
+/// Returns whether a take and then this datagram are answered with the record that is taken and then with this one,
+/// if any, and whether that ends so.
 fn are_answered(
     alloc: Global,
     second: [u8; 44],
@@ -93,7 +93,7 @@ fn answers(rt: HostRuntime) -> Result<(), Fail> {
     Ok(())
 }
 
-/// How these bytes end, and how many bytes are answered.
+/// Returns how these bytes end, and how many bytes are answered.
 fn ended(alloc: Global, bytes: &[u8]) -> (Answered, usize) {
     let mut input = bytes;
     let mut written = Vec::new(alloc);
@@ -164,8 +164,8 @@ const FAULTS: [(usize, bool, usize, bool, Answered); 9] = [
     (60, true, 44, false, Answered::ReadFault),
 ];
 
-/// How a reader of these bytes ends that may fail then, before a writer with so much room; and whether that has the
-/// front of what was taken.
+/// Returns how a reader of these bytes ends that may fail then, before a writer with so much room; and whether that
+/// has the front of what was taken.
 fn faulty(
     alloc: Global,
     bytes: &[u8],
@@ -189,7 +189,7 @@ fn faulty(
     (end, is_front)
 }
 
-/// A take, and one with a byte that has to be zero and is not.
+/// Returns a take, and one with a byte that has to be zero and is not.
 fn take_and_refused() -> [u8; 88] {
     let mut bytes = [0; 88];
     bytes[..44].copy_from_slice(&TAKE);
@@ -225,7 +225,8 @@ fn a_reader_that_would_block_fails(rt: HostRuntime) {
     assert_eq!(rt; end, Answered::ReadFault);
 }
 
-/// The exit status of a check of a text before a writer with so much room, and whether it tells this and this fault.
+/// Returns the exit status of a check of a text before a writer with so much room, and whether it tells this and this
+/// fault.
 fn checked(alloc: Global, text: &str, room: usize, told: &str, fault: &str) -> (u8, bool) {
     let mut writer = Narrow {
         written: Vec::new(alloc),
@@ -262,7 +263,7 @@ const TAKEN_ROW: [u8; 24] = [
     2, 1, 0, 2, 0, 0, 0, 0, 0, 0, 0, 1, 0, 0, 0, 0, 0, 0, 0, 0, 0, 0, 0, 0,
 ];
 
-/// A store with three rows.
+/// Returns a store with three rows.
 fn three_rows(alloc: Global) -> Result<MemoryStable, StoreFault> {
     let mut stable = MemoryStable::new(alloc);
     stable.save(key(2, 0, 2), &[3, 0, 0, 0xAF])?;
@@ -271,7 +272,7 @@ fn three_rows(alloc: Global) -> Result<MemoryStable, StoreFault> {
     Ok(stable)
 }
 
-/// How a store is listed before a writer with so much room, and whether this is written.
+/// Returns how a store is listed before a writer with so much room, and whether this is written.
 fn listed(
     alloc: Global,
     stable: &mut MemoryStable,

@@ -10,7 +10,7 @@ use std::test::Fail;
 const LISTING: &str =
     "1 0 0 0200000000000002\n1 1 0 020100020000000000000001000000000000000000000000\n2 0 2 030000010002020000000000000000010000000000000000\n";
 
-/// Boot 2 of station 1, a domain that operator 2 took, and what that operator holds.
+/// Returns boot 2 of station 1, a domain that operator 2 took, and what that operator holds.
 fn saved_rows() -> [(Key, &'static [u8]); 3] {
     [
         (key(1, 0, 0), BOOT),
@@ -37,7 +37,7 @@ fn save_in<S: Stable>(store: &mut S, order: [usize; 3]) -> Result<(), StoreFault
     Ok(())
 }
 
-/// Whether the listing is printed of a store in which the rows were saved in this order.
+/// Returns whether the listing is printed of a store in which the rows were saved in this order.
 fn is_printed<S: Stable>(alloc: Global, store: &mut S, order: [usize; 3]) -> Result<bool, Fail> {
     save_in(store, order)?;
     let mut text = Vec::new(alloc);
@@ -74,7 +74,7 @@ fn is_printed_on_disks<S: OnDisks<Disks = FusedFiles>>(
     printed
 }
 
-/// Whether the rows of a store on disks are printed, whatever the order in which they were saved.
+/// Returns whether the rows of a store on disks are printed, whatever the order in which they were saved.
 pub(crate) fn are_printed<S: OnDisks<Disks = FusedFiles>>(alloc: Global) -> Result<bool, Fail> {
     for order in ORDERS {
         if !is_printed_on_disks::<S>(alloc, order)? {

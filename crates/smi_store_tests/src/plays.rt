@@ -32,7 +32,7 @@ fn are_made<S: OnDisks<Disks = FusedFiles>>(
     Ok(playing::are_played::<Closing<S>>(alloc, tree, items)?)
 }
 
-/// Whether the items of a written schedule are played so over the worked tree.
+/// Returns whether the items of a written schedule are played so over the worked tree.
 pub(crate) fn is_written_played<S: OnDisks<Disks = FusedFiles>>(
     alloc: Global,
     tree: &Tree,
@@ -41,7 +41,7 @@ pub(crate) fn is_written_played<S: OnDisks<Disks = FusedFiles>>(
     are_made::<S>(alloc, tree, items.as_slice())
 }
 
-/// Whether this many items that a seed draws are played so.
+/// Returns whether this many items that a seed draws are played so.
 pub(crate) fn are_drawn_played<S: OnDisks<Disks = FusedFiles>>(
     alloc: Global,
     tree: &Tree,

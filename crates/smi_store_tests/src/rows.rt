@@ -15,7 +15,7 @@ const EVEN: &[u8] = &[
     3, 0, 0, 1, 0, 2, 2, 0, 0, 0, 0, 0, 0, 0, 0, 2, 0, 0, 0, 0, 0, 0, 0, 0,
 ];
 
-/// A row of each kind, and of domains and operators two.
+/// Returns a row of each kind, and of domains and operators two.
 fn examples() -> [(Key, &'static [u8]); 5] {
     [
         (key(1, 0, 0), BOOT),
@@ -26,7 +26,7 @@ fn examples() -> [(Key, &'static [u8]); 5] {
     ]
 }
 
-/// 0 for a row that is read.
+/// Returns a row's fault, 0 for a row that is read.
 fn fault(alloc: Global, tree: &Tree, key: Key, bytes: &[u8]) -> u16 {
     match Row::read(alloc, tree, key, bytes) {
         Ok(_) => 0,
@@ -35,7 +35,7 @@ fn fault(alloc: Global, tree: &Tree, key: Key, bytes: &[u8]) -> u16 {
     }
 }
 
-/// The bytes in which what the row says is written.
+/// Returns the bytes in which what the row says is written.
 fn rewritten(alloc: Global, tree: &Tree, key: Key, bytes: &[u8]) -> Result<Vec<u8>, RowFault> {
     match Row::read(alloc, tree, key, bytes)? {
         Row::Boot(boot) => Ok(write_boot(alloc, boot)?),
@@ -46,7 +46,7 @@ fn rewritten(alloc: Global, tree: &Tree, key: Key, bytes: &[u8]) -> Result<Vec<u
     }
 }
 
-/// The bytes with another one at this place.
+/// Returns the bytes with another one at this place.
 fn with_byte(alloc: Global, bytes: &[u8], place: usize, value: u8) -> Result<Vec<u8>, Fail> {
     let mut row = Vec::from_slice(alloc, bytes)?;
     *row.get_mut(place).ok_or("no such byte")? = value;

@@ -2,7 +2,7 @@
 
 use smi_rows::{Key, SavedRow};
 
-/// The key of a row: of a boot the station alone, of a domain and of an operator its number too.
+/// Returns the key of a row: of a boot the station alone, of a domain and of an operator its number too.
 pub const fn key(station: u16, domain: u16, operator: u16) -> Key {
     Key {
         station,

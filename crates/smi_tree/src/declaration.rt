@@ -108,7 +108,7 @@ ghost use Rattle.smi_tree.specs.Declaration.{
   rule_line,
 };
 
-/// The one word of a text. With none, or with more, its count of words is wrong.
+/// Returns the one word of a text. With none, or with more, its count of words is wrong.
 #[inline(always)]
 pub fn one_word(text: &[u8]) -> Result<Word<'_>, Fault>
     ensures { Gives (λ word. word) result (one (words text.now)) }
@@ -198,7 +198,7 @@ pub fn one_name(text: &[u8]) -> Result<Name<'_>, Fault>
     name(word)
 }
 
-/// The two words of a text, where both are well formed as names; their count is tested first.
+/// Returns the two words of a text, if both are well formed as names; their count is tested first.
 #[inline(always)]
 #[tactic(auto, unfolding(crate::specs::Declaration::two_names))]
 pub fn two_names(text: &[u8]) -> Result<(Name<'_>, Name<'_>), Fault>

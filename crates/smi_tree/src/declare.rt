@@ -61,7 +61,7 @@ fn is_child_of(parent: u16, row: &Domain) -> bool
     }
 }
 
-/// The domain above a domain.
+/// Returns the domain above a domain.
 pub(crate) fn parent_in(domains: &[Domain], domain: u16) -> Option<u16>
     ensures { result ≡ parent_in domains.now domain }
 {
@@ -71,7 +71,7 @@ pub(crate) fn parent_in(domains: &[Domain], domain: u16) -> Option<u16>
     }
 }
 
-/// How deep a domain lies, a root at 1.
+/// Returns how deep a domain lies, a root at 1.
 fn depth_in(domains: &[Domain], domain: u16) -> usize
     ensures { result ≡ depth_in domains.now domain }
 {
@@ -147,7 +147,8 @@ impl Tables {
         self.add_move_from(last.class, kind, last.from, action, &to)
     }
 
-    /// The kind of a row's class, and what follows that class and the row's state, where a text begins with these.
+    /// Returns the kind of a row's class, and what follows that class and the row's state, if a text begins with
+    /// these.
     #[inline(always)]
     fn after_class_and_state<'a>(&self, row: Move, text: &'a [u8]) -> Option<(ClassKind, &'a [u8])>
         ensures { IfSome result (λ found. (class from : List ℕ) × (table : ClassTable)
@@ -202,7 +203,7 @@ impl Tables {
         }
     }
 
-    /// Whether a domain, a device or an operator has this name.
+    /// Returns true if a domain, a device or an operator has this name.
     fn is_taken(&self, name: &Name) -> bool
         ensures { result ≡ is_taken self.now name.now }
     {
@@ -383,7 +384,7 @@ impl Tables {
         }
     }
 
-    /// Whether a parent has room for one more child.
+    /// Returns true if a parent has room for one more child.
     #[tactic(auto, unfolding(crate::specs::Additions::has_room))]
     fn has_room(&self, parent: Option<u16>) -> bool
         ensures { result ≡ has_room self.now parent }

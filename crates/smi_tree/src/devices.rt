@@ -28,7 +28,7 @@ impl Model for Devices {
 ghost use Rattle.std.specs.Prelude.{ℕ, ◌≡◌, ◌+◌, ◌<◌, ◌^◌, OnOk, OnErr};
 ghost use Rattle.smi_tree.specs.DeviceCounts.{count_at, IsCountedUp};
 
-/// One more is counted in a domain.
+/// Counts one more in a domain.
 fn count_up(counts: &mut Vec<usize>, domain: u16) -> Result<(), AllocError>
     requires { count_at counts.old.items domain + 1 < 2 ^ 64 }
     ensures ok { OnOk result (IsCountedUp counts.old.items domain counts.new.items) }
@@ -55,7 +55,7 @@ impl Devices {
         }
     }
 
-    /// The devices, by number.
+    /// Returns the devices, by number.
     #[inline(always)]
     pub(crate) fn rows(&self) -> &[Device]
         ensures { result.now ≡ self.now }
@@ -63,7 +63,7 @@ impl Devices {
         self.rows.as_slice()
     }
 
-    /// How many lie in a domain.
+    /// Returns how many lie in a domain.
     pub(crate) fn count_in(&self, domain: u16) -> usize
         ensures { result ≡ count_by (is_device_of domain) self.now }
     {

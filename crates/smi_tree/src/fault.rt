@@ -51,7 +51,7 @@ impl Fault {
     ghost use Rattle.std.specs.Prelude.{◌≡◌};
     ghost use Rattle.smi_tree.specs.Fault.{fault_code};
 
-    /// The number that stands for the fault.
+    /// Returns the number that stands for the fault.
     pub fn code(self) -> u16
         ensures { result ≡ fault_code self }
     {
@@ -130,7 +130,7 @@ impl LineRefusal {
     ghost use Rattle.std.specs.Prelude.{◌≡◌};
     ghost use Rattle.smi_tree.specs.File.{refused_at};
 
-    /// The refusal of the line of this number.
+    /// Returns the refusal of the line of this number.
     pub(crate) fn at_line(self, number: u64) -> TreeFault
         ensures { result ≡ refused_at number self }
     {

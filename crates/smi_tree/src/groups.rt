@@ -7,7 +7,7 @@ use std::alloc::{AllocError, Global};
 pub(crate) trait Belongs {
     ghost belongs: { ℕ → Self → Bool };
 
-    /// The number of what the row belongs to.
+    /// Returns the number of what the row belongs to.
     fn owner(&self) -> Option<u16>
         ensures { (owner : ℕ) → belongs owner self.now ≡ is_number_of result owner };
 }

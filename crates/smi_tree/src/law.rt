@@ -7,7 +7,7 @@ ghost use Rattle.smi_tree.specs.Hierarchy.{Hierarchy};
 ghost use Rattle.smi_tree.specs.File.{tree_of};
 ghost use Rattle.smi_tree.specs.TreeFile.{IsTreeFile, HasFaultyLine, IsIncomplete};
 
-/// The files that are accepted are the tree files, each with the hierarchy that its lines make.
+/// States that the files that are accepted are the tree files, each with the hierarchy that its lines make.
 pub fn tree_files_are_accepted()
     ensures { (bytes : List ℕ) (h : Hierarchy) → (tree_of bytes ≡ Ok h) ↔ IsTreeFile bytes h }
 {}

@@ -11,7 +11,7 @@ use crate::rule::state_by;
 use crate::tree::Tree;
 use smi_base::MOST_LEVELS;
 
-/// The last domain before `domain` on the way up from `target`.
+/// Returns the last domain before `domain` on the way up from `target`.
 fn towards(domains: &[Domain], domain: u16, target: u16) -> Option<u16>
     ensures { result ≡ towards MOST_LEVELS domains.now domain target }
 {
@@ -52,7 +52,7 @@ impl Tree {
       unit_state,
     };
 
-    /// Where a station is reached.
+    /// Returns the address of a station.
     pub fn address(&self, station: u16) -> Address
         requires least { 1 ≤ station }
         requires most { station ≤ station_count self.now }
@@ -61,7 +61,7 @@ impl Tree {
         self.parts.tables.addresses[usize::from(station) - 1]
     }
 
-    /// The operators of a station, by number.
+    /// Returns the operators of a station, by number.
     pub fn operators(&self, station: u16) -> &[u16]
         requires least { 1 ≤ station }
         requires most { station ≤ station_count self.now }
@@ -70,7 +70,7 @@ impl Tree {
         &self.parts.operators[usize::from(station) - 1]
     }
 
-    /// The station of an operator.
+    /// Returns the station of an operator.
     pub fn operator_station(&self, operator: u16) -> u16
         requires least { 1 ≤ operator }
         requires most { operator ≤ operator_count self.now }
@@ -79,7 +79,7 @@ impl Tree {
         self.parts.tables.homes[usize::from(operator) - 1]
     }
 
-    /// The station, the class and the parent of a domain.
+    /// Returns the station, the class and the parent of a domain.
     pub fn domain(&self, domain: u16) -> Domain
         requires least { 1 ≤ domain }
         requires most { domain ≤ domain_count self.now }
@@ -88,14 +88,14 @@ impl Tree {
         self.parts.tables.domains[usize::from(domain) - 1]
     }
 
-    /// The domain above a domain, none for a root.
+    /// Returns the domain above a domain, none for a root.
     pub fn parent(&self, domain: u16) -> Option<u16>
         ensures { result ≡ parent_of self.now domain }
     {
         parent_in(&self.parts.tables.domains, domain)
     }
 
-    /// The children of a domain, by number.
+    /// Returns the children of a domain, by number.
     pub fn children(&self, domain: u16) -> &[u16]
         requires least { 1 ≤ domain }
         requires most { domain ≤ domain_count self.now }
@@ -104,7 +104,7 @@ impl Tree {
         &self.parts.children[usize::from(domain) - 1]
     }
 
-    /// The devices of a domain, by number.
+    /// Returns the devices of a domain, by number.
     pub fn devices(&self, domain: u16) -> &[u16]
         requires least { 1 ≤ domain }
         requires most { domain ≤ domain_count self.now }
@@ -113,21 +113,21 @@ impl Tree {
         &self.parts.devices[usize::from(domain) - 1]
     }
 
-    /// The child of a domain that a target is below or is, where the target is below the domain.
+    /// Returns the child of a domain that a target is below or is, if the target is below the domain.
     pub fn child_towards(&self, domain: u16, target: u16) -> Option<u16>
         ensures { result ≡ child_towards self.now domain target }
     {
         towards(&self.parts.tables.domains, domain, target)
     }
 
-    /// Whether a chain of parents leads from a target to a domain. No domain is below itself.
+    /// Returns true if a chain of parents leads from a target to a domain. No domain is below itself.
     pub fn is_below(&self, target: u16, domain: u16) -> bool
         ensures { result ≡ is_below self.now target domain }
     {
         self.child_towards(domain, target).is_some()
     }
 
-    /// The domain and the class of a device.
+    /// Returns the domain and the class of a device.
     pub fn device(&self, device: u16) -> Device
         requires least { 1 ≤ device }
         requires most { device ≤ device_count self.now }
@@ -136,7 +136,7 @@ impl Tree {
         self.parts.tables.devices.rows()[usize::from(device) - 1]
     }
 
-    /// The state to which an action moves a device: its own where its class has no row for the two.
+    /// Returns the state to which an action moves a device: its own where its class has no row for the two.
     pub fn moved(&self, device: u16, state: u16, action: u16) -> u16
         ensures { result ≡ moved self.now device state action }
     {
@@ -149,7 +149,7 @@ impl Tree {
         }
     }
 
-    /// The table of a domain's class.
+    /// Returns the table of a domain's class.
     fn class_of_domain(&self, domain: u16) -> Option<&Class>
         ensures { option_copied result ≡ class_of_domain self.now domain }
     {
@@ -157,7 +157,7 @@ impl Tree {
         entry(&self.parts.tables.classes, row.class)
     }
 
-    /// The table of a device's class.
+    /// Returns the table of a device's class.
     fn class_of_device(&self, device: u16) -> Option<&Class>
         ensures { option_copied result ≡ class_of_device self.now device }
     {
@@ -165,7 +165,7 @@ impl Tree {
         entry(&self.parts.tables.classes, row.class)
     }
 
-    /// Whether a domain accepts an action.
+    /// Returns true if a domain accepts an action.
     pub fn accepts(&self, domain: u16, action: u16) -> bool
         ensures { result ≡ accepts self.now domain action }
     {
@@ -175,8 +175,8 @@ impl Tree {
         }
     }
 
-    /// The state of a domain's unit once its members are in these states, 0 for one that is not known: the target of
-    /// the first rule that holds, else the old state.
+    /// Returns the state of a domain's unit once its members are in these states, 0 for one that is not known: the
+    /// target of the first rule that holds, else the old state.
     pub fn unit_state(&self, domain: u16, old: u16, members: &[u16]) -> u16
         ensures { result ≡ unit_state self.now domain old members.now }
     {

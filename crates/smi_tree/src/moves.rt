@@ -176,7 +176,7 @@ impl Moves {
         }
     }
 
-    /// The row of a class for a state and an action.
+    /// Returns the row of a class for a state and an action.
     pub(crate) fn find(&self, class: u16, state: u16, action: u16) -> Option<Move>
         ensures { result ≡ move_in self.now class state action }
     {
@@ -186,7 +186,7 @@ impl Moves {
         }
     }
 
-    /// The row that was put last.
+    /// Returns the row that was put last.
     #[inline(always)]
     pub(crate) fn last(&self) -> Option<Move>
         ensures { result ≡ slice_get self.now (length self.now - 1) }

@@ -148,7 +148,7 @@ impl<'a> Name<'a> {
         }
     }
 
-    /// Its bytes.
+    /// Returns its bytes.
     #[inline(always)]
     pub fn text(&self) -> &'a [u8]
         ensures { result.now ≡ self.now }
@@ -156,7 +156,7 @@ impl<'a> Name<'a> {
         self.text
     }
 
-    /// The same text, to be looked up.
+    /// Returns the same text, to be looked up.
     #[inline(always)]
     pub(crate) fn sought(&self) -> Sought<'a>
         ensures { result ≡ self.now }
@@ -164,7 +164,7 @@ impl<'a> Name<'a> {
         Sought { text: self.text }
     }
 
-    /// Whether a kept name is the same.
+    /// Returns true if a kept name is the same.
     #[inline(always)]
     pub(crate) fn is_same(&self, kept: &NameBuf) -> bool
         ensures { result ≡ bytes_eq self.now kept.now }
@@ -172,7 +172,7 @@ impl<'a> Name<'a> {
         is_same_text(self.text, kept.text())
     }
 
-    /// The same name, to be kept.
+    /// Returns the same name, to be kept.
     pub(crate) fn to_owned(&self) -> NameBuf
         ensures same { result ≡ self.now }
         ensures well_formed { is_name self.now ≡ true }
@@ -187,7 +187,7 @@ impl<'a> Name<'a> {
 impl NameBuf {
     ghost use Rattle.std.specs.Prelude.{◌≡◌};
 
-    /// The bytes of the name.
+    /// Returns the bytes of the name.
     #[inline(always)]
     pub(crate) fn text(&self) -> &[u8]
         ensures { result.now ≡ self.now }
@@ -199,7 +199,7 @@ impl NameBuf {
 ghost use Rattle.std.specs.Prelude.{◌≡◌};
 ghost use Rattle.smi_tree.specs.Name.{is_name, is_name_byte, is_letter, begins_with_letter};
 
-/// Whether a word is well formed as a name.
+/// Returns true if a word is well formed as a name.
 #[inline(always)]
 fn is_name(word: &Word) -> bool
     ensures { result ≡ is_name word.now }

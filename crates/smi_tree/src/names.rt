@@ -16,7 +16,7 @@ use std::marker::Model;
 /// How many marks names may have.
 const MARKS: usize = 1024;
 
-/// A number below `MARKS` in which names mostly differ.
+/// Returns a number below `MARKS` in which names mostly differ.
 #[inline(always)]
 fn mark_of(name: &Name) -> usize
     ensures { result < MARKS }
@@ -50,7 +50,7 @@ impl Model for Names {
         × (list_all is_name n.names.keys ≡ true) };
 }
 
-/// The number is the likely one at this mark.
+/// Notes the number as the likely one at this mark.
 fn note(likely: &mut Vec<u16>, mark: usize, number: u16) -> Result<(), AllocError>
     requires { mark < MARKS }
 {
@@ -118,7 +118,7 @@ impl Names {
         }
     }
 
-    /// What follows the name of a number and the space after it, where a text begins with these.
+    /// Returns what follows the name of a number and the space after it, if a text begins with these.
     #[inline(always)]
     pub(crate) fn after_name<'a>(&self, number: u16, text: &'a [u8]) -> Option<&'a [u8]>
         ensures { IfSome result (λ rest. (name : List ℕ) × (is_name name ≡ true)
@@ -128,7 +128,7 @@ impl Names {
         after_word(text, name.text())
     }
 
-    /// Whether a number is that of a name, which takes no search.
+    /// Returns true if a number is that of a name, which takes no search.
     #[inline(always)]
     pub(crate) fn is_number_of(&self, number: u16, name: &Name) -> bool
         ensures named { IsTrue result → entry self.now number ≡ Some name.now }
@@ -141,7 +141,7 @@ impl Names {
         }
     }
 
-    /// The name of a number.
+    /// Returns the name of a number.
     pub(crate) fn name(&self, number: u16) -> &[u8]
         requires positive { 0 < number }
         requires within { number ≤ length self.now }

@@ -14,7 +14,7 @@ pub struct Address {
     pub port: u16,
 }
 
-/// Whether a word is one to ten decimal digits.
+/// Returns true if a word is one to ten decimal digits.
 fn is_number(word: &[u8]) -> bool
     ensures { result ≡ is_number word.now }
 {
@@ -51,7 +51,7 @@ pub fn number_within(least: u64, most: u64, word: &[u8]) -> Option<u64>
     }
 }
 
-/// A number up to 255 before a mark, and what follows the mark.
+/// Returns a number up to 255 before a mark, and what follows the mark.
 fn part_before(mark: Separator, text: &[u8]) -> Option<(u8, &[u8])>
     ensures { option_map (λ part. (part.0, part.1.now)) result ≡ part_before mark text.now }
 {
@@ -69,7 +69,7 @@ impl Address {
     ghost use Rattle.std.specs.Prelude.{◌≡◌};
     ghost use Rattle.smi_tree.specs.Number.{address_of};
 
-    /// The address that a word stands for, as `127.0.0.1:9001`.
+    /// Returns the address that a word stands for, as `127.0.0.1:9001`.
     #[tactic(auto, unfolding(crate::specs::Number::address_of))]
     pub(crate) fn read(word: &[u8]) -> Option<Address>
         ensures { result ≡ address_of word.now }

@@ -13,7 +13,7 @@ use crate::text::{after_word, first_line, first_word};
 use smi_base::MOST_BYTES_OF_A_LINE;
 use std::alloc::Global;
 
-/// Whether a line that begins with this word is a comment.
+/// Returns true if a line that begins with this word is a comment.
 pub fn is_comment(word: &[u8]) -> bool
     ensures { result ≡ is_comment word.now }
 {
@@ -40,14 +40,14 @@ impl Tables {
     ghost use Rattle.smi_tree.specs.Fault.{Becomes};
     ghost use Rattle.smi_tree.specs.File.{is_begun, is_out_of_place, is_complete, with_line, with_words};
 
-    /// Whether the `tree` line has come.
+    /// Returns true if the `tree` line has come.
     fn is_begun(&self) -> bool
         ensures { result ≡ is_begun self.now }
     {
         self.number != 0
     }
 
-    /// The `tree` line is the first, and there is no second.
+    /// Returns true if the `tree` line is not the first, or there is a second.
     fn is_out_of_place(&self, word: &[u8]) -> bool
         ensures { result ≡ is_out_of_place self.now word.now }
     {
@@ -58,7 +58,7 @@ impl Tables {
         }
     }
 
-    /// Whether there is one of each kind that every tree has.
+    /// Returns true if there is one of each kind that every tree has.
     pub(crate) fn is_complete(&self) -> bool
         ensures { result ≡ is_complete self.now }
     {
@@ -98,7 +98,7 @@ impl Tables {
     }
 }
 
-/// What the lines of a file declare.
+/// Returns what the lines of a file declare.
 pub(crate) fn read_lines(alloc: Global, bytes: &[u8]) -> Result<Tables, TreeFault>
     ensures { Reads result (with_lines 1 undeclared (lines bytes.now)) }
 {

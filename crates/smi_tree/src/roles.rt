@@ -9,28 +9,28 @@ use smi_grant::{Command, Holder};
 
 // ---- what a tree has, and who keeps it
 
-/// Whether the tree has a domain.
+/// Returns true if the tree has a domain.
 pub fn has_domain(tree: &Tree, domain: u16) -> bool
     ensures { result ≡ spec.has_domain tree.now domain }
 {
     0 < domain && domain <= tree.domain_count()
 }
 
-/// Whether the tree has an object.
+/// Returns true if the tree has an object.
 pub fn has_object(tree: &Tree, object: u16) -> bool
     ensures { result ≡ spec.has_object tree.now object }
 {
     1 <= object && object <= tree.object_count()
 }
 
-/// Whether a station keeps a domain.
+/// Returns true if a station keeps a domain.
 pub fn is_keeper(tree: &Tree, station: u16, domain: u16) -> bool
     ensures { result ≡ spec.is_keeper tree.now station domain }
 {
     1 <= domain && domain <= tree.domain_count() && tree.domain(domain).station == station
 }
 
-/// The station that keeps an object: a unit is kept with its domain, and so is a device.
+/// Returns the station that keeps an object: a unit is kept with its domain, and so is a device.
 pub fn keeper_of(tree: &Tree, object: u16) -> u16
     requires least { 1 ≤ object }
     requires most { object ≤ domain_count tree.now + device_count tree.now }
@@ -44,7 +44,7 @@ pub fn keeper_of(tree: &Tree, object: u16) -> u16
     tree.domain(device.domain).station
 }
 
-/// Whether a station keeps an object.
+/// Returns true if a station keeps an object.
 pub fn is_kept_by(tree: &Tree, station: u16, object: u16) -> bool
     ensures { result ≡ spec.is_kept_by tree.now station object }
 {
@@ -60,7 +60,7 @@ pub fn is_kept_by(tree: &Tree, station: u16, object: u16) -> bool
 
 // ---- who is above a domain, and who may hold it
 
-/// Whether the one domain is above the other.
+/// Returns true if the one domain is above the other.
 pub fn is_parent(tree: &Tree, domain: u16, above: u16) -> bool
     ensures { result ≡ spec.is_parent tree.now domain above }
 {
@@ -70,7 +70,7 @@ pub fn is_parent(tree: &Tree, domain: u16, above: u16) -> bool
     }
 }
 
-/// Whether an object is the unit of a child of a domain that the station keeps.
+/// Returns true if an object is the unit of a child of a domain that the station keeps.
 pub fn is_child_unit(tree: &Tree, station: u16, object: u16) -> bool
     ensures { result ≡ spec.is_child_unit tree.now station object }
 {
@@ -80,7 +80,7 @@ pub fn is_child_unit(tree: &Tree, station: u16, object: u16) -> bool
     }
 }
 
-/// Whether the holder may hold the domain: nobody, an operator of the tree, or the domain's parent.
+/// Returns true if the holder may hold the domain: nobody, an operator of the tree, or the domain's parent.
 pub fn is_holder_of(tree: &Tree, domain: u16, holder: Holder) -> bool
     ensures { result ≡ spec.is_holder_of tree.now domain holder }
 {
@@ -91,7 +91,7 @@ pub fn is_holder_of(tree: &Tree, domain: u16, holder: Holder) -> bool
     }
 }
 
-/// The station of a holder, none of nobody and of one that the tree does not have.
+/// Returns the station of a holder, none of nobody and of one that the tree does not have.
 pub fn holder_station(tree: &Tree, holder: Holder) -> Option<u16>
     ensures { result ≡ spec.holder_station tree.now holder }
 {
@@ -114,7 +114,7 @@ pub fn holder_station(tree: &Tree, holder: Holder) -> Option<u16>
     }
 }
 
-/// Whether a holder's station is this one.
+/// Returns true if a holder's station is this one.
 pub fn is_at(tree: &Tree, holder: Holder, station: u16) -> bool
     ensures { result ≡ spec.is_number (spec.holder_station tree.now holder) station }
 {
@@ -124,7 +124,7 @@ pub fn is_at(tree: &Tree, holder: Holder, station: u16) -> bool
     }
 }
 
-/// Whether the tree has the command's action or target.
+/// Returns true if the tree has the command's action or target.
 pub fn is_command_of(tree: &Tree, command: Command) -> bool
     ensures { result ≡ spec.is_command_of tree.now command }
 {

@@ -96,7 +96,7 @@ impl Class {
         self.first
     }
 
-    /// The target of the first rule that holds over the members' states, else the old state.
+    /// Returns the target of the first rule that holds over the members' states, else the old state.
     pub(crate) fn state_by(&self, old: u16, members: &[u16]) -> u16
         ensures { result ≡ state_by self.now.rules old members.now }
     {
@@ -121,7 +121,7 @@ impl Class {
 ghost use Rattle.std.specs.Prelude.{◌≡◌, option_copied, IfSome};
 ghost use Rattle.smi_tree.specs.Hierarchy.{entry, IsEntry};
 
-/// The row of a number, from 1.
+/// Returns the row of a number, from 1.
 pub(crate) fn entry<T>(rows: &[T], number: u16) -> Option<&T>
     ensures row { option_copied result ≡ entry rows.now number }
     ensures within { IfSome result (λ row. IsEntry rows.now number row.now) }

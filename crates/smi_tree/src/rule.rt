@@ -7,7 +7,7 @@ ghost use Rattle.smi_tree.specs.Rules.{holds, state_by};
 use crate::declaration::Quantifier;
 use crate::row::Rule;
 
-/// Whether a rule holds over the states of a domain's members. State 0 stands for one that is not known.
+/// Returns true if a rule holds over the states of a domain's members. State 0 stands for one that is not known.
 fn holds(rule: &Rule, members: &[u16]) -> bool
     ensures { result ≡ holds rule.now members.now }
 {
@@ -30,7 +30,7 @@ fn every_is(members: &[u16], state: u16) -> bool
     members.iter().all(|member| *member == state)
 }
 
-/// The target of the first rule that holds, else the old state.
+/// Returns the target of the first rule that holds, else the old state.
 pub(crate) fn state_by(rules: &[Rule], old: u16, members: &[u16]) -> u16
     ensures { result ≡ state_by rules.now old members.now }
 {

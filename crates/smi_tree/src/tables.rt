@@ -56,7 +56,7 @@ impl Tables {
     ghost use Rattle.std.specs.Prelude.{◌≡◌};
     ghost use Rattle.smi_tree.specs.Hierarchy.{undeclared};
 
-    /// Nothing is declared yet, not even the number.
+    /// Returns tables without a declaration, and without the number.
     pub(crate) fn new(alloc: Global) -> Tables
         ensures { result ≡ undeclared }
     {

@@ -52,7 +52,7 @@ pub(crate) fn length_before(text: &[u8], mark: Separator) -> usize
     text.len()
 }
 
-/// Whether two texts are the same: as they are short, byte by byte.
+/// Returns true if two texts are the same: as they are short, byte by byte.
 #[inline(always)]
 pub(crate) fn is_same_text(text: &[u8], other: &[u8]) -> bool
     ensures { result ≡ bytes_eq text.now other.now }
@@ -68,7 +68,7 @@ pub(crate) fn is_same_text(text: &[u8], other: &[u8]) -> bool
     true
 }
 
-/// What follows a word and the space after it, where a text begins with these.
+/// Returns what follows a word and the space after it, if a text begins with these.
 #[inline(always)]
 pub(crate) fn after_word<'a>(text: &'a [u8], word: &[u8]) -> Option<&'a [u8]>
     ensures { IfSome result (λ rest. text.now ≡ word.now ++ 32 ∷ rest.now) }
@@ -97,7 +97,7 @@ pub fn length_of_line(text: &[u8]) -> usize
     }
 }
 
-/// The first line of a text, and what follows it.
+/// Returns the first line of a text, and what follows it.
 ///
 /// A carriage return before the line feed is no part of the line.
 pub fn first_line(text: &[u8]) -> Option<(&[u8], &[u8])>
@@ -116,7 +116,7 @@ pub fn first_line(text: &[u8]) -> Option<(&[u8], &[u8])>
     }
 }
 
-/// A line without the carriage return at its end.
+/// Returns a line without the carriage return at its end.
 pub fn without_return(line: &[u8]) -> &[u8]
     ensures { result.now ≡ strip_carriage_return line.now }
 {
@@ -151,7 +151,7 @@ impl<'a> Word<'a> {
     ghost use Rattle.std.specs.List.{list_all};
     ghost use Rattle.smi_tree.specs.Name.{is_name_byte};
 
-    /// Its bytes.
+    /// Returns its bytes.
     #[inline(always)]
     pub fn text(&self) -> &'a [u8]
         ensures { result.now ≡ self.now }
@@ -159,7 +159,7 @@ impl<'a> Word<'a> {
         self.text
     }
 
-    /// Whether each of its bytes is one of a name's.
+    /// Returns true if each of its bytes is one of a name's.
     #[inline(always)]
     pub(crate) fn has_name_bytes_alone(&self) -> bool
         ensures { result ≡ list_all is_name_byte self.now }
@@ -189,7 +189,7 @@ fn word_before_blank(text: &[u8]) -> (usize, bool)
     (text.len(), has_name_bytes_alone)
 }
 
-/// The first word of a line, and what follows it.
+/// Returns the first word of a line, and what follows it.
 #[inline(always)]
 pub fn first_word(line: &[u8]) -> Option<(Word<'_>, &[u8])>
     ensures { MatchOption result (words line.now ≡ []) (λ cut. words line.now ≡ cut.0 ∷ words cut.1.now) }

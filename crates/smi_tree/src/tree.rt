@@ -53,7 +53,7 @@ ghost use Rattle.std.specs.Prelude.{IfOk};
 ghost use Rattle.smi_tree.specs.Lawful.{IsTree};
 ghost use Rattle.smi_tree.specs.Indexed.{IsIndexed};
 
-/// The children and the devices of each domain, and the operators of each station.
+/// Returns the children and the devices of each domain, and the operators of each station.
 fn lists_of(
     alloc: Global,
     tables: &Tables,
@@ -86,7 +86,7 @@ impl Tree {
       object_name,
     };
 
-    /// The tree that a file declares, or the first of its faulty lines with its first fault.
+    /// Returns the tree that a file declares, or the first of its faulty lines with its first fault.
     ///
     /// Out of memory is answered where an allocation was refused, and nowhere else, which tests
     /// alone see.
@@ -122,7 +122,7 @@ impl Tree {
         })
     }
 
-    /// The number of the tree, 1 to 65,535.
+    /// Returns the number of the tree, 1 to 65,535.
     pub fn number(&self) -> u16
         ensures value { result ≡ self.now.number }
         ensures tree { IsTree self.now }
@@ -130,7 +130,7 @@ impl Tree {
         self.parts.tables.number
     }
 
-    /// How many states there are, 1 at least.
+    /// Returns how many states there are, 1 at least.
     pub fn state_count(&self) -> u16
         ensures value { result ≡ state_count self.now }
         ensures tree { IsTree self.now }
@@ -138,7 +138,7 @@ impl Tree {
         self.parts.tables.state_names.len() as u16
     }
 
-    /// How many actions there are, 1 at least.
+    /// Returns how many actions there are, 1 at least.
     pub fn action_count(&self) -> u16
         ensures value { result ≡ action_count self.now }
         ensures tree { IsTree self.now }
@@ -146,7 +146,7 @@ impl Tree {
         self.parts.tables.action_names.len() as u16
     }
 
-    /// How many stations there are, 1 at least.
+    /// Returns how many stations there are, 1 at least.
     pub fn station_count(&self) -> u16
         ensures value { result ≡ station_count self.now }
         ensures tree { IsTree self.now }
@@ -154,7 +154,7 @@ impl Tree {
         self.parts.tables.station_names.len() as u16
     }
 
-    /// How many operators there are, 1 at least.
+    /// Returns how many operators there are, 1 at least.
     pub fn operator_count(&self) -> u16
         ensures value { result ≡ operator_count self.now }
         ensures tree { IsTree self.now }
@@ -162,7 +162,7 @@ impl Tree {
         self.parts.tables.operator_names.len() as u16
     }
 
-    /// How many domains there are, 1 at least.
+    /// Returns how many domains there are, 1 at least.
     pub fn domain_count(&self) -> u16
         ensures value { result ≡ domain_count self.now }
         ensures tree { IsTree self.now }
@@ -170,7 +170,7 @@ impl Tree {
         self.parts.tables.domain_names.len() as u16
     }
 
-    /// How many devices there are.
+    /// Returns how many devices there are.
     pub fn device_count(&self) -> u16
         ensures value { result ≡ device_count self.now }
         ensures tree { IsTree self.now }
@@ -178,14 +178,14 @@ impl Tree {
         self.parts.tables.device_names.len() as u16
     }
 
-    /// How many units and devices there are.
+    /// Returns how many units and devices there are.
     pub fn object_count(&self) -> u16
         ensures { result ≡ domain_count self.now + device_count self.now }
     {
         self.domain_count() + self.device_count()
     }
 
-    /// The name of a state.
+    /// Returns the name of a state.
     pub fn state_name(&self, state: u16) -> &[u8]
         requires least { 1 ≤ state }
         requires most { state ≤ state_count self.now }
@@ -194,7 +194,7 @@ impl Tree {
         self.parts.tables.state_names.name(state)
     }
 
-    /// The name of an action.
+    /// Returns the name of an action.
     pub fn action_name(&self, action: u16) -> &[u8]
         requires least { 1 ≤ action }
         requires most { action ≤ action_count self.now }
@@ -203,7 +203,7 @@ impl Tree {
         self.parts.tables.action_names.name(action)
     }
 
-    /// The name of a station.
+    /// Returns the name of a station.
     pub fn station_name(&self, station: u16) -> &[u8]
         requires least { 1 ≤ station }
         requires most { station ≤ station_count self.now }
@@ -212,7 +212,7 @@ impl Tree {
         self.parts.tables.station_names.name(station)
     }
 
-    /// The name of an operator.
+    /// Returns the name of an operator.
     pub fn operator_name(&self, operator: u16) -> &[u8]
         requires least { 1 ≤ operator }
         requires most { operator ≤ operator_count self.now }
@@ -221,7 +221,7 @@ impl Tree {
         self.parts.tables.operator_names.name(operator)
     }
 
-    /// The name of a domain.
+    /// Returns the name of a domain.
     pub fn domain_name(&self, domain: u16) -> &[u8]
         requires least { 1 ≤ domain }
         requires most { domain ≤ domain_count self.now }
@@ -230,7 +230,7 @@ impl Tree {
         self.parts.tables.domain_names.name(domain)
     }
 
-    /// The name of a device.
+    /// Returns the name of a device.
     pub fn device_name(&self, device: u16) -> &[u8]
         requires least { 1 ≤ device }
         requires most { device ≤ device_count self.now }
@@ -239,7 +239,7 @@ impl Tree {
         self.parts.tables.device_names.name(device)
     }
 
-    /// The name of a unit or a device.
+    /// Returns the name of a unit or a device.
     pub fn object_name(&self, object: u16) -> &[u8]
         requires least { 1 ≤ object }
         requires most { object ≤ domain_count self.now + device_count self.now }
@@ -253,7 +253,7 @@ impl Tree {
         }
     }
 
-    /// The number of a state by its name.
+    /// Returns the number of a state by its name.
     pub fn state_named(&self, name: &[u8]) -> Option<u16>
         ensures number { result ≡ number_of self.now.state_names name.now }
         ensures within { IfSome result (IsBetween 1 (state_count self.now)) }
@@ -261,7 +261,7 @@ impl Tree {
         self.parts.tables.state_names.find(&Sought::of(name))
     }
 
-    /// The number of an action by its name.
+    /// Returns the number of an action by its name.
     pub fn action_named(&self, name: &[u8]) -> Option<u16>
         ensures number { result ≡ number_of self.now.action_names name.now }
         ensures within { IfSome result (IsBetween 1 (action_count self.now)) }
@@ -269,7 +269,7 @@ impl Tree {
         self.parts.tables.action_names.find(&Sought::of(name))
     }
 
-    /// The number of a station by its name.
+    /// Returns the number of a station by its name.
     pub fn station_named(&self, name: &[u8]) -> Option<u16>
         ensures number { result ≡ number_of self.now.station_names name.now }
         ensures within { IfSome result (IsBetween 1 (station_count self.now)) }
@@ -277,7 +277,7 @@ impl Tree {
         self.parts.tables.station_names.find(&Sought::of(name))
     }
 
-    /// The number of an operator by its name.
+    /// Returns the number of an operator by its name.
     pub fn operator_named(&self, name: &[u8]) -> Option<u16>
         ensures number { result ≡ number_of self.now.operator_names name.now }
         ensures within { IfSome result (IsBetween 1 (operator_count self.now)) }
@@ -285,7 +285,7 @@ impl Tree {
         self.parts.tables.operator_names.find(&Sought::of(name))
     }
 
-    /// The number of a domain by its name.
+    /// Returns the number of a domain by its name.
     pub fn domain_named(&self, name: &[u8]) -> Option<u16>
         ensures number { result ≡ number_of self.now.domain_names name.now }
         ensures within { IfSome result (IsBetween 1 (domain_count self.now)) }
@@ -293,7 +293,7 @@ impl Tree {
         self.parts.tables.domain_names.find(&Sought::of(name))
     }
 
-    /// The number of a device by its name.
+    /// Returns the number of a device by its name.
     pub fn device_named(&self, name: &[u8]) -> Option<u16>
         ensures number { result ≡ number_of self.now.device_names name.now }
         ensures within { IfSome result (IsBetween 1 (device_count self.now)) }
@@ -301,7 +301,7 @@ impl Tree {
         self.parts.tables.device_names.find(&Sought::of(name))
     }
 
-    /// The number of a unit or a device by its name.
+    /// Returns the number of a unit or a device by its name.
     pub fn object_named(&self, name: &[u8]) -> Option<u16>
         ensures number { result ≡ object_named self.now name.now }
         ensures within { IfSome result (IsBetween 1 (domain_count self.now + device_count self.now)) }

@@ -64,7 +64,7 @@ impl<J: BoardId> Model for Board<J> {
         ≡ b.rows) × (known_at b.writer.desk.place ≡ Some (name_of J.book)) × (b.none ≡ []) };
 }
 
-/// What waits is handed to the writer, the oldest first.
+/// Hands what waits to the writer, the oldest first.
 fn hand_over(
     growth: &mut BoardGrowth,
     writer: &mut BoardWriter,
@@ -105,7 +105,7 @@ pub(crate) fn publish<R: Wait>(rt: &R, writer: BoardWriter) -> (BoardWriter, Res
 }
 
 impl<J: BoardId> Board<J> {
-    /// The row of an object is pending, after those that are.
+    /// Puts the row of an object after those that are pending.
     ///
     /// It fails only where the board was refused memory, or its history the count of one more row, and
     /// changes nothing then.
@@ -127,7 +127,7 @@ impl<J: BoardId> Board<J> {
         Ok(())
     }
 
-    /// What is pending is published, all at once.
+    /// Publishes what is pending, all at once.
     ///
     /// It fails only where the board was refused memory, and changes nothing then. It waits for the readings
     /// of an earlier publication to end.
@@ -143,7 +143,7 @@ impl<J: BoardId> Board<J> {
         self.growth.publish(rt, &mut self.writer)
     }
 
-    /// What was published so far, for a glance to learn in its thread.
+    /// Returns what was published so far, for a glance to learn in its thread.
     pub fn tell(&self) -> News<J>
         ensures { result ≡ self.now.publications }
     {
@@ -152,14 +152,14 @@ impl<J: BoardId> Board<J> {
         }
     }
 
-    /// Whether a glance has seen nothing but the beginning of what was published: it has, at any time.
+    /// Returns true if a glance has seen nothing but the beginning of what was published: it has, at any time.
     pub fn meet(&self, glance: &Glance<J>) -> bool
         ensures { IsTrue result ↔ IsPrefix glance.now.seen self.now.publications }
     {
         self.tell().meet(glance)
     }
 
-    /// A glance that has seen nothing and was told nothing.
+    /// Returns a glance that has seen nothing and was told nothing.
     ///
     /// It fails only where memory ran out, or where as many glances are out as the board has room
     /// for; tests alone see that.

@@ -6,7 +6,7 @@ ghost use Rattle.smi_view.specs.Newest.{is_further};
 
 use smi_grant::{Phase, Record};
 
-/// The place of a record's last command in its grant: busy with it, and then settled.
+/// Returns the place of a record's last command in its grant: busy with it, and then settled.
 fn place_of(record: &Record) -> u32
     ensures { result ≡ place_of record.now.phase record.now.last }
 {
@@ -16,8 +16,8 @@ fn place_of(record: &Record) -> u32
     }
 }
 
-/// Whether a record has come further than another one of its domain: its epoch is greater, or the same and its last
-/// command is later, or the same and settled where the other is busy. (docs/PROTOCOL.md, "The record".)
+/// Returns true if a record has come further than another one of its domain: its epoch is greater, or the same and
+/// its last command is later, or the same and settled where the other is busy. (docs/PROTOCOL.md, "The record".)
 pub fn is_further(record: &Record, other: &Record) -> bool
     ensures { result ≡ is_further record.now other.now }
 {

@@ -68,8 +68,8 @@ impl<J: BoardId> Model for Glance<J> {
 impl<J: BoardId> News<J> {
     ghost use Rattle.std.specs.Prelude.{◌↔◌, IsTrue};
 
-    /// Whether a glance of that board has seen nothing but the beginning of these publications. It may have seen
-    /// more, if they were told before its last reading.
+    /// Returns true if a glance of that board has seen nothing but the beginning of these publications. It may have
+    /// seen more, if they were told before its last reading.
     pub fn meet(&self, glance: &Glance<J>) -> bool
         ensures { IsTrue result ↔ IsPrefix glance.now.seen self.now }
     {
@@ -77,7 +77,7 @@ impl<J: BoardId> News<J> {
     }
 }
 
-/// A reading of an object, and the rows that it is of, where these begin with what was seen and told.
+/// Returns a reading of an object, and the rows that it is of, if these begin with what was seen and told.
 fn look<J: BoardId>(
     reader: BoardReader,
     object: u16,
@@ -107,8 +107,8 @@ fn look<J: BoardId>(
 }
 
 impl<J: BoardId> Glance<J> {
-    /// The last row of an object among some of the publications, which begin with all that this glance
-    /// has seen and was told; none if they have no row of it. They are what it has seen from then on.
+    /// Returns the last row of an object among some of the publications, which begin with all that this glance has
+    /// seen and was told; none if they have no row of it. They are what it has seen from then on.
     ///
     /// `NoReading` changes nothing.
     pub fn read(&mut self, object: u16) -> Result<Option<Shown>, NoReading>
@@ -131,7 +131,7 @@ impl<J: BoardId> Glance<J> {
         Ok(shown)
     }
 
-    /// From now on no reading has less than what was told.
+    /// Has no reading from now on have less than what was told.
     pub fn learn(&mut self, news: News<J>)
         ensures news { IsPrefix news self.new.told }
         ensures told { IsPrefix self.old.told self.new.told }

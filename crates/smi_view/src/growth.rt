@@ -35,7 +35,7 @@ impl BoardGrowth {
     ghost use Rattle.std.proofs.Common.{deque_capacity, deque_len};
     ghost use Rattle.smi_view.specs.Shows.{IsRefused};
 
-    /// Nothing was refused yet.
+    /// Returns a count of nothing refused.
     pub(crate) fn new() -> BoardGrowth
         ensures { result.count ≡ 0 }
     {
@@ -63,7 +63,7 @@ impl BoardGrowth {
         Ok(())
     }
 
-    /// Rows and one more.
+    /// Returns rows and one more.
     pub(crate) fn with<J: BoardId>(
         &mut self,
         rows: &Rows<J>,

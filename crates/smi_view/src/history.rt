@@ -79,7 +79,7 @@ pub struct NewBoard {
 }
 
 impl NewBoard {
-    /// A history with no rows, for one board.
+    /// Returns a history with no rows, for one board.
     pub fn new() -> NewBoard {
         let (seen, mut first, _second) = Seen::open(Start::alone(), 0, 0);
         NewBoard {
@@ -135,7 +135,7 @@ impl<J: BoardId> Model for Rows<J> {
 }
 
 impl<J: BoardId> Rows<J> {
-    /// A copy.
+    /// Returns a copy.
     pub(crate) fn again(&self) -> Rows<J>
         ensures { result ≡ self.now }
     {
@@ -146,7 +146,7 @@ impl<J: BoardId> Rows<J> {
         }
     }
 
-    /// Whether these are the beginning of others.
+    /// Returns true if these are the beginning of others.
     pub(crate) fn begin(&self, others: &Rows<J>) -> bool
         ensures begin { IsTrue result ↔ IsPrefix self.now others.now }
         ensures follow { MatchBool result (Unit {0}) (IsPrefix others.now self.now) }
@@ -156,7 +156,7 @@ impl<J: BoardId> Rows<J> {
         self.count <= others.count
     }
 
-    /// These rows and one more; none where more were put already.
+    /// Returns these rows and one more; none if more were put already.
     pub(crate) fn with(&self, counter: &RowCounter<J>, row: Shown) -> Option<Rows<J>>
         ensures { IfSome result (λ rows. rows ≡ self.now ++ row ∷ []) }
     {
@@ -184,7 +184,7 @@ impl<J: BoardId> Rows<J> {
         })
     }
 
-    /// The same rows, for a copy of the board.
+    /// Returns the same rows, for a copy of the board.
     pub(crate) fn mark(&self) -> HistoryMark
         ensures rows { result.seen.log ≡ self.now }
         ensures book { result.seen.book ≡ J.book }
@@ -206,7 +206,7 @@ pub struct HistoryMark {
 }
 
 impl HistoryMark {
-    /// A copy.
+    /// Returns a copy.
     pub(crate) fn again(&self) -> HistoryMark
         ensures { result ≡ self.now }
     {
@@ -216,7 +216,7 @@ impl HistoryMark {
         }
     }
 
-    /// The same rows, as those of a board.
+    /// Returns the same rows, as those of a board.
     pub(crate) fn rows<J: BoardId>(&self) -> Rows<J>
         requires { self.now.seen.book ≡ J.book }
         ensures { result ≡ self.now.seen.log }

@@ -25,7 +25,7 @@ impl Model for Picture {
     ghost view = { λ p. record { objects = p.objects.items; domains = p.domains.items } };
 }
 
-/// What is had of an object, once a state of it is shown.
+/// Returns what is had of an object, once a state of it is shown.
 fn shown_after(had: Option<Sight>, shown: Shown, now: u64) -> Sight
     ensures { Some result ≡ shown_after had shown now }
 {
@@ -35,7 +35,7 @@ fn shown_after(had: Option<Sight>, shown: Shown, now: u64) -> Sight
     }
 }
 
-/// What is had of a domain, once a record of it is told.
+/// Returns what is had of a domain, once a record of it is told.
 fn told_after(had: &Option<Hearing>, told: &Record, now: u64) -> Hearing
     ensures { Some result ≡ told_after had.now told.now now }
 {
@@ -82,7 +82,7 @@ impl Picture {
         })
     }
 
-    /// The newest state of an object, by its number from 1.
+    /// Returns the newest state of an object, by its number from 1.
     pub fn object(&self, object: usize) -> Option<Sight>
         ensures { result ≡ object_of self.now object }
     {
@@ -93,7 +93,7 @@ impl Picture {
         }
     }
 
-    /// The furthest record of a domain, by its number from 1.
+    /// Returns the furthest record of a domain, by its number from 1.
     pub fn domain(&self, domain: u16) -> Option<Hearing>
         ensures { result ≡ domain_of self.now domain }
     {
@@ -116,7 +116,7 @@ impl Picture {
         1 <= domain && usize::from(domain) <= self.domains.len()
     }
 
-    /// A state of an object that is there is shown.
+    /// Takes in a state of an object that is there.
     fn put_shown(&mut self, shown: Shown, now: u64)
         requires least { 1 ≤ shown.object }
         requires most { shown.object ≤ length self.old.objects }
@@ -129,7 +129,7 @@ impl Picture {
         self.objects[usize::from(shown.object) - 1] = Some(shown_after(had, shown, now));
     }
 
-    /// A record of a domain that is there is told.
+    /// Takes in a record of a domain that is there.
     fn put_told(&mut self, domain: u16, told: &Record, now: u64)
         requires least { 1 ≤ domain }
         requires most { domain ≤ length self.old.domains }
@@ -154,8 +154,8 @@ impl Picture {
         }
     }
 
-    /// A record of a domain was told at this time: the domain is heard then. The record is kept if it is the first,
-    /// or has come further than what was had; one of a domain that is not there is nowhere.
+    /// Takes in a record of a domain that was told at this time: the domain is heard then. The record is kept if it
+    /// is the first, or has come further than what was had; one of a domain that is not there is nowhere.
     #[tactic(auto, using(crate::proofs::Notes::takes_told, crate::proofs::Notes::takes_no_told))]
     pub fn tell(&mut self, domain: u16, told: &Record, now: u64)
         ensures { TakesIn (Told domain told.now now ∷ []) self.old self.new }

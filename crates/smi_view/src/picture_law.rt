@@ -20,8 +20,8 @@ ghost use Rattle.smi_view.specs.Pictured.{Pictured};
 ghost use Rattle.smi_view.specs.declared.sight.Hearing.{Hearing};
 ghost use Rattle.smi_view.specs.declared.sight.Sight.{Sight};
 
-/// Whatever was noted, in whatever order: what is had of an object then is no older than any state of it that was
-/// noted, it is one of these or what was had before, and it is no older than what was had before.
+/// States, of whatever was noted in whatever order: what is had of an object then is no older than any state of it
+/// that was noted, it is one of these or what was had before, and it is no older than what was had before.
 pub fn newest_is_kept()
     ensures newest { (object : ℕ) (had : Option Sight) (notes : List Note) →
         HasNewest object notes (object_after object had notes) }
@@ -31,9 +31,9 @@ pub fn newest_is_kept()
         ShowsAtLeast version had → ShowsAtLeast version (object_after object had notes) }
 {}
 
-/// Whatever was noted, in whatever order: the record that is had of a domain then has come as far as any that was
-/// noted, it is one of these or the one that was had before, and has come as far as that one. To have come further is
-/// to rank above.
+/// States, of whatever was noted in whatever order: the record that is had of a domain then has come as far as any
+/// that was noted, it is one of these or the one that was had before, and has come as far as that one. To have come
+/// further is to rank above.
 pub fn furthest_is_kept()
     ensures furthest { (domain : ℕ) (had : Option Hearing) (notes : List Note) →
         HasFurthest domain notes (domain_after domain had notes) }
@@ -46,7 +46,8 @@ pub fn furthest_is_kept()
     ensures ranks { (r s : grants.Standing) → is_further r s ≡ true → RanksBelow s r }
 {}
 
-/// A picture into which notes are taken keeps up with what was had in it before, of each object and each domain.
+/// States that a picture into which notes are taken keeps up with what was had in it before, of each object and each
+/// domain.
 pub fn nothing_goes_back()
     ensures { (notes : List Note) (before after : Pictured) → TakesIn notes before after → KeepsUp before after }
 {}

@@ -27,7 +27,7 @@ pub struct BoardCopy {
 }
 
 impl BoardCopy {
-    /// A copy with no row of any object.
+    /// Returns a copy with no row of any object.
     pub(crate) fn new(alloc: Global, mark: HistoryMark) -> BoardCopy
         ensures entries { result.last.entries ≡ [] }
         ensures mark { result.mark ≡ mark }
@@ -38,7 +38,7 @@ impl BoardCopy {
         }
     }
 
-    /// The last row of an object.
+    /// Returns the last row of an object.
     pub(crate) fn shown(&self, object: u16) -> Option<Shown>
         requires { self.now.last.entries ≡ entries_of self.now.mark.seen.log }
         ensures { result ≡ last_row object self.now.mark.seen.log }

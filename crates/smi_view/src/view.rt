@@ -16,15 +16,15 @@ pub enum Acceptance {
     NotNewer,
 }
 
-/// Whether one version is newer than another: its boot is greater, or its boot is the same and its
-/// sequence is greater.
+/// Returns true if one version is newer than another: its boot is greater, or its boot is the same and its sequence
+/// is greater.
 pub fn is_newer(version: Version, other: Version) -> bool
     ensures { result ≡ is_newer version other }
 {
     version.boot > other.boot || (version.boot == other.boot && version.sequence > other.sequence)
 }
 
-/// Whether a version is newer than that of the last state, or there is none.
+/// Returns true if a version is newer than that of the last state, or there is none.
 fn is_newer_than_last(last: Option<Shown>, version: Version) -> bool
     ensures { result ≡ is_newer_than_last last version }
 {
@@ -34,7 +34,7 @@ fn is_newer_than_last(last: Option<Shown>, version: Version) -> bool
     }
 }
 
-/// What was accepted last of an object, in a table by number.
+/// Returns what was accepted last of an object, in a table by number.
 fn last_in(table: &[Option<Shown>], object: u16) -> Option<Shown>
     ensures { result ≡ last_in table.now object }
 {
@@ -67,7 +67,7 @@ impl View {
     ghost use Rattle.std.specs.Prelude.{◌≡◌, ◌≤◌, ℕ, None, length, IfOk};
     ghost use Rattle.smi_view.specs.Accepting.{acceptance, last_of, last_after};
 
-    /// A station's view in this boot, of objects 1 to `objects`, of which nothing was shown yet.
+    /// Returns a station's view in this boot, of objects 1 to `objects`, of which nothing was shown yet.
     ///
     /// It fails only where memory ran out, which tests alone see.
     pub fn new(alloc: Global, objects: u16, boot: u32) -> Result<View, AllocError>
@@ -82,14 +82,14 @@ impl View {
         Ok(View { boot, table })
     }
 
-    /// The state that was accepted last of an object, with its version.
+    /// Returns the state that was accepted last of an object, with its version.
     pub fn last(&self, object: u16) -> Option<Shown>
         ensures { result ≡ last_of self.now object }
     {
         last_in(&self.table, object)
     }
 
-    /// A told state, which echoes the boot of the station that it answers.
+    /// Takes a told state, which echoes the boot of the station that it answers.
     pub fn accept(&mut self, echo: u32, shown: Shown) -> Acceptance
         requires least { 1 ≤ shown.object }
         requires most { shown.object ≤ length self.old.table }

@@ -28,7 +28,7 @@ impl WatchFault {
     ghost use Rattle.std.specs.Prelude.{◌≡◌};
     ghost use Rattle.smi_watchers.specs.Fault.{answer_code};
 
-    /// The number of the fault, 1 or 2.
+    /// Returns the number of the fault, 1 or 2.
     pub fn code(self) -> u16
         ensures { result ≡ answer_code self }
     {

@@ -34,21 +34,21 @@ impl Cells {
     ghost use Rattle.std.specs.Prelude.{◌≡◌, ◌∷◌, [], Some, None, IsSome};
     ghost use Rattle.smi_watchers.specs.Held.{found, without};
 
-    /// No cell.
+    /// Returns no cells.
     pub fn new() -> Cells
         ensures { result.held ≡ [] }
     {
         Cells {}
     }
 
-    /// There is no cell left.
+    /// Ends when there is no cell left.
     pub fn end(self)
         requires { self.held ≡ [] }
     {
         let Cells {} = self;
     }
 
-    /// One more cell, in room that was taken before.
+    /// Puts one more cell, in room that was taken before.
     pub fn fill(&mut self, room: Vacant<Cell, Global>, cell: Cell) -> Spot
         ensures { (self.new.held ≡ (result.at, cell) ∷ self.old.held) × (found result.at self.old.held ≡ None) }
     {
@@ -59,7 +59,7 @@ impl Cells {
         Spot { at: ptr }
     }
 
-    /// A cell is taken out, and its block is left empty.
+    /// Takes a cell out, and leaves its block empty.
     pub fn empty(&mut self, place: Spot, alloc: Global) -> Vacant<Cell, Global>
         requires { IsSome (found place.at self.old.held) }
         ensures { self.new.held ≡ without place.at self.old.held }
@@ -70,7 +70,7 @@ impl Cells {
         }
     }
 
-    /// What a cell holds.
+    /// Reads what a cell holds.
     pub fn read(&self, place: Spot) -> Cell
         requires { IsSome (found place.at self.now.held) }
         ensures { found place.at self.now.held ≡ Some result }
@@ -78,7 +78,7 @@ impl Cells {
         unsafe { *place.at }
     }
 
-    /// A cell holds this from now on.
+    /// Writes what a cell holds from now on.
     pub fn write(&mut self, place: Spot, cell: Cell)
         requires { IsSome (found place.at self.old.held) }
         ensures { self.new.held ≡ (place.at, cell) ∷ without place.at self.old.held }

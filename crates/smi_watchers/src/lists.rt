@@ -61,7 +61,7 @@ impl Lists {
     ghost use Rattle.smi_watchers.specs.Watching.{answer_at};
     ghost use Rattle.smi_watchers.specs.declared.cell.Spot.{Spot as CellAt};
 
-    /// No cell, and a head for each list.
+    /// Returns no cell, and a head for each list.
     ///
     /// It fails only where memory ran out, which tests alone see.
     pub fn new(alloc: Global, objects: u16, stations: u16) -> Result<Lists, AllocError>
@@ -83,7 +83,7 @@ impl Lists {
         })
     }
 
-    /// There is no cell left.
+    /// Ends when there is no cell left.
     pub fn end(self)
         requires { self.held ≡ [] }
     {
@@ -116,7 +116,7 @@ impl Lists {
         }
     }
 
-    /// A node has other neighbours.
+    /// Sets the neighbours of a node.
     fn set_links(&mut self, axis: Axis, list: usize, node: Option<Spot>, links: Sides)
         requires { IsNode axis list node self.old }
         ensures { self.new ≡ with_links axis list node links self.old }
@@ -137,7 +137,7 @@ impl Lists {
         }
     }
 
-    /// Another node comes after one.
+    /// Sets the node that comes after one.
     fn set_after(&mut self, axis: Axis, list: usize, node: Option<Spot>, after: Option<Spot>)
         requires { IsNode axis list node self.old }
         ensures { self.new ≡ with_next axis list node after self.old }
@@ -150,7 +150,7 @@ impl Lists {
         self.set_links(axis, list, node, links);
     }
 
-    /// Another node comes before one.
+    /// Sets the node that comes before one.
     fn set_before(&mut self, axis: Axis, list: usize, node: Option<Spot>, before: Option<Spot>)
         requires { IsNode axis list node self.old }
         ensures { self.new ≡ with_prev axis list node before self.old }
@@ -163,7 +163,7 @@ impl Lists {
         self.set_links(axis, list, node, links);
     }
 
-    /// A cell is taken out of one of its lists: its neighbours are joined.
+    /// Takes a cell out of one of its lists: its neighbours are joined.
     fn unlink(&mut self, axis: Axis, list: usize, place: Spot)
         requires { IsLinked axis list place self.old }
         ensures { self.new ≡ unlinked axis list place self.old }
@@ -173,7 +173,7 @@ impl Lists {
         self.set_before(axis, list, after, before);
     }
 
-    /// A cell becomes the last of a list.
+    /// Makes a cell the last of a list.
     fn link_last(&mut self, axis: Axis, list: usize, place: Spot)
         requires { MayLink axis list place self.old }
         ensures { self.new ≡ linked axis list place self.old }
@@ -188,7 +188,7 @@ impl Lists {
         self.set_before(axis, list, None, Some(place));
     }
 
-    /// The first cell of a list.
+    /// Returns the first cell of a list.
     pub fn first(&self, axis: Axis, list: usize) -> Option<Spot>
         requires { IsNode axis list None self.now }
         ensures { result ≡ next axis list self.now None }
@@ -196,7 +196,7 @@ impl Lists {
         self.links(axis, list, None).after
     }
 
-    /// What a cell holds.
+    /// Returns what a cell holds.
     pub fn cell(&self, place: Spot) -> Cell
         requires { IsSome (found place.at self.now.held) }
         ensures { result ≡ cell_at self.now place }
@@ -204,7 +204,7 @@ impl Lists {
         self.cells.read(place)
     }
 
-    /// The cells of an object's list, in its order.
+    /// Returns the cells of an object's list, in its order.
     pub fn steps(&self, object: usize) -> Steps<'_>
         requires whole { IsWhole self.now }
         requires object { object < length self.now.objects }
@@ -230,7 +230,7 @@ impl Lists {
         None
     }
 
-    /// Room for one more cell.
+    /// Takes room for one more cell.
     ///
     /// It fails only where memory ran out, which tests alone see.
     pub fn room(&self) -> Result<Vacant<Cell, Global>, AllocError> {
@@ -240,7 +240,7 @@ impl Lists {
         }
     }
 
-    /// A new cell, in neither list yet.
+    /// Puts a new cell, in neither list yet.
     fn fill(&mut self, room: Vacant<Cell, Global>, cell: Cell) -> Spot
         ensures { (self.new ≡ with_cell result cell self.old) × (found result.at self.old.held ≡ None) }
     {
@@ -256,7 +256,7 @@ impl Lists {
         let _alloc = room.free();
     }
 
-    /// A new cell is the last in the list of its object and in that of its station.
+    /// Adds a new cell at the end of its object's list and of its station's.
     pub fn add(&mut self, room: Vacant<Cell, Global>, cell: Cell)
         requires whole { IsWhole self.old }
         requires object { cell.object < length self.old.objects }
@@ -268,7 +268,7 @@ impl Lists {
         self.link_last(Axis::Station, usize::from(cell.station), place);
     }
 
-    /// A cell is taken out of both of its lists and given back.
+    /// Takes a cell out of both of its lists and gives it back.
     pub fn take_out(&mut self, place: Spot)
         requires whole { IsWhole self.old }
         requires held { IsSome (found place.at self.old.held) }
@@ -280,7 +280,7 @@ impl Lists {
         self.free(place);
     }
 
-    /// A cell has this echo, if it is newer than its own.
+    /// Gives a cell this echo, if it is newer than its own.
     pub fn renew_at(&mut self, place: Spot, echo: u32) -> WatchAnswer
         requires { IsSome (found place.at self.old.held) }
         ensures answer { result ≡ answer_at (Some (watcher_of (cell_at self.old place))) echo }

@@ -87,7 +87,7 @@ impl Watchers {
       renewed,
     };
 
-    /// Objects 1 to `objects`, which nobody watches.
+    /// Returns lists for the objects 1 to `objects`, which nobody watches.
     ///
     /// It fails only where memory ran out, which tests alone see.
     pub fn new(alloc: Global, objects: u16) -> Result<Watchers, AllocError>
@@ -100,7 +100,7 @@ impl Watchers {
         })
     }
 
-    /// A station, 1 to 128, watches an object with this boot of its own as echo.
+    /// Has a station, 1 to 128, watch an object with this boot of its own as echo.
     ///
     /// It becomes the last in the object's list; if it is there already, the newer echo stays in
     /// its place. `Full` comes exactly where 64 other stations watch the object, `Memory` only where
@@ -132,7 +132,7 @@ impl Watchers {
         Ok(WatchAnswer::Added)
     }
 
-    /// A station, 1 to 128, leaves every list and then watches an object again, the last in its list.
+    /// Has a station, 1 to 128, leave every list and then watch an object again, the last in its list.
     ///
     /// `Memory` changes nothing. `Full` comes where 64 other stations watch the object: the station
     /// has left every list then.
@@ -162,7 +162,7 @@ impl Watchers {
         Ok(WatchAnswer::Added)
     }
 
-    /// Whether as many stations watch an object as may.
+    /// Returns true if as many stations watch an object as may.
     fn is_full(&self, object: u16) -> bool
         requires object_least { 1 ≤ object }
         requires object_most { object ≤ length self.now.lists }
@@ -172,7 +172,7 @@ impl Watchers {
         self.count(object) == MOST_WATCHERS
     }
 
-    /// A station that does not watch an object does so now, the last in its list.
+    /// Has a station watch an object that it does not watch, the last in its list.
     fn add(&mut self, room: Vacant<Cell, Global>, object: u16, station: u16, echo: u32)
         requires object_least { 1 ≤ object }
         requires object_most { object ≤ length self.old.lists }
@@ -191,8 +191,7 @@ impl Watchers {
         self.lists.add(room, cell);
     }
 
-    /// A station, 1 to 128, watches an object no more, unless its echo in the list is newer than
-    /// this one.
+    /// Has a station, 1 to 128, watch an object no more, unless its echo in the list is newer than this one.
     pub fn unwatch(&mut self, object: u16, station: u16, echo: u32)
         requires object_least { 1 ≤ object }
         requires object_most { object ≤ length self.old.lists }
@@ -209,7 +208,7 @@ impl Watchers {
         }
     }
 
-    /// A station, 1 to 128, leaves every list; how many entries it had.
+    /// Has a station, 1 to 128, leave every list. Returns how many entries it had.
     ///
     /// It takes cells from the beginning of the station's own list alone, and counts its looks at a front
     /// cell: [`Watchers::visits`] tells how many they were.
@@ -225,8 +224,7 @@ impl Watchers {
         self.visits as usize
     }
 
-    /// The cells of a station are taken from the beginning of its list until none is left; each look at
-    /// one is counted.
+    /// Takes the cells of a station from the beginning of its list until none is left; each look at one is counted.
     fn clear(&mut self, station: u16)
         requires { station < 129 }
         ensures { self.new ≡ record {
@@ -241,8 +239,8 @@ impl Watchers {
         }
     }
 
-    /// How many front cells the last [`Watchers::leave`] or [`Watchers::renew`] looked at, 0 before
-    /// the first. A `renew` that was refused because memory ran out looked at none and left the number.
+    /// Returns how many front cells the last [`Watchers::leave`] or [`Watchers::renew`] looked at, 0 before the
+    /// first. A `renew` that was refused because memory ran out looked at none and left the number.
     pub fn visits(&self) -> u32
         ensures { result ≡ self.now.visits }
     {
@@ -250,7 +248,7 @@ impl Watchers {
         *visits
     }
 
-    /// The entry of an object's list at place `i`, the first at 0; none past the end.
+    /// Returns the entry of an object's list at place `i`, the first at 0; none past the end.
     pub fn nth(&self, object: u16, i: usize) -> Option<Watcher>
         requires object_least { 1 ≤ object }
         requires object_most { object ≤ length self.now.lists }
@@ -260,7 +258,7 @@ impl Watchers {
         self.walk(object).nth(i)
     }
 
-    /// How many stations watch an object, at most 64.
+    /// Returns how many stations watch an object, at most 64.
     pub fn count(&self, object: u16) -> usize
         requires object_least { 1 ≤ object }
         requires object_most { object ≤ length self.now.lists }
@@ -270,7 +268,7 @@ impl Watchers {
         self.walk(object).count()
     }
 
-    /// The stations that watch an object, in the order of its list.
+    /// Returns the stations that watch an object, in the order of its list.
     pub fn walk(&self, object: u16) -> Walk<'_>
         requires object_least { 1 ≤ object }
         requires object_most { object ≤ length self.now.lists }

@@ -8,7 +8,7 @@ ghost use Rattle.smi_web.specs.Json.{flag, quoted};
 use std::alloc::AllocError;
 use std::io::Write;
 
-/// A piece as it is.
+/// Writes a piece as it is.
 pub(crate) fn put(text: &mut Vec<u8>, piece: &[u8]) -> Result<(), AllocError>
     ensures { OnOk result (text.new.items ≡ text.old.items ++ piece.now) }
 {
@@ -23,7 +23,7 @@ pub(crate) fn put_number(text: &mut Vec<u8>, before: &[u8], number: u64) -> Resu
     write!(text, "{number}").map_err(|_| AllocError)
 }
 
-/// A name, or the number where the tree has no such thing.
+/// Writes a name, or the number if the tree has no such thing.
 fn put_called(text: &mut Vec<u8>, name: Option<&[u8]>, number: u16) -> Result<(), AllocError>
     ensures { OnOk result (text.new.items ≡ text.old.items ++ called (option_map (λ n. n.now) name.entry) number) }
 {

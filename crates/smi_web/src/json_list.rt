@@ -41,7 +41,7 @@ fn put_next<L: Listing>(
     listing.put(text, number)
 }
 
-/// The texts of the numbers from 1 to `count`, with `between` between two of them.
+/// Writes the texts of the numbers from 1 to `count`, with `between` between two of them.
 #[tactic(auto, using(crate::proofs::Numbered::listed_next))]
 pub(crate) fn put_listed<L: Listing>(
     text: &mut Vec<u8>,
@@ -57,7 +57,7 @@ pub(crate) fn put_listed<L: Listing>(
     Ok(())
 }
 
-/// A list of these texts in JSON, whose brackets are in what comes before and after it.
+/// Writes a list of these texts in JSON, whose brackets are in what comes before and after it.
 pub(crate) fn put_list<L: Listing>(
     text: &mut Vec<u8>,
     before: &[u8],

@@ -85,7 +85,7 @@ fn busy_number(phase: Phase) -> u64
     }
 }
 
-/// Milliseconds as seconds with three places.
+/// Writes milliseconds as seconds with three places.
 fn put_seconds(text: &mut Vec<u8>, ms: u64) -> Result<(), AllocError>
     ensures { OnOk result (text.new.items ≡ text.old.items ++ seconds_text ms) }
 {
@@ -124,7 +124,7 @@ fn put_head(text: &mut Vec<u8>, name: &[u8], help: &[u8], kind: &[u8]) -> Result
     put(text, b"\n")
 }
 
-/// A metric of the whole screen.
+/// Writes a metric of the whole screen.
 #[tactic(auto, unfolding(crate::specs::Metrics::whole_text))]
 fn put_whole(
     text: &mut Vec<u8>,
@@ -221,7 +221,7 @@ impl<'a> Listing for Metrics<'a> {
     }
 }
 
-/// A metric with its samples.
+/// Writes a metric with its samples.
 #[tactic(auto, unfolding(crate::specs::Metrics::metric_text))]
 fn put_metric(
     text: &mut Vec<u8>,
@@ -242,7 +242,7 @@ fn put_metric(
     put_listed(text, b"", &metrics, tree.domain_count())
 }
 
-/// How many pictures there were, and how many domains there are.
+/// Writes how many pictures there were, and how many domains there are.
 fn put_screen(text: &mut Vec<u8>, tree: &Tree, number: u64) -> Result<(), AllocError>
     ensures { OnOk result (text.new.items ≡ text.old.items ++ screen_text tree.now number) }
 {
@@ -263,7 +263,7 @@ fn put_screen(text: &mut Vec<u8>, tree: &Tree, number: u64) -> Result<(), AllocE
     Ok(())
 }
 
-/// The states of all objects.
+/// Writes the states of all objects.
 fn put_states(text: &mut Vec<u8>, tree: &Tree, picture: &Picture) -> Result<(), AllocError>
     ensures { OnOk result (text.new.items ≡ text.old.items ++ states_text tree.now picture.now) }
 {
@@ -277,7 +277,7 @@ fn put_states(text: &mut Vec<u8>, tree: &Tree, picture: &Picture) -> Result<(), 
     Ok(())
 }
 
-/// The metrics of all domains.
+/// Writes the metrics of all domains.
 fn put_metrics(
     text: &mut Vec<u8>,
     tree: &Tree,
@@ -294,7 +294,7 @@ fn put_metrics(
     Ok(())
 }
 
-/// All metrics of a picture, with its number and the time at which it was looked at.
+/// Writes all metrics of a picture, with its number and the time at which it was looked at.
 ///
 /// It fails only where memory ran out, which tests alone see.
 pub fn write_metrics(

@@ -216,8 +216,8 @@ impl OrderRelay {
             .position(|order| order.is_answered_by(first, line))
     }
 
-    /// The console has said a line now: what follows its tag is the answer to the order of that tag. A line that
-    /// answers none changes nothing.
+    /// Handles a line that the console has said now: what follows its tag is the answer to the order of that tag. A
+    /// line that answers none changes nothing.
     ///
     /// It fails only where memory ran out, which tests alone see, and changes nothing then.
     pub fn receive_line(&mut self, line: &[u8], now: u64) -> Result<(), AllocError>
@@ -237,7 +237,8 @@ impl OrderRelay {
         self.is_open = true;
     }
 
-    /// The connection has ended: the answers that have not come are lost, and nothing that was given is sent any more.
+    /// Handles the end of the connection: the answers that have not come are lost, and nothing that was given is sent
+    /// any more.
     pub fn close(&mut self)
         ensures { self.new ≡ spec.closed self.old }
     {

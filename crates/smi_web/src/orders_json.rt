@@ -32,14 +32,14 @@ fn end_of(order: &RelayedOrder, now: u64) -> u64
     }
 }
 
-/// For how many whole seconds an order waited, until now at most.
+/// Returns for how many whole seconds an order waited, until now at most.
 fn seconds(order: &RelayedOrder, now: u64) -> u64
     ensures { result ≡ seconds order.now now }
 {
     end_of(order, now).saturating_sub(order.given) / 1_000
 }
 
-/// A code, and what it means.
+/// Writes a code, and what it means.
 #[tactic(auto, unfolding(crate::specs::OrdersJson::code_text))]
 fn put_code(text: &mut Vec<u8>, code: Option<u64>) -> Result<(), AllocError>
     ensures { OnOk result (text.new.items ≡ text.old.items ++ code_text code) }
@@ -53,7 +53,7 @@ fn put_code(text: &mut Vec<u8>, code: Option<u64>) -> Result<(), AllocError>
     }
 }
 
-/// What was said to an order of this line.
+/// Writes what was said to an order of this line.
 #[tactic(auto, unfolding(crate::specs::OrdersJson::answer_text))]
 fn put_answer(text: &mut Vec<u8>, line: &[u8], answer: &Option<Reply>) -> Result<(), AllocError>
     ensures { OnOk result (text.new.items ≡ text.old.items ++ answer_text line.now answer.now) }
@@ -67,7 +67,7 @@ fn put_answer(text: &mut Vec<u8>, line: &[u8], answer: &Option<Reply>) -> Result
     }
 }
 
-/// An order, and its number.
+/// Writes an order, and its number.
 #[tactic(auto, unfolding(crate::specs::OrdersJson::given_text))]
 fn put_given(text: &mut Vec<u8>, order: &RelayedOrder) -> Result<(), AllocError>
     ensures { OnOk result (text.new.items ≡ text.old.items ++ given_text order.now) }
@@ -76,7 +76,7 @@ fn put_given(text: &mut Vec<u8>, order: &RelayedOrder) -> Result<(), AllocError>
     put_text(text, b",\"line\":", order.line.as_slice())
 }
 
-/// For how long it waited or waits, and whether it does.
+/// Writes for how long it waited or waits, and whether it does.
 fn put_waiting(text: &mut Vec<u8>, seconds: u64, waits: bool) -> Result<(), AllocError>
     ensures { OnOk result (text.new.items ≡ text.old.items ++ waiting_text seconds waits) }
 {
@@ -106,7 +106,7 @@ struct Errands<'a> {
     now: u64,
 }
 
-/// The order of a number among these.
+/// Returns the order of a number among these.
 fn errand_at(orders: &[RelayedOrder], number: u16) -> Option<&RelayedOrder>
     ensures { option_map (λ e. e.now) result ≡ entry orders.now number }
 {
@@ -126,7 +126,7 @@ impl<'a> Listing for Errands<'a> {
     }
 }
 
-/// How many orders there are.
+/// Returns how many orders there are.
 fn count_of(orders: &[RelayedOrder]) -> u16
     requires { length orders.now ≤ most_orders }
     ensures { result ≡ length orders.now }
@@ -142,7 +142,7 @@ fn put_orders(text: &mut Vec<u8>, relay: &OrderRelay, now: u64) -> Result<(), Al
     Ok(())
 }
 
-/// The orders that were given, the oldest first, in one line of JSON.
+/// Writes the orders that were given, the oldest first, in one line of JSON.
 ///
 /// It fails only where memory ran out, which tests alone see.
 pub fn write_orders(alloc: Global, relay: &OrderRelay, now: u64) -> Result<Vec<u8>, AllocError>

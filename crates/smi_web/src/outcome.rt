@@ -8,7 +8,7 @@ use smi_tree::number_within;
 /// The most that a code is.
 const MOST_CODE: u64 = 99;
 
-/// What follows in a text that begins so.
+/// Returns what follows in a text that begins so.
 fn rest_of<'a>(front: &[u8], text: &'a [u8]) -> Option<&'a [u8]>
     ensures { option_map (λ rest. rest.now) result ≡ spec.rest_of front.now text.now }
 {
@@ -19,8 +19,8 @@ fn rest_of<'a>(front: &[u8], text: &'a [u8]) -> Option<&'a [u8]>
     }
 }
 
-/// The code with which an order was answered: after `told` come the words of the order, and then its code. Nothing
-/// where something else was said.
+/// Returns the code with which an order was answered: after `told` come the words of the order, and then its code.
+/// Nothing where something else was said.
 pub fn code_of(line: &[u8], answer: &[u8]) -> Option<u64>
     ensures { result ≡ spec.code_of line.now answer.now }
 {
@@ -30,7 +30,7 @@ pub fn code_of(line: &[u8], answer: &[u8]) -> Option<u64>
     number_within(0, MOST_CODE, code)
 }
 
-/// What a code means, in words (docs/NUMBERS.md, "How an order ends").
+/// Returns what a code means, in words (docs/NUMBERS.md, "How an order ends").
 pub fn words_of(code: u64) -> &'static [u8]
     ensures { result.now ≡ spec.words_of code }
 {

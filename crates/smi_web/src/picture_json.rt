@@ -23,7 +23,7 @@ use smi_tree::Tree;
 use smi_view::{Hearing, Picture, Sight};
 use std::alloc::{AllocError, Global};
 
-/// A state that was shown.
+/// Writes a state that was shown.
 fn put_seen(text: &mut Vec<u8>, tree: &Tree, seen: Sight) -> Result<(), AllocError>
     ensures { OnOk result (text.new.items ≡ text.old.items ++ sight_text tree.now (Some seen)) }
 {
@@ -75,7 +75,7 @@ fn put_busy(text: &mut Vec<u8>, phase: Phase) -> Result<(), AllocError>
     }
 }
 
-/// Who holds a domain and since when.
+/// Writes who holds a domain and since when.
 fn put_grant(text: &mut Vec<u8>, tree: &Tree, record: &Record) -> Result<(), AllocError>
     ensures { OnOk result (text.new.items ≡ text.old.items ++ grant_text tree.now record.now) }
 {
@@ -132,7 +132,7 @@ impl<'a> Listing for Domains<'a> {
     }
 }
 
-/// What was seen of a device.
+/// Returns what was seen of a device.
 fn sight_of_device(tree: &Tree, picture: &Picture, device: u16) -> Option<Sight>
     ensures { result ≡ object_of picture.now (domain_count tree.now + device) }
 {
@@ -161,7 +161,7 @@ impl<'a> Listing for SeenDevices<'a> {
     }
 }
 
-/// The picture in one line of JSON, with its number and the time at which it was looked at.
+/// Writes the picture in one line of JSON, with its number and the time at which it was looked at.
 ///
 /// It fails only where memory ran out, which tests alone see.
 pub fn write_picture(

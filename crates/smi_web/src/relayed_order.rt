@@ -29,7 +29,7 @@ pub struct Reply {
     pub at: u64,
 }
 
-/// A text whose copies share its bytes.
+/// Returns a text whose copies share its bytes.
 pub(crate) fn shared(text: Vec<u8>) -> Result<Bytes, AllocError>
     ensures { IfOk result (λ bytes. bytes ≡ text.items) }
 {
@@ -39,7 +39,7 @@ pub(crate) fn shared(text: Vec<u8>) -> Result<Bytes, AllocError>
     }
 }
 
-/// The tag of the order of this number.
+/// Returns the tag of the order of this number.
 fn tag_of(alloc: Global, number: u64) -> Result<Bytes, AllocError>
     ensures { IfOk result (λ tag. tag ≡ spec.tag_of number) }
 {
@@ -71,7 +71,7 @@ impl RelayedOrder {
     ghost use Rattle.std.specs.Prelude.{◌≡◌, IfOk};
     ghost use Rattle.smi_web.specs.RelayedOrder as spec;
 
-    /// The order of this number, whose order was given now.
+    /// Returns the order of this number, whose order was given now.
     pub(crate) fn new(
         alloc: Global,
         number: u64,
@@ -89,7 +89,7 @@ impl RelayedOrder {
         })
     }
 
-    /// What is sent of it.
+    /// Returns what is sent of it.
     pub(crate) fn sent(&self, alloc: Global) -> Result<Vec<u8>, AllocError>
         ensures { IfOk result (λ text. text.items ≡ spec.sent_of self.now) }
     {
@@ -99,21 +99,21 @@ impl RelayedOrder {
         Ok(text)
     }
 
-    /// Whether it waits for its answer, where those before the order `first` wait no more.
+    /// Returns true if it waits for its answer once those before the order `first` wait no more.
     pub(crate) fn is_waiting(&self, first: u64) -> bool
         ensures { result ≡ spec.is_waiting first self.now }
     {
         self.answer.is_none() && first <= self.number
     }
 
-    /// Whether a line answers it.
+    /// Returns true if a line answers it.
     pub(crate) fn is_answered_by(&self, first: u64, line: &[u8]) -> bool
         ensures { result ≡ spec.is_answered_by first line.now self.now }
     {
         self.is_waiting(first) && line.starts_with(self.tag.as_slice())
     }
 
-    /// The answer that a line is, which came now.
+    /// Returns the answer that a line is, which came now.
     pub(crate) fn answer_by(
         &self,
         alloc: Global,

@@ -27,7 +27,7 @@ pub struct Snapshot {
     pub orders: Bytes,
 }
 
-/// A text whose copies share its bytes.
+/// Returns a text whose copies share its bytes.
 fn shared(text: Vec<u8>) -> Result<Bytes, AllocError>
     ensures { IfOk result (λ bytes. bytes ≡ text.items) }
 {
@@ -37,7 +37,7 @@ fn shared(text: Vec<u8>) -> Result<Bytes, AllocError>
     }
 }
 
-/// The query of one who has the picture of this number.
+/// Returns the query of one who has the picture of this number.
 fn version_of(alloc: Global, number: u64) -> Result<Bytes, AllocError>
     ensures { IfOk result (λ bytes. bytes ≡ version_of number) }
 {
@@ -50,7 +50,7 @@ impl Snapshot {
     ghost use Rattle.std.specs.Prelude.{◌≡◌, IfOk, OnErr, OnOk};
     ghost use Rattle.smi_web.specs.Snapshot.{snapshot_of, renewed, with_orders};
 
-    /// The first snapshot, of a page, a tree and a picture, which has number 0 and is looked at at time 0.
+    /// Returns the first snapshot, of a page, a tree and a picture, which has number 0 and is looked at at time 0.
     ///
     /// It fails only where memory ran out, which tests alone see.
     pub fn first(
@@ -74,8 +74,8 @@ impl Snapshot {
         })
     }
 
-    /// The snapshot of a picture, which has this number and is looked at at this time, in place of the one before. The
-    /// page and the tree stay.
+    /// Makes the snapshot of a picture, which has this number and is looked at at this time, in place of the one
+    /// before. The page and the tree stay.
     ///
     /// It fails only where memory ran out, which tests alone see, and changes nothing then.
     pub fn renew(
@@ -97,8 +97,8 @@ impl Snapshot {
         Ok(())
     }
 
-    /// What became of the orders of this relay, looked at at this time, in place of what was told before. All else
-    /// stays.
+    /// Writes what became of the orders of this relay, looked at at this time, in place of what was told before. All
+    /// else stays.
     ///
     /// It fails only where memory ran out, which tests alone see, and changes nothing then.
     pub fn renew_orders(

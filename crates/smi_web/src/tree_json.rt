@@ -199,7 +199,7 @@ impl Kind {
         }
     }
 
-    /// How many of a kind a tree has.
+    /// Returns how many of a kind a tree has.
     fn count(self, tree: &Tree) -> u16
         ensures { result ≡ kind_count tree.now self }
     {
@@ -214,7 +214,7 @@ impl Kind {
     }
 }
 
-/// All of a kind.
+/// Writes all of a kind.
 #[tactic(auto, unfolding(crate::specs::TreeJson::kinds_text))]
 fn put_kinds(text: &mut Vec<u8>, tree: &Tree, kind: Kind) -> Result<(), AllocError>
     ensures { OnOk result (text.new.items ≡ text.old.items ++ kinds_text tree.now kind) }
@@ -235,7 +235,7 @@ fn put_all_kinds(text: &mut Vec<u8>, tree: &Tree) -> Result<(), AllocError>
     Ok(())
 }
 
-/// The tree in one line of JSON.
+/// Writes the tree in one line of JSON.
 ///
 /// It fails only where memory ran out, which tests alone see.
 pub fn write_tree(alloc: Global, tree: &Tree) -> Result<Vec<u8>, AllocError>

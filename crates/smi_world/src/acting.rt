@@ -15,7 +15,7 @@ use crate::stepping::make;
 use smi_protocol::OpenFault;
 use std::alloc::{AllocError, Global};
 
-/// Whether the station makes no step.
+/// Returns true if the station makes no step.
 pub(crate) fn is_stopped(post: &Post<'_>) -> bool
     ensures { result ≡ (post.now.station.core.is_stopped || post.now.is_down) }
 {
@@ -37,7 +37,7 @@ pub(crate) fn arrive(post: &mut Post<'_>, what: &Coming, left: &mut Left) -> Res
     make(&mut post.station, what, left)
 }
 
-/// The station starts again, after its save has left what it has; where its boots are spent, it stops.
+/// Starts the station again, after its save has left what it has; where its boots are spent, it stops.
 fn start_again(alloc: Global, post: &mut Post<'_>, left: &mut Left) -> Result<(), AllocError>
     ensures makes { (h : Hierarchy) (number : ℕ) (s : Defined) → IsPost h number post.old s
         → OnOk result (Makes h number post.new left.new (restart_act h number left.old.out.kept s)) }
@@ -62,7 +62,7 @@ fn start_again(alloc: Global, post: &mut Post<'_>, left: &mut Left) -> Result<()
     }
 }
 
-/// The station starts again.
+/// Starts the station again.
 pub(crate) fn restart(alloc: Global, post: &mut Post<'_>, left: &mut Left) -> Result<(), AllocError>
     ensures makes { (h : Hierarchy) (number : ℕ) (s : Defined) → IsPost h number post.old s
         → OnOk result (Makes h number post.new left.new (restart_act h number [] s)) }
@@ -76,8 +76,7 @@ pub(crate) fn restart(alloc: Global, post: &mut Post<'_>, left: &mut Left) -> Re
 
 ghost use Rattle.std.specs.Prelude.{[]};
 
-/// The station stops after its save, and starts again. Where memory runs out for the start, it stays
-/// stopped.
+/// Stops the station after its save, and starts it again. Where memory runs out for the start, it stays stopped.
 pub(crate) fn stop_after(
     alloc: Global,
     post: &mut Post<'_>,

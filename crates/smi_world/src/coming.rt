@@ -62,7 +62,7 @@ fn sent_before(sent: &[Datagram], before: u64) -> Option<&Datagram>
     }
 }
 
-/// The datagram of this number, from 1.
+/// Returns the datagram of this number, from 1.
 fn sent_at(sent: &[Datagram], number: u64) -> Option<&Datagram>
     ensures { option_copied result ≡ (if number == 0 then None else slice_get sent.now (number - 1)) }
 {
@@ -113,7 +113,7 @@ fn order_of(tree: &Tree, operator: u16, order: &Order) -> Option<Arrival>
 
 ghost use Rattle.smi_protocol.specs.Step.{ordered_or_reported};
 
-/// What a deed brings to which station, if it brings anything.
+/// Returns what a deed brings to which station, if it brings anything.
 pub(crate) fn arrival_of(tree: &Tree, sent: &[Datagram], deed: &Deed) -> Option<Arrival>
     requires { has_deed tree.now deed.now ≡ true }
     ensures arrival { (w : World) → w.sent ≡ sent.now

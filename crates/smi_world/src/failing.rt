@@ -16,7 +16,7 @@ use smi_rows::Plan;
 use smi_station_output::Out;
 use std::alloc::AllocError;
 
-/// An order whose row was not saved is answered.
+/// Answers an order whose row was not saved.
 fn tell_not_stored(what: &Coming, out: &mut Out)
     requires { out.old ≡ nothing_out }
     ensures told { told_entries out.new.answers ≡ not_stored (happening what.now) }
@@ -48,7 +48,7 @@ ghost use Rattle.smi_protocol.specs.Step.{nothing_out};
 
 use smi_protocol::{Answer, OrderCode, Request, Told};
 
-/// The row is as before: the order is answered so.
+/// Leaves the row as before, and answers the order so.
 fn fail_at_device(post: &Post<'_>, what: &Coming, left: &mut Left)
     ensures makes { (h : Hierarchy) (number : ℕ) (s : Defined) → IsPost h number post.now s
         → Makes h number post.now left.new (failed_act h number Device (happening what.now) s) }
@@ -60,7 +60,7 @@ fn fail_at_device(post: &Post<'_>, what: &Coming, left: &mut Left)
 
 ghost use Rattle.smi_rows.specs.declared.Plan.TheVariants.{After, Before, Device};
 
-/// Nobody knows whether the row was saved, and it was not: the station stops.
+/// Stops the station: nobody knows whether the row was saved, and it was not.
 fn fail_before(post: &mut Post<'_>, what: &Coming, left: &mut Left)
     ensures makes { (h : Hierarchy) (number : ℕ) (s : Defined) → IsPost h number post.old s
         → Makes h number post.new left.new (failed_act h number Before (happening what.now) s) }
@@ -70,7 +70,7 @@ fn fail_before(post: &mut Post<'_>, what: &Coming, left: &mut Left)
     post.is_down = true;
 }
 
-/// Nobody knows whether the row was saved, and it was: the station stops, and what the save leaves is left.
+/// Stops the station, and leaves what the save leaves: nobody knows whether the row was saved, and it was.
 fn fail_after(post: &mut Post<'_>, what: &Coming, left: &mut Left) -> Result<(), AllocError>
     requires runs { (post.old.station.core.is_stopped || post.old.is_down) ≡ false }
     ensures makes { (h : Hierarchy) (number : ℕ) (s : Defined) → IsPost h number post.old s

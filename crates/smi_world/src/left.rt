@@ -34,7 +34,7 @@ impl Model for Left {
     ghost invariant = { λ l. l.before ≤ left.most_before };
 }
 
-/// One line more for each entry.
+/// Adds a line for each entry.
 fn push_entries(lines: &mut Vec<Line>, entries: &[Entry]) -> Result<(), AllocError>
     ensures { OnOk result (lines.new.items ≡ lines.old.items ++ map line.Entry entries.now) }
 {
@@ -58,7 +58,7 @@ fn push_passed(lines: &mut Vec<Line>, passed: &[Shown]) -> Result<(), AllocError
     Ok(())
 }
 
-/// One line more for each answer.
+/// Adds a line for each answer.
 fn push_told(lines: &mut Vec<Line>, answers: &[Answer]) -> Result<(), AllocError>
     ensures { OnOk result (lines.new.items ≡ lines.old.items ++ map line.Entry (told_entries answers.now)) }
 {
@@ -76,7 +76,7 @@ ghost use Rattle.smi_protocol.specs.Happening.{told_entries};
 use smi_message::Datagram;
 use smi_protocol::{Answer, Entry, Line};
 
-/// One line more.
+/// Adds a line.
 fn push_line(lines: &mut Vec<Line>, line: &Line) -> Result<(), AllocError>
     ensures { OnOk result (lines.new.items ≡ lines.old.items ++ line.now ∷ []) }
 {
@@ -89,7 +89,7 @@ fn push_line(lines: &mut Vec<Line>, line: &Line) -> Result<(), AllocError>
 
 ghost use Rattle.std.specs.Prelude.{◌∷◌, []};
 
-/// What an object shows when a station starts with this boot, where the station keeps it.
+/// Returns what an object shows when a station starts with this boot, if the station keeps it.
 fn first_shown(tree: &Tree, station: u16, boot: u32, object: u16) -> Option<Shown>
     requires least { 1 ≤ object }
     requires most { object ≤ domain_count tree.now + device_count tree.now }
@@ -122,7 +122,7 @@ fn push_shown(lines: &mut Vec<Line>, shown: Option<Shown>) -> Result<(), AllocEr
 
 ghost use Rattle.smi_protocol.specs.Messages.{if_any};
 
-/// The lines of a station's start: it has started with this boot, and then what its objects show.
+/// Adds the lines of a station's start: it has started with this boot, and then what its objects show.
 pub(crate) fn push_start(
     lines: &mut Vec<Line>,
     tree: &Tree,
@@ -148,7 +148,7 @@ impl Left {
     ghost use Rattle.smi_protocol.specs.Schedule.{sent_lines};
     ghost use Rattle.smi_world.specs.Left.{lines_left, nothing_left};
 
-    /// Nothing is left.
+    /// Returns a trace of nothing.
     pub fn new() -> Left
         ensures { result ≡ nothing_left 0 0 }
     {
@@ -160,7 +160,7 @@ impl Left {
         }
     }
 
-    /// Nothing is left any more; how many datagrams were sent before stays.
+    /// Takes all lines away; how many datagrams were sent before stays.
     pub(crate) fn clear(&mut self)
         ensures { self.new ≡ nothing_left self.old.station self.old.before }
     {
@@ -188,7 +188,7 @@ impl Left {
         self.push_sent(lines)
     }
 
-    /// One line more for each datagram that is sent, by its number.
+    /// Adds a line for each datagram that is sent, by its number.
     fn push_sent(&self, lines: &mut Vec<Line>) -> Result<(), AllocError>
         ensures { OnOk result (lines.new.items ≡ lines.old.items
             ++ sent_lines (self.now.before + 1) self.now.out.datagrams) }

@@ -50,7 +50,7 @@ fn has_deed(tree: &Tree, deed: &Deed) -> bool
     }
 }
 
-/// Whether the tree has all stations, operators and devices that an item names.
+/// Returns true if the tree has all stations, operators and devices that an item names.
 pub(crate) fn has_item(tree: &Tree, item: &Item) -> bool
     ensures { result ≡ naming.has_item tree.now item.now }
 {

@@ -14,7 +14,7 @@ use smi_station::Station;
 use smi_tree::Tree;
 use std::alloc::{AllocError, Global};
 
-/// A station starts for the first time.
+/// Starts a station for the first time.
 fn first_post<'a>(alloc: Global, tree: &'a Tree, number: u16) -> Result<Post<'a>, AllocError>
     requires least { 1 ≤ number }
     requires most { number ≤ station_count tree.now }
@@ -29,7 +29,7 @@ fn first_post<'a>(alloc: Global, tree: &'a Tree, number: u16) -> Result<Post<'a>
     }
 }
 
-/// All stations start for the first time.
+/// Starts all stations for the first time.
 pub(crate) fn first_posts<'a>(alloc: Global, tree: &'a Tree) -> Result<Vec<Post<'a>>, AllocError>
     ensures posts { IfOk result (λ posts. ArePosts tree.now 1 posts.items (first_opened tree.now)) }
     ensures count { IfOk result (λ posts. length posts.items ≡ station_count tree.now) }

@@ -10,7 +10,7 @@ pub(crate) struct Post<'a> {
 }
 
 impl Post<'_> {
-    /// Whether the station makes no step until it starts again.
+    /// Returns true if the station makes no step until it starts again.
     pub(crate) fn is_stopped(&self) -> bool {
         self.is_down || self.station.is_stopped()
     }

@@ -86,7 +86,7 @@ fn run_on(
 ghost use Rattle.smi_protocol.specs.Schedule.{trace_from};
 ghost use Rattle.smi_world.specs.Running.{IfNoSuch};
 
-/// All stations start, and the lines of that are added.
+/// Starts all stations, and adds the lines of that.
 fn open_into<'a>(
     alloc: Global,
     tree: &'a Tree,
@@ -121,10 +121,10 @@ fn run_into(
     }
 }
 
-/// The trace of a schedule: the lines of the opening, and then of each item. At every moment of it at most one
-/// operator is in command of an object; each command that runs was ordered, and runs at most once, by rising numbers
-/// and while every grant between it and its operator is current; and what is shown never goes back and is what was
-/// passed through (specs/Safe of `smi_law`).
+/// Runs a schedule. Returns its trace: the lines of the opening, and then of each item. At every moment of it at most
+/// one operator is in command of an object; each command that runs was ordered, and runs at most once, by rising
+/// numbers and while every grant between it and its operator is current; and what is shown never goes back and is
+/// what was passed through (specs/Safe of `smi_law`).
 ///
 /// `NoSuch` is answered for the first item that names what the tree does not have. Out of memory is answered only
 /// where an allocation was refused, which tests alone see.

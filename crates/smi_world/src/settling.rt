@@ -20,7 +20,7 @@ use std::io::{Read, Write};
 /// How many rounds are made at most.
 const MOST_ROUNDS: u32 = 10_000;
 
-/// Whether a holder at a station waits for nothing of a domain.
+/// Returns true if a holder at a station waits for nothing of a domain.
 fn waits_for_nothing(station: &Station<'_, MemoryStable>, holder: Holder, domain: u16) -> bool {
     match station.link(holder, domain) {
         Some(link) => !link.is_unsettled(),
@@ -28,7 +28,7 @@ fn waits_for_nothing(station: &Station<'_, MemoryStable>, holder: Holder, domain
     }
 }
 
-/// Whether a station is not at work on a domain, and nobody there waits for anything of it.
+/// Returns true if a station is not at work on a domain, and nobody there waits for anything of it.
 fn is_settled(tree: &Tree, station: &Station<'_, MemoryStable>, domain: u16) -> bool {
     if let Some(record) = station.record(domain) {
         if record.phase == Phase::Busy {
@@ -48,7 +48,7 @@ fn is_settled(tree: &Tree, station: &Station<'_, MemoryStable>, domain: u16) -> 
     true
 }
 
-/// Whether a station is in service, and nothing is under way there.
+/// Returns true if a station is in service, and nothing is under way there.
 fn rests(tree: &Tree, post: &Post<'_>) -> bool {
     if post.is_stopped() {
         return false;
@@ -62,7 +62,7 @@ fn rests(tree: &Tree, post: &Post<'_>) -> bool {
 }
 
 impl World<'_> {
-    /// Whether every station is in service, no domain is at work, and no holder waits for anything.
+    /// Returns true if every station is in service, no domain is at work, and no holder waits for anything.
     pub fn is_at_rest(&self) -> bool {
         for post in self.posts() {
             if !rests(self.tree(), post) {
@@ -72,7 +72,7 @@ impl World<'_> {
         true
     }
 
-    /// Whether a station of the tree has stopped.
+    /// Returns true if a station of the tree has stopped.
     fn has_stopped(&self, station: u16) -> bool {
         match self.posts().get(usize::from(station).saturating_sub(1)) {
             Some(post) => post.is_stopped(),
@@ -97,7 +97,7 @@ fn write_counted<W: Write>(
     Ok(())
 }
 
-/// Time passes at each station; one that has stopped starts again before.
+/// Has time pass at each station; one that has stopped starts again before.
 fn pass_time<W: Write>(
     alloc: Global,
     world: &mut World<'_>,
@@ -262,7 +262,7 @@ fn make_and_settle<S: Source, W: Write>(
     }
 }
 
-/// The same from the opening on.
+/// Does the same from the opening on.
 fn settle_from_opening<S: Source, W: Write>(
     alloc: Global,
     tree: &Tree,
@@ -279,7 +279,7 @@ fn settle_from_opening<S: Source, W: Write>(
     }
 }
 
-/// What is told where the flush failed: the first fault.
+/// Returns what is told where the flush failed: the first fault.
 fn flushed<W: Write>(settled: Settled, writer: &mut W) -> Settled {
     match (writer.flush(), settled) {
         (Ok(()), settled) => settled,

@@ -36,7 +36,7 @@ fn step(
     }
 }
 
-/// The same of what comes in the world.
+/// Does the same with what comes in the world.
 fn step_with(
     station: &mut Station<'_, MemoryStable>,
     what: &Coming,
@@ -89,7 +89,7 @@ pub(crate) fn make(
 
 ghost use Rattle.smi_station.specs.Core.{IsOf};
 
-/// Whether a step with what comes would save a row, were the station to run.
+/// Returns true if a step with what comes would save a row, were the station to run.
 pub(crate) fn would_save(
     station: &Station<'_, MemoryStable>,
     what: &Coming,

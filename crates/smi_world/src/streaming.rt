@@ -42,7 +42,7 @@ pub(crate) struct Buffers {
 }
 
 impl Buffers {
-    /// Room for a text.
+    /// Returns room for a text.
     pub(crate) fn text(&mut self) -> &mut Vec<u8> {
         &mut self.text
     }
@@ -97,7 +97,7 @@ pub(crate) fn write_opening<W: Write>(
     }
 }
 
-/// How a stream ended that could not be written.
+/// Returns how a stream ended that could not be written.
 pub(crate) fn unwritten(fault: Unwritten) -> Streamed
     ensures not_done { IsDone result → ⊥ }
     ensures not_read { result ≡ ReadFault → ⊥ }
@@ -231,7 +231,7 @@ fn stream_all<R: Read, W: Write>(
     }
 }
 
-/// What is told where the flush failed: the first fault.
+/// Returns what is told where the flush failed: the first fault.
 fn unflushed(streamed: Streamed) -> Streamed
     ensures not_done { IsDone result → ⊥ }
     ensures read { result ≡ ReadFault → streamed ≡ ReadFault }
@@ -242,7 +242,7 @@ fn unflushed(streamed: Streamed) -> Streamed
     }
 }
 
-/// The trace of a schedule, written while the schedule is read: of each line its item is made, and the lines that it
+/// Writes the trace of a schedule while the schedule is read: of each line its item is made, and the lines that it
 /// leaves are written, before the next line is read. At the end the writer is flushed.
 ///
 /// What is written is the text of the trace that [`run`](crate::run) answers for the items of all lines before the end

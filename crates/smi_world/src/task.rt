@@ -38,7 +38,7 @@ pub(crate) struct Task {
     pub doing: Doing,
 }
 
-/// Something comes, if anything does.
+/// Returns that something comes, if anything does.
 fn comes(arrival: Option<Arrival>) -> Option<Task>
     ensures task { (h : Hierarchy) (w : World)
         → turn_of h w result ≡ schedule.done_by h w (option_map arrival_in arrival) }
@@ -80,7 +80,7 @@ fn stops_after(station: u16, arrival: Option<Arrival>) -> Task
     Task { station, doing }
 }
 
-/// A station starts again; where the moment is after the save, the step is made up to it.
+/// Has a station start again; where the moment is after the save, the step is made up to it.
 fn stops(station: u16, moment: Moment, arrival: Option<Arrival>) -> Task
     ensures task { (h : Hierarchy) (w : World)
         → turn_of h w (Some result) ≡ stopped_at h w station moment (option_map arrival_in arrival) }
@@ -114,7 +114,7 @@ fn fails(station: u16, how: Plan, arrival: Option<Arrival>) -> Option<Task>
     }
 }
 
-/// What an item makes at which station, if it makes anything.
+/// Returns what an item makes at which station, if it makes anything.
 pub(crate) fn task_of(tree: &Tree, sent: &[Datagram], item: &Item) -> Option<Task>
     requires { has_item tree.now item.now ≡ true }
     ensures task { (w : World) → w.sent ≡ sent.now → turn_of tree.now w result ≡ schedule.turn tree.now w item.now }

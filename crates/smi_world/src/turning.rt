@@ -20,7 +20,7 @@ use smi_protocol::Item;
 use smi_tree::Tree;
 use std::alloc::{AllocError, Global};
 
-/// A station makes its part. Where memory runs out for its start after a stop, it stays stopped.
+/// Has a station make its part. Where memory runs out for its start after a stop, it stays stopped.
 fn make_part(
     alloc: Global,
     post: &mut Post<'_>,
@@ -41,8 +41,8 @@ fn make_part(
     }
 }
 
-/// What an item makes of the stations. After `AllocError` they are as before, but that a station which had stopped
-/// after its save stays stopped.
+/// Makes what an item makes of the stations. After `AllocError` they are as before, but that a station which had
+/// stopped after its save stays stopped.
 pub(crate) fn turn(
     alloc: Global,
     tree: &Tree,

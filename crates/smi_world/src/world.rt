@@ -87,7 +87,7 @@ impl<'a> World<'a> {
     ghost use Rattle.smi_world.specs.Tasks.{IsUnmade};
     ghost use Rattle.std.specs.Prelude.{length};
 
-    /// All stations of the tree start for the first time. Out of memory is answered only where an allocation was
+    /// Starts all stations of the tree for the first time. Out of memory is answered only where an allocation was
     /// refused, which tests alone see.
     pub fn new(alloc: Global, tree: &'a Tree) -> Result<World<'a>, AllocError>
         ensures opens { IfOk result (λ world. IsAt world (first_world tree.now)) }
@@ -103,10 +103,10 @@ impl<'a> World<'a> {
         }
     }
 
-    /// The tree whose stations these are. The world is one that some run reaches, so all that is true of every such
-    /// world is true of it: each record and each link that claims a grant of it, each `RUN` that was sent, each busy
-    /// domain and each `STATE` with a present echo (`links_know_their_records`, `commands_are_handed_on` and
-    /// `states_are_safe` of `smi_law`).
+    /// Returns the tree whose stations these are. The world is one that some run reaches, so all that is true of
+    /// every such world is true of it: each record and each link that claims a grant of it, each `RUN` that was sent,
+    /// each busy domain and each `STATE` with a present echo (`links_know_their_records`, `commands_are_handed_on`
+    /// and `states_are_safe` of `smi_law`).
     pub fn tree(&self) -> &'a Tree
         ensures tree { result.now ≡ self.now.tree }
         ensures reached { IsReached self.now }
@@ -134,14 +134,14 @@ impl<'a> World<'a> {
         }
     }
 
-    /// The stations, by number.
+    /// Returns the stations, by number.
     pub(crate) fn posts(&self) -> &[Post<'a>]
         ensures { result.now ≡ self.now.posts }
     {
         self.posts.as_slice()
     }
 
-    /// How many datagrams were sent.
+    /// Returns how many datagrams were sent.
     pub(crate) fn sent_count(&self) -> u64
         ensures { result ≡ length self.now.sent }
     {

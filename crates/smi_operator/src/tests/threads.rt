@@ -96,7 +96,7 @@ fn serve<R: Clock>(clock: &R, desk: Desk) -> Desk
     desk
 }
 
-/// Whether both operators were told all their answers, in order, and both seats meet the desk afterwards.
+/// Returns true if both operators were told all their answers, in order, and both seats meet the desk afterwards.
 fn are_served<R: Threads + Clock + Sync>(rt: &R, first: Seat, second: Seat, desk: Desk) -> bool
     requires first { IsSeatAt first desk 0 }
     requires second { IsSeatAt second desk 1 }

@@ -141,7 +141,7 @@ fn attend<J: BoardId>(glance: Glance<J>, mut told: Consumer<News<J>>) -> Reading
     watch.readings
 }
 
-/// The next news, with a reading before each look for it.
+/// Returns the next news, with a reading before each look for it.
 fn waited_for<J: BoardId>(watch: &mut Watch<J>, told: &mut Consumer<News<J>>) -> Option<News<J>> {
     for _ in 0..MOST_LOOKS {
         watch.look();

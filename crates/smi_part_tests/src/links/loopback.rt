@@ -9,7 +9,7 @@ use std::net::{SocketAddr, UdpSocket};
 use std::test::Fail;
 use std::time::{Clock, Duration, Instant};
 
-/// Two addresses that nobody has.
+/// Returns two addresses that nobody has.
 fn free_addresses(rt: &HostRuntime) -> io::Result<(SocketAddr, SocketAddr)> {
     let one = UdpSocket::bind(rt, "127.0.0.1:0")?;
     let other = UdpSocket::bind(rt, "127.0.0.1:0")?;
@@ -38,8 +38,8 @@ fn open(
     UdpLink::open(rt, rt, station, peers)
 }
 
-/// What a link of station 2 receives of a socket at station 1's address, and what that receives of the link: how many
-/// bytes, and from which address.
+/// Returns what a link of station 2 receives of a socket at station 1's address, and what that receives of the link:
+/// how many bytes, and from which address.
 fn exchanged<L: DatagramLink>(
     link: &mut L,
     there: &UdpSocket,
@@ -58,7 +58,7 @@ fn exchanged<L: DatagramLink>(
     Ok(((came, is_nines), (count, is_its)))
 }
 
-/// Whether a socket can be bound to an address.
+/// Returns true if a socket can be bound to an address.
 fn is_free(rt: &HostRuntime, address: SocketAddr) -> bool {
     UdpSocket::bind(rt, address).is_ok()
 }
@@ -76,7 +76,7 @@ fn opened_at_its_own_address(rt: HostRuntime) -> Result<(), Fail> {
     Ok(())
 }
 
-/// Whether a link of a station can be opened.
+/// Returns true if a link of a station can be opened.
 fn can_be_opened(rt: &HostRuntime, station: u16, first: SocketAddr, second: SocketAddr) -> bool {
     open(rt, station, first, second).is_ok()
 }
@@ -96,7 +96,7 @@ fn not_opened_where_the_address_is_in_use(rt: HostRuntime) -> Result<(), Fail> {
     Ok(())
 }
 
-/// What a link receives of an empty datagram and of one with 44 bytes.
+/// Returns what a link receives of an empty datagram and of one with 44 bytes.
 fn received_of_two<L: DatagramLink>(
     link: &mut L,
     there: &UdpSocket,
@@ -119,7 +119,7 @@ fn an_empty_datagram_has_no_bytes(rt: HostRuntime) -> Result<(), Fail> {
     Ok(())
 }
 
-/// The shortest of five waits for a datagram that does not come, in milliseconds.
+/// Returns the shortest of five waits for a datagram that does not come, in milliseconds.
 fn shortest_wait(rt: &HostRuntime, link: &mut UdpLink<&HostRuntime>) -> io::Result<u128> {
     let mut buffer = [0u8; 45];
     let mut shortest = u128::MAX;
@@ -173,8 +173,8 @@ fn nothings<L: DatagramLink>(link: &mut L, calls: u32) -> u64 {
     seen
 }
 
-/// The shortest of ten waits for a datagram that does not come, when three looks of three milliseconds each have gone
-/// by since the first, in milliseconds.
+/// Returns the shortest of ten waits for a datagram that does not come, when three looks of three milliseconds each
+/// have gone by since the first, in milliseconds.
 fn shortest_rest(
     rt: &HostRuntime,
     link: &mut UdpLink<Looked>,
@@ -197,8 +197,8 @@ fn shortest_rest(
     Ok(shortest)
 }
 
-/// Of datagrams that wait in the socket all the time, which calls are told that nothing has come: of twenty, of four
-/// and of one; and the shortest rest after these.
+/// Returns which calls are told that nothing has come, of datagrams that wait in the socket all the time: of twenty,
+/// of four and of one; and the shortest rest after these.
 fn nothings_in_turn(
     rt: &HostRuntime,
     link: &mut UdpLink<Looked>,
@@ -212,9 +212,9 @@ fn nothings_in_turn(
     Ok((seen, shortest_rest(rt, link, there, first)?))
 }
 
-/// Datagrams wait in the socket all the time. The first call begins a patience of ten milliseconds; at those three,
-/// six and nine milliseconds later some of it is left, and at twelve none: the fifth call is told that nothing has
-/// come, and the sixth begins again. If no datagram waits, a call waits for no longer than what is left.
+/// Sends datagrams that wait in the socket all the time. The first call begins a patience of ten milliseconds; at
+/// those three, six and nine milliseconds later some of it is left, and at twelve none: the fifth call is told that
+/// nothing has come, and the sixth begins again. If no datagram waits, a call waits for no longer than what is left.
 #[test]
 fn nothing_comes_in_time_whatever_waits(rt: HostRuntime) -> Result<(), Fail> {
     let (first, second) = free_addresses(&rt)?;

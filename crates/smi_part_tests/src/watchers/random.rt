@@ -58,7 +58,7 @@ impl PlainLists {
         Ok(PlainLists { lists })
     }
 
-    /// The entries of an object.
+    /// Returns the entries of an object.
     fn entries(&self, object: u16) -> &[Watcher] {
         match self.lists.get(place_of(object)) {
             Some(list) => list,
@@ -97,7 +97,7 @@ impl PlainLists {
     }
 }
 
-/// A station watches by a plain list.
+/// Watches by a plain list.
 fn watched(list: &mut Vec<Watcher>, station: u16, echo: u32) -> Result<WatchAnswer, WatchFault> {
     for watcher in list.iter_mut() {
         if watcher.station == station {
@@ -189,7 +189,7 @@ fn compared(watchers: &mut Watchers, plain: &mut PlainLists) -> Option<[bool; KI
     Some(kinds)
 }
 
-/// Whether the list of an object has these entries.
+/// Returns true if the list of an object has these entries.
 fn has(watchers: &Watchers, object: u16, entries: &[Watcher]) -> bool
     requires least { 1 ≤ object }
     requires most { object ≤ length watchers.now.lists }

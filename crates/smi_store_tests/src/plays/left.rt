@@ -17,13 +17,13 @@ struct Seen {
     showed: usize,
 }
 
-/// Whether the station's record of a domain is like this.
+/// Returns true if the station's record of a domain is like this.
 fn stands<S>(station: &Station<'_, S>, domain: u16, epoch: u64, holder: Option<Holder>) -> bool {
     station.record(domain).is_some_and(|record| record.epoch == epoch
         && holder.is_none_or(|it| record.holder == it))
 }
 
-/// Whether the last command of a domain is this one of this grant.
+/// Returns true if the last command of a domain is this one of this grant.
 fn is_last(record: Option<Record>, epoch: u64, number: u32, outcome: Option<u16>) -> bool {
     record.is_some_and(|record| {
         record.epoch == epoch
@@ -32,7 +32,7 @@ fn is_last(record: Option<Record>, epoch: u64, number: u32, outcome: Option<u16>
     })
 }
 
-/// Whether a holder's link to a domain is held at this epoch; the newest number under it.
+/// Returns the newest number under a holder's grant, if the link to the domain is held at this epoch.
 fn held<S>(station: &Station<'_, S>, holder: Holder, domain: u16, epoch: u64) -> Option<u32> {
     match station.link(holder, domain)? {
         Link::Held {
@@ -44,7 +44,7 @@ fn held<S>(station: &Station<'_, S>, holder: Holder, domain: u16, epoch: u64) ->
     }
 }
 
-/// Whether the station tells of itself what an entry says of it.
+/// Returns true if the station tells of itself what an entry says of it.
 fn is_so<S>(station: &Station<'_, S>, entry: &Entry) -> bool {
     match *entry {
         Entry::Booted { boot, .. } => station.boot() == boot && !station.is_stopped(),
@@ -89,7 +89,7 @@ fn is_so<S>(station: &Station<'_, S>, entry: &Entry) -> bool {
     }
 }
 
-/// Whether a line is the next of its kind that the step has handed out; any entry else.
+/// Returns true if a line is the next of its kind that the step has handed out; any entry else.
 fn is_next(out: &Out, line: &Line, before: usize, seen: &mut Seen) -> bool {
     match line {
         Line::Sent(number, datagram) => {
@@ -111,7 +111,7 @@ fn is_next(out: &Out, line: &Line, before: usize, seen: &mut Seen) -> bool {
     }
 }
 
-/// Whether the station tells of itself what the lines say of it.
+/// Returns true if the station tells of itself what the lines say of it.
 pub(super) fn are_so<S>(station: &Station<'_, S>, lines: &[Line]) -> bool {
     lines.iter().all(|line| match line {
         Line::Entry(entry) => is_so(station, entry),
@@ -119,7 +119,7 @@ pub(super) fn are_so<S>(station: &Station<'_, S>, lines: &[Line]) -> bool {
     })
 }
 
-/// Whether an item, after this many datagrams were sent, left all that the step has handed out, in its order.
+/// Returns true if an item, after this many datagrams were sent, left all that the step has handed out, in its order.
 pub(super) fn are_left(out: &Out, lines: &[Line], before: usize) -> bool {
     let mut seen = Seen {
         sent: 0,

@@ -47,8 +47,8 @@ fn add_all<'a, Q: Played + Drop>(
     true
 }
 
-/// Whether two steps have handed out the same: datagrams byte for byte, answers, the state that was shown, and the
-/// command that was issued.
+/// Returns true if two steps have handed out the same: datagrams byte for byte, answers, the state that was shown,
+/// and the command that was issued.
 fn are_handed_out(one: &Out, other: &Out) -> bool {
     let (a, b) = (one.datagrams(), other.datagrams());
     a.len() == b.len()
@@ -58,7 +58,7 @@ fn are_handed_out(one: &Out, other: &Out) -> bool {
         && one.issued() == other.issued()
 }
 
-/// Whether the same rows are kept.
+/// Returns true if the same rows are kept.
 fn are_kept(one: Option<Vec<SavedRow>>, other: Option<Vec<SavedRow>>) -> bool {
     match (one, other) {
         (Some(one), Some(other)) => are_same(&one, &other),
@@ -66,7 +66,7 @@ fn are_kept(one: Option<Vec<SavedRow>>, other: Option<Vec<SavedRow>>) -> bool {
     }
 }
 
-/// Whether the station tells of itself what the lines say. One that has stopped does not know its row.
+/// Returns true if the station tells of itself what the lines say. One that has stopped does not know its row.
 fn is_told<S: Played + Drop>(station: &PlayedStation<'_, S>, made: Made, lines: &[Line]) -> bool {
     made == Made::Heard(Err(StepFault::Stopped)) || are_so(station, lines)
 }
@@ -89,7 +89,7 @@ fn stations_at<'a, 'b, Q: Played + Drop>(
     })
 }
 
-/// Whether a turn makes the same of the station over each store, and has left that.
+/// Returns true if a turn makes the same of the station over each store, and has left that.
 fn make<Q: Played + Drop>(
     alloc: Global,
     two: Two<'_, '_, Q>,
@@ -149,7 +149,7 @@ fn keep(sent: &mut Vec<[u8; 44]>, out: &Out) -> Result<(), AllocError> {
     Ok(())
 }
 
-/// Whether each item leaves in the world what it makes of the stations.
+/// Returns whether each item leaves in the world what it makes of the stations.
 fn are_made<Q: Played + Drop>(
     alloc: Global,
     world: &mut World<'_>,
@@ -209,7 +209,8 @@ fn with_world<Q: Played + Drop>(
     with_stations(alloc, tree, world, &mut stations, items)
 }
 
-/// Whether items over a tree are played so. It fails if it runs out of memory itself, or no station or store opens.
+/// Returns whether items over a tree are played so. It fails if it runs out of memory itself, or no station or store
+/// opens.
 pub(super) fn are_played<Q: Played + Drop>(
     alloc: Global,
     tree: &Tree,

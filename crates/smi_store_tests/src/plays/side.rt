@@ -59,7 +59,7 @@ fn tell_not_stored(event: Event<'_>, out: &mut Out) {
     }
 }
 
-/// The event comes, and the save of its step fails so.
+/// Has the event come, and the save of its step fail so.
 fn fail<S: Played + Drop>(
     station: &mut PlayedStation<'_, S>,
     how: Plan,
@@ -75,7 +75,7 @@ fn fail<S: Played + Drop>(
     heard
 }
 
-/// What a turn makes of a station; what it hands out is in `out` then.
+/// Returns what a turn makes of a station; what it hands out is in `out` then.
 pub(super) fn act<S: Played + Drop>(
     alloc: Global,
     station: &mut PlayedStation<'_, S>,

@@ -23,7 +23,8 @@ fn write_run(alloc: Global, tree: &Tree, text: &mut Vec<u8>) -> bool {
     }
 }
 
-/// Whether the items leave the same text when they are run at once and when they are drawn one after the other.
+/// Returns true if the items leave the same text when they are run at once and when they are drawn one after the
+/// other.
 pub(crate) fn is_streamed_as_run(alloc: Global, tree: &Tree) -> bool {
     let mut at_once = Vec::new(alloc);
     let mut streamed = Vec::new(alloc);

@@ -25,7 +25,7 @@ pub(super) struct Turn<'a> {
     pub event: Event<'a>,
 }
 
-/// A datagram reaches its receiver.
+/// Has a datagram reach its receiver.
 fn delivered(sent: Option<&[u8; 44]>) -> Option<(u16, Event<'_>)> {
     let bytes = sent?;
     Some((
@@ -34,7 +34,7 @@ fn delivered(sent: Option<&[u8; 44]>) -> Option<(u16, Event<'_>)> {
     ))
 }
 
-/// The station of a device's domain.
+/// Returns the station of a device's domain.
 fn reported(tree: &Tree, device: u16, state: u16) -> Option<(u16, Event<'static>)> {
     if device < 1 || tree.device_count() < device {
         return None;
@@ -46,7 +46,7 @@ fn reported(tree: &Tree, device: u16, state: u16) -> Option<(u16, Event<'static>
     Some((tree.domain(domain).station, Event::Report(device, state)))
 }
 
-/// Which station an event reaches.
+/// Returns which station an event reaches.
 fn coming<'a>(tree: &Tree, sent: &'a [[u8; 44]], deed: &Deed) -> Option<(u16, Event<'a>)> {
     match *deed {
         Deed::Deliver(number) => delivered(sent.get((number as usize).wrapping_sub(1))),
@@ -76,7 +76,7 @@ fn started<'a>(station: u16) -> Turn<'a> {
     }
 }
 
-/// The event of this station, and what is then made of it.
+/// Returns the event of this station, and what is then made of it.
 fn at<'a>(station: u16, doing: StationTurn, coming: Option<(u16, Event<'a>)>) -> Option<Turn<'a>> {
     match coming {
         Some((there, event)) if there == station => Some(Turn {
@@ -88,7 +88,7 @@ fn at<'a>(station: u16, doing: StationTurn, coming: Option<(u16, Event<'a>)>) ->
     }
 }
 
-/// What an item makes, if it makes anything.
+/// Returns what an item makes, if it makes anything.
 pub(super) fn turn_of<'a>(tree: &Tree, sent: &'a [[u8; 44]], item: &Item) -> Option<Turn<'a>> {
     match item {
         Item::Do(deed) => {

@@ -29,7 +29,7 @@ fn saves_fail_as_planned(rt: HostRuntime) {
     }
 }
 
-/// The third save from now fails, and no other.
+/// Has the third save from now fail, and no other.
 #[test]
 fn a_later_save_fails(rt: HostRuntime) {
     let mut store = PlannedStable::new(MemoryStable::new(rt.alloc()));
@@ -39,7 +39,7 @@ fn a_later_save_fails(rt: HostRuntime) {
     }
 }
 
-/// A plan replaces the one before it, and can be taken away.
+/// Replaces a plan by another one, and takes it away.
 #[test]
 fn plans_are_replaced_and_taken_away(rt: HostRuntime) {
     let mut store = PlannedStable::new(MemoryStable::new(rt.alloc()));

@@ -7,7 +7,7 @@ use smi_tree::Tree;
 use std::alloc::Global;
 use std::test::Fail;
 
-/// The first other length, up to one byte more, in which the row is not refused for it.
+/// Returns the first other length, up to one byte more, in which the row is not refused for it.
 fn taken_length(alloc: Global, tree: &Tree, key: Key, bytes: &[u8]) -> Result<Option<usize>, Fail> {
     for length in 0..bytes.len() {
         if fault(alloc, tree, key, &bytes[..length]) != 1 {
@@ -31,7 +31,7 @@ pub(super) fn has_no_other_length(alloc: Global, tree: &Tree) -> Result<bool, Fa
     Ok(true)
 }
 
-/// What the layout says of the boot row with this value at one place.
+/// Returns what the layout says of the boot row with this value at one place.
 fn boot_fault(place: usize, value: u8) -> u16 {
     match (place, value) {
         // Both schemas of boots are written alike.
@@ -45,7 +45,7 @@ fn boot_fault(place: usize, value: u8) -> u16 {
     }
 }
 
-/// What the layout says of the row of a domain that operator 2 took, with this value at one place.
+/// Returns what the layout says of the row of a domain that operator 2 took, with this value at one place.
 fn domain_fault(place: usize, value: u8) -> u16 {
     match (place, value) {
         (0, 1 | 2) => 0,
@@ -72,7 +72,7 @@ fn domain_fault(place: usize, value: u8) -> u16 {
     }
 }
 
-/// What the layout says of the row of an operator that holds domain 2, with this value at one place.
+/// Returns what the layout says of the row of an operator that holds domain 2, with this value at one place.
 fn operator_fault(place: usize, value: u8) -> u16 {
     match (place, value) {
         (0, 1..=3) => 0,
@@ -101,7 +101,7 @@ fn operator_fault(place: usize, value: u8) -> u16 {
     }
 }
 
-/// What the layout says of such a row with this value at one place.
+/// Returns what the layout says of such a row with this value at one place.
 fn layout_fault(kind: RowKind, place: usize, value: u8) -> u16 {
     match kind {
         RowKind::Boot => boot_fault(place, value),
@@ -110,7 +110,7 @@ fn layout_fault(kind: RowKind, place: usize, value: u8) -> u16 {
     }
 }
 
-/// The first place at which some value makes another fault of the row than the layout says.
+/// Returns the first place at which some value makes another fault of the row than the layout says.
 fn misread_byte(
     alloc: Global,
     tree: &Tree,
@@ -129,7 +129,7 @@ fn misread_byte(
     Ok(None)
 }
 
-/// A boot, a domain that operator 2 took, and an operator that holds domain 2.
+/// Returns a boot, a domain that operator 2 took, and an operator that holds domain 2.
 fn replaced_rows() -> [(Key, RowKind, &'static [u8]); 3] {
     [
         (key(1, 0, 0), RowKind::Boot, BOOT),

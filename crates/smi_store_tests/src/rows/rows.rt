@@ -52,7 +52,7 @@ fn older_rows() -> [(Key, u8, &'static [u8]); 7] {
     ]
 }
 
-/// Rows of older schemas are read, and what they say is written in the newest.
+/// Returns true if rows of older schemas are read, and what they say is written in the newest.
 pub(super) fn are_written_in_the_newest(alloc: Global, tree: &Tree) -> Result<bool, Fail> {
     for (key, schema, bytes) in older_rows() {
         let older = with_byte(alloc, bytes, 0, schema)?;
@@ -68,7 +68,7 @@ fn fault_in(alloc: Global, tree: &Tree, key: Key, bytes: &[u8], schema: u8) -> R
     Ok(fault(alloc, tree, key, &row))
 }
 
-/// Whether the row has these faults in the schemas 1, 2 and 3.
+/// Returns whether the row has these faults in the schemas 1, 2 and 3.
 fn has_faults(
     alloc: Global,
     tree: &Tree,
@@ -84,7 +84,8 @@ fn has_faults(
     )
 }
 
-/// The mode of the child, and the verb of the oldest command: a row, a value at one place, and the faults by schema.
+/// Returns the mode of the child, and the verb of the oldest command: a row, a value at one place, and the faults by
+/// schema.
 fn early_rows() -> [(Key, &'static [u8], usize, u8, [u16; 3]); 5] {
     [
         (key(1, 1, 0), WORKING, 27, 1, [3, 0, 2]),
@@ -95,7 +96,7 @@ fn early_rows() -> [(Key, &'static [u8], usize, u8, [u16; 3]); 5] {
     ]
 }
 
-/// What only a later schema can say is out of range before it.
+/// Returns true if what only a later schema can say is out of range before it.
 pub(super) fn are_not_said_too_early(alloc: Global, tree: &Tree) -> Result<bool, Fail> {
     for (key, bytes, place, value, wanted) in early_rows() {
         let row = with_byte(alloc, bytes, place, value)?;
@@ -114,7 +115,7 @@ fn links_of(alloc: Global, tree: &Tree, key: Key, bytes: &[u8]) -> Result<Vec<St
     }
 }
 
-/// Domain 2, held at epoch 1, with this many commands pending: do action 1, 2 and so on.
+/// Returns domain 2, held at epoch 1, with this many commands pending: do action 1, 2 and so on.
 fn held(count: u16) -> StoredLink {
     let mut pending = Pending::new();
     for action in 1..=count {
@@ -140,7 +141,7 @@ fn is_only(links: &[StoredLink], wanted: StoredLink) -> bool {
     }
 }
 
-/// Rows of operators, and how many commands are pending.
+/// Returns rows of operators, and how many commands are pending.
 fn held_rows() -> [(&'static [u8], u16); 3] {
     [(HELD, 0), (OLDEST, 1), (PENDING, 2)]
 }
@@ -155,7 +156,7 @@ pub(super) fn have_their_links(alloc: Global, tree: &Tree) -> Result<bool, Fail>
     Ok(true)
 }
 
-/// What the row of the domain at work says.
+/// Returns what the row of the domain at work says.
 fn working(alloc: Global, tree: &Tree) -> Result<DomainRow, Fail> {
     match Row::read(alloc, tree, key(1, 1, 0), WORKING)? {
         Row::Domain(domain) => Ok(domain),

@@ -43,7 +43,7 @@ fn files(alloc: Global, log: &[u8], db: &[u8], calls: u64) -> Result<FusedFiles,
     })
 }
 
-/// What a stop may leave of a page: as many bytes of it, with zeros at every such place.
+/// Returns what a stop may leave of a page: as many bytes of it, with zeros at every such place.
 fn torn(page: &[u8], length: usize, zeros: usize) -> [u8; PAGE_BYTES] {
     let mut bytes = [0; PAGE_BYTES];
     for place in 0..length.min(page.len()).min(PAGE_BYTES) {
@@ -54,7 +54,7 @@ fn torn(page: &[u8], length: usize, zeros: usize) -> [u8; PAGE_BYTES] {
     bytes
 }
 
-/// Whether files are begun, and the file is what it should be then.
+/// Returns whether files are begun, and the file is what it should be then.
 fn told_of(files: &mut FusedFiles, db: &[u8]) -> Option<bool> {
     let told = begun(files).ok()?;
     let bytes = files.db.inner().bytes();
@@ -67,7 +67,7 @@ fn becomes(alloc: Global, log: &[u8], db: &[u8]) -> Result<Option<bool>, Fail> {
     Ok(told_of(&mut files, db))
 }
 
-/// What a file is begun with.
+/// Returns what a file is begun with.
 fn first_page(alloc: Global) -> Result<[u8; PAGE_BYTES], Fail> {
     let mut files = files(alloc, &[], &[], u64::MAX)?;
     let told = told_of(&mut files, &[]);
@@ -115,7 +115,7 @@ fn save_times<S: Stable>(store: &mut S, saves: u8) -> Result<(), StoreFault> {
     Ok(())
 }
 
-/// How many bytes of a log are written: zeros follow them.
+/// Returns how many bytes of a log are written: zeros follow them.
 fn written(log: &[u8]) -> usize {
     log.iter()
         .rposition(|byte| *byte != 0)
@@ -143,7 +143,8 @@ fn keeps_a_row<S: OnDisks<Disks = FusedFiles>>(
     }
 }
 
-/// How many bytes of the log are written after this many saves of a row in a file that was begun, if it is found again.
+/// Returns how many bytes of the log are written after this many saves of a row in a file that was begun, if it is
+/// found again.
 fn log_after<S: OnDisks<Disks = FusedFiles>>(
     alloc: Global,
     saves: u8,
@@ -156,7 +157,7 @@ fn log_after<S: OnDisks<Disks = FusedFiles>>(
     Ok(if is_there { Some(length) } else { None })
 }
 
-/// Whether a second save adds the page of the rows to the log, after the 24 bytes of its frame.
+/// Returns whether a second save adds the page of the rows to the log, after the 24 bytes of its frame.
 pub(super) fn adds_one_short_page<S: OnDisks<Disks = FusedFiles>>(
     alloc: Global,
 ) -> Result<bool, Fail> {
@@ -166,7 +167,7 @@ pub(super) fn adds_one_short_page<S: OnDisks<Disks = FusedFiles>>(
     }
 }
 
-/// A file is begun that stops after this many calls, and once more after the machine is back. Returns whether the first
+/// Begins a file that stops after this many calls, and once more after the machine is back. Returns whether the first
 /// try was refused, and whether the store then keeps a row.
 fn begun_again<S: OnDisks<Disks = FusedFiles>>(
     alloc: Global,
@@ -180,8 +181,8 @@ fn begun_again<S: OnDisks<Disks = FusedFiles>>(
     Ok((is_refused, is_whole && is_there))
 }
 
-/// Whether a file that stops after each call in turn keeps a row once it is begun again, and more than two tries were
-/// refused.
+/// Returns whether a file that stops after each call in turn keeps a row once it is begun again, and more than two
+/// tries were refused.
 pub(super) fn is_begun_after_a_stop<S: OnDisks<Disks = FusedFiles>>(
     alloc: Global,
 ) -> Result<bool, Fail> {

@@ -6,7 +6,7 @@ use smi_testkit::{BOOT, HELD, TAKEN, are_same, key};
 use std::alloc::{AllocError, Global};
 use std::test::Fail;
 
-/// Boot 2 of station 1, a domain that operator 2 took, and what that operator holds.
+/// Returns boot 2 of station 1, a domain that operator 2 took, and what that operator holds.
 fn rows() -> [(Key, &'static [u8]); 3] {
     [
         (key(1, 0, 0), BOOT),
@@ -19,7 +19,7 @@ fn is_row(row: &SavedRow, wanted: (Key, &[u8])) -> bool {
     row.key == wanted.0 && row.bytes.as_slice() == wanted.1
 }
 
-/// Whether these are the rows, in their order.
+/// Returns true if these are the rows, in their order.
 fn are_rows(list: &[SavedRow]) -> bool {
     list.len() == 3
         && list
@@ -75,7 +75,7 @@ fn with_nothing_planned(rt: HostRuntime) {
     }
 }
 
-/// Whether the rows are found again on the files that the store gives up.
+/// Returns whether the rows are found again on the files that the store gives up.
 fn is_found_again<S: OnDisks<Disks = FusedFiles>>(
     alloc: Global,
     order: [usize; 3],
@@ -98,7 +98,7 @@ pub(super) fn are_found_again<S: OnDisks<Disks = FusedFiles>>(alloc: Global) -> 
 /// As many rows as the stations of a tree at every limit have, and more.
 const MANY: u16 = 1_000;
 
-/// Rows by rising keys, each a byte longer than the one before.
+/// Returns rows by rising keys, each a byte longer than the one before.
 fn many(alloc: Global) -> Result<Vec<SavedRow>, AllocError> {
     let mut rows = Vec::new(alloc);
     for more in 0..MANY {

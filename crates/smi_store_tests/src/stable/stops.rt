@@ -54,7 +54,7 @@ fn is_row(row: Option<&SavedRow>, domain: u16, bytes: &[u8]) -> bool {
     row.is_some_and(|row| row.key == key(1, domain, 0) && row.bytes.as_slice() == bytes)
 }
 
-/// Which rows these are, if they are any of those.
+/// Returns which rows these are, if they are any of those.
 fn found_in(rows: &[SavedRow]) -> Option<RowsFound> {
     if rows.len() == 1 && is_row(rows.first(), 0, FIRST) {
         Some(RowsFound::Before)
@@ -67,7 +67,7 @@ fn found_in(rows: &[SavedRow]) -> Option<RowsFound> {
     }
 }
 
-/// Whether the rows may be found after that.
+/// Returns true if the rows may be found after that.
 fn fits(end: End, found: RowsFound) -> bool {
     match end {
         End::NoStore => found == RowsFound::Before,
@@ -79,7 +79,8 @@ fn fits(end: End, found: RowsFound) -> bool {
     }
 }
 
-/// Whether a station that was opened on these rows goes on: with the next boot, and with the domain as they say.
+/// Returns true if a station that was opened on these rows goes on: with the next boot, and with the domain as they
+/// say.
 fn is_going_on<S: Stable>(station: &mut Station<'_, S>, found: RowsFound) -> bool {
     let (boot, heard) = match found {
         RowsFound::Before => (2, Heard::Done),
@@ -133,7 +134,7 @@ fn at_station<S: OnDisks<Disks = FusedFiles>>(
     }
 }
 
-/// What is done at a station over a store on these disks.
+/// Does at a station over a store on these disks what is to be done.
 fn on_disks<S: OnDisks<Disks = FusedFiles>>(
     alloc: Global,
     tree: &Tree,
@@ -146,7 +147,7 @@ fn on_disks<S: OnDisks<Disks = FusedFiles>>(
     }
 }
 
-/// The rows of a store, if they are any of those, where a station goes on over them.
+/// Returns the rows of a store, if they are any of those and a station goes on over them.
 fn found_over<S: OnDisks<Disks = FusedFiles>>(
     alloc: Global,
     tree: &Tree,
@@ -162,7 +163,7 @@ fn found_over<S: OnDisks<Disks = FusedFiles>>(
     }
 }
 
-/// The rows that the next open finds, once the machine is back.
+/// Returns the rows that the next open finds, once the machine is back.
 fn rows_after<S: OnDisks<Disks = FusedFiles>>(
     alloc: Global,
     tree: &Tree,
@@ -174,7 +175,7 @@ fn rows_after<S: OnDisks<Disks = FusedFiles>>(
     }
 }
 
-/// The limits of the two disks: the log alone stops, the other file alone, or both.
+/// Returns the limits of the two disks: the log alone stops, the other file alone, or both.
 fn limits(which: usize, calls: u64) -> (u64, u64) {
     match which {
         0 => (calls, u64::MAX),
@@ -232,8 +233,8 @@ fn count_ends<S: OnDisks<Disks = FusedFiles>>(
     Ok(None)
 }
 
-/// Whether all runs on copies of the disks fit, and enough of them stopped: the log is written by each save, the other
-/// file need not be.
+/// Returns whether all runs on copies of the disks fit, and enough of them stopped: the log is written by each save,
+/// the other file need not be.
 fn fit_on<S: OnDisks<Disks = FusedFiles>>(
     alloc: Global,
     tree: &Tree,
@@ -246,7 +247,7 @@ fn fit_on<S: OnDisks<Disks = FusedFiles>>(
     Ok(log.is_some_and(has_both) && other.is_some() && both.is_some_and(has_both))
 }
 
-/// Whether all runs fit, over the worked tree.
+/// Returns whether all runs fit, over the worked tree.
 pub(super) fn all_fit<S: OnDisks<Disks = FusedFiles>>(
     alloc: Global,
     tree: &Tree,
