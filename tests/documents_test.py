@@ -11,6 +11,8 @@ from documents import (
     names_there, prose, section, sentences, slug, sources, story_of, tables)
 from running import ROOT, text_of
 
+# The table of docs/PROTOCOL.md that says where each rule is.
+RULES = "Where each rule is"
 # What a reader of a first page can be asked to read.
 README_LINES = 150
 # How many lines docs/PROOF.md may have, and how many words a sentence.
@@ -18,31 +20,34 @@ PROOF_LINES, MOST_WORDS = 160, 40
 
 
 def test_rule(subtests):
-    """Each row below a rule of docs/PROTOCOL.md: its definition, its function, its edits and its example are there."""
+    """Each rule that the last table of docs/PROTOCOL.md lists: its section, definition, function, mutants and example.
+
+    Each section that has rules is a part of the page, and each of these is there.
+    """
     examples = headings(text_of("docs/EXAMPLES.md"))
     text = text_of("docs/PROTOCOL.md")
-    found = 0
-    for heading in re.findall(r"^## (.+)$", text, flags=re.M):
-        _, mark, rest = section(text, heading).partition("Where it stands:\n")
-        if not mark:
-            continue
-        for rule, definitions, functions, edits, example in tables(rest):
-            name = "%s: %s" % (heading, rule)
-            found += 1
-            with subtests.test(name + ", its definition"):
-                assert named(definitions) and all(is_defined(crate, file, it) for it, crate, file in named(definitions))
-            with subtests.test(name + ", its function"):
-                assert named(functions) and all(is_function(crate, it) for it, crate, _ in named(functions))
-            with subtests.test(name + ", its edits"):
-                assert all(is_edit(crate, it) for it, crate, _ in named(edits))
-            with subtests.test(name + ", its example"):
-                assert not example or example in examples
-            # a cell of which nothing is read would say anything
-            cells = (definitions, functions, edits)
-            with subtests.test(name + ", all names are read"):
-                assert all(cell.count("(") == len(named(cell)) for cell in cells)
+    parts = headings(text)
+    rows = tables(section(text, RULES))
+    for part, rule, definitions, functions, edits, example in rows:
+        name = "%s: %s" % (part, rule)
+        with subtests.test(name + ", its section"):
+            assert part in parts and part != RULES
+        with subtests.test(name + ", its definition"):
+            assert named(definitions) and all(is_defined(crate, file, it) for it, crate, file in named(definitions))
+        with subtests.test(name + ", its function"):
+            assert named(functions) and all(is_function(crate, it) for it, crate, _ in named(functions))
+        with subtests.test(name + ", its edits"):
+            assert all(is_edit(crate, it) for it, crate, _ in named(edits))
+        with subtests.test(name + ", its example"):
+            assert not example or example in examples
+        # a cell of which nothing is read would say anything
+        cells = (definitions, functions, edits)
+        with subtests.test(name + ", all names are read"):
+            assert all(cell.count("(") == len(named(cell)) for cell in cells)
     with subtests.test("rules of the protocol are told"):
-        assert found > 40
+        assert len(rows) >= 70
+    with subtests.test("every section of the protocol has its rules, but for the words and what no code does alone"):
+        assert {it for it in parts if text.count("\n## %s\n" % it)} - {row[0] for row in rows} <= {RULES, "Audits"}
 
 
 def test_local(subtests):
