@@ -30,11 +30,13 @@ SHARE := $(PREFIX)/share/smi
 DOC := $(PREFIX)/share/doc/lunskaf
 ZSH := $(PREFIX)/share/zsh/site-functions
 # What a crew and whoever runs the machines may want beside the program.
-TOOLS := console devices draw firewall hierarchy history lines lunskaf mqtt_bridge play record rows show status tango_bridge tree tree_check tree_diff
+TOOLS := console demo devices draw firewall hierarchy history lines lunskaf mqtt_bridge play record rows show status tango_bridge tree tree_check tree_diff
 
 # The program, its page, completion, the unit and its user, the tools, examples and documents.
 install: bin/smi
 	install -D -m 755 bin/smi $(DESTDIR)$(BIN)/smi
+	sed 's#@SHARE@#$(SHARE)#; s#@BIN@#$(BIN)#' package/smi-demo > $(DESTDIR)$(BIN)/smi-demo
+	chmod 755 $(DESTDIR)$(BIN)/smi-demo
 	install -D -m 644 package/smi.bash $(DESTDIR)$(PREFIX)/share/bash-completion/completions/smi
 	install -D -m 644 package/_smi $(DESTDIR)$(ZSH)/_smi
 	install -D -m 644 package/smi.sysusers $(DESTDIR)$(PREFIX)/lib/sysusers.d/smi.conf

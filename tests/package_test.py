@@ -23,6 +23,7 @@ from running import ROOT, text_of
 
 # What is installed, from the folder of the installation, without the documents.
 INSTALLED = """bin/smi
+bin/smi-demo
 lib/systemd/system/smi-node@.service
 lib/systemd/system/smi-screen.service
 lib/sysusers.d/smi.conf
@@ -37,6 +38,8 @@ share/smi/tools/rows.py
 share/smi/tools/status.py
 share/smi/tools/tango_bridge.py
 share/smi/tools/console.py
+share/smi/tools/demo.py
+share/smi/examples/shift.plan
 share/smi/tools/lunskaf.py
 share/smi/examples/supply.py
 share/smi/tools/devices.py
@@ -130,8 +133,15 @@ def test_install(folder, subtests):
         with subtests.test("there is %s" % path):
             assert path in found
     modes = {path: os.stat(os.path.join(top, path)).st_mode & 0o777 for path in found}
-    with subtests.test("the program alone may be run"):
-        assert all(mode == (0o755 if path == "bin/smi" else 0o644) for path, mode in modes.items())
+    with subtests.test("the program and its demo alone may be run"):
+        programs = ("bin/smi", "bin/smi-demo")
+        assert all(mode == (0o755 if path in programs else 0o644) for path, mode in modes.items())
+    demo = running.read(os.path.join(top, "bin/smi-demo")).decode()
+    with subtests.test("the demo runs what is installed"):
+        assert demo.splitlines()[-1] == 'exec python3 /usr/share/smi/tools/demo.py /usr/bin/smi "$@"'
+    told = ran([sys.executable, "demo.py", "--help"], cwd=os.path.join(top, "share/smi/tools"))
+    with subtests.test("the demo finds what it needs"):
+        assert [told[0].startswith("usage: demo.py"), told[1]] == [True, 0]
     unit = running.read(os.path.join(top, "lib/systemd/system/smi-node@.service")).decode()
     with subtests.test("the unit runs what is installed"):
         assert "=/usr/bin/smi node " in unit and "/usr/local" not in unit
