@@ -1,7 +1,7 @@
 """How plain the English of comments and documents is: docs of functions that begin with a verb, and calques.
 
 `python3 tests/english.py` prints both figures, by crate and by word, and the worst files. With --all it prints each
-place. tests/words_test.py asks for the figures of docs/GLOSSARY.md, "Ordinary words".
+place. tests/words_test.py asks for the figures of docs/GLOSSARY.md, "Plain words".
 """
 
 import collections

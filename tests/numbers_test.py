@@ -2,6 +2,7 @@
 
 import re
 
+import english
 import lunskaf
 import words_test
 from documents import declared_twice, documents, in_code, named, numbers_in, section, tables
@@ -70,7 +71,7 @@ def test_meaning(subtests):
 def test_word(subtests):
     """docs/GLOSSARY.md has each word once, in the order of letters, and its name in the code is there.
 
-    No two types have one name, and its ordinary words are those that tests/words_test.py asks for.
+    No two types have one name, and its ordinary and plain words are those that tests/words_test.py looks for.
     """
     text = text_of("docs/GLOSSARY.md")
     rows = tables(section(text, "Words"))
@@ -92,3 +93,9 @@ def test_word(subtests):
     for _, unwanted in tables(section(text, "Ordinary words")):
         with subtests.test("GLOSSARY.md: %s is looked for" % unwanted):
             assert words_test.unusual("it is %s line" % unwanted) is not None
+    rows = tables(section(text, "Plain words"))
+    for _, unwanted in rows:
+        with subtests.test("GLOSSARY.md: %s is counted" % unwanted):
+            assert english.calques("it is %s line" % unwanted)
+    with subtests.test("GLOSSARY.md has each word that is counted"):
+        assert len(rows) == len(english.CALQUES)

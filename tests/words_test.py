@@ -1,7 +1,7 @@
 """Lines of over 120 columns, and plain English in the comments of sources and in the documents.
 
 Sources are read line by line; a line that is long for a text in quotes alone may be. Some words may not stand at all,
-others are counted (docs/GLOSSARY.md, "Ordinary words"). tests/english.py prints the figures and the worst files.
+others are counted (docs/GLOSSARY.md, "Plain words"). tests/english.py prints the figures and the worst files.
 """
 
 import os
