@@ -16,8 +16,8 @@ SOURCES = ["crates/*/src/**/*.rt", "crates/*/specs/**/*.antt", "crates/*/proofs/
 DOCUMENTS = ["README.md", "CONTRIBUTING.md", "CHANGELOG.md", "SECURITY.md", "docs/*.md"]
 # What begins the text of a comment, by the kind of file.
 COMMENTS = {".rt": re.compile(r"\s*//[/!]?(.*)"), ".antt": re.compile(r"\s*--(.*)"), ".py": re.compile(r"\s*#(.*)")}
-# The glossary names calques to say which word replaces them.
-GLOSSARY = "docs/GLOSSARY.md"
+# The glossary and the rules name calques to say which word replaces them.
+GLOSSARY, RULES = "docs/GLOSSARY.md", "CONTRIBUTING.md"
 # Pages of the program as constants: what looks like a comment there is a part of the program.
 CONSTANTS = ("crates/smi_program/src/page.rt", "crates/smi_program/src/orders.rt")
 # What is between backquotes or in quotes is a name, or a text that a format fixes.
@@ -26,9 +26,9 @@ CALQUES = {
     "stand": r"\bstands?\b(?! for\b)",
     "where it": r"\bwhere (?:it|they|there|nothing|nobody|none|no)\b",
     "so many": r"\bso many\b",
-    "behind": r"\bbehind\b",
+    "behind": r"\bbehind\b(?! its label\b)",
     "anew": r"\banew\b",
-    "comes to": r"\b(?:comes?|came) to\b",
+    "comes to": r"\b(?:comes?|came) to\b(?! rest\b)",
     "whoever": r"\bwhoever\b",
     "dear": r"\bdear(?:er)?\b"}
 # A doc comment, the attributes below it, and the function that it is of.
@@ -67,7 +67,7 @@ def texts(path):
 
 def calques_of(path):
     """Yields each calque of a file: its line, its name, and the text."""
-    if path != GLOSSARY and path not in CONSTANTS:
+    if path not in (GLOSSARY, RULES, *CONSTANTS):
         for number, line in texts(path):
             for name in calques(line):
                 yield number, name, line.strip()

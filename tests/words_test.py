@@ -15,7 +15,7 @@ from running import ROOT, text_of
 
 WIDTH = 120
 # The least share of functions whose doc begins with a verb, and how many calques there may be in all.
-LEAST_VERBS, MOST_CALQUES = 0.41, 1529
+LEAST_VERBS, MOST_CALQUES = 0.9, 102
 # The ordinary word for each: allocation, out of memory, unchanged, after, k-th.
 UNUSUAL = re.compile(r"\b(growths?|want of memory|(?:stays?|is|are|stayed) as (?:it was|they were)(?! found)|so-manieth"
                      r"|behind the (?:save|others|first|next|last|opening))\b", re.IGNORECASE)
