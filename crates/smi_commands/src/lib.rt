@@ -9,7 +9,7 @@
 //! that a unit accepts and that moves no device (`idle_actions`), and a state that nothing leads to
 //! (`unreached_states`). Each is a function of the tree, and takes no memory. Searches go through all numbers from 0
 //! to the last. What has a number in a tree has it from 1, and 0 passes no test; as the state of a member it means
-//! for one that was not shown yet.
+//! one that was not shown yet.
 //!
 //! # How it is proved
 //!

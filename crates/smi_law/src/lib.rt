@@ -4,10 +4,9 @@
 //! (specs/Safe.antt), and [`law`] says that all are: what never happens.
 //!
 //! [`rest`] says what can always be done. From every world that can be reached a list of items leads to rest,
-//! whatever was lost, repeated and reordered, and whichever station has stopped: ticks, deliveries of
-//! datagrams that were sent,
-//! and starts of stations that have stopped lead to a world in which no holder waits for anything, no domain is at
-//! work and every station is in service (specs/Rest.antt).
+//! whatever was lost, repeated and reordered, and whichever station has stopped: ticks, deliveries of datagrams that
+//! were sent, and starts of stations that have stopped lead to a world in which no holder waits for anything, no
+//! domain is at work and every station is in service (specs/Rest.antt).
 //!
 //! # How it is proved
 //!

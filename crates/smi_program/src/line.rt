@@ -79,8 +79,7 @@ pub struct JournalOptions<'a> {
 }
 
 /// A node: the path of its tree, the name of its station, the path of its store, how long it serves, the
-/// places if it listens
-/// for consoles, and the folder of its journal.
+/// places at which it listens for consoles, and the folder of its journal.
 #[derive(Clone, Copy)]
 pub struct NodeLine<'a> {
     pub tree: &'a str,

@@ -106,9 +106,8 @@ impl Drawer {
     }
 }
 
-/// Returns the first items that a seed draws, this many. Out of memory is answered only if an allocation was
-/// refused, which
-/// tests alone see.
+/// Returns the first items that a seed draws, this many. Out of memory is answered only if an allocation was refused,
+/// which tests alone see.
 pub fn draw_schedule(
     alloc: Global,
     tree: &Tree,

@@ -202,7 +202,7 @@ impl NodeConsole {
         }
     }
 
-    /// Makes one turn: makes a connection if there is none, hears what was said over it, and sends what is to be sent
+    /// Makes one turn: makes a connection if there is none, hears what was said over it, and sends what is to be
     /// sent, as far as nothing waits. With a connection that breaks, what was given on it is lost.
     pub fn turn<R: Net>(&mut self, rt: &R, relay: &mut OrderRelay, now: u64) {
         let standing = match &mut self.line {

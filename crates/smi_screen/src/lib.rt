@@ -10,12 +10,11 @@
 //! and each turn sends what is to be sent of them over one connection, and hears what is said there, without waiting.
 //! The station of the screen orders nothing: the orders are those of operators of the node whose console it is.
 //!
-//! The gate has a listener and its guests, at most `MOST_GUESTS` of them. At each turn of it the connections
-//! that wait are let in,
-//! and each guest reads once, is answered, and writes once, over sockets that never wait. A guest has a time by which
-//! it has to go unless it has been answered, and a head and a body of bounded length; where one comes too many, the
-//! one whose time is up first goes. What goes out over a connection is said by the theorem of `http_server` from what
-//! the service answers.
+//! The gate has a listener and its guests, at most `MOST_GUESTS` of them. At each turn of it the connections that
+//! wait are let in, and each guest reads once, is answered, and writes once, over sockets that never wait. A guest
+//! has a time by which it has to go unless it has been answered, and a head and a body of bounded length; where one
+//! comes too many, the one whose time is up first goes. What goes out over a connection is said by the theorem of
+//! `http_server` from what the service answers.
 //!
 //! Its station is an observer: its operator watches every object and asks about every domain, again and again, and
 //! orders nothing. [`Observer::poll`] is a turn of it. What comes over the link is carried to the station as a node

@@ -20,9 +20,8 @@ use smi_rows::{Key, Row, SavedRow};
 use smi_tree::Tree;
 use std::alloc::Global;
 
-/// Returns what a station keeps that starts with these rows, in rising order of keys: what they mean, and its
-/// boot raised
-/// by one. Rows of other stations are left alone.
+/// Returns what a station keeps that starts with these rows, in rising order of keys: what they mean, and its boot
+/// raised by one. Rows of other stations are left alone.
 ///
 /// `NoSuchStation` comes first, then the fault of the least key whose row is refused, then `BootsSpent`. `Memory` is
 /// answered where an allocation was refused, and nowhere else, which tests alone see.

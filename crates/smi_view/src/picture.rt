@@ -142,9 +142,8 @@ impl Picture {
         self.domains[usize::from(domain) - 1] = Some(told_after(&had, told, now));
     }
 
-    /// Notes that a state was shown at this time. It is kept if it is the first of its object, or newer than
-    /// what was had; one
-    /// of an object that is not there is nowhere.
+    /// Notes that a state was shown at this time. It is kept if it is the first of its object, or newer than what was
+    /// had; one of an object that is not there is nowhere.
     #[tactic(auto, using(crate::proofs::Notes::takes_shown, crate::proofs::Notes::takes_no_shown))]
     pub fn show(&mut self, shown: Shown, now: u64)
         ensures { TakesIn (Showed shown now ∷ []) self.old self.new }
