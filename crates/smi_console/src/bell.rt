@@ -1,4 +1,4 @@
-//! How the thread that reads lines wakes the one that serves.
+//! Wakes the station's thread from the one that reads lines.
 
 use std::io;
 use std::net::{Net, SocketAddr, UdpSocket};

@@ -1,8 +1,8 @@
-//! How other threads wake the one at the front.
+//! Wakes the thread of the sessions from other threads.
 
 use mio::Waker;
 
-/// Wakes the thread at the front.
+/// Wakes the thread of the sessions.
 #[derive(Drop)]
 pub(crate) struct ConsoleWaker {
     waker: Waker,

@@ -1,4 +1,4 @@
-//! Where connections come in.
+//! Listeners and connections, over TCP and Unix sockets.
 
 use mio::net::{TcpListener, TcpStream, UnixListener, UnixStream};
 use mio::{Interest, Registry, Token};
@@ -7,16 +7,16 @@ use std::io::{self, ErrorKind, Read, Write};
 use std::net::{Net, SocketAddr};
 use std::os::unix::fs::FileTypeExt;
 
-/// Where a node listens for consoles.
+/// The address at which a node listens for consoles.
 #[derive(Drop)]
 pub enum ListenAddress {
-    /// A Unix socket at this path. Who may connect is said by the rights of its file.
+    /// A Unix socket at this path. The rights of its file say who may connect.
     Path(String),
     /// TCP at this address of the machine.
     Address(SocketAddr),
 }
 
-/// A socket that listens.
+/// A listener.
 #[derive(Drop)]
 pub(crate) enum Door {
     Unix(UnixListener),

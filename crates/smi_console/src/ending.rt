@@ -1,4 +1,4 @@
-//! How a node ended, in words.
+//! The exit status and the line of a node that has ended.
 
 ghost use Rattle.std.specs.Prelude.{◌≡◌};
 ghost use Rattle.smi_console.specs.Faults.{status_at, status_by, status_in};

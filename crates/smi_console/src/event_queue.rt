@@ -1,4 +1,4 @@
-//! The way of news from the thread that serves to the one at the front.
+//! The queue of events from the station's thread to that of the sessions.
 
 use crate::console_waker::ConsoleWaker;
 use crossbeam_channel::Sender;
@@ -7,19 +7,19 @@ use std::alloc::{AllocError, Global};
 use std::collections::VecDeque;
 use std::sync::{Arc, Wait};
 
-/// So much news may wait here, beside what is on the way.
+/// How many events may wait here, beside those in the channel.
 const MOST_WAITING: usize = 4_096;
 
-/// The way of news, and what waits for it.
+/// The channel of events, and those that wait for it.
 #[derive(Drop)]
 struct EventQueueParts<H: Drop> {
     rt: H,
     waker: Arc<ConsoleWaker, Global>,
     way: Sender<StationEvent>,
     waiting: VecDeque<StationEvent>,
-    /// How many actions there was no room for.
+    /// How many actions were dropped, because the queue was full.
     dropped: u32,
-    /// The thread at the front is to be woken once the turn is over.
+    /// True if the thread of the sessions is to be woken once the turn is over.
     is_due: bool,
 }
 

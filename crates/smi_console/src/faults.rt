@@ -1,4 +1,4 @@
-//! Why a node does not begin, in words.
+//! The lines of a node that does not begin.
 
 ghost use Rattle.std.specs.Prelude.{◌≡◌};
 ghost use Rattle.smi_commands.specs.declared.status.Status.TheVariants as status;

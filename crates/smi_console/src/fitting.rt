@@ -1,4 +1,4 @@
-//! All that an open station is served with is made: its seats, its sockets, and the threads of its consoles.
+//! Builds all that an open station is served with: its seats, its sockets, and the threads of its consoles.
 
 ghost use Rattle.std.specs.Prelude.{◌≡◌, ◌++◌, ◌∷◌, [], IfOk, length, min};
 ghost use Rattle.smi_operator.specs.Sides.{IsDeskOf};
@@ -88,7 +88,7 @@ fn seated_front<G: StateReader + Drop>(
     }
 }
 
-/// What a node has before its consoles begin: the station's side, the front desk over its seats, and a bell to the
+/// What a node has before its consoles begin: the station's side, the service of its sessions, and a waker to the
 /// station.
 #[derive(Drop)]
 struct Ends<L: Drop, G: StateReader + Drop> {
@@ -134,7 +134,7 @@ struct BothSides<L: Drop, G: StateReader + Drop> {
     side: StationSide<L>,
     lobby: Lobby<G>,
     waker: Arc<ConsoleWaker, Global>,
-    /// The ways of the journal to the front.
+    /// The channels of the journal to the sessions.
     journal_ways: KeeperWays,
 }
 

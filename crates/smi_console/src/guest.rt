@@ -1,4 +1,4 @@
-//! A connection, and who types there.
+//! A connection and its session.
 
 use crate::doors::Stream;
 use crate::typed_lines::TypedLines;
@@ -15,15 +15,15 @@ use std::time::Instant;
 /// How many bytes are read at once.
 const AT_ONCE: usize = 512;
 
-/// How many reads, and how many lines, a guest has in one round.
+/// How many reads, and how many lines, a connection has in one round.
 const READS: usize = 64;
 
 const LINES: usize = 32;
 
-/// How long a guest may take nothing of what it is told, in seconds.
+/// How long a connection may take nothing of its output, in seconds.
 const PATIENCE: u64 = 2;
 
-/// A connection, and who types there.
+/// A connection and its session.
 #[derive(Drop)]
 pub(crate) struct ConsoleGuest {
     alloc: Global,
@@ -31,19 +31,19 @@ pub(crate) struct ConsoleGuest {
     typed: TypedLines,
     caller: Session,
     splitter: LineSplitter,
-    /// Whether there may be something to read, and room to write.
+    /// True if there may be something to read; true if there may be room to write.
     can_read: bool,
     can_write: bool,
-    /// Whether nothing more will come.
+    /// True if its client has closed its side.
     is_over: bool,
-    /// Whether nothing more is taken.
+    /// True if its client takes no more output.
     is_deaf: bool,
-    /// Since when it has taken nothing of what it is told, or nothing more is taken.
+    /// Since when it has taken nothing of its output, or takes no more.
     since: Option<Instant>,
     leaves: bool,
 }
 
-/// What a read gave.
+/// The outcome of a read.
 enum Read {
     Some,
     Nothing,

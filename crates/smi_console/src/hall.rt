@@ -1,4 +1,4 @@
-//! Everybody who talks to a node: the standard input, and connections.
+//! The sessions of a node: the standard input, and connections.
 
 use crate::doors::{Door, ListenAddress, Stream};
 use crate::guest::ConsoleGuest;
@@ -18,7 +18,7 @@ use std::time::{Duration, Instant};
 /// The most connections at once.
 const MOST_GUESTS: usize = 64;
 
-/// What a connection is told for which there is no room.
+/// What a connection is told if there is no room for it.
 const FULL: &[u8] = b"full\n";
 
 /// How many connections are taken in one round, and how many events are looked at.
@@ -34,28 +34,28 @@ const FIRST_DOOR: usize = 1;
 
 const FIRST_GUEST: u64 = 1_000;
 
-/// A wait is no longer where somebody is to be looked after by the clock, in milliseconds.
+/// Longest poll timeout while any connection has a deadline, in milliseconds.
 const WATCHFUL: u64 = 100;
 
-/// A door, and whether somebody may wait there.
+/// A listener, and whether a connection may wait there.
 #[derive(Drop)]
 struct Entrance {
     door: Door,
     is_called: bool,
 }
 
-/// Everybody who talks to a node.
+/// The sessions of a node.
 #[derive(Drop)]
 pub(crate) struct Hall {
     alloc: Global,
-    /// Who types at the standard input, and how that ended.
+    /// The session of the standard input, and how that ended.
     pub(crate) plain: Session,
     pub(crate) ending: Option<InputEnd>,
     is_plain_lost: bool,
     guests: Vec<ConsoleGuest>,
     entrances: Vec<Entrance>,
     next: u64,
-    /// Where what is typed goes.
+    /// The channel to which typed lines go.
     pub(crate) typed: TypedLines,
     poll: Poll,
     events: Events<Global>,

@@ -1,4 +1,4 @@
-//! How the standard output is written without holding up the front.
+//! Writes the standard output without holding up the sessions.
 
 use crate::console_waker::ConsoleWaker;
 use crossbeam_channel::{Receiver, Sender, TrySendError, bounded};
@@ -18,7 +18,7 @@ const HANDED: usize = 16;
 /// The most bytes that are handed on to one end of the standard output: after them it counts as faulty.
 const MOST: u64 = 1 << 48;
 
-/// What the thread that writes and the one at the front know of each other.
+/// What the writing thread and that of the sessions know of each other.
 #[derive(Drop)]
 struct WriterStatus {
     /// How many blocks were handed on and are not written.
@@ -37,7 +37,7 @@ impl WriterStatus {
     }
 }
 
-/// The way of the front to the thread that writes the standard output. It never waits.
+/// The sender of blocks to the thread that writes the standard output. It never waits.
 #[derive(Drop)]
 pub(crate) struct Outlet {
     alloc: Global,
@@ -45,7 +45,7 @@ pub(crate) struct Outlet {
     progress: Arc<WriterStatus, Global>,
 }
 
-/// What comes out of an outlet, for the thread that writes.
+/// The receiver of these blocks, for the thread that writes.
 #[derive(Drop)]
 pub(crate) struct Inflow {
     blocks: Receiver<Vec<u8>>,

@@ -1,4 +1,4 @@
-//! Where the stations of a tree are reached, and the link of one of them.
+//! The addresses of the stations of a tree, and the link of one of them.
 
 ghost use Rattle.std.specs.Prelude.{◌≡◌, Some, IfOk, length, map};
 ghost use Rattle.smi_tree.specs.Lookups.{station_count};
@@ -50,7 +50,7 @@ fn linked<'a, H: Net + Clock + AllocGlobal>(
     Ok((link, bell))
 }
 
-/// How a station gets its link, and a bell to it.
+/// Opens the link of a station, and a waker to it.
 pub(crate) trait Linking {
     type Link: DatagramLink + Drop;
 

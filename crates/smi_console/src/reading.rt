@@ -1,4 +1,4 @@
-//! The thread that reads lines, and hands them on.
+//! The thread that reads lines of standard input, and hands them on.
 
 use crate::console_waker::ConsoleWaker;
 use crossbeam_channel::Sender;
@@ -28,7 +28,7 @@ pub(crate) enum Input {
     Ended(InputEnd),
 }
 
-/// What one read gives.
+/// The outcome of one read.
 enum Come {
     More,
     End,

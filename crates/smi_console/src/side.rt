@@ -1,4 +1,4 @@
-//! The station's side of a node, before its consoles begin.
+//! The station's part of a node, before its consoles begin.
 
 use crate::service::Service;
 use smi_link::DatagramLink;

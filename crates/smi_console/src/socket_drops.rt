@@ -1,4 +1,4 @@
-//! What the system drops of the datagrams to a node.
+//! How many datagrams to a node the system has dropped.
 
 use crate::peers::addresses;
 use crate::running::NodeSetup;
@@ -6,7 +6,7 @@ use std::alloc::{AllocError, Global};
 use std::net::SocketAddr;
 use std::time::Instant;
 
-/// Where Linux lists the UDP sockets.
+/// The file in which Linux lists the UDP sockets.
 const TABLE: &[u8] = b"/proc/net/udp";
 
 /// How many bytes of it are read at once, and how many times at most.

@@ -1,4 +1,4 @@
-//! What the seats are told of a step.
+//! Tells the seats the answers of a step.
 
 ghost use Rattle.std.specs.Prelude.{◌≡◌, ◌==◌, ◌<◌, IfSome, length};
 ghost use Rattle.std.specs.List.{position};

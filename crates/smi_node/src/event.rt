@@ -1,4 +1,4 @@
-//! Who is told of each step of a node, and when a turn is over.
+//! The observer of a node, which is told of each step and of the end of each turn.
 
 ghost use Rattle.std.specs.Prelude.{◌≡◌, List, None, Option};
 ghost use Rattle.smi_link.specs.Link.{Grows};

@@ -1,4 +1,4 @@
-//! What holds of the boards of nodes.
+//! A law of the boards of nodes.
 
 ghost use Rattle.std.specs.Prelude.{ℕ, Option};
 ghost use Rattle.smi_grant.specs.declared.state.Shown.{Shown};

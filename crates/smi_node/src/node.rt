@@ -47,7 +47,7 @@ pub struct Node<'s, 't, 'd, S, J: BoardId> {
     pub stats: &'d NodeStats,
 }
 
-/// What a node is handed: an event, and the seat whose newest order in work it is, if it is one.
+/// The input of a node: an event, and the seat whose newest order in work it is, if it is one.
 #[derive(Clone, Copy)]
 pub struct NodeInput<'a> {
     pub event: Event<'a>,

@@ -1,4 +1,4 @@
-//! What a step shows.
+//! Publishes what a step shows.
 
 ghost use Rattle.std.specs.Prelude.{OnErr, OnOk};
 ghost use Rattle.smi_node.specs.Shown.{Publishes, Refuses};

@@ -1,4 +1,4 @@
-//! The datagrams of a step are sent.
+//! Sends the datagrams of a step.
 
 ghost use Rattle.std.specs.Prelude.{◌≡◌};
 ghost use Rattle.smi_node.specs.Linked.{Sends, SendsOne, shown_by};

@@ -1,4 +1,4 @@
-//! Turn after turn: what comes over the link, and what the seats give.
+//! The turns of a node: what comes over the link, and what the seats give.
 
 ghost use Rattle.std.specs.Prelude.{◌≡◌, ◌<◌, IfOk, None, Result, Ok, Err, false};
 ghost use Rattle.smi_station.specs.Readers.{operators_in};

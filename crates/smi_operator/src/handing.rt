@@ -1,4 +1,4 @@
-//! Answers are handed out in the order in which their orders were given.
+//! Hands answers out in the order in which their orders were given.
 
 ghost use Rattle.std.specs.Prelude.{◌≡◌, ◌≤◌, ◌+◌, ◌++◌, length};
 ghost use Rattle.rtrb.specs.Ring.{sent, known_free, SameProducer};

@@ -1,4 +1,4 @@
-//! Seats are opened, and meet the desk again when they have ended.
+//! Opens seats, and compares them with the desk when they have ended.
 
 ghost use Rattle.std.specs.Prelude.{◌≡◌, ◌≤◌, IsTrue, IfOk, [], length};
 ghost use Rattle.smi_operator.specs.Sides.{IsFinishedAt, Met, Stays, SameEnd, IsFresh, IsDeskOf, seat_count};

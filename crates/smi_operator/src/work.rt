@@ -14,7 +14,7 @@ pub(crate) const MOST_WORK: usize = 8;
 #[derive(Clone, Copy, PartialEq, Eq)]
 pub struct Work {
     pub order: Order,
-    /// The command that the order became, where the desk was told of it.
+    /// The command that the order became, if the desk was told of it.
     pub mark: Option<Mark>,
 }
 
@@ -25,7 +25,7 @@ pub(crate) struct Ending {
     pub(crate) asked: Option<Record>,
 }
 
-/// An order in work, and how it ended where its answer waits for those of older orders.
+/// An order in work, and how it ended if its answer waits for those of older orders.
 #[derive(Clone, Copy, PartialEq, Eq)]
 pub(crate) struct WorkSlot {
     pub(crate) work: Work,

@@ -1,4 +1,4 @@
-//! An audit: its tree is read, and then the files of its journals.
+//! Runs an audit: reads its tree, and then the files of its journals.
 
 use crate::line::AuditLine;
 use crate::tree::read_marked;

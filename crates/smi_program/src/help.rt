@@ -1,4 +1,4 @@
-//! Where help is, for a person at a terminal.
+//! Tells a person at a terminal where help is.
 
 ghost use Rattle.std.specs.Prelude.{ℕ, OnOk, take};
 ghost use Rattle.std.specs.Io.KnownBytes.{Appends};

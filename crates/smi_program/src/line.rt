@@ -1,4 +1,4 @@
-//! What a command line asks for.
+//! Parses the command line.
 
 use clap::error::ErrorKind;
 use clap::{Arg, ArgAction, ArgMatches, Command, Error};
@@ -64,14 +64,14 @@ pub enum Schedule<'a> {
     Drawn { seed: u64, steps: u64 },
 }
 
-/// Where a console is: at an address, or at a socket of this path.
+/// The address of a console: over TCP, or a socket of this path.
 #[derive(Clone, Copy)]
 pub enum ConsolePlace<'a> {
     Address(SocketAddr),
     Path(&'a str),
 }
 
-/// Where a node writes its journal, and whether each step that saved is synced there before anything of it is sent.
+/// The folder of a node's journal, and whether each step that saved is synced there before anything of it is sent.
 #[derive(Clone, Copy)]
 pub struct JournalOptions<'a> {
     pub folder: &'a str,

@@ -1,4 +1,4 @@
-//! A node: its tree file is read, its station found, its store opened, and then it is run.
+//! Runs a node: reads its tree file, finds its station, and opens its store.
 
 ghost use Rattle.std.specs.Prelude.{IfOk};
 ghost use Rattle.std.specs.Arc.{arc_value};
@@ -116,7 +116,7 @@ fn setup_of<H: Files + AllocGlobal, F: Write>(
     }
 }
 
-/// Who opens a store: a station of a tree, and whether it takes a store that is older than its label.
+/// The opener of a store: a station of a tree, and whether it takes a store that is older than its label.
 #[derive(Clone, Copy)]
 pub(crate) struct Opening<'a> {
     pub(crate) tree: &'a Tree,

@@ -1,4 +1,4 @@
-//! A screen: its tree file is read, its station found, its store opened, and then it looks.
+//! Runs a screen: reads its tree file, finds its station, and opens its store.
 
 ghost use Rattle.std.specs.Prelude.{◌≡◌, IfOk};
 

@@ -1,4 +1,4 @@
-//! A simulation: its tree file is read, and then its schedule, or one is drawn.
+//! Runs a simulation: reads its tree file, and reads or draws its schedule.
 
 use crate::line::{Schedule, SimLine};
 use crate::simulating::{sim, sim_drawn, sim_drawn_settled, sim_settled};

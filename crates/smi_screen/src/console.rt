@@ -1,4 +1,4 @@
-//! The console of a node, to which the orders go that are given from the page.
+//! The console of a node, which receives the orders from the page.
 
 use mio::net::{TcpStream, UnixStream};
 use smi_session::LineSplitter;
@@ -21,7 +21,7 @@ const LINES: usize = AT_ONCE + 1;
 
 const READS: usize = 8;
 
-/// Where a node listens for consoles.
+/// The address at which a node listens for consoles.
 #[derive(Drop)]
 pub enum ConsoleAddress {
     /// A Unix socket at this path.
@@ -74,14 +74,14 @@ impl ConsoleStream {
     }
 }
 
-/// How a connection is after a turn.
+/// The state of a connection after a turn.
 #[derive(Clone, Copy, PartialEq, Eq)]
 enum Standing {
     Sound,
     Broken,
 }
 
-/// A connection with a console, and the line that it is saying.
+/// A connection with a console, and the line that it is receiving.
 #[derive(Drop)]
 struct Connected {
     stream: ConsoleStream,
@@ -96,7 +96,7 @@ pub struct NodeConsole {
     alloc: Global,
     place: ConsoleAddress,
     line: Option<Connected>,
-    /// When a connection is tried for again.
+    /// When the screen tries to connect again.
     next_try: u64,
 }
 

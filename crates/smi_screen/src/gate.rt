@@ -1,4 +1,4 @@
-//! The listener, and those who came through it.
+//! The listener of a screen, and its connections.
 
 use crate::guest::Guest;
 use http_server::{Config, Connection, Service};
@@ -9,7 +9,7 @@ use std::io;
 use std::marker::Model;
 use std::net::{Net, SocketAddr, TcpListener, TcpStream};
 
-/// The most guests: where one more comes, the one goes whose time is up first.
+/// The most connections: if one more comes, the one goes whose time is up first.
 pub const MOST_GUESTS: usize = 64;
 
 /// How many are let in at one turn.
@@ -27,7 +27,7 @@ const CONFIG: Config = Config {
     read_size: 2_048,
 };
 
-/// A listener, and those who came through it. Contracts see how many they are.
+/// A listener and its connections. Contracts see how many they are.
 #[derive(Drop)]
 pub struct Gate {
     alloc: Global,

@@ -1,14 +1,14 @@
-//! One who looks through the window, over a stream that never waits.
+//! A connection of a browser, over a stream that never waits.
 
 use http_server::{Connection, Service};
 use std::io::{ErrorKind, Read, Write};
 
-/// How many milliseconds a guest has for its first request and the answer to it, and between two answers.
+/// How many milliseconds a connection has for its first request and the answer to it, and between two answers.
 const PATIENCE: u64 = 5_000;
 
 const REST: u64 = 15_000;
 
-/// A connection over its stream, and until when it may stay.
+/// A connection over its stream, and its deadline.
 #[derive(Drop)]
 pub struct Guest<T> {
     stream: T,

@@ -1,4 +1,4 @@
-//! What a screen has for its guests: the window, the gate, and the console for the orders of its page.
+//! The HTTP server of a screen: its service, its listener, and the console for the orders of its page.
 
 use crate::console::NodeConsole;
 use crate::gate::Gate;
@@ -12,7 +12,7 @@ use std::time::Clock;
 /// How many milliseconds lie between two frames.
 const BETWEEN_FRAMES: u64 = 200;
 
-/// All that a screen has beside its station, its link and its picture.
+/// The HTTP server of a screen: all that it has beside its station, its link and its picture.
 #[derive(Drop)]
 pub(crate) struct House {
     alloc: Global,

@@ -1,4 +1,4 @@
-//! What of an event is noted.
+//! Notes in the picture what an event tells.
 
 ghost use Rattle.std.specs.Prelude.{◌≡◌};
 ghost use Rattle.std.specs.List.{flat_map};

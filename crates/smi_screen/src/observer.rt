@@ -23,19 +23,19 @@ const MOST_WATCHED: u32 = 16;
 
 const MOST_ASKED: u32 = 8;
 
-/// The station has stopped: its last event was not carried, and none can be.
+/// The station has stopped: its last event was not carried, and no later one can be.
 #[derive(Clone, Copy, Debug, PartialEq, Eq, Error)]
 #[error("the station has stopped")]
 pub struct Stopped;
 
-/// What came of a turn's receives.
+/// The outcome of a turn's receives.
 #[derive(Clone, Copy, PartialEq, Eq)]
 pub enum ReceiveOutcome {
     /// Something, and perhaps there is more.
     Something,
-    /// At last nothing.
+    /// The last receive found nothing.
     Nothing,
-    /// At last a fault of the link.
+    /// The last receive was a fault of the link.
     Fault,
 }
 

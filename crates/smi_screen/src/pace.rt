@@ -1,4 +1,4 @@
-//! When an observer does what.
+//! The schedule of an observer: watches, questions and ticks.
 
 /// How many milliseconds lie between two questions. Where time was lost, questions are made up for, as many as this
 /// time is worth.
@@ -11,7 +11,7 @@ const MOST_LATE: u64 = 160;
 /// sent at most 300 datagrams a second so: 64 every 300 milliseconds are 214, and with 50 questions 264.
 const BETWEEN_TICKS: u64 = 300;
 
-/// How far an observer has come with its objects and its domains.
+/// The schedule of an observer: which objects and domains come next, and when.
 #[derive(Clone, Copy, PartialEq, Eq)]
 pub struct Pace {
     objects: u16,

@@ -1,4 +1,4 @@
-//! A screen begins, looks, and ends.
+//! Runs a screen.
 
 use crate::console::ConsoleAddress;
 use crate::gate::Gate;
@@ -46,14 +46,14 @@ impl From<AllocError> for Ended {
     }
 }
 
-/// What orders are given with from a page.
+/// What a page needs to give orders.
 #[derive(Drop)]
 pub struct Giving {
     /// The console of the node of the operators who order.
     pub console: ConsoleAddress,
     /// What the page has to show with each order.
     pub key: Bytes,
-    /// The tree, once more: the window has it for its own.
+    /// The tree, a second time, because the service owns it.
     pub tree: Tree,
 }
 
@@ -62,9 +62,9 @@ pub struct Giving {
 pub struct ScreenSetup {
     /// The number of its station, from 1.
     pub station: u16,
-    /// Where each station is reached, by number.
+    /// The address of each station, by number.
     pub peers: Vec<SocketAddr>,
-    /// Where guests come.
+    /// The address of the screen.
     pub http: SocketAddr,
     /// The values of `Host` that are answered.
     pub hosts: Vec<Vec<u8>>,

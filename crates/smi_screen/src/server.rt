@@ -1,4 +1,4 @@
-//! What a screen works with, and its turns.
+//! A screen without its station, and its turns.
 
 ghost use Rattle.std.specs.Prelude.{◌≡◌, false};
 ghost use Rattle.smi_node.specs.Carried.{StepsTo};
@@ -25,7 +25,7 @@ const TURNS_AT_ONCE: u32 = 1_000_000;
 /// How many turns in a row whose receives end in a fault end the service.
 const MOST_FAULTS: u32 = 100;
 
-/// What a screen works with, beside its station and its link.
+/// All that a screen has beside its station and its link.
 #[derive(Drop)]
 pub(crate) struct ScreenServer {
     /// The operator in whose name it looks.

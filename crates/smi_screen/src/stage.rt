@@ -1,4 +1,4 @@
-//! What a screen shows, and where the orders go that are given from its page.
+//! The picture of a screen, the service over it, and the console for its orders.
 
 use crate::console::NodeConsole;
 use crate::running::{Giving, ScreenSetup};
@@ -9,7 +9,7 @@ use smi_web::{OrderRelay, PageOrders, Snapshot, WebService};
 use std::alloc::{AllocError, Global};
 use std::mem::replace;
 
-/// A picture, the window on it, and the console that its orders go to, if there may be orders.
+/// A picture, the service over it, and the console that its orders go to, if there may be orders.
 #[derive(Drop)]
 pub(crate) struct Stage {
     pub(crate) picture: Picture,

@@ -1,4 +1,4 @@
-//! What is told of a line that is refused.
+//! The reply to a line that is refused.
 
 ghost use Rattle.std.specs.Prelude.{◌≡◌, ◌++◌, ◌∷◌, [], OnOk, is_some};
 ghost use Rattle.std.specs.Fmt.{decimal};

@@ -1,4 +1,4 @@
-//! How the bytes of a session are cut into lines.
+//! Cuts the bytes of a session into lines.
 
 ghost use Rattle.std.specs.Prelude.{◌≡◌, ◌++◌, [], IfOk, OnOk, option_map};
 ghost use Rattle.smi_session.specs.LineSplitter.{TakesLine, behind_first, first_line, is_empty, kept, last_line};

@@ -26,7 +26,7 @@ use std::time::Instant;
 /// The most lines of a session that are handled at once.
 const LINES_AT_ONCE: usize = 64;
 
-/// What serves the sessions of a node: the seats of its station, what the board shows, and what else a line may ask.
+/// Serves the sessions of a node: the seats of its station, what the board shows, and what else a line may ask.
 ///
 /// Contracts see the seats, what the board has shown, the newest states, and the events that are to be told.
 #[derive(Drop)]

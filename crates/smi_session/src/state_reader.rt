@@ -1,4 +1,4 @@
-//! Reading what the board of a station shows.
+//! Reads what the board of a station shows.
 
 ghost use Rattle.std.specs.Prelude.{◌≡◌, ◌⊎◌, None};
 ghost use mathlib.Core.List.{IsPrefix};
@@ -7,7 +7,7 @@ ghost use Rattle.smi_view.specs.Rows.{last_row};
 use smi_grant::Shown;
 use smi_view::{BoardId, Glance};
 
-/// Whatever reads the board of a station.
+/// Reads the board of a station.
 ///
 /// Contracts see what a glance of that board has seen and was told. The service is over any such reader, because a
 /// function that names the board of its glance is expensive to prove.

@@ -1,4 +1,4 @@
-//! What a session wants to be told of from now on.
+//! A subscription of a session to states or actions.
 
 ghost use Rattle.std.specs.Prelude.{IfOk, ◌≡◌};
 ghost use Rattle.smi_tree.specs.Text.{words};

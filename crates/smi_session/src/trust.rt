@@ -9,7 +9,7 @@ use crate::query::query_named;
 use crate::session::ReplyStyle;
 use smi_tree::{first_word, is_comment};
 
-/// What the lines of a session have shown of it.
+/// Whether the lines of a session have shown it to be a client.
 #[derive(Clone, Copy)]
 pub enum Trust {
     /// No line has asked anything yet.

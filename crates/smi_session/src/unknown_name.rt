@@ -1,4 +1,4 @@
-//! Which name of a line is unknown.
+//! Finds the unknown name of a line.
 
 ghost use Rattle.std.specs.Prelude.{◌≡◌, option_map};
 ghost use Rattle.smi_tree.specs.Text.{words};
@@ -78,7 +78,7 @@ fn kinds_of_order(verb: &[u8]) -> (Option<NameKind>, Option<NameKind>)
     }
 }
 
-/// An unknown name, and what is said of it.
+/// An unknown name, and the text about it.
 #[derive(Clone, Copy)]
 pub(crate) struct UnknownName<'a> {
     pub(crate) name: &'a [u8],

@@ -1,4 +1,4 @@
-//! The pieces that texts are put together from.
+//! Writes pieces of JSON.
 
 ghost use Rattle.std.specs.Prelude.{◌≡◌, ◌++◌, OnOk, codes, option_map};
 ghost use Rattle.std.specs.Fmt.{decimal};

@@ -1,4 +1,4 @@
-//! Texts of what is numbered from 1, one after the other.
+//! Writes lists of things that are numbered from 1.
 
 ghost use Rattle.std.specs.Prelude.{ℕ, List, ◌≡◌, ◌++◌, OnOk, codes};
 ghost use Rattle.smi_web.specs.Json.{listed, separator};
@@ -6,7 +6,7 @@ ghost use Rattle.smi_web.specs.Json.{listed, separator};
 use crate::json::put;
 use std::alloc::AllocError;
 
-/// What has a text for each number.
+/// Has a text for each number.
 pub(crate) trait Listing {
     ghost text: { Self → ℕ → List ℕ };
 

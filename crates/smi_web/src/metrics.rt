@@ -27,7 +27,7 @@ use smi_tree::Tree;
 use smi_view::{Hearing, Picture, Sight};
 use std::alloc::{AllocError, Global};
 
-/// What is told of each domain in a number of its own.
+/// A metric of each domain.
 #[derive(Clone, Copy, PartialEq, Eq)]
 enum Metric {
     Held,

@@ -1,4 +1,4 @@
-//! Which lines are orders.
+//! Tests whether a line is an order.
 
 ghost use Rattle.std.specs.Prelude.{◌≡◌};
 ghost use Rattle.std.specs.List.{list_all};

@@ -16,7 +16,7 @@ pub const MOST_ORDERS: usize = 64;
 /// No order is taken while more than this many bytes are to be sent.
 pub const MOST_UNSENT: usize = 8_192;
 
-/// Whether an order may be given.
+/// Why an order may be given, or not.
 #[derive(Clone, Copy, PartialEq, Eq)]
 pub enum Admission {
     /// It may be given.

@@ -1,4 +1,4 @@
-//! How an order ended, as the console says it.
+//! The code of an order in a line of the console, and its meaning.
 
 ghost use Rattle.std.specs.Prelude.{◌≡◌, option_map};
 ghost use Rattle.smi_web.specs.Outcome as spec;

@@ -13,7 +13,7 @@ use std::io::Write;
 pub struct RelayedOrder {
     /// Its number, from 1, which no other has.
     pub number: u64,
-    /// What its line begins with on its way, and so does its answer.
+    /// The tag with which its line begins, and so does its answer.
     pub tag: Bytes,
     /// The order, as it was given.
     pub line: Bytes,

@@ -1,4 +1,4 @@
-//! Which answer a request gets.
+//! The route of a request.
 
 ghost use Rattle.std.specs.Prelude.{◌≡◌, bytes_eq, map, option_map};
 ghost use Rattle.std.specs.List.{list_any};
@@ -8,7 +8,7 @@ use crate::order_relay::Admission;
 use crate::page_orders::PageOrders;
 use std::marker::Model;
 
-/// What matters of a request.
+/// The parts of a request that its route depends on.
 #[derive(Drop)]
 pub struct RequestParts<'a> {
     pub method: &'a [u8],
@@ -43,7 +43,7 @@ impl<'a> Model for RequestParts<'a> {
     } };
 }
 
-/// Which answer a request gets.
+/// The route of a request.
 #[derive(Clone, Copy, PartialEq, Eq)]
 pub enum Route {
     Page,
@@ -68,7 +68,7 @@ pub enum Route {
     ConsoleDown,
     /// Too many orders wait.
     QueueFull,
-    /// The request names another host: somebody else has turned that name to this address.
+    /// The request names another host, as a name that was pointed to this address does.
     WrongHost,
 }
 

@@ -1,4 +1,4 @@
-//! What a picture looks like at one moment.
+//! The texts of a picture at one moment.
 
 ghost use Rattle.std.specs.Prelude.{◌≡◌, IfOk};
 ghost use Rattle.smi_web.specs.Snapshot.{version_of};
