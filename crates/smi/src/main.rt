@@ -22,7 +22,7 @@ fn main(rt: HostRuntime) -> ExitCode {
         Err(_) => no_memory(&mut faults).code(),
     };
     let is_terminal = faults.is_terminal();
-    // Where that can't be written there is nowhere left to say so.
+    // If that can't be written there is nowhere left to say so.
     let _ = tell_help(status, is_terminal, &mut faults);
     ExitCode::from(status)
 }

@@ -50,7 +50,7 @@ abbrev pub kept_after : Standing → Verdict → Standing
 kept_after r (New s) = s
 kept_after r Same = r
 
--- what a holder's asking makes of the record, where a command that may run stays busy or ends with
+-- what a holder's asking makes of the record, if a command that may run stays busy or ends with
 -- this outcome
 abbrev pub asked_record : Standing → Holder → Due → Bool → ℕ → Standing
 asked_record r h (Take s) busy x = kept_after r (take_after r h s)
@@ -73,7 +73,7 @@ asked p h d busy x = record {
   ran = asked_ran p.kept h d p.ran;
 }
 
--- a command at work ends, where one is
+-- a command at work ends, if one is
 abbrev pub settled_record : Standing → ℕ → Standing
 settled_record r x = if is_settled r.phase then r else settled r x
 

@@ -17,7 +17,7 @@ refusal_code NumbersSpent = 24
 abbrev pub refused : Refusal → Result Link ℕ
 refused why = Err (refusal_code why)
 
--- a take begins where the link is out
+-- a take begins if the link is out
 abbrev pub take_begun : Link → Result Link ℕ
 take_begun (Out k) = Ok (Taking k)
 take_begun (Taking s) = refused NotOut

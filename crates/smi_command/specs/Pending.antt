@@ -9,7 +9,7 @@ use Rattle.smi_grant.specs.declared.command.Command.TheVariants.{Do}
 abbrev pub most_pending : ℕ
 most_pending = MOST_PENDING
 
--- the number before the oldest pending command's, where the newest command has this number
+-- the number before the oldest pending command's, if the newest command has this number
 abbrev pub base_of : ℕ → List Command → ℕ
 base_of n p = n - length p
 

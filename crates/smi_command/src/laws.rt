@@ -25,7 +25,7 @@ pub fn taking_ends_by_hearing()
     ensures no_drop { (s : ℕ) → IsErr (drop_begun (Link.Taking s)) }
 {}
 
-/// States what a told record settles, number by number: a pending command settles exactly where the record shows that
+/// States what a told record settles, number by number: a pending command settles exactly when the record shows that
 /// it has ended, the last one with the record's outcome and those below it unseen. The others stay, in their order.
 pub fn commands_settle_by_number()
     ensures settles { (n i : ℕ) (p : List Command) (r : Standing) → i < length p →

@@ -36,7 +36,7 @@
 //! | the keeper's steps | `KeeperSteps` and `Asked` |
 //! | the told table, row by row | `LinkSteps` |
 //! | the told table, as a whole | `Heard` |
-//! | which pending commands settle where a record is told | `HeardCommands`, `EndedNumbers`, `SettledRuns` |
+//! | which pending commands settle when a record is told | `HeardCommands`, `EndedNumbers`, `SettledRuns` |
 //! | orders | `Orders` |
 //! | what was issued and what ran, as lists beside the state | `Logs` |
 //! | all of it together (`Well`, `after_well`, `reached_well`) | `OneLinkKept` |

@@ -47,7 +47,7 @@ pub fn begin_take(link: &Link) -> Result<Link, u16>
 }
 
 /// Issues the command under the next number. Returns the link then, or the [refusal](Refusal)'s number, the first
-/// that fits: 21 where the domain is not held, 22 where eight commands are pending, 24 where number 1,000,000 is
+/// that fits: 21 if the domain is not held, 22 if eight commands are pending, 24 if number 1,000,000 is
 /// used.
 pub fn issue(link: &Link, command: Command) -> Result<Link, u16>
     ensures { result ≡ command_issued link.now command }
@@ -75,7 +75,7 @@ pub fn issue(link: &Link, command: Command) -> Result<Link, u16>
 }
 
 /// Begins to give the domain up. Returns the link then, or the [refusal](Refusal)'s number, the first that fits: 21
-/// where the domain is not held, 22 where a command is pending.
+/// if the domain is not held, 22 if a command is pending.
 pub fn begin_drop(link: &Link) -> Result<Link, u16>
     ensures { result ≡ drop_begun link.now }
 {

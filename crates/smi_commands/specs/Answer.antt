@@ -35,7 +35,7 @@ IsDone ReadFault = ⊥
 IsDone WriteFault = ⊥
 IsDone Memory = ⊥
 
--- where the flush fails, what was answered counts as not written; a fault that came before it stays
+-- if the flush fails, what was answered counts as not written; a fault that came before it stays
 abbrev pub first_fault : Answered → Answered
 first_fault Ended = WriteFault
 first_fault (Refused k c) = WriteFault

@@ -138,7 +138,7 @@ fn answer_all<R: Read, W: Write>(reader: &mut R, writer: &mut W) -> Answered
 /// The domain is domain 1 of tree 17, kept by station 1; it begins fresh and is on its own. Refusals
 /// are those of docs/PROTOCOL.md, "Refusals", and a rest under 44 bytes is refused 1. A reader that
 /// gives no end in 2^32 reads is answered as one that fails. A write or flush that fails is told also
-/// where a datagram was refused before it.
+/// if a datagram was refused before it.
 pub fn answer<R: Read, W: Write>(reader: &mut R, writer: &mut W) -> Answered
     // If it reaches the end or a refusal, all the answers are written, and nothing else.
     ensures done { IfSome (R.remaining reader.old) (λ input. IsDone result →
@@ -148,7 +148,7 @@ pub fn answer<R: Read, W: Write>(reader: &mut R, writer: &mut W) -> Answered
     ensures front { IfSome (R.remaining reader.old) (λ input. (front rest : List ℕ) ×
         (answers fresh (pieces input) ≡ front ++ rest)
         × Appends (W.contents writer.old) (W.contents writer.new) front) }
-    // Where a read failed, what was read before it is answered, up to the last whole datagram.
+    // If a read failed, what was read before it is answered, up to the last whole datagram.
     ensures read { IfSome (R.remaining reader.old) (λ input. result ≡ Answered.ReadFault
         → IfSome (R.remaining reader.new) (λ left. AnswersWhole input left (W.contents writer.old)
         (W.contents writer.new))) }
@@ -162,7 +162,7 @@ pub fn answer<R: Read, W: Write>(reader: &mut R, writer: &mut W) -> Answered
     }
 }
 
-/// Returns what is told where the flush failed: the first fault.
+/// Returns what is told if the flush failed: the first fault.
 fn unflushed(answered: Answered) -> Answered
     ensures first { result ≡ first_fault answered }
     ensures read { result ≡ Answered.ReadFault → answered ≡ Answered.ReadFault }

@@ -27,10 +27,10 @@
 //!
 //! Which fault comes:
 //!
-//! - `StoreFault` comes only where the store counted a failure (`failed`).
+//! - `StoreFault` comes only if the store counted a failure (`failed`).
 //! - `rows` cannot say why the other two come, since std's `Write` counts no failures, and a store no refused memory.
-//! - `list`, which does the work on what `load` answered, can. `Memory` is told where the store answered that memory
-//!   ran out, and nowhere else (`fault`). Of rows that were loaded `WriteFault` is told only where a write or a flush
+//! - `list`, which does the work on what `load` answered, can. `Memory` is told if the store answered that memory
+//!   ran out, and not otherwise (`fault`). Of rows that were loaded `WriteFault` is told only if a write or a flush
 //!   failed (`unwritten`).
 //! - Such failures are counted by `Losses`, whose field is private. Its three functions raise the count where the
 //!   writer failed, and nothing else can.

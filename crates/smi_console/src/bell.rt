@@ -18,7 +18,7 @@ impl Bell {
         Ok(Bell { socket, own })
     }
 
-    /// Wakes the node. Where that fails, it wakes by itself within ten milliseconds.
+    /// Wakes the node. If that fails, it wakes by itself within ten milliseconds.
     pub(crate) fn ring(&self) {
         let _ = self.socket.send_to(&[], self.own);
     }

@@ -30,7 +30,7 @@
 //!   ended with a fault. The loop's invariant counts the rounds.
 //! - `IsServed` hides the link, the desk, the board and the observer as "some", so that no caller has to name the
 //!   node's own.
-//! - Where the station is open and no service begins, it is left unchanged.
+//! - If the station is open and no service begins, it is left unchanged.
 //!
 //! Seen by tests alone: that `run` serves over its own socket and seats (`tests/full_test.py`,
 //! `tests/nodes_test.py`), and the threads. The channels between them promise no order, so no clause says that a line

@@ -100,7 +100,7 @@ impl Outlet {
 
     /// Hands on what a caller is to be told, as far as there is room; the rest stays with the caller.
     ///
-    /// `Writer` is answered where a write has failed, and where more stays than a caller may have untold.
+    /// `Writer` is answered if a write has failed, or if more stays than a caller may have untold.
     pub(crate) fn say<R: Wait>(&self, rt: &R, caller: &mut Session) -> Result<(), Unwritten> {
         if self.progress.has_failed.load(Ordering::SeqCst) {
             return Err(Unwritten::Writer);

@@ -17,7 +17,7 @@ abbrev pub take_after : Standing → Holder → ℕ → Verdict
 take_after r h seen =
     if is_free r.holder && (r.epoch == seen && nat_lt seen last_epoch) then New (handed r h) else Same
 
--- a settled domain becomes free where its holder lets go of this epoch
+-- a settled domain becomes free if its holder lets go of this epoch
 abbrev pub drop_after : Standing → Holder → ℕ → Verdict
 drop_after r h e =
     if same_holder r.holder h && (r.epoch == e && is_settled r.phase) then New (handed r Free) else Same

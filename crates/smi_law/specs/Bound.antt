@@ -21,7 +21,7 @@ most_owed h =
 abbrev pub most_ticks : Hierarchy → ℕ
 most_ticks h = 2 * (most_owed h / most_sent + 1) + 1
 
--- a round: ticks of one station, a delivery, and a start where that stopped its station
+-- a round: ticks of one station, a delivery, and a start if that stopped its station
 abbrev pub round : Hierarchy → ℕ
 round h = most_ticks h + 2
 
@@ -29,7 +29,7 @@ round h = most_ticks h + 2
 abbrev pub most_hearing : ℕ
 most_hearing = most_operators + 1
 
--- a request reaches its keeper, and the answer each of these links; where that stops a station, it starts again
+-- a request reaches its keeper, and the answer each of these links; if that stops a station, it starts again
 abbrev pub passing : Hierarchy → ℕ
 passing h = round h + (most_hearing + most_hearing)
 

@@ -76,7 +76,7 @@ pub fn commands_are_handed_on()
 
 /// States that in every trace of a tree the runs of each domain rise by epoch and number, and those of one grant are
 /// 1, 2 and so on: none runs twice, and none before its turn. And each run is backed at its moment: it is under the
-/// current grant of its domain, which its holder holds; where that is an operator, the operator ordered this command
+/// current grant of its domain, which its holder holds; if that is an operator, the operator ordered this command
 /// under its number, once and no other; if it is the domain's parent, the parent is in this very command, hands it on
 /// to this child, commands the child, and is backed in it itself.
 pub fn runs_are_safe()

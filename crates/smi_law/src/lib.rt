@@ -51,7 +51,7 @@
 //! - *A command runs under any number, so again when it comes again.* `RecordMoves.run_moves`.
 //! - *A command ends before the children have answered.* `RecordMoves.ended_moves`; by itself `WorkTold.at_ended`: a
 //!   settled domain waits for no child.
-//! - *A drop begins where a command is pending.* `RecordMoves.order_rests`, `LinkMoves.order_moves`,
+//! - *A drop begins while a command is pending.* `RecordMoves.order_rests`, `LinkMoves.order_moves`,
 //!   `StepKinds.order_kind`.
 //! - *An operator's link is out on any told record.* `LinkMoves.tell_moves`.
 //! - *A number is given twice.* `RecordMoves.order_rests`, `LinkMoves.order_moves`, `StepKinds.order_kind`.

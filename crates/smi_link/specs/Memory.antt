@@ -105,7 +105,7 @@ abbrev pub one_send_on : Memory → Memory
 one_send_on m =
     record m { fails_after = option_and_then (λ more. if more == 0 then None else Some (more - 1)) m.fails_after }
 
--- the planned send fails, and any other one where memory was refused
+-- the planned send fails, and any other one if memory was refused
 abbrev pub fails : Memory → Memory
 fails m = failed (one_send_on (if is_planned m then m else refused m))
 

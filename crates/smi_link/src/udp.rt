@@ -13,7 +13,7 @@ use std::time::{Clock, Instant};
 /// A call of `receive` waits ten milliseconds at most, and then nothing has come. Nothing has also come once ten
 /// milliseconds have passed by the clock since the first call after the last `Nothing`, however many datagrams wait
 /// in the socket: they are given by later calls. So a caller that receives again and again is told `Nothing` close to a
-/// hundred times a second under load. Where the clock can't be read, a call waits as if it were the first. A datagram
+/// hundred times a second under load. If the clock can't be read, a call waits as if it were the first. A datagram
 /// over 44 bytes is received as its first 45. A send to a station without an address is a fault.
 ///
 /// Contracts see the addresses, by station from 1, where the last datagram went, and how often the link was asked to

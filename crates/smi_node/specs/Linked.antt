@@ -27,7 +27,7 @@ IsWithout {X} lost (x ∷ xs) kept =
 abbrev pub parcel : Message → ℕ × List ℕ
 parcel m = (m.to, spelling m)
 
--- Where the link tells, these datagrams were handed on in their order, without as many as the link failed.
+-- If the link tells, these datagrams were handed on in their order, without as many as the link failed.
 pub record Sends (datagrams : List Message) (before after : LinkShows) : Type 0 where
   pub lost : ℕ
   pub sent : List (ℕ × List ℕ)

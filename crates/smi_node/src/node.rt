@@ -228,15 +228,15 @@ impl<S: Stable, J: BoardId> Node<'_, '_, '_, S, J> {
 }
 
 /// Carries an event to a station and what follows it from there: the datagrams of the step are sent, each to its
-/// receiver, where one that the link does not take is lost; a shown state is published; and answers go to the orders
+/// receiver, and one that the link does not take is lost; a shown state is published; and answers go to the orders
 /// in work that they are of, while one that is of none is dropped.
 ///
 /// `seat` is the seat whose newest order in work the event is, if it is one. That order becomes the command that the
 /// step issued, and is told the code of a report, of a refusal, and of a step that was not made (31 not stored, 33 no
 /// memory); such a datagram is lost. `out` then has what the step handed out.
 ///
-/// `Stopped` comes exactly where the step answered that the station has stopped, and then nothing is sent, published
-/// or answered. `Memory` comes only where the board refused, and leaves what success would but for the publication
+/// `Stopped` comes exactly when the step answered that the station has stopped, and then nothing is sent, published
+/// or answered. `Memory` comes only if the board refused, and leaves what success would but for the publication
 /// and the answers.
 pub fn carry<S: Stable, L: DatagramLink, J: BoardId, R: Wait>(
     rt: &R,

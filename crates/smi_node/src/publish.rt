@@ -10,7 +10,7 @@ use std::sync::Wait;
 
 /// Puts the state that a step showed, if any, on the board and publishes it.
 ///
-/// It fails only where the board was refused memory: nothing was published then.
+/// It fails only if the board was refused memory: nothing was published then.
 pub(crate) fn publish<J: BoardId, R: Wait>(
     rt: &R,
     board: &mut Board<J>,

@@ -345,7 +345,7 @@ impl<S: Stable, J: BoardId> Node<'_, '_, '_, S, J> {
 /// nothing as a tick, and a fault of the link as neither. Then each seat by number gives at most one order, which is
 /// carried at once; a report of any seat is carried as a report.
 ///
-/// It ends after the turns, or with a fault: `Stopped` and `Memory`, where a carry ended so, and `Link`, where the link
+/// It ends after the turns, or with a fault: `Stopped` and `Memory`, if a carry ended so, and `Link`, if the link
 /// failed to receive in a hundred turns in a row.
 ///
 /// On a board whose rows rise, and of which none is newer than what the station was shown, they stay so. A board on

@@ -82,7 +82,7 @@ newest_marked work m = changed_at (λ e. marked_by e m) (length work - 1) work
 abbrev pub newest_of : List WorkSlot → Option ℕ
 newest_of work = if length work == 0 then None else Some (length work - 1)
 
--- an answer is of an order in work: where a command was issued, of the order that became it, else of the same order
+-- an answer is of an order in work: if a command was issued, of the order that became it, else of the same order
 abbrev pub IsAnsweredBy : Order → Option Mark → Work → Type 0
 IsAnsweredBy o (Some m) w = w.mark ≡ Some m
 IsAnsweredBy o None w = w.order ≡ o

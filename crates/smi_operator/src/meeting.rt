@@ -47,7 +47,7 @@ fn open_seat(alloc: Global) -> Result<(Seat, SeatEnd), AllocError>
 
 /// Opens this many seats, 1 to 9, and their desk. Nothing was submitted, given, answered or told yet.
 ///
-/// It fails only where memory ran out, which tests alone see.
+/// It fails only if memory ran out, which tests alone see.
 #[tactic(auto, using(crate::proofs::Pushes::seats_push))]
 pub fn open_seats(alloc: Global, count: usize) -> Result<(Vec<Seat>, Desk), AllocError>
     requires least { 1 ≤ count }

@@ -1,4 +1,4 @@
--- The page where orders may be given.
+-- The page with which orders may be given.
 use Rattle.std.specs.Prelude.{ℕ, ◌++◌, List, codes}
 use Rattle.smi_program.specs.declared.orders.TheConstants.{ORDERS}
 use Rattle.smi_program.specs.declared.page.TheConstants.{PAGE}
@@ -11,6 +11,6 @@ script_of key = codes "<script>const KEY = \"" ++ key ++ codes "\";</script>\n"
 abbrev pub with_orders : (page key orders : List ℕ) → List ℕ
 with_orders page key orders = page ++ script_of key ++ orders
 
--- the page of the screen, where orders may be given by this key
+-- the page of the screen with which orders may be given by this key
 abbrev pub page_with_orders : List ℕ → List ℕ
 page_with_orders key = with_orders PAGE.now key ORDERS.now

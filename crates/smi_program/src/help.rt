@@ -8,7 +8,7 @@ use smi_base::{NotWritten, write_whole};
 use smi_commands::status::Status;
 use std::io::Write;
 
-/// Tells where help is, in one line more, where a command has ended as a wrong line and `faults` is a terminal. Else it
+/// Tells where help is, in one line more, if a command has ended as a wrong line and `faults` is a terminal. Else it
 /// writes nothing, so that a program that reads `faults` finds the one line alone.
 ///
 /// Its error is that not all could be written.

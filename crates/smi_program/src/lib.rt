@@ -11,7 +11,7 @@
 //!
 //! The page of a screen is one file, with its style and its script, which fetches nothing from elsewhere. It is
 //! written as page.html, beside this crate's sources, and served as the constant [`PAGE`], which tools/page.py makes
-//! of it. Where orders may be given the page goes on ([`page_with_orders`]): after it come the key that a page has
+//! of it. If orders may be given the page goes on ([`page_with_orders`]): after it come the key that a page has
 //! to show with each order, and what is written as orders.html.
 #![tactic(auto)]
 

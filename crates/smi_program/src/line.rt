@@ -381,7 +381,7 @@ fn consoles_of<'a>(words: Option<&[&'a str]>, is_open: bool) -> Option<Places<'a
     }
 }
 
-/// Returns how long a node serves: as many turns as a word says, without end where that is asked for, and without
+/// Returns how long a node serves: as many turns as a word says, without end if that is asked for, and without
 /// either the most turns. Both are no form.
 fn turns_of(word: Option<&str>, is_endless: bool) -> Option<Option<u32>> {
     match (word, is_endless) {

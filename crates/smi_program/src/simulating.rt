@@ -34,9 +34,9 @@ fn streamed<F: Write>(streamed: Streamed, faults: &mut F) -> u8
 /// Runs a schedule: writes the text of its trace, reading a line and writing what it leaves before the next is read.
 /// Answers the exit status.
 ///
-/// It is 0 where the whole trace is written, and 1 where a line is faulty, which is told on `faults` as
-/// `schedule line L fault C`: then the trace of the lines before it is written. It is 3 where a read or a write failed,
-/// and 4 where memory ran out. (docs/FORMATS.md, "Schedules" and "Traces".)
+/// It is 0 if the whole trace is written, and 1 if a line is faulty, which is told on `faults` as
+/// `schedule line L fault C`: then the trace of the lines before it is written. It is 3 if a read or a write failed,
+/// and 4 if memory ran out. (docs/FORMATS.md, "Schedules" and "Traces".)
 pub fn sim<R: Read, W: Write, F: Write>(
     alloc: Global,
     tree: &Tree,
@@ -58,7 +58,7 @@ pub fn sim<R: Read, W: Write, F: Write>(
 }
 
 /// Runs the schedule of this many items that a seed draws, and writes the text of its trace while it is drawn. Answers
-/// the exit status: 0 where the whole trace is written, 3 where a write failed, and 4 where memory ran out.
+/// the exit status: 0 if the whole trace is written, 3 if a write failed, and 4 if memory ran out.
 pub fn sim_drawn<W: Write, F: Write>(
     alloc: Global,
     tree: &Tree,

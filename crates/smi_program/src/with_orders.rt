@@ -1,4 +1,4 @@
-//! The page where orders may be given.
+//! The page with which orders may be given.
 
 ghost use Rattle.smi_program.specs.declared.page.TheConstants.{PAGE};
 ghost use Rattle.std.specs.Prelude.{◌≡◌, IfOk};
@@ -31,7 +31,7 @@ fn with_orders(alloc: Global, page: &[u8], key: &[u8], orders: &[u8]) -> Result<
 
 /// Returns the page that may give orders, by this key.
 ///
-/// It fails only where memory ran out, which tests alone see.
+/// It fails only if memory ran out, which tests alone see.
 pub fn page_with_orders(alloc: Global, key: &[u8]) -> Result<Vec<u8>, AllocError>
     ensures { IfOk result (λ page. page.items ≡ page_with_orders key.now) }
 {

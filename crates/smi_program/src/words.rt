@@ -17,7 +17,7 @@ pub struct Words {
     pub bytes: Vec<Vec<u8>>,
 }
 
-/// Returns the words of the command line. It fails only where memory ran out, which tests alone see.
+/// Returns the words of the command line. It fails only if memory ran out, which tests alone see.
 pub fn words_of<H: Env + AllocGlobal>(rt: &H) -> Result<Words, AllocError> {
     let mut words = Words {
         texts: Vec::new(rt.alloc()),

@@ -25,7 +25,7 @@ use Rattle.smi_protocol.specs.declared.entry.Entry.TheVariants as entry
 abbrev pub answered : Hierarchy → ℕ → Grants → ℕ → ℕ → GrantStep
 answered h number g from d = unchanged g (tells h number from d (g.records d) ∷ [])
 
--- the record changes hands where the keeper's verdict is a new one
+-- the record changes hands if the keeper's verdict is a new one
 abbrev pub decided : Hierarchy → ℕ → Grants → ℕ → ℕ → Entry → Verdict → GrantStep
 decided h number g from d note (New r) = domain_changed (with_record g d r) d (note ∷ []) (tells h number from d r ∷ [])
 decided h number g from d note Same = answered h number g from d
@@ -97,7 +97,7 @@ ran h number g from d e n c busy own =
     (entry.Ran d e n c ∷ child_entries h g d c ++ settled_at_once d e n busy own)
     (tells h number from d (started (g.records d) busy own) ∷ child_requests h number g d c)
 
--- a command comes, and runs where the record admits it
+-- a command comes, and runs if the record admits it
 abbrev pub run_comes : Hierarchy → ℕ → Grants → ℕ → ℕ → Holder → ℕ → ℕ → Command → GrantStep
 run_comes h number g from d who e n c =
     if admits (g.records d) who e n

@@ -39,7 +39,7 @@ relinked h number g o d c l = record {
   issued = issued_by d c l;
 }
 
--- the order is obeyed where the link allows it
+-- the order is obeyed if the link allows it
 abbrev pub obeyed : Hierarchy → ℕ → Grants → ℕ → ℕ → Option Command → Result Link ℕ → GrantStep
 obeyed h number g o d c (Ok l) = relinked h number g o d c l
 obeyed h number g o d c (Err code) = unchanged g []

@@ -99,7 +99,7 @@ take_refusal h g o d =
 abbrev pub command_refusal : Grants → ℕ → ℕ → Command → Option ℕ
 command_refusal g o d c = why_not (command_issued (g.links (Operator o) d) c)
 
--- the link's refusal, where the order is about the operator's link
+-- the link's refusal, if the order is about the operator's link
 abbrev pub refusal_by_link : Hierarchy → Grants → ℕ → Order → Option ℕ
 refusal_by_link h g o (order.Take d) = take_refusal h g o d
 refusal_by_link h g o (order.Drop d) = why_not (drop_begun (g.links (Operator o) d))

@@ -97,7 +97,7 @@ moved_by h g conditions Ticks = conditions
 
 -- How units follow.
 
--- the unit is evaluated once, where its members are not what they were
+-- the unit is evaluated once, if its members are not what they were
 abbrev pub followed : Hierarchy → List Member → List Member → (ℕ → Option Condition) → ℕ → ℕ → Option Condition
 followed h old new conditions d =
     if same_members old new then conditions else evaluated h conditions d (map (λ x. x.state) new)

@@ -113,7 +113,7 @@ abbrev pub conditions_after : Hierarchy → Station → Grants → Display → H
 conditions_after h s grants display what =
     conditions_by h s grants display (moved_by h s.grants s.display.conditions what) (domain_of_happening h what)
 
--- done where a row was saved
+-- done if a row was saved
 abbrev pub heard_of : Option Saved → Heard
 heard_of None = Same
 heard_of (Some row) = Done

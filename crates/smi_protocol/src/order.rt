@@ -72,7 +72,7 @@ impl Order {
     }
 }
 
-/// Why an order or a report was not taken, where its link has nothing against it (docs/NUMBERS.md, "How an order ends").
+/// Why an order or a report was not taken, if its link has nothing against it (docs/NUMBERS.md, "How an order ends").
 #[derive(Clone, Copy, Debug, PartialEq, Eq, Error)]
 pub enum OrderCode {
     #[error("25: sixteen domains are held or waited for")]
@@ -109,7 +109,7 @@ pub struct Told {
     /// An outcome 0 to 9 (docs/PROTOCOL.md, "Outcomes"), a refusal 21 to 26 ("Orders"), or a fault
     /// 31 to 33 ("A step").
     pub code: u16,
-    /// The record, where the order was an `Ask` that was answered.
+    /// The record, if the order was an `Ask` that was answered.
     pub asked: Option<Record>,
 }
 

@@ -48,7 +48,7 @@ differs (Some a) (Some b) = not (a.state == b.state)
 differs (Some a) None = false
 differs None b = false
 
--- what an object newly shows, where its state has changed
+-- what an object newly shows, if its state has changed
 abbrev pub change_at : ℕ → (ℕ → Option Condition) → (ℕ → Option Condition) → ℕ → Option Shown
 change_at boot old new object = if differs (old object) (new object) then shown_at boot new object else None
 

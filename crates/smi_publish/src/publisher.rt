@@ -36,7 +36,7 @@ impl Publisher {
     /// Returns the objects of a station after a start, in their classes' first states, at sequence 0 of this boot:
     /// the units of the domains that the station keeps, and the devices in them.
     ///
-    /// It fails only where memory ran out, which tests alone see.
+    /// It fails only if memory ran out, which tests alone see.
     pub fn new(alloc: Global, tree: &Tree, station: u16, boot: u32) -> Result<Publisher, AllocError>
         ensures boot { IfOk result (λ publisher. publisher.boot ≡ boot) }
         ensures opened { IfOk result (λ publisher. conditions_of publisher ≡ first_condition tree.now station) }

@@ -14,7 +14,7 @@ use std::alloc::{AllocError, Global};
 
 /// Returns the bytes of the row of a boot.
 ///
-/// Out of memory is answered where an allocation was refused, and nowhere else, which tests alone
+/// Out of memory is answered exactly when an allocation was refused, which tests alone
 /// see.
 pub fn write_boot(alloc: Global, boot: u32) -> Result<Vec<u8>, AllocError>
     ensures { IfOk result (λ row. row.items ≡ spec.boot_bytes (newest RowKind.Boot) boot) }
@@ -29,7 +29,7 @@ impl DomainRow {
 
     /// Returns the bytes of the row.
     ///
-    /// Out of memory is answered where an allocation was refused, and nowhere else, which tests
+    /// Out of memory is answered exactly when an allocation was refused, which tests
     /// alone see.
     pub fn write(&self, alloc: Global) -> Result<Vec<u8>, AllocError>
         requires { length self.now.links < 2 ^ 16 }
@@ -46,7 +46,7 @@ impl OperatorRow {
 
     /// Returns the bytes of the row.
     ///
-    /// Out of memory is answered where an allocation was refused, and nowhere else, which tests
+    /// Out of memory is answered exactly when an allocation was refused, which tests
     /// alone see.
     pub fn write(&self, alloc: Global) -> Result<Vec<u8>, AllocError>
         requires { length self.now < 2 ^ 16 }
@@ -103,7 +103,7 @@ fn operator_in(alloc: Global, schema: u8, operator: &OperatorRow) -> Result<Vec<
 /// Puts the bytes of a domain's row at the end of others: of one with this standing, this gathered code and these
 /// links to its children, by rising number.
 ///
-/// Out of memory is answered where an allocation was refused, and nowhere else, which tests alone
+/// Out of memory is answered exactly when an allocation was refused, which tests alone
 /// see.
 pub fn append_domain(
     row: &mut Vec<u8>,
@@ -126,7 +126,7 @@ pub fn append_domain(
 
 /// Puts the bytes of an operator's row at the end of others: of one with these links, by rising number.
 ///
-/// Out of memory is answered where an allocation was refused, and nowhere else, which tests alone
+/// Out of memory is answered exactly when an allocation was refused, which tests alone
 /// see.
 pub fn append_operator(row: &mut Vec<u8>, links: &[StoredLink]) -> Result<(), AllocError>
     requires { length links.now < 2 ^ 16 }

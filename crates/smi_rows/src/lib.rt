@@ -34,7 +34,7 @@
 //! known of a store before it.
 //!
 //! `PlannedStable` (`specs/Planned`): a plan strikes at its save and at no other (`device`, `before`, `after`,
-//! `passed_on`). Where one strikes after the row was saved, the row stays (`landed`). A load spends no plan and is
+//! `passed_on`). If one strikes after the row was saved, the row stays (`landed`). A load spends no plan and is
 //! the load of the store below (`left`, `passed_on`).
 //!
 //! Trusted: the toolchain.

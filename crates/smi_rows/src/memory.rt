@@ -12,7 +12,7 @@ use smi_base::Tally;
 use std::alloc::{AllocError, Global};
 use std::marker::Model;
 
-/// A store in memory, which fails only where memory ran out.
+/// A store in memory, which fails only if memory ran out.
 #[derive(Drop)]
 pub struct MemoryStable {
     rows: Vec<SavedRow>,
@@ -109,7 +109,7 @@ impl Stable for MemoryStable {
 
     ghost is_open = { λ _. Unit {0} };
 
-    // It fails only where memory ran out, which tests alone see.
+    // It fails only if memory ran out, which tests alone see.
     ghost failures = { λ _. 0 };
 
     ghost doubts = { λ _. 0 };

@@ -159,7 +159,7 @@ impl<S: Stable> Stable for PlannedStable<S> {
         ensures after { due_of self.old.planned ≡ Some Plan.After
             → IsErr result × (S.saves self.new.store ≡ S.saves self.old.store + 1)
             × (self.new.struck.count ≤ self.old.struck.count + 1) }
-        // Where the store below saved the row, it stays.
+        // If the store below saved the row, it stays.
         ensures landed { due_of self.old.planned ≡ Some Plan.After → S.is_honest self.new.store
             → self.old.struck.count < self.new.struck.count
             → (result ≡ Err StoreFault.Unsure) × S.is_open self.new.store

@@ -32,12 +32,12 @@ impl Row {
     /// Returns what the row of this key says at a station of the tree, or the first test that it fails.
     ///
     /// Rows of the newest schema of their kind are read and those of all before it, each to the value
-    /// that was written. Out of memory is answered where an allocation was refused, and nowhere else,
+    /// that was written. Out of memory is answered exactly when an allocation was refused,
     /// which tests alone see.
     pub fn read(alloc: Global, tree: &Tree, key: Key, bytes: &[u8]) -> Result<Row, RowFault>
         // What is read was written so, and the tree has what it names.
         ensures found { IfOk result (λ row. IsRow tree.now key bytes.now row) }
-        // What was written so is read, where the tree has what it names.
+        // What was written so is read, if the tree has what it names.
         ensures only { (row : Said) → IsRow tree.now key bytes.now row → Reads result (Ok row) }
         // It is unknown if it was written so, and the tree lacks something that it names.
         ensures unknown { (row : Said) → IsWritten key bytes.now row → is_known tree.now key row ≡ false

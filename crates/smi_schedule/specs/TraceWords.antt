@@ -18,7 +18,7 @@ use Rattle.smi_protocol.specs.declared.order.Order.TheVariants as order
 use Rattle.smi_tree.specs.Hierarchy.{Hierarchy, entry}
 use Rattle.smi_tree.specs.Lookups.{object_name}
 
--- a name, or the number where the tree has no such thing
+-- a name, or the number if the tree has no such thing
 abbrev pub called : Option (List ℕ) → ℕ → List ℕ
 called None number = decimal number
 called (Some name) number = name

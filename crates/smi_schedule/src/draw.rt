@@ -37,7 +37,7 @@ fn order_of(tree: &Tree, word: u32) -> Order
     }
 }
 
-/// Returns the report that a word picks, a tick where the tree has no devices.
+/// Returns the report that a word picks, a tick if the tree has no devices.
 fn report_of(tree: &Tree, word: u32) -> Deed
     ensures { result ≡ spec.report_of tree.now word }
 {

@@ -152,7 +152,7 @@ impl Lines {
         }
     }
 
-    /// Cuts what was read, where a line feed is there or the line is too long without.
+    /// Cuts what was read, if a line feed is there or the line is too long without.
     fn cut_read(&mut self) -> Option<Cut>
         ensures cut { MatchOption result ((self.new ≡ self.old) × HasNoLine self.old.rest)
             (λ cut. (later : List ℕ) →

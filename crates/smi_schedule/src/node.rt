@@ -26,7 +26,7 @@ fn spell_told_report(text: &mut Vec<u8>, tree: &Tree, told: &Told) -> Result<(),
 /// Puts the line of how a report ended into a buffer, in place of what was there: as that of an order, but with no
 /// operator, since a report is nobody's.
 ///
-/// Out of memory is answered only where the buffer was refused more, which tests alone see, and
+/// Out of memory is answered only if the buffer was refused more, which tests alone see, and
 /// then the buffer is empty.
 pub fn spell_report(text: &mut Vec<u8>, tree: &Tree, told: &Told) -> Result<(), AllocError>
     ensures { MatchResult result (λ _. text.new.items ≡ report_text tree.now told.now) (λ _. text.new.items ≡ []) }
@@ -67,7 +67,7 @@ fn spell_shown(
 /// Puts the line of what a board shows of an object into a buffer, in place of what was there: the object with its
 /// version and state, or that it shows nothing of the object.
 ///
-/// Out of memory is answered only where the buffer was refused more, which tests alone see, and
+/// Out of memory is answered only if the buffer was refused more, which tests alone see, and
 /// then the buffer is empty.
 pub fn spell_board(
     text: &mut Vec<u8>,
@@ -103,7 +103,7 @@ fn spell_under_way(
 /// Puts the line of an operator's order that is under way into a buffer, in place of what was there, with the seconds
 /// since it was given.
 ///
-/// Out of memory is answered only where the buffer was refused more, which tests alone see, and
+/// Out of memory is answered only if the buffer was refused more, which tests alone see, and
 /// then the buffer is empty.
 pub fn spell_waiting(
     text: &mut Vec<u8>,

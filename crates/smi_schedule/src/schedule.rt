@@ -83,7 +83,7 @@ fn read_lines(alloc: Global, tree: &Tree, bytes: &[u8]) -> Result<Vec<Item>, Sch
 
 /// Returns the items that the lines of a text let happen, or its first faulty line with its first fault.
 ///
-/// A text of more than 256 KiB is refused before its lines. Out of memory is answered only where an allocation was
+/// A text of more than 256 KiB is refused before its lines. Out of memory is answered only if an allocation was
 /// refused, which tests alone see.
 #[tactic(auto, unfolding(crate::specs::Schedule::schedule_of))]
 pub fn read_schedule(alloc: Global, tree: &Tree, bytes: &[u8]) -> Result<Vec<Item>, ScheduleFault>

@@ -44,7 +44,7 @@ impl From<AllocError> for Unwritten {
 
 /// Writes the text of a line, which is put together in `text`.
 ///
-/// On an error a prefix of it is written; where memory ran out, nothing.
+/// On an error a prefix of it is written; if memory ran out, nothing.
 pub fn write_line<W: Write>(
     writer: &mut W,
     text: &mut Vec<u8>,

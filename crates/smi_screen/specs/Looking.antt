@@ -93,7 +93,7 @@ DoesAll {T} S operator (deed ∷ deeds) before after =
     (between : View T) × DoesAll S operator deeds before between
     × Does S operator deed.0 deed.1 between after false
 
--- An observer looks: some deeds were done, and nothing else; where the station has stopped, in the last of them.
+-- An observer looks: some deeds were done, and nothing else; if the station has stopped, in the last of them.
 abbrev pub Looks : {T : Type 0} → Stepping T → ℕ → View T → View T → Bool → Type 0
 Looks S operator before after false = (deeds : List (Deed × ℕ)) × DoesAll S operator deeds before after
 Looks {T} S operator before after true =

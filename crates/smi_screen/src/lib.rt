@@ -6,7 +6,7 @@
 //! and there is neither a lock nor a second thread. What a page elsewhere could ask is nothing: [`hosts_of`] says
 //! which names of hosts are answered.
 //!
-//! Where a [`NodeConsole`] is named, orders may be given from the page: they wait in the window's relay (`smi_web`),
+//! If a [`NodeConsole`] is named, orders may be given from the page: they wait in the window's relay (`smi_web`),
 //! and each turn sends what is to be sent of them over one connection, and hears what is said there, without waiting.
 //! The station of the screen orders nothing: the orders are those of operators of the node whose console it is.
 //!

@@ -100,7 +100,7 @@ impl Observer {
     }
 
     /// Carries an event to a station and what follows it from there: the datagrams of its step are sent, each to its
-    /// receiver, where one that the link does not take is lost; and what the step showed and answered is noted in the
+    /// receiver, and one that the link does not take is lost; and what the step showed and answered is noted in the
     /// picture, at this time. Returns what the step answered. A step that was not made, for which there was no memory
     /// or no store, is as if the event had been lost.
     ///

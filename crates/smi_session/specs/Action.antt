@@ -33,7 +33,7 @@ abbrev pub done_in : Hierarchy → Result Message Bad → Option (ℕ × List �
 done_in h (Ok m) = run_action h m.body
 done_in h (Err bad) = None
 
--- a command has run where the step of its datagram saved a row
+-- a command has run if the step of its datagram saved a row
 abbrev pub step_action : Hierarchy → Event → Result Heard StepFault → Option (ℕ × List ℕ)
 step_action h (event.Datagram bytes) (Ok heard.Done) = done_in h (reading bytes.now)
 step_action h _ _ = None

@@ -1,4 +1,4 @@
--- What a tag is, and where a line has one.
+-- What a tag is, and whether a line has one.
 use Rattle.std.specs.Prelude.{ℕ, ◌==◌, ◌&&◌, nat_le, min, Bool, List, [], ◌∷◌, length, take, Option, Some, None}
 use Rattle.std.specs.Prelude.{if◌then◌else◌}
 use Rattle.std.specs.List.{list_all}
@@ -18,7 +18,7 @@ abbrev pub tag_in : List ℕ → Option (List ℕ)
 tag_in [] = None
 tag_in (byte ∷ text) = if byte == 64 && is_tag text then Some text else None
 
--- the tag that a line begins with, where its first word has one
+-- the tag that a line begins with, if its first word has one
 abbrev pub tag_of : List (List ℕ) → Option (List ℕ)
 tag_of [] = None
 tag_of (word ∷ more) = tag_in word

@@ -1,4 +1,4 @@
-//! What a caller can count on where a process ends in the middle of a step: the function does nothing.
+//! What a caller can count on if a process ends in the middle of a step: the function does nothing.
 
 ghost use Rattle.std.specs.Prelude.{◌⊎◌, ℕ, Result};
 ghost use Rattle.smi_tree.specs.Hierarchy.{Hierarchy};

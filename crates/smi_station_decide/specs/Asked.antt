@@ -19,7 +19,7 @@ IfRelinked (change.Stays why) P = Unit {0}
 IfRelinked (change.Relinked l) P = P l
 IfRelinked (change.ComesInto m) P = Unit {0}
 
--- the tree has the child, and where its link has changed, what it is due can be said
+-- the tree has the child, and if its link has changed, what it is due can be said
 pub record MayBeAsked (h : Hierarchy) (x : CommandedChild) : Type 0 where
   pub child : IsBetween 1 (domain_count h) x.child
   pub link : IfRelinked x.change CanBeSaid

@@ -128,7 +128,7 @@ pub fn decide_run(
     }
 }
 
-/// Decides a command. Where the domain's record admits it, it begins; else nothing comes of it.
+/// Decides a command. If the domain's record admits it, it begins; else nothing comes of it.
 ///
 /// Its error is that memory was refused for a command that the record admits.
 fn run_comes(

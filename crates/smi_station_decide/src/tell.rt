@@ -324,7 +324,7 @@ fn learned(holder: Holder, domain: u16, old: &Link, new: &Link) -> Option<Entry>
 
 // ---- at a domain's link to a child
 
-/// Tells a domain's link to a child a record that it listens to: where its command ends with it, its holder is told
+/// Tells a domain's link to a child a record that it listens to: if its command ends with it, its holder is told
 /// so, and what the link is due now is sent.
 fn tell_parent(
     out: &mut Out,

@@ -47,6 +47,6 @@ same_numbers _ _ = false
 abbrev pub are_same : Listed → Listed → Bool
 are_same a b = same_numbers a.objects b.objects && same_numbers a.states b.states
 
--- the unit is evaluated once, where its members are not what they were
+-- the unit is evaluated once, if its members are not what they were
 abbrev pub followed_by : Hierarchy → Listed → Listed → (ℕ → Option Condition) → ℕ → ℕ → Option Condition
 followed_by h old new conditions d = if are_same old new then conditions else evaluated h conditions d new.states

@@ -64,7 +64,7 @@ impl<'a> Displayed<'a> {
     /// Returns a station at its start, in this boot: its objects are in their first states, and nothing was heard of
     /// anyone.
     ///
-    /// It fails only where memory ran out, which tests alone see.
+    /// It fails only if memory ran out, which tests alone see.
     pub fn new(
         alloc: Global,
         tree: &'a Tree,

@@ -99,7 +99,7 @@ impl<'a> Displayed<'a> {
 
     /// Handles the request of a station to be shown an object of this one.
     ///
-    /// Its error is that the memory for one more watcher was refused, where its station is not in the object's list or
+    /// Its error is that the memory for one more watcher was refused, if its station is not in the object's list or
     /// was started again; nothing has changed then.
     pub fn watch_comes(
         &mut self,

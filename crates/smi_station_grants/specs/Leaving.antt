@@ -7,9 +7,9 @@ use Rattle.smi_station_grants.specs.Save.{IfKept, IfKnown, IfStopped, IfCounted,
 
 -- A step that saves this row, if any, has this result. While the store is honest: after a step the row is
 -- there; if nothing was saved the rows are as before; and if nobody knows, they are one or the other. So are
--- those that an open finds after a stop at any moment, whatever the result, also where the store has shut itself. It
--- saves once at most. The store failed where a step was not stored, or stopped, and in no other; and it left a doubt
--- where one stopped, and in no other.
+-- those that an open finds after a stop at any moment, whatever the result, also if the store has shut itself. It
+-- saves once at most. The store failed if a step was not stored, or stopped, and else not; and it left a doubt
+-- if one stopped, and else not.
 pub record Leaves {T X : Type 0} (is_honest is_open : T → Type 0) (rows : T → Rows)
     (may_find : T → Rows → Type 0) (saves failures doubts : T → ℕ) (before after : T) (r : Result X StepFault)
     (row : Option Saved) : Type 0 where

@@ -57,7 +57,7 @@ in_newest h number rows k = if k.station == number then in_newest_if (said h row
 abbrev pub SaysTheSame : Hierarchy → Rows → Rows → Type 0
 SaysTheSame h before after = (k : Key) → said h after k ≡ said h before k
 
--- Each row is as before or in its newest schema, by rising key: where one is in it, all before it are.
+-- Each row is as before or in its newest schema, by rising key: if one is in it, all before it are.
 pub record IsPartly (h : Hierarchy) (number : ℕ) (before after : Rows) : Type 0 where
   pub each : (k : Key) → (after k ≡ before k) ⊎ (after k ≡ in_newest h number before k)
   pub rising : (j k : Key) → is_before j k ≡ true → (after j ≡ in_newest h number before j) ⊎ (after k ≡ before k)

@@ -24,7 +24,7 @@ use std::alloc::Global;
 /// raised by one. Rows of other stations are left alone.
 ///
 /// `NoSuchStation` comes first, then the fault of the least key whose row is refused, then `BootsSpent`. `Memory` is
-/// answered where an allocation was refused, and nowhere else, which tests alone see.
+/// answered exactly when an allocation was refused, which tests alone see.
 pub fn kept_of_rows<'a>(
     alloc: Global,
     tree: &'a Tree,

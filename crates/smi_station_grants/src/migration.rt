@@ -23,7 +23,7 @@ use std::alloc::Global;
 ///
 /// `NoSuchStation` comes first, then the fault of the least key whose row is refused, both before anything is saved.
 /// A fault of the store, and `Memory`, may come at any place, and leave rows that say what they said. The store failed
-/// where its fault is answered, and nowhere else; that memory was refused where `Memory` is, tests alone see.
+/// if its fault is answered, and not otherwise; that memory was refused if `Memory` is, tests alone see.
 pub fn migrate<S: Stable>(
     alloc: Global,
     tree: &Tree,

@@ -36,7 +36,7 @@ impl RowBuffer {
 
     /// Returns a buffer with room for any row of a tree of this many domains.
     ///
-    /// It fails only where memory ran out, which tests alone see.
+    /// It fails only if memory ran out, which tests alone see.
     pub fn new(alloc: Global, domains: u16) -> Result<RowBuffer, AllocError> {
         let domains = usize::from(domains);
         let links = Vec::with_capacity(alloc, domains)?;

@@ -1,4 +1,4 @@
-//! What a node does where its link fails.
+//! What a node does if its link fails.
 
 ghost use Rattle.std.specs.Prelude.{◌≡◌};
 

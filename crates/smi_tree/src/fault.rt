@@ -33,7 +33,7 @@ pub enum Fault {
     /// The address of a station is not well formed.
     #[error("8: an address is not well formed")]
     BadAddress,
-    /// A device class where a unit class belongs, or the other way round.
+    /// A device class in place of a unit class, or the other way round.
     #[error("9: a class of the other kind")]
     OtherKind,
     /// The line has more than 200 bytes.

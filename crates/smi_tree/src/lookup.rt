@@ -136,7 +136,7 @@ impl Tree {
         self.parts.tables.devices.rows()[usize::from(device) - 1]
     }
 
-    /// Returns the state to which an action moves a device: its own where its class has no row for the two.
+    /// Returns the state to which an action moves a device: its own if its class has no row for the two.
     pub fn moved(&self, device: u16, state: u16, action: u16) -> u16
         ensures { result ≡ moved self.now device state action }
     {

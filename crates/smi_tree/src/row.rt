@@ -6,7 +6,7 @@ use crate::rule::state_by;
 use std::alloc::{AllocError, Global};
 use std::marker::Model;
 
-/// A rule of a unit class: where its members are in `state` as it asks, the unit is in `target`.
+/// A rule of a unit class: if its members are in `state` as it asks, the unit is in `target`.
 #[derive(Clone, Copy, PartialEq, Eq)]
 pub struct Rule {
     pub quantifier: Quantifier,

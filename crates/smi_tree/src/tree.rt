@@ -88,7 +88,7 @@ impl Tree {
 
     /// Returns the tree that a file declares, or the first of its faulty lines with its first fault.
     ///
-    /// Out of memory is answered where an allocation was refused, and nowhere else, which tests
+    /// Out of memory is answered exactly when an allocation was refused, which tests
     /// alone see.
     #[tactic(auto, unfolding(crate::specs::File::tree_of))]
     pub fn read(alloc: Global, bytes: &[u8]) -> Result<Tree, TreeFault>

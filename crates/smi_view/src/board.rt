@@ -107,7 +107,7 @@ pub(crate) fn publish<R: Wait>(rt: &R, writer: BoardWriter) -> (BoardWriter, Res
 impl<J: BoardId> Board<J> {
     /// Puts the row of an object after those that are pending.
     ///
-    /// It fails only where the board was refused memory, or its history the count of one more row, and
+    /// It fails only if the board was refused memory, or its history the count of one more row, and
     /// changes nothing then.
     pub fn put(&mut self, shown: Shown) -> Result<(), AllocError>
         ensures publications { self.new.publications ≡ self.old.publications }
@@ -129,7 +129,7 @@ impl<J: BoardId> Board<J> {
 
     /// Publishes what is pending, all at once.
     ///
-    /// It fails only where the board was refused memory, and changes nothing then. It waits for the readings
+    /// It fails only if the board was refused memory, and changes nothing then. It waits for the readings
     /// of an earlier publication to end.
     pub fn publish<R: Wait>(&mut self, rt: &R) -> Result<(), AllocError>
         ensures published { OnOk result (self.new.publications ≡ self.old.publications ++ self.old.pending) }
@@ -161,7 +161,7 @@ impl<J: BoardId> Board<J> {
 
     /// Returns a glance that has seen nothing and was told nothing.
     ///
-    /// It fails only where memory ran out, or where as many glances are out as the board has room
+    /// It fails only if memory ran out, or if as many glances are out as the board has room
     /// for; tests alone see that.
     fn glance(&mut self) -> Result<Glance<J>, AllocError>
         ensures board { self.new ≡ self.old }
@@ -211,7 +211,7 @@ impl<J: BoardId> Board<J> {
 /// Opens a board with no publications and nothing pending, and this many glances of it, one for each reading
 /// thread, which have seen nothing and were told nothing.
 ///
-/// It fails only where memory ran out, which tests alone see.
+/// It fails only if memory ran out, which tests alone see.
 pub fn open_board<J: BoardId, R: Wait>(
     rt: &R,
     alloc: Global,

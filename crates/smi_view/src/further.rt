@@ -17,7 +17,7 @@ fn place_of(record: &Record) -> u32
 }
 
 /// Returns true if a record has come further than another one of its domain: its epoch is greater, or the same and
-/// its last command is later, or the same and settled where the other is busy. (docs/PROTOCOL.md, "The record".)
+/// its last command is later, or the same and settled if the other is busy. (docs/PROTOCOL.md, "The record".)
 pub fn is_further(record: &Record, other: &Record) -> bool
     ensures { result ≡ is_further record.now other.now }
 {

@@ -8,9 +8,9 @@ use crate::glance::{Glance, NoReading};
 use crate::history::BoardId;
 use smi_grant::Shown;
 
-/// Reads an object twice, and answers both readings; none where the board had not published what was read.
+/// Reads an object twice, and answers both readings; none if the board had not published what was read.
 ///
-/// Where the versions of each object rise in what was published, as those that a station shows do, the second reading
+/// If the versions of each object rise in what was published, as those that a station shows do, the second reading
 /// is no older than the first.
 pub fn readings_rise<J: BoardId>(
     board: &Board<J>,

@@ -61,7 +61,7 @@ impl Picture {
 
     /// Returns a picture of this many objects and domains, of which nothing was seen or heard.
     ///
-    /// It fails only where memory ran out, which tests alone see.
+    /// It fails only if memory ran out, which tests alone see.
     pub fn new(alloc: Global, objects: u16, domains: u16) -> Result<Picture, AllocError>
         ensures objects { IfOk result (λ picture. length picture.objects ≡ objects) }
         ensures domains { IfOk result (λ picture. length picture.domains ≡ domains) }

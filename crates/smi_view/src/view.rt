@@ -69,7 +69,7 @@ impl View {
 
     /// Returns a station's view in this boot, of objects 1 to `objects`, of which nothing was shown yet.
     ///
-    /// It fails only where memory ran out, which tests alone see.
+    /// It fails only if memory ran out, which tests alone see.
     pub fn new(alloc: Global, objects: u16, boot: u32) -> Result<View, AllocError>
         ensures boot { IfOk result (λ view. view.boot ≡ boot) }
         ensures objects { IfOk result (λ view. length view.table ≡ objects) }

@@ -63,7 +63,7 @@ impl Lists {
 
     /// Returns no cell, and a head for each list.
     ///
-    /// It fails only where memory ran out, which tests alone see.
+    /// It fails only if memory ran out, which tests alone see.
     pub fn new(alloc: Global, objects: u16, stations: u16) -> Result<Lists, AllocError>
         ensures cells { IfOk result (λ lists. lists.held ≡ []) }
         ensures objects { IfOk result (λ lists. lists.objects ≡ replicate objects no_links) }
@@ -232,7 +232,7 @@ impl Lists {
 
     /// Takes room for one more cell.
     ///
-    /// It fails only where memory ran out, which tests alone see.
+    /// It fails only if memory ran out, which tests alone see.
     pub fn room(&self) -> Result<Vacant<Cell, Global>, AllocError> {
         match Vacant::take(self.alloc) {
             Ok(room) => Ok(room),

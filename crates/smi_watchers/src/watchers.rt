@@ -89,7 +89,7 @@ impl Watchers {
 
     /// Returns lists for the objects 1 to `objects`, which nobody watches.
     ///
-    /// It fails only where memory ran out, which tests alone see.
+    /// It fails only if memory ran out, which tests alone see.
     pub fn new(alloc: Global, objects: u16) -> Result<Watchers, AllocError>
         ensures lists { IfOk result (λ watchers. watchers.lists ≡ replicate objects []) }
         ensures visits { IfOk result (λ watchers. watchers.visits ≡ 0) }

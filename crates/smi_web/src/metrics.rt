@@ -296,7 +296,7 @@ fn put_metrics(
 
 /// Writes all metrics of a picture, with its number and the time at which it was looked at.
 ///
-/// It fails only where memory ran out, which tests alone see.
+/// It fails only if memory ran out, which tests alone see.
 pub fn write_metrics(
     alloc: Global,
     tree: &Tree,

@@ -167,7 +167,7 @@ impl OrderRelay {
     /// Gives an order now, if there is room: it is one order more, and its line, after its tag, the last that is
     /// to be sent. If there is no room nothing changes.
     ///
-    /// It fails only where memory ran out, which tests alone see, and changes nothing then.
+    /// It fails only if memory ran out, which tests alone see, and changes nothing then.
     pub fn give(&mut self, line: &[u8], now: u64) -> Result<(), AllocError>
         ensures ok { OnOk result (self.new ≡ spec.given self.old line.now now) }
         ensures err { OnErr result (self.new ≡ self.old) }
@@ -219,7 +219,7 @@ impl OrderRelay {
     /// Handles a line that the console has said now: what follows its tag is the answer to the order of that tag. A
     /// line that answers none changes nothing.
     ///
-    /// It fails only where memory ran out, which tests alone see, and changes nothing then.
+    /// It fails only if memory ran out, which tests alone see, and changes nothing then.
     pub fn receive_line(&mut self, line: &[u8], now: u64) -> Result<(), AllocError>
         ensures ok { OnOk result (self.new ≡ spec.heard self.old line.now now) }
         ensures err { OnErr result (self.new ≡ self.old) }

@@ -144,7 +144,7 @@ fn put_orders(text: &mut Vec<u8>, relay: &OrderRelay, now: u64) -> Result<(), Al
 
 /// Writes the orders that were given, the oldest first, in one line of JSON.
 ///
-/// It fails only where memory ran out, which tests alone see.
+/// It fails only if memory ran out, which tests alone see.
 pub fn write_orders(alloc: Global, relay: &OrderRelay, now: u64) -> Result<Vec<u8>, AllocError>
     ensures { IfOk result (λ text. text.items ≡ orders_text relay.now now) }
 {

@@ -24,7 +24,7 @@ impl PageOrders {
 
     /// Gives an order now, if there is room.
     ///
-    /// It fails only where memory ran out, which tests alone see, and changes nothing then.
+    /// It fails only if memory ran out, which tests alone see, and changes nothing then.
     pub fn give(&mut self, line: &[u8]) -> Result<(), AllocError>
         ensures ok { OnOk result (self.new ≡ ordered self.old line.now) }
         ensures err { OnErr result (self.new ≡ self.old) }

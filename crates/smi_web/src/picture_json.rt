@@ -163,7 +163,7 @@ impl<'a> Listing for SeenDevices<'a> {
 
 /// Writes the picture in one line of JSON, with its number and the time at which it was looked at.
 ///
-/// It fails only where memory ran out, which tests alone see.
+/// It fails only if memory ran out, which tests alone see.
 pub fn write_picture(
     alloc: Global,
     tree: &Tree,

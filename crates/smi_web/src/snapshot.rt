@@ -52,7 +52,7 @@ impl Snapshot {
 
     /// Returns the first snapshot, of a page, a tree and a picture, which has number 0 and is looked at at time 0.
     ///
-    /// It fails only where memory ran out, which tests alone see.
+    /// It fails only if memory ran out, which tests alone see.
     pub fn first(
         alloc: Global,
         page: Bytes,
@@ -77,7 +77,7 @@ impl Snapshot {
     /// Makes the snapshot of a picture, which has this number and is looked at at this time, in place of the one
     /// before. The page and the tree stay.
     ///
-    /// It fails only where memory ran out, which tests alone see, and changes nothing then.
+    /// It fails only if memory ran out, which tests alone see, and changes nothing then.
     pub fn renew(
         &mut self,
         alloc: Global,
@@ -100,7 +100,7 @@ impl Snapshot {
     /// Writes what became of the orders of this relay, looked at at this time, in place of what was told before. All
     /// else stays.
     ///
-    /// It fails only where memory ran out, which tests alone see, and changes nothing then.
+    /// It fails only if memory ran out, which tests alone see, and changes nothing then.
     pub fn renew_orders(
         &mut self,
         alloc: Global,

@@ -44,14 +44,14 @@ IsHalted h number p (doing.Come what) s = ⊥
 IsHalted h number p doing.Start s = ⊥
 IsHalted h number p (doing.Fail how what) s = ⊥
 
--- a station stops after its save only where that was asked, and in the step that comes
+-- a station stops after its save only if that was asked, and in the step that comes
 abbrev pub StopsFor : ℕ → Moment → Option Arrival → Doing → Type 0
 StopsFor number when o (doing.StopAfter what) = (when ≡ moment.After) × (o ≡ Some (arrival (happening what) number))
 StopsFor number when o (doing.Come what) = Unit {0}
 StopsFor number when o doing.Start = Unit {0}
 StopsFor number when o (doing.Fail how what) = Unit {0}
 
--- the item asks for a stop after the save, where the task is that
+-- the item asks for a stop after the save, if the task is that
 abbrev pub IsStopOf : Hierarchy → World → Item → ℕ → Doing → Type 0
 IsStopOf h w x number (doing.StopAfter what) =
     (d : Deed) × (x ≡ item.Stop number moment.After d) × (arrival_of h w d ≡ Some (arrival (happening what) number))
@@ -65,7 +65,7 @@ pub record Turned (h : Hierarchy) (posts : List Post) (l : Left) (t : Turn) : Ty
   pub entries : entries_left h l ≡ t.entries
   pub sends : l.out.datagrams ≡ t.sends
 
--- The same where memory was wanting to start a station that had stopped after its save: it stays stopped.
+-- The same if memory was wanting to start a station that had stopped after its save: it stays stopped.
 pub record Halted (h : Hierarchy) (posts : List Post) (w : World) (x : Item) : Type 0 where
   pub number : ℕ
   pub what : Happening

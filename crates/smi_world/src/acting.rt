@@ -37,7 +37,7 @@ pub(crate) fn arrive(post: &mut Post<'_>, what: &Coming, left: &mut Left) -> Res
     make(&mut post.station, what, left)
 }
 
-/// Starts the station again, after its save has left what it has; where its boots are spent, it stops.
+/// Starts the station again, after its save has left what it has; if its boots are spent, it stops.
 fn start_again(alloc: Global, post: &mut Post<'_>, left: &mut Left) -> Result<(), AllocError>
     ensures makes { (h : Hierarchy) (number : ℕ) (s : Defined) → IsPost h number post.old s
         → OnOk result (Makes h number post.new left.new (restart_act h number left.old.out.kept s)) }
@@ -76,7 +76,7 @@ pub(crate) fn restart(alloc: Global, post: &mut Post<'_>, left: &mut Left) -> Re
 
 ghost use Rattle.std.specs.Prelude.{[]};
 
-/// Stops the station after its save, and starts it again. Where memory runs out for the start, it stays stopped.
+/// Stops the station after its save, and starts it again. If memory runs out for the start, it stays stopped.
 pub(crate) fn stop_after(
     alloc: Global,
     post: &mut Post<'_>,

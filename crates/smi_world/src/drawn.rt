@@ -76,7 +76,7 @@ fn stream_seed<W: Write>(
 /// Writes the trace of the first items that a seed draws, this many, while they are drawn: the text of the trace that
 /// [`run`](crate::run) answers for them, so that it is safe at every moment. At the end the writer is flushed.
 ///
-/// Where a write or the flush fails, or memory runs out, a prefix of the text is written.
+/// If a write or the flush fails, or memory runs out, a prefix of the text is written.
 pub fn stream_drawn<W: Write>(
     alloc: Global,
     tree: &Tree,

@@ -168,7 +168,7 @@ impl Left {
         self.out.clear();
     }
 
-    /// Adds what is left, line by line. Out of memory is answered only where an allocation was refused,
+    /// Adds what is left, line by line. Out of memory is answered only if an allocation was refused,
     /// which tests alone see.
     pub fn push_lines(&self, tree: &Tree, lines: &mut Vec<Line>) -> Result<(), AllocError>
         ensures { OnOk result (lines.new.items ≡ lines.old.items ++ lines_left tree.now self.now) }

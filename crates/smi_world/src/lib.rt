@@ -20,7 +20,7 @@
 //!   invariant of `World` keeps that one of them can be reached (`IsReached`). So `run` ends with the defined trace,
 //!   and the law speaks of it.
 //! - A stream (`proofs/Going`, `Begun`, `Drawing`) keeps which lines are made, which world they have led to, that
-//!   what they left is written, and what text is left to be cut. Where the reader's bytes are known, and with them
+//!   what they left is written, and what text is left to be cut. If the reader's bytes are known, and with them
 //!   all lines, each way out of it says which part of the text of the whole trace is written.
 //! - What a step leaves in the trace is read off what it hands out: what its save leaves, the states that its objects
 //!   pass through, what it was shown and what it answers (`proofs/Stepped`).

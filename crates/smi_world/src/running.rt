@@ -127,7 +127,7 @@ fn run_into(
 /// what was passed through (specs/Safe of `smi_law`).
 ///
 /// `NoSuch` is answered for the first item that names what the tree does not have. Out of memory is answered only
-/// where an allocation was refused, which tests alone see.
+/// if an allocation was refused, which tests alone see.
 pub fn run(alloc: Global, tree: &Tree, items: &[Item]) -> Result<Trace, WorldFault>
     ensures trace { IfOk result (λ lines. lines.items ≡ trace_of tree.now items.now) }
     ensures safe { IfOk result (λ lines. Safe tree.now (past_of lines.items)) }

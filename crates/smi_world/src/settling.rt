@@ -279,7 +279,7 @@ fn settle_from_opening<S: Source, W: Write>(
     }
 }
 
-/// Returns what is told where the flush failed: the first fault.
+/// Returns what is told if the flush failed: the first fault.
 fn flushed<W: Write>(settled: Settled, writer: &mut W) -> Settled {
     match (writer.flush(), settled) {
         (Ok(()), settled) => settled,

@@ -231,7 +231,7 @@ fn stream_all<R: Read, W: Write>(
     }
 }
 
-/// Returns what is told where the flush failed: the first fault.
+/// Returns what is told if the flush failed: the first fault.
 fn unflushed(streamed: Streamed) -> Streamed
     ensures not_done { IsDone result → ⊥ }
     ensures read { result ≡ ReadFault → streamed ≡ ReadFault }
@@ -247,8 +247,8 @@ fn unflushed(streamed: Streamed) -> Streamed
 ///
 /// What is written is the text of the trace that [`run`](crate::run) answers for the items of all lines before the end
 /// or the first faulty line, so that it is safe at every moment. After a read fault it is that of all lines that were
-/// read before: what was read and is not in it has no line feed (`read`, specs/Streaming.antt); where a write fails or
-/// memory runs out, it is a prefix. A write or flush that fails is told also where a line was refused before it. A
+/// read before: what was read and is not in it has no line feed (`read`, specs/Streaming.antt); if a write fails or
+/// memory runs out, it is a prefix. A write or flush that fails is told also if a line was refused before it. A
 /// reader that gives no end in 2^32 reads counts as one that fails.
 pub fn stream<R: Read, W: Write>(
     alloc: Global,

@@ -80,7 +80,7 @@ fn stops_after(station: u16, arrival: Option<Arrival>) -> Task
     Task { station, doing }
 }
 
-/// Has a station start again; where the moment is after the save, the step is made up to it.
+/// Has a station start again; if the moment is after the save, the step is made up to it.
 fn stops(station: u16, moment: Moment, arrival: Option<Arrival>) -> Task
     ensures task { (h : Hierarchy) (w : World)
         → turn_of h w (Some result) ≡ stopped_at h w station moment (option_map arrival_in arrival) }

@@ -20,7 +20,7 @@ use smi_protocol::Item;
 use smi_tree::Tree;
 use std::alloc::{AllocError, Global};
 
-/// Has a station make its part. Where memory runs out for its start after a stop, it stays stopped.
+/// Has a station make its part. If memory runs out for its start after a stop, it stays stopped.
 fn make_part(
     alloc: Global,
     post: &mut Post<'_>,

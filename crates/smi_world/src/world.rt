@@ -87,7 +87,7 @@ impl<'a> World<'a> {
     ghost use Rattle.smi_world.specs.Tasks.{IsUnmade};
     ghost use Rattle.std.specs.Prelude.{length};
 
-    /// Starts all stations of the tree for the first time. Out of memory is answered only where an allocation was
+    /// Starts all stations of the tree for the first time. Out of memory is answered only if an allocation was
     /// refused, which tests alone see.
     pub fn new(alloc: Global, tree: &'a Tree) -> Result<World<'a>, AllocError>
         ensures opens { IfOk result (λ world. IsAt world (first_world tree.now)) }

@@ -1,4 +1,4 @@
-//! The stations of a play over stores of one kind, whose saves fail where the schedule says so.
+//! The stations of a play over stores of one kind, whose saves fail if the schedule says so.
 
 ghost use Rattle.std.specs.Prelude.{◌≡◌};
 
