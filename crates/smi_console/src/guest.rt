@@ -20,7 +20,8 @@ const READS: usize = 64;
 
 const LINES: usize = 32;
 
-/// How long a connection may take nothing of its output, in seconds.
+/// How long a connection may take nothing of its output, in seconds. Then it is closed, because its output must not be
+/// kept without end, and no other connection may wait for it.
 const PATIENCE: u64 = 2;
 
 /// A connection and its session.
