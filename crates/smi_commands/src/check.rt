@@ -19,7 +19,7 @@ enum CheckDetail {
 }
 
 /// Tells how many stations, operators, domains and devices a tree file has, or the line of its first
-/// fault and the fault's number on `faults`, and answers the exit status.
+/// fault and the fault's number on `faults`, and returns the exit status.
 ///
 /// It is 0 if the file is one and the line is written, 1 if the file is refused, 3 if the line could not be written,
 /// and 4 if memory ran out. (docs/FORMATS.md, "The tree file".)

@@ -10,7 +10,7 @@ use std::io;
 use std::net::{SocketAddr, UdpSocket};
 use std::test::Fail;
 
-/// Sends the next datagram on to a station, if one has come whole; whether it did.
+/// Sends the next datagram on to a station, if one has come whole. Returns whether it did.
 fn pass_on<L: DatagramLink>(link: &mut L, station: u16) -> bool
     ensures { IsTrue result → IfSome (L.received link.old)
         (λ came. IfSome (L.handed link.old) (λ went. (datagram : List ℕ)

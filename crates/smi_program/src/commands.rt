@@ -22,7 +22,7 @@ use std::sync::Wait;
 use std::thread::Threads;
 use std::time::Clock;
 
-/// Does what the words of the command line ask for, and answers the exit status. What is amiss is
+/// Does what the words of the command line ask for, and returns the exit status. What is amiss is
 /// told in one line on `faults`; what the thread of a node tells that reads lines, on `aside`, which is the same.
 pub fn program<
     H: Files

@@ -11,7 +11,7 @@ use std::alloc::Global;
 use std::io::{BufWriter, ErrorKind, Read, Write};
 use std::rt::Files;
 
-/// Simulates as its line says, and answers the exit status.
+/// Simulates as its line says, and returns the exit status.
 pub fn simulate<H: Files + AllocGlobal, W: Write + Drop, F: Write>(
     host: &H,
     words: &Words,

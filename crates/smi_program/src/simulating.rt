@@ -15,7 +15,7 @@ use smi_world::{Settled, Streamed, stream, stream_drawn, stream_drawn_settled, s
 use std::alloc::Global;
 use std::io::{Read, Write};
 
-/// Tells how a stream ended, and answers the exit status.
+/// Tells how a stream ended, and returns the exit status.
 fn streamed<F: Write>(streamed: Streamed, faults: &mut F) -> u8
     ensures { result ≡ status_of streamed }
 {
@@ -32,7 +32,7 @@ fn streamed<F: Write>(streamed: Streamed, faults: &mut F) -> u8
 }
 
 /// Runs a schedule: writes the text of its trace, reading a line and writing what it leaves before the next is read.
-/// Answers the exit status.
+/// Returns the exit status.
 ///
 /// It is 0 if the whole trace is written, and 1 if a line is faulty, which is told on `faults` as
 /// `schedule line L fault C`: then the trace of the lines before it is written. It is 3 if a read or a write failed,
@@ -82,7 +82,7 @@ pub fn sim_drawn<W: Write, F: Write>(
     }
 }
 
-/// Tells how a world was led to rest, and answers the exit status.
+/// Tells how a world was led to rest, and returns the exit status.
 fn settled<F: Write>(settled: Settled, faults: &mut F) -> u8 {
     match settled {
         Settled::Rests(_) => Status::Done.code(),
@@ -96,7 +96,7 @@ fn settled<F: Write>(settled: Settled, faults: &mut F) -> u8 {
 
 /// Runs a schedule as [`sim`] does, and goes on until nothing is under way: stations that have stopped start again,
 /// stations tick, and what was sent comes. The lines that this leaves are written like any others, and at the end
-/// `settled after N items`. Answers the exit status: 1 also if nothing came to rest, which is told as
+/// `settled after N items`. Returns the exit status: 1 also if nothing came to rest, which is told as
 /// `not settled`.
 pub fn sim_settled<R: Read, W: Write, F: Write>(
     alloc: Global,

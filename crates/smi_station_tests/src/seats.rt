@@ -94,7 +94,7 @@ fn operate<R: Threads + Clock + Sync>(rt: &R, first: Seat, second: Seat, told: &
     );
 }
 
-/// Serves until both operators were told; whether they were.
+/// Serves until both operators were told. Returns whether they were.
 fn serve_all<J: BoardId, R: Wait + Clock>(
     rt: &R,
     station: &mut Station<'_, MemoryStable>,

@@ -30,7 +30,7 @@ fn open_two(alloc: Global) -> Result<(Seat, Seat, Desk), Fail>
     }
 }
 
-/// Submits an order and waits for its answer; whether it came.
+/// Submits an order and waits for its answer. Returns whether it came.
 fn ask<R: Clock>(clock: &R, seat: &mut Seat, order: Order) -> bool
     ensures { SameSeat seat.old seat.new }
 {
@@ -46,7 +46,7 @@ fn ask<R: Clock>(clock: &R, seat: &mut Seat, order: Order) -> bool
     false
 }
 
-/// Asks about one domain after the other, each after the answer about the one before; whether all came.
+/// Asks about one domain after the other, each after the answer about the one before. Returns whether all came.
 fn ask_all<R: Clock>(clock: &R, seat: Seat, first: u16) -> (Finished, bool)
     ensures { Ends seat result.0 }
 {
