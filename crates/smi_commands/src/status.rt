@@ -1,4 +1,4 @@
-//! How a command ended, and what is told of it on standard error.
+//! The exit status of a command, and its line on standard error.
 
 ghost use Rattle.std.specs.Prelude.{◌≡◌};
 

@@ -4,7 +4,7 @@ use std::marker::Model;
 /// The greatest epoch of a domain.
 pub const LAST_EPOCH: u64 = 1 << 62;
 
-/// Whether a command is at work in a domain.
+/// Whether a command is at work in a domain: the phase of its record.
 #[derive(Clone, Copy, Debug, PartialEq, Eq)]
 pub enum Phase {
     Settled,

@@ -1,4 +1,4 @@
-//! A socket, and where its datagrams go.
+//! A socket that remembers the address of its last datagram.
 
 use smi_base::Tally;
 use std::io;

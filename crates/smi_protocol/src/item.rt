@@ -20,7 +20,7 @@ pub enum Deed {
     Tick(u16),
 }
 
-/// Where a station stops.
+/// The moment at which a station stops.
 #[derive(Clone, Copy, Debug, PartialEq, Eq)]
 pub enum Moment {
     /// Before the save: it has not landed.

@@ -1,4 +1,4 @@
-/// Where a tick goes on with what it may have to send, in the order in which it goes through it.
+/// The place at which a tick goes on, in the order in which it goes through what it may have to send.
 #[derive(Clone, Copy, PartialEq, Eq, PartialOrd, Ord)]
 pub enum ResendCursor {
     /// What a domain of the station asks of this child.

@@ -1,4 +1,4 @@
-/// How the domain above works with a child that it holds.
+/// The mode in which a domain holds a child.
 #[derive(Clone, Copy, PartialEq, Eq)]
 pub enum Mode {
     /// The child gets commands, and its state counts.

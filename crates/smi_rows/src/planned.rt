@@ -10,7 +10,7 @@ use crate::saved::SavedRow;
 use crate::stable::{Stable, StoreFault};
 use smi_base::Tally;
 
-/// How a save fails.
+/// The way in which a save fails.
 #[derive(Clone, Copy, Debug, PartialEq, Eq)]
 pub enum Plan {
     /// As `Device`: the row is as before.

@@ -1,4 +1,4 @@
-//! Whether a step would save a row, found out without making it.
+//! Tells whether a step would save a row, without making it.
 
 ghost use Rattle.std.specs.Prelude.{◌≡◌, None, is_some};
 ghost use Rattle.smi_station_grants.specs.Change.{touched};

@@ -1,4 +1,4 @@
-//! How the states of a station's objects come about, and who is shown them.
+//! Changes the states of a station's objects, and tells their watchers.
 
 ghost use Rattle.std.specs.Prelude.{◌≡◌};
 ghost use Rattle.smi_protocol.specs.Children as children;

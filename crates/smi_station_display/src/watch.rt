@@ -1,4 +1,4 @@
-//! Who watches what: watches and unwatches that come, and states that are told.
+//! Handles watches and unwatches that come, and states that are told.
 
 ghost use Rattle.std.specs.Prelude.{◌≡◌, ◌≤◌, length, not, IfOk, OnOk, OnErr};
 ghost use Rattle.smi_base.specs.declared.trees.TheConstants.{MOST_STATIONS};

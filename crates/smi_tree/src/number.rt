@@ -7,7 +7,7 @@ ghost use Rattle.smi_tree.specs.Number.{decimal, is_number, number_within, part_
 
 use crate::text::{Separator, length_before};
 
-/// Where a station is reached: four parts of a host, and a port from 1.
+/// The address of a station: four parts of a host, and a port from 1.
 #[derive(Clone, Copy, PartialEq, Eq)]
 pub struct Address {
     pub host: [u8; 4],

@@ -1,4 +1,4 @@
-//! How bytes are cut into lines, and lines into words.
+//! Cuts bytes into lines, and lines into words.
 
 ghost use Rattle.std.specs.Prelude.{◌≡◌, ◌<◌, ◌≤◌, [], ◌∷◌, ◌++◌, length, take, MatchOption, IfSome};
 ghost use Rattle.std.specs.List.{position_or_len, list_all};

@@ -2,7 +2,7 @@
 
 use smi_grant::Shown;
 
-/// Which history the rows of a copy belong to.
+/// The history that the rows of a copy belong to.
 pub struct HistoryId {
     pub number: u64,
     pub log: u64,

@@ -1,6 +1,6 @@
 use std::marker::Send;
 
-/// Where a cell lies on the heap. It owns nothing.
+/// The place of a cell on the heap. It owns nothing.
 #[derive(Clone, Copy)]
 pub(crate) struct Spot {
     pub(crate) at: *mut Cell,

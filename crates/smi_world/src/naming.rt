@@ -1,4 +1,4 @@
-//! Whether the tree has what an item names.
+//! Tests whether the tree has what an item names.
 
 ghost use Rattle.std.specs.Prelude.{◌≡◌};
 ghost use Rattle.smi_schedule.specs.Naming as naming;
