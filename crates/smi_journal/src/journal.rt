@@ -184,12 +184,19 @@ impl<H: Files + Clock + Drop> Journal<H> {
         }
     }
 
-    /// Writes the lines that were typed since the last step that was written.
-    fn write_typed(&mut self) -> io::Result<()> {
+    /// Writes what was typed since the last step that was written, and then a step, all at once into the current file.
+    fn write(&mut self, now: u64, boot: u32, out: &Out) -> io::Result<()> {
+        self.room
+            .set_prefix(&self.tree, self.setup.station, boot, now)?;
         let Some(current) = &mut self.current else {
             return Err(io::Error::from(ErrorKind::NotFound));
         };
-        let Room { text, prefix, .. } = &mut self.room;
+        let Room {
+            text,
+            line,
+            prefix,
+            ..
+        } = &mut self.room;
         let context = LineContext {
             tree: &self.tree,
             station: self.setup.station,
@@ -200,29 +207,6 @@ impl<H: Files + Clock + Drop> Journal<H> {
             typed.push(text, context)?;
         }
         self.typed.clear();
-        if write_whole(&mut current.file, text.as_slice()).is_err() {
-            return Err(io::Error::from(ErrorKind::WriteZero));
-        }
-        current.bytes = current.bytes.saturating_add(text.len() as u64);
-        Ok(())
-    }
-
-    /// Writes a step into the current file.
-    fn write(&mut self, now: u64, boot: u32, out: &Out) -> io::Result<()> {
-        self.room
-            .set_prefix(&self.tree, self.setup.station, boot, now)?;
-        if !self.typed.is_empty() {
-            self.write_typed()?;
-        }
-        let Some(current) = &mut self.current else {
-            return Err(io::Error::from(ErrorKind::NotFound));
-        };
-        let Room { text, line, prefix } = &mut self.room;
-        let context = LineContext {
-            tree: &self.tree,
-            station: self.setup.station,
-            prefix: prefix.as_slice(),
-        };
         if write_step(&mut current.file, text, line, context, out).is_err() {
             return Err(io::Error::from(ErrorKind::WriteZero));
         }

@@ -27,6 +27,15 @@ pub(crate) struct Room {
     pub(crate) line: Vec<u8>,
     /// What each line of a step begins with: the time, the station, the boot.
     pub(crate) prefix: Vec<u8>,
+    /// The boot and the time that the prefix has; none if it is not whole.
+    stamp: Option<Stamp>,
+}
+
+/// When a line is written: in which boot, and at how many milliseconds since 1970.
+#[derive(Clone, Copy, PartialEq, Eq)]
+struct Stamp {
+    boot: u32,
+    now: u64,
 }
 
 /// Adds a name of the tree, or its number.
@@ -44,10 +53,11 @@ impl Room {
             text: Vec::new(alloc),
             line: Vec::new(alloc),
             prefix: Vec::new(alloc),
+            stamp: None,
         }
     }
 
-    /// Sets what the next lines begin with.
+    /// Sets what the next lines of a station begin with. Many steps fall into one millisecond, and these have one prefix.
     pub(crate) fn set_prefix(
         &mut self,
         tree: &Tree,
@@ -55,11 +65,18 @@ impl Room {
         boot: u32,
         now: u64,
     ) -> Result<(), AllocError> {
+        let stamp = Some(Stamp { boot, now });
+        if self.stamp == stamp {
+            return Ok(());
+        }
+        self.stamp = None;
         self.prefix.clear();
         push_time(&mut self.prefix, now)?;
         self.prefix.push(b' ')?;
         push_station(&mut self.prefix, tree, number)?;
-        write!(&mut self.prefix, " {boot} ").map_err(|_| AllocError)
+        write!(&mut self.prefix, " {boot} ").map_err(|_| AllocError)?;
+        self.stamp = stamp;
+        Ok(())
     }
 }
 

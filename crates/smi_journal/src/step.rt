@@ -142,9 +142,9 @@ pub fn is_silent(out: &Out) -> bool
         && out.answers().is_empty()
 }
 
-/// Writes what a step of a station has handed out, at once. The text is put together in `text`.
+/// Writes a text, and after it what a step of a station has handed out, all at once. Both are put together in `text`.
 ///
-/// On an error a prefix of it is written; if memory was refused, nothing.
+/// On an error a prefix of that is written; if memory was refused, nothing.
 pub fn write_step<W: Write>(
     writer: &mut W,
     text: &mut Vec<u8>,
@@ -152,13 +152,12 @@ pub fn write_step<W: Write>(
     context: LineContext<'_>,
     out: &Out,
 ) -> Result<(), Unwritten>
-    ensures all { OnOk result (Appends (W.contents writer.old) (W.contents writer.new)
-        (entries_text context.entry.tree.now context.entry.prefix.now (step_entries context.entry.station out.now))) }
-    ensures prefix { (n : ℕ) × Appends (W.contents writer.old) (W.contents writer.new)
-        (take n (entries_text context.entry.tree.now context.entry.prefix.now
+    ensures all { OnOk result (Appends (W.contents writer.old) (W.contents writer.new) (text.old.items
+        ++ entries_text context.entry.tree.now context.entry.prefix.now (step_entries context.entry.station out.now))) }
+    ensures prefix { (n : ℕ) × Appends (W.contents writer.old) (W.contents writer.new) (take n (text.old.items
+        ++ entries_text context.entry.tree.now context.entry.prefix.now
         (step_entries context.entry.station out.now))) }
 {
-    text.clear();
     push_step(text, line, context, out)?;
     write_whole(writer, text.as_slice())?;
     Ok(())
