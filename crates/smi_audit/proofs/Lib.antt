@@ -9,6 +9,7 @@ pub mod Listing
 pub mod Merging
 pub mod Ordered
 pub mod Pushing
+pub mod Puts
 pub mod Rests
 pub mod Searching
 pub mod ShownLists

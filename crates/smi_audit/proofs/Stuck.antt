@@ -4,7 +4,7 @@ use Rattle.std.proofs.Common.{refl, sym, ap, ◌∙◌, subst, arith}
 use Rattle.std.specs.Prelude.{◌==◌, slice_get, Some, None, nat_lt}
 use Rattle.std.proofs.lemmas.Bool.{eqb-true}
 use Rattle.std.proofs.lemmas.Bool.Decides.{nat_tests}
-use Rattle.std.proofs.lemmas.Option.{slice_get-get_or, slice_get_within}
+use Rattle.std.proofs.lemmas.Option.{slice_get-get_or}
 use Rattle.smi_protocol.specs.declared.Entry.{Entry}
 use Rattle.smi_audit.specs.Audited.{AuditState, Accepts, fits}
 use Rattle.smi_audit.specs.Merged.{AllEmpty, AllStuck, IsStuck, StuckAt, StuckBefore, may_wait}

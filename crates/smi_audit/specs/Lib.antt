@@ -1,5 +1,6 @@
 pub mod Audited
 pub mod Described
+pub mod Grown
 pub mod Kept
 pub mod Merged
 pub mod Passed

@@ -69,6 +69,20 @@ impl<'a> Merge<'a> {
         go_through(&mut self.audit, &mut self.owed, journals)
     }
 
+    /// Takes entries from the front of the journal at a place as long as they fit and need not wait. Returns true if
+    /// any was taken.
+    pub(crate) fn advance_one(
+        &mut self,
+        journals: &mut [EntryQueue],
+        place: usize,
+    ) -> Result<bool, AllocError>
+        requires { place < length journals.old }
+        ensures further { GoesFurther self.old journals.old self.new journals.new }
+        ensures stuck { IfOk result (λ moved. StuckAt moved self.old journals.old self.new journals.new place) }
+    {
+        drain(&mut self.audit, &mut self.owed, journals, place)
+    }
+
     /// Returns what this merge says of the journals of which these are left: `Safe` if nothing is.
     pub fn verdict(&self, journals: &[EntryQueue]) -> MergeVerdict
         ensures open { result ≡ Open → AllEmpty journals.now → ⊥ }
@@ -170,7 +184,7 @@ fn take_first(
     place: usize,
 ) -> Result<bool, AllocError>
     requires { place < length journals.old }
-    ensures further { IfOk result (λ taken. GoesFurther audit.old journals.old audit.new journals.new) }
+    ensures further { GoesFurther audit.old journals.old audit.new journals.new }
     ensures stuck { IfOk result (λ taken. StuckAt taken audit.old journals.old audit.new journals.new place) }
 {
     let Some(entry) = journals[place].first().copied() else {
@@ -195,7 +209,7 @@ fn drain(
     place: usize,
 ) -> Result<bool, AllocError>
     requires { place < length journals.old }
-    ensures further { IfOk result (λ moved. GoesFurther audit.old journals.old audit.new journals.new) }
+    ensures further { GoesFurther audit.old journals.old audit.new journals.new }
     ensures stuck { IfOk result (λ moved. StuckAt moved audit.old journals.old audit.new journals.new place) }
 {
     let count = journals[place].len();
