@@ -4,6 +4,7 @@ import collections
 import os
 import random
 import re
+import resource
 
 import pytest
 
@@ -33,10 +34,10 @@ def night(smi):
 def audit(smi, folder):
     """Returns a function that writes journals to files, has them audited, and returns what is told and the status."""
 
-    def run(tree, files, *words):
+    def run(tree, files, *words, **how):
         path = running.write(os.path.join(folder, "a.tree"), tree.text)
         paths = [running.write(os.path.join(folder, name + ".journal"), text) for name, text in files.items()]
-        out, err, status = smi("audit", path, *paths, *words)
+        out, err, status = smi("audit", path, *paths, *words, **how)
         return tuple(text.decode().replace(folder + "/", "") for text in (out, err)) + (status,)
 
     return run
@@ -221,6 +222,34 @@ def test_files_that_go_on(night, audit, seed):
     out, err, status = audit(tree, {**firsts, **changed})
     assert (verdict_of(out), err, status) == ("open", "", 1), out
     assert "gap before " in out
+
+
+def in_pieces(tree, station, lines, size):
+    """Returns the texts of a journal in files of about this many lines: each but the first goes on, with a block."""
+    account, texts, begun = journals.Account(), [], 0
+    piece = []
+    for number, (boot, words) in enumerate(lines):
+        is_of_block = words.split(" ")[0] in journals.BLOCK
+        if number - begun >= size and not is_of_block:
+            texts.append(journals.file_text(tree, station, piece, False, begun))
+            block = ["continues %s %d" % (station, lines[number - 1][0]), *account.block(tree, True)]
+            piece, begun = [(lines[number - 1][0], words) for words in block], number
+        piece.append((boot, words))
+        if not is_of_block:
+            account.note(tree, journals.entry_of(words))
+    return [*texts, journals.file_text(tree, station, piece, True, begun)]
+
+
+def test_more_files_than_a_process_may_open(night, audit):
+    tree, trace = night("three.tree", 3)
+    written = journals.journals_of(tree, trace)
+    whole = audit(tree, files_of(tree, written, tree.stations))
+    files = {"%s-%d" % (station, number): text for station, lines in written.items()
+             for number, text in enumerate(in_pieces(tree, station, lines, 5))}
+    assert len(files) > 40
+    few = lambda: resource.setrlimit(resource.RLIMIT_NOFILE, (16, 16))
+    out, err, status = audit(tree, files, preexec_fn=few)
+    assert (out.split(",")[0], err, status) == (whole[0].split(",")[0], "", 0), out
 
 
 @pytest.mark.parametrize("seed", SEEDS)

@@ -1,17 +1,17 @@
 //! Runs an audit: reads its tree, and then the files of its journals.
 
 use crate::line::AuditLine;
+use crate::reopened_file::ReopenedFile;
 use crate::tree::read_marked;
 use crate::words::{Words, bytes_of};
 use smi_commands::status::{Status, no_memory, read_fault, write_fault};
-use smi_disks::open;
-use smi_replay::{AuditEnd, AuditedTree, JournalFile, audit, audit_traced};
-use std::alloc::Global;
-use std::io::{BufWriter, ErrorKind, Read, Write};
+use smi_replay::{AuditEnd, AuditedTree, JournalFile, JournalSource, audit, audit_traced};
+use std::alloc::{AllocError, Global};
+use std::io::{BufWriter, Write};
 use std::rt::Files;
 
 /// Audits as its line says, and returns how that ended.
-pub fn audit_files<H: Files + AllocGlobal, W: Write + Drop, F: Write>(
+pub fn audit_files<H: Files + AllocGlobal + Clone + Drop, W: Write + Drop, F: Write>(
     host: &H,
     words: &Words,
     line: AuditLine<'_>,
@@ -30,36 +30,28 @@ pub fn audit_files<H: Files + AllocGlobal, W: Write + Drop, F: Write>(
     audit_on(host, words, &audited, line, writer, faults)
 }
 
-/// Opens the files of the journals: all words after the tree but the option.
-fn open_journals<H: Files + AllocGlobal, F: Write>(
+/// Returns the files of the journals: all words after the tree but the option.
+fn journal_files<H: Files + AllocGlobal + Clone + Drop>(
     host: &H,
     words: &Words,
     line: AuditLine<'_>,
-    faults: &mut F,
-) -> Result<Vec<JournalFile<H::File>>, Status> {
+) -> Result<Vec<JournalFile<ReopenedFile<H>>>, AllocError> {
     let alloc = host.alloc();
     let mut files = Vec::new(alloc);
     let mut is_after = false;
     for (word, bytes) in words.texts.iter().zip(words.bytes.iter()).skip(2) {
         if is_after && word.as_str() != "--trace" {
-            let file = match open(host, bytes.as_slice()) {
-                Ok(file) => file,
-                Err(e) if e.kind() == ErrorKind::OutOfMemory => return Err(no_memory(faults)),
-                Err(_) => return Err(read_fault(faults)),
-            };
-            let Ok(name) = Vec::from_slice(alloc, bytes.as_slice()) else {
-                return Err(no_memory(faults));
-            };
-            if files.push(JournalFile::new(alloc, name, file)).is_err() {
-                return Err(no_memory(faults));
-            }
+            let name = Vec::from_slice(alloc, bytes.as_slice())?;
+            let path = Vec::from_slice(alloc, bytes.as_slice())?;
+            let source = ReopenedFile::new(host.clone()?, path);
+            files.push(JournalFile::new(alloc, name, source))?;
         }
         is_after = is_after || word.as_str() == line.tree;
     }
     Ok(files)
 }
 
-fn audit_on<H: Files + AllocGlobal, W: Write + Drop, F: Write>(
+fn audit_on<H: Files + AllocGlobal + Clone + Drop, W: Write + Drop, F: Write>(
     host: &H,
     words: &Words,
     audited: &AuditedTree<'_>,
@@ -67,9 +59,8 @@ fn audit_on<H: Files + AllocGlobal, W: Write + Drop, F: Write>(
     writer: W,
     faults: &mut F,
 ) -> Status {
-    let mut files = match open_journals(host, words, line, faults) {
-        Ok(files) => files,
-        Err(status) => return status,
+    let Ok(mut files) = journal_files(host, words, line) else {
+        return no_memory(faults);
     };
     audit_opened(
         host.alloc(),
@@ -82,7 +73,7 @@ fn audit_on<H: Files + AllocGlobal, W: Write + Drop, F: Write>(
 }
 
 // Over any reader, since a host's files are expensive to prove.
-fn audit_opened<R: Read + Drop, W: Write + Drop, F: Write>(
+fn audit_opened<R: JournalSource + Drop, W: Write + Drop, F: Write>(
     alloc: Global,
     audited: &AuditedTree<'_>,
     line: AuditLine<'_>,

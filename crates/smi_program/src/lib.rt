@@ -22,6 +22,7 @@ mod line;
 mod node;
 mod orders;
 mod page;
+mod reopened_file;
 mod screen;
 mod sim;
 pub mod simulating;

@@ -1,7 +1,7 @@
 //! What is assumed at the first lines of the journals, if they begin when domains were held already.
 
 use crate::account::{Account, DomainState};
-use crate::night::Front;
+use crate::fronts::Front;
 use smi_audit::{GrantStage, GrantState, Merge};
 use smi_grant::{Command, Holder};
 use smi_rows::Mode;

@@ -20,9 +20,18 @@ pub(crate) enum FileFault {
     Memory,
 }
 
-/// A file of a journal that is open, by its name and a reader of its bytes.
+/// Gives the bytes of a journal's file.
+///
+/// An audit reads the head of every file before it reads on in any, so a source can be set aside in between: one over
+/// a file then closes it, because a night may have more files than a process may have open.
+pub trait JournalSource: Read {
+    /// Frees what is held open for reading. The next read goes on where the last one ended.
+    fn set_aside(&mut self);
+}
+
+/// A file of a journal, by its name and what gives its bytes.
 #[derive(Drop)]
-pub struct JournalFile<R: Read + Drop> {
+pub struct JournalFile<R: JournalSource + Drop> {
     pub(crate) name: Vec<u8>,
     reader: R,
     cutter: LineCutter,
@@ -50,7 +59,7 @@ fn may_begin(line: &JournalLine) -> bool {
     }
 }
 
-impl<R: Read + Drop> JournalFile<R> {
+impl<R: JournalSource + Drop> JournalFile<R> {
     /// Makes one of which nothing is read yet.
     pub fn new(alloc: Global, name: Vec<u8>, reader: R) -> JournalFile<R> {
         JournalFile {
@@ -98,6 +107,7 @@ impl<R: Read + Drop> JournalFile<R> {
             return Err(FileFault::Line(self.line, fault));
         }
         self.first = self.read_next(tree, spelling)?;
+        self.reader.set_aside();
         match &self.first {
             Some(line) if !may_begin(line) => {
                 Err(FileFault::Line(self.line, LineFault::UnknownWord))

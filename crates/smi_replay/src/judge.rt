@@ -1,12 +1,13 @@
 //! An audit of journals, from their files to the verdict.
 
+use crate::fronts::{AuditFault, Fronts};
 use crate::head::DIGEST_BYTES;
-use crate::journal_file::JournalFile;
-use crate::night::{AuditFault, Night, TraceOutput};
+use crate::journal_file::{JournalFile, JournalSource};
+use crate::night::{Night, TraceOutput};
 use crate::verdict::{VerdictWords, write_verdict};
 use smi_tree::Tree;
 use std::alloc::Global;
-use std::io::{Read, Write};
+use std::io::Write;
 
 /// What an audit came to.
 #[derive(Clone, Copy, PartialEq, Eq)]
@@ -31,16 +32,16 @@ pub struct AuditedTree<'a> {
 }
 
 /// Merges the journals and writes the verdict to `verdict`, and the merged trace to `trace`.
-fn judged<R: Read + Drop, T: Write + Drop, V: Write>(
+fn judged<R: JournalSource + Drop, T: Write + Drop, V: Write>(
     alloc: Global,
     audited: &AuditedTree<'_>,
     files: &mut [JournalFile<R>],
     trace: &mut TraceOutput<'_, T>,
     verdict: &mut V,
 ) -> Result<bool, AuditFault> {
-    let mut night = Night::new(alloc, audited.tree)?;
-    night.open(&audited.digest, files)?;
-    night.begin(files)?;
+    let mut fronts = Fronts::open(alloc, audited.tree, &audited.digest, files)?;
+    fronts.begin(files)?;
+    let mut night = Night::new(alloc, audited.tree, fronts)?;
     night.run(files, trace)?;
     let words = VerdictWords {
         alloc,
@@ -51,7 +52,7 @@ fn judged<R: Read + Drop, T: Write + Drop, V: Write>(
 }
 
 /// Tells what is wrong with a line of a file.
-fn end_of<R: Read + Drop, F: Write>(
+fn end_of<R: JournalSource + Drop, F: Write>(
     judged: Result<bool, AuditFault>,
     files: &[JournalFile<R>],
     faults: &mut F,
@@ -77,8 +78,8 @@ fn end_of<R: Read + Drop, F: Write>(
 /// (docs/FORMATS.md, "The verdict of an audit"). A line that is none is told on `faults`.
 ///
 /// Files are read in windows, in any order of their names; whose each is, and in which order a station's follow, is in
-/// their lines.
-pub fn audit<R: Read + Drop, W: Write + Drop, F: Write>(
+/// their lines. At most one file of each station is read at a time, and all others are set aside.
+pub fn audit<R: JournalSource + Drop, W: Write + Drop, F: Write>(
     alloc: Global,
     audited: &AuditedTree<'_>,
     files: &mut [JournalFile<R>],
@@ -92,7 +93,7 @@ pub fn audit<R: Read + Drop, W: Write + Drop, F: Write>(
 
 /// Does the same as [`audit`], and writes the merged trace to `out`, entry by entry as it is taken; the verdict goes to
 /// `faults`.
-pub fn audit_traced<R: Read + Drop, W: Write + Drop, F: Write>(
+pub fn audit_traced<R: JournalSource + Drop, W: Write + Drop, F: Write>(
     alloc: Global,
     audited: &AuditedTree<'_>,
     files: &mut [JournalFile<R>],

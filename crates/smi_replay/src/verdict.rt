@@ -2,15 +2,17 @@
 
 use crate::beginning::Beginning;
 use crate::clock::write_time;
-use crate::journal_file::JournalFile;
-use crate::night::{AuditFault, Front, Night};
+use crate::fronts::{AuditFault, Front};
+use crate::journal_file::{JournalFile, JournalSource};
+use crate::need::meets;
+use crate::night::Night;
 use crate::station_journal::{Extent, Place};
 use crate::wording::{write_contradiction, write_domain, write_entry, write_need, write_station};
-use smi_audit::{Contradiction, Need, Obstacle};
+use smi_audit::{Contradiction, MergeVerdict, Need, Obstacle};
 use smi_protocol::Entry;
 use smi_tree::Tree;
 use std::alloc::Global;
-use std::io::{self, ErrorKind, Read, Write};
+use std::io::{self, ErrorKind, Write};
 
 /// A gap in time, in milliseconds, from which on a journal is said to tell of later.
 const LATER: u64 = 60_000;
@@ -103,7 +105,7 @@ fn is_of_beginning(beginning: &Beginning, entry: &Entry) -> bool {
 
 /// Returns what becomes of a front: what its waits lead to, but no contradiction at the beginning.
 fn fate_of(night: &Night<'_>, holds: &[Hold], number: usize) -> Fate {
-    let fronts = night.fronts.as_slice();
+    let fronts = night.fronts.all.as_slice();
     let fate = end_of_waits(fronts, holds, number);
     if fate == Fate::Contradicted
         && let Some(front) = fronts.get(number)
@@ -139,7 +141,7 @@ fn end_of_waits(fronts: &[Front], holds: &[Hold], number: usize) -> Fate {
 }
 
 /// Writes a file's name and the number of a line.
-fn write_place<R: Read + Drop, W: Write>(
+fn write_place<R: JournalSource + Drop, W: Write>(
     out: &mut W,
     files: &[JournalFile<R>],
     place: &Place,
@@ -152,13 +154,13 @@ fn write_place<R: Read + Drop, W: Write>(
 
 /// What the words of a verdict are made of.
 #[derive(Drop)]
-pub(crate) struct VerdictWords<'a, R: Read + Drop> {
+pub(crate) struct VerdictWords<'a, R: JournalSource + Drop> {
     pub(crate) alloc: Global,
     pub(crate) tree: &'a Tree,
     pub(crate) files: &'a [JournalFile<R>],
 }
 
-impl<'a, R: Read + Drop> VerdictWords<'a, R> {
+impl<'a, R: JournalSource + Drop> VerdictWords<'a, R> {
     /// Writes how far the journal goes that an entry waits for.
     fn write_extent<W: Write>(
         &self,
@@ -302,7 +304,7 @@ impl<'a, R: Read + Drop> VerdictWords<'a, R> {
             out,
             "safe: {} entries of {} stations, {} grants, {} commands",
             tally.entries,
-            night.fronts.len(),
+            night.fronts.all.len(),
             tally.grants,
             tally.commands
         )?;
@@ -313,7 +315,7 @@ impl<'a, R: Read + Drop> VerdictWords<'a, R> {
             write_time(out, tally.last_time)?;
         }
         out.write_all(b"\n")?;
-        for front in night.fronts.as_slice() {
+        for front in night.fronts.all.as_slice() {
             self.write_beginning(out, front)?;
         }
         for placed in tally.told_by_starts.as_slice() {
@@ -336,12 +338,12 @@ fn time_of_first(front: &Front) -> u64 {
 }
 
 /// Writes the verdict. Returns true if all is safe.
-pub(crate) fn write_verdict<R: Read + Drop, W: Write>(
+pub(crate) fn write_verdict<R: JournalSource + Drop, W: Write>(
     words: &VerdictWords<'_, R>,
     night: &Night<'_>,
     out: &mut W,
 ) -> Result<bool, AuditFault> {
-    let fronts = night.fronts.as_slice();
+    let fronts = night.fronts.all.as_slice();
     let mut holds = Vec::new(words.alloc);
     for front in fronts {
         holds.push(hold_of(night, front))?;
@@ -354,35 +356,57 @@ pub(crate) fn write_verdict<R: Read + Drop, W: Write>(
     }
 }
 
+/// Returns true if a front waits for an entry that was read and is not taken, because entries before it wait too.
+fn is_held_up(fronts: &[Front], hold: &Hold) -> bool {
+    let Hold::Waits(station, need) = *hold else {
+        return false;
+    };
+    let Some(number) = number_of(fronts, station) else {
+        return false;
+    };
+    match fronts.get(number) {
+        Some(front) => front
+            .window
+            .iter()
+            .any(|placed| meets(&placed.entry, &need)),
+        None => false,
+    }
+}
+
 /// Returns the number of the front whose first entry is the earliest that can never be taken.
+///
+/// In a ring of waits this is one that waits for what no journal tells, if there is one: those that wait for an entry
+/// behind it are held up by it.
 fn first_contradicted(night: &Night<'_>, holds: &[Hold]) -> Option<usize> {
-    let fronts = night.fronts.as_slice();
+    let fronts = night.fronts.all.as_slice();
     let mut first = None;
-    let mut time = u64::MAX;
-    for (number, front) in fronts.iter().enumerate() {
-        let is_contradicted = fate_of(night, holds, number) == Fate::Contradicted;
-        if is_contradicted && (first.is_none() || time_of_first(front) < time) {
-            first = Some(number);
-            time = time_of_first(front);
+    let mut rank = (true, u64::MAX);
+    for (number, (front, hold)) in fronts.iter().zip(holds.iter()).enumerate() {
+        if fate_of(night, holds, number) == Fate::Contradicted {
+            let its_rank = (is_held_up(fronts, hold), time_of_first(front));
+            if first.is_none() || its_rank < rank {
+                first = Some(number);
+                rank = its_rank;
+            }
         }
     }
     first
 }
 
-fn write_judged<R: Read + Drop, W: Write>(
+fn write_judged<R: JournalSource + Drop, W: Write>(
     words: &VerdictWords<'_, R>,
     night: &Night<'_>,
     holds: &[Hold],
     out: &mut W,
 ) -> io::Result<bool> {
-    let fronts = night.fronts.as_slice();
+    let fronts = night.fronts.all.as_slice();
     if let Some(number) = first_contradicted(night, holds) {
         if let Some(hold) = holds.get(number) {
             words.write_held(out, b"unsafe: ", fronts, number, hold)?;
         }
         return Ok(false);
     }
-    let mut is_safe = true;
+    let mut is_safe = night.merge.verdict() == MergeVerdict::Safe;
     for (number, hold) in holds.iter().enumerate() {
         if fate_of(night, holds, number) != Fate::Taken {
             is_safe = false;
