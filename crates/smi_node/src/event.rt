@@ -37,7 +37,7 @@ pub trait StepObserver {
 }
 
 /// Ignores every step.
-#[derive(Clone, Copy, Drop)]
+#[derive(Clone, Copy, Debug, Drop)]
 pub struct NoObserver;
 
 impl StepObserver for NoObserver {

@@ -10,7 +10,7 @@ use std::alloc::Global;
 use std::io::Write;
 
 /// What an audit came to.
-#[derive(Clone, Copy, PartialEq, Eq)]
+#[derive(Clone, Copy, Debug, PartialEq, Eq)]
 pub enum AuditEnd {
     /// All entries merged into a safe trace.
     Safe,

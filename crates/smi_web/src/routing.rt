@@ -44,7 +44,7 @@ impl<'a> Model for RequestParts<'a> {
 }
 
 /// The route of a request.
-#[derive(Clone, Copy, PartialEq, Eq)]
+#[derive(Clone, Copy, Debug, PartialEq, Eq)]
 pub enum Route {
     Page,
     Tree,
