@@ -29,4 +29,4 @@ pub use listing::list;
 pub use mark::{Kinship, MARK_BYTES, TreeMark, compare};
 pub use speaking::{digest, speak};
 pub use store::{OpenStore, Stores};
-pub use watched::{StoreFiles, Surroundings, Watched};
+pub use watched::{LogState, StoreFiles, Surroundings, Watched};

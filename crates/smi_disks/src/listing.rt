@@ -143,13 +143,21 @@ impl EndsWell for FileStore<Memory> {
     }
 }
 
+/// The database of a store that is given up.
+fn database_of<S: Alter + Drop>(stable: SqliteStable<S>) -> S {
+    match stable.release() {
+        Ok(connection) => connection.into_store(),
+        Err(left) => left,
+    }
+}
+
 // Over any store, since each function that names the store of SQLite is dear to prove.
 fn list_over<S: EndsWell, W: Write>(connection: Connection<S>, writer: &mut W) -> Listed {
     match SqliteStable::adopt(connection) {
         Ok(stable) => {
             let mut stable = stable;
             let listed = rows(&mut stable, writer);
-            found_out(listed, stable.release().into_store().ends_well())
+            found_out(listed, database_of(stable).ends_well())
         }
         Err((fault, connection)) => {
             let listed = match fault {

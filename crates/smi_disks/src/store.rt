@@ -7,7 +7,7 @@ use crate::listing::list;
 use crate::mark::{Kinship, TreeMark, compare};
 use crate::watched::{StoreFiles, Watched};
 use smi_commands::rows::Listed;
-use smi_stable::{SqliteStable, Stable, StoreFault};
+use smi_stable::{LoggedStable, SqliteStable, StoreFault};
 use sqlite::{Alter, Connection, Error, ErrorCode, File, FileStore};
 use std::io::{self, ErrorKind, Write};
 
@@ -27,7 +27,7 @@ pub struct OpenStore<S> {
 /// What opens and lists stores by their paths.
 pub trait Stores {
     /// A store that is open.
-    type Open: Stable;
+    type Open: LoggedStable;
 
     /// Writes the rows of a store, a line each.
     fn list<W: Write>(&self, path: &[u8], writer: &mut W) -> Listed;
@@ -139,7 +139,7 @@ fn surroundings_of(
 }
 
 /// A store with its files, or what it means that it could not be opened, or that they could not be looked at.
-fn watched<S: Alter>(
+fn watched<S: Alter + Drop>(
     opened: Result<Connection<S>, Error>,
     host: &HostRuntime,
     path: &str,
@@ -160,7 +160,7 @@ where
 }
 
 /// A store with its files, or what it means that these could not be looked at: then it is given up as it is.
-fn beside_its_files<S: Alter, P>(
+fn beside_its_files<S: Alter + Drop, P>(
     stable: SqliteStable<S>,
     found: io::Result<(P, LabelSays)>,
 ) -> Result<OpenStore<Watched<SqliteStable<S>, P>>, StoreFault>
@@ -217,16 +217,21 @@ where
     }
 }
 
-fn closed<S: Alter>(stable: SqliteStable<S>)
+fn closed<S: Alter + Drop>(stable: SqliteStable<S>)
 where
     Connection<S>: ConnectionEnd,
 {
-    stable.release().end();
+    // What is left of a store that is shut is closed as it is.
+    if let Ok(connection) = stable.release() {
+        connection.end();
+    }
 }
 
-fn given_up<S: Alter>(stable: SqliteStable<S>)
+fn given_up<S: Alter + Drop>(stable: SqliteStable<S>)
 where
     Connection<S>: ConnectionEnd,
 {
-    stable.release().abandon();
+    if let Ok(connection) = stable.release() {
+        connection.abandon();
+    }
 }

@@ -8,6 +8,8 @@ use crate::label_file::LabelFile;
 use crate::mark::TreeMark;
 use smi_base::{Tally, u32_at};
 use smi_rows::{Key, RowKind, SavedRow, Stable, StoreFault};
+use smi_stable::LoggedStable;
+use std::alloc::Global;
 use std::os::unix::fs::MetadataExt;
 use std::rt::Files;
 use std::{fs, io};
@@ -97,6 +99,17 @@ impl<H: Files + Drop> Surroundings for StoreFiles<H> {
     }
 }
 
+/// What the log of a store holds beside the file.
+#[derive(Clone, Copy, Debug, PartialEq, Eq)]
+pub enum LogState {
+    /// Nothing that the file does not hold too.
+    Copied,
+    /// Rows that were saved since [`LoggedStable::copy_log`] was called last.
+    Grown,
+    /// Rows that were saved before that call.
+    Quiet,
+}
+
 /// A store that saves only while its files are where they were, and notes each start in its label. If a file is gone, a
 /// save is answered `Unsure` and nothing is written, so that the station stops: rows in a file that nobody can open
 /// again would be lost at its next start. If a start could not be noted, its boot row is saved, and `Unsure` is
@@ -110,6 +123,7 @@ pub struct Watched<S, P> {
     pub missed: Tally,
     /// Whether a save found a file gone.
     pub is_lost: bool,
+    pub log: LogState,
 }
 
 impl<S, P> Watched<S, P> {
@@ -120,6 +134,7 @@ impl<S, P> Watched<S, P> {
         ensures store { result.store ≡ store }
         ensures missed { result.missed.count ≡ 0 }
         ensures lost { result.is_lost ≡ false }
+        ensures log { result.log ≡ LogState.Copied }
     {
         Watched {
             store,
@@ -127,6 +142,7 @@ impl<S, P> Watched<S, P> {
             saves: Tally::zero(),
             missed: Tally::zero(),
             is_lost: false,
+            log: LogState::Copied,
         }
     }
 
@@ -142,6 +158,7 @@ impl<S, P> Watched<S, P> {
             saves: _,
             missed: _,
             is_lost: _,
+            log: _,
         } = self;
         store
     }
@@ -212,11 +229,30 @@ impl<S: Stable, P: Surroundings> Stable for Watched<S, P> {
             self.missed.raise();
             return Err(StoreFault::Unsure);
         }
+        self.log = LogState::Grown;
         self.store.save(key, bytes)?;
         self.note(key, bytes)
     }
 
     fn load(&mut self) -> Result<Vec<SavedRow>, StoreFault> {
         self.store.load()
+    }
+}
+
+impl<S: LoggedStable, P: Surroundings> LoggedStable for Watched<S, P> {
+    /// Copies the log at the second call after a save, so that it is copied once nothing was saved for a while. It is
+    /// left as it is while a file is gone, because the one that is open may then be another one's.
+    fn copy_log(&mut self, alloc: Global) -> Result<(), StoreFault> {
+        match self.log {
+            LogState::Quiet if self.may_be_closed() => {
+                self.log = LogState::Copied;
+                self.store.copy_log(alloc)
+            }
+            LogState::Grown => {
+                self.log = LogState::Quiet;
+                Ok(())
+            }
+            LogState::Copied | LogState::Quiet => Ok(()),
+        }
     }
 }

@@ -1,6 +1,7 @@
 pub mod Same
 pub mod SqlAdopts
 pub mod SqlCauses
+pub mod SqlCopies
 pub mod SqlGiven
 pub mod SqlKeeps
 pub mod SqlKeys

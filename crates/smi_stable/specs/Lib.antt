@@ -11,6 +11,7 @@ pub use Rattle.smi_rows.specs.Store
 pub use Rattle.smi_rows.specs.Stored
 pub use Rattle.smi_rows.specs.Written
 pub mod Beginning
+pub mod SqlBase
 pub mod SqlFault
 pub mod SqlGivenBack
 pub mod SqlKept

@@ -59,3 +59,10 @@ IsAdopted old new =
 -- the connection is open, and nothing waits to be committed
 abbrev pub IsInUse : State → Type 0
 IsInUse s = IsTrue s.is_open × IsSettled s
+
+-- another connection over the database of one at rest: it is at rest too, and has the same rows
+pub record IsReopened (old new : State) : Type 0 where
+  pub mode : new.in_transaction ≡ false
+  pub is_open : IsTrue new.is_open
+  pub rest : IsAtRest new
+  pub same : new.now.trees ≡ old.now.trees

@@ -10,7 +10,7 @@ ghost use Rattle.smi_stable.specs.SqlRows.{IsKeyed};
 ghost use Rattle.smi_stable.specs.SqlTable.{stable_schema, no_schema};
 
 use crate::schema_shape::{is_empty, is_stable};
-use crate::sqlite_stable::SqliteStable;
+use crate::sqlite_stable::{Base, SqliteStable};
 use crate::statement::{fault_of, make_table, test_open};
 use core::snapshot::Snapshot;
 use smi_base::Tally;
@@ -51,7 +51,7 @@ fn with_table<S: Alter>(conn: Connection<S>) -> Result<Connection<S>, (StoreFaul
 }
 
 impl<S: Alter> SqliteStable<S> {
-    ghost use Rattle.std.specs.Prelude.{◌≡◌, ◌≢◌, Err, IfOk, IfErr, IsTrue};
+    ghost use Rattle.std.specs.Prelude.{◌≡◌, ◌≢◌, false, Ok, Err, IfOk, IfErr, IsTrue, if◌then◌else◌};
     ghost use Rattle.sqlite.specs.State.{HasCleanDisk};
     ghost use Rattle.sqlite.specs.Held.{state};
     ghost use Rattle.smi_stable.specs.SqlFault.{CanBeTaken, HasReason};
@@ -68,7 +68,8 @@ impl<S: Alter> SqliteStable<S> {
         ensures adopted { IfOk result (λ s. HasCleanDisk (state S.Store s.held)
             → IsAdopted (state S.Store connection) (state S.Store s.held)) }
         ensures open { IfOk result (λ s. HasCleanDisk (state S.Store s.held) → IsInUse (state S.Store s.held)) }
-        ensures begun { IfOk result (λ s. (s.begun ≡ s.held) × (s.saves ≡ 0) × (s.failures ≡ 0)) }
+        ensures begun { IfOk result (λ s. (s.begun ≡ s.held) × (s.is_shut ≡ false)
+            × (s.saves ≡ 0) × (s.failures ≡ 0)) }
         ensures in_transaction { IsTrue connection.in_transaction → result ≡ Err (StoreFault.Unsure, connection) }
         ensures other_tables { connection.schema ≢ stable_schema → connection.schema ≢ no_schema
             → result ≡ Err (StoreFault.Unsure, connection) }
@@ -86,23 +87,26 @@ impl<S: Alter> SqliteStable<S> {
         }
         let begun = Snapshot::of(&conn);
         Ok(SqliteStable {
-            conn,
+            base: Base::Open(conn),
             begun,
             saves: Tally::zero(),
             failures: Tally::zero(),
         })
     }
 
-    /// Gives the connection up. It takes no memory.
-    pub fn release(self) -> Connection<S>
-        ensures { result ≡ self.held }
+    /// Gives the connection up, or what a store is shut over. It takes no memory.
+    pub fn release(self) -> Result<Connection<S>, S>
+        ensures { result ≡ if self.is_shut then Err self.held.store else Ok self.held }
     {
         let SqliteStable {
-            conn,
+            base,
             begun: _,
             saves: _,
             failures: _,
         } = self;
-        conn
+        match base {
+            Base::Open(conn) => Ok(conn),
+            Base::Shut(left, _) => Err(left),
+        }
     }
 }

@@ -21,6 +21,7 @@
 //!   of one).
 //! - `SqlCauses`: an open connection fails when out of memory or with its disk.
 //! - `SqlAdopts`: what is known of a connection that was taken over.
+//! - `SqlCopies`: what a copy of the log leaves of a connection.
 //! - `SqlMakes`: what the statement that makes the table does.
 //! - `SqlRefuses`: a database without a table does not refuse the table.
 //!
@@ -31,6 +32,8 @@
 mod adopting;
 mod beginning;
 mod listing;
+mod log_copy;
+mod logged;
 mod opening;
 mod over_sqlite;
 mod schema_shape;
@@ -39,6 +42,8 @@ mod sqlite_stable;
 mod statement;
 
 pub use beginning::{PAGE_BYTES, begin};
+pub use log_copy::LoggedTrees;
+pub use logged::LoggedStable;
 pub use opening::open;
 pub use smi_rows::{
     DomainRow, Key, MemoryStable, Mode, OperatorRow, Plan, Planned, PlannedStable, Row, RowFault,

@@ -1,6 +1,6 @@
 //! What a store over SQL does.
 
-ghost use Rattle.std.specs.Prelude.{◌≡◌, IsTrue, IfOk};
+ghost use Rattle.std.specs.Prelude.{◌≡◌, IsTrue, IfOk, false};
 ghost use Rattle.std.proofs.Common.{◌∙◌, ap};
 ghost use Rattle.sqlite.specs.State.{HasCleanDisk};
 ghost use Rattle.sqlite.specs.Held.{state};
@@ -13,7 +13,7 @@ ghost use Rattle.smi_stable.specs.SqlShown.{ShowsAll};
 
 use crate::listing::list_rows;
 use crate::shown::saved_rows;
-use crate::sqlite_stable::SqliteStable;
+use crate::sqlite_stable::{Base, SqliteStable};
 use crate::statement::{fault_of, save_surely, test_open};
 use smi_rows::{Key, SavedRow, Stable, StoreFault, is_rising};
 use sqlite::{Alter, Connection};
@@ -66,7 +66,7 @@ impl<S: Alter> Stable for SqliteStable<S> {
 
     ghost is_honest = { λ s. HasCleanDisk (state S.Store s.held) × IsKeyed ((state S.Store s.begun).now.trees 0) };
 
-    ghost is_open = { λ s. IsInUse (state S.Store s.held) };
+    ghost is_open = { λ s. IsInUse (state S.Store s.held) × (s.is_shut ≡ false) };
 
     ghost failures = { λ s. s.failures };
 
@@ -76,12 +76,16 @@ impl<S: Alter> Stable for SqliteStable<S> {
     ghost saves = { λ s. s.saves };
 
     ghost rests = { λ s honest live r may k. may.2 k
-        ∙ ap (λ (t : Trees). rows_in t k) (S.Store.settled s.held.store may.0 live.0 may.1
-        ∙ ap (λ (d : Database). d.trees) live.1) };
+        ∙ ap (λ (t : Trees). rows_in t k) (S.Store.settled s.held.store may.0 live.0.0 may.1
+        ∙ ap (λ (d : Database). d.trees) live.0.1) };
 
     fn save(&mut self, key: Key, bytes: &[u8]) -> Result<(), StoreFault> {
         self.saves.raise();
-        match save_surely(&mut self.conn, key, bytes) {
+        let Base::Open(conn) = &mut self.base else {
+            self.failures.raise();
+            return Err(StoreFault::Unsure);
+        };
+        match save_surely(conn, key, bytes) {
             Ok(()) => Ok(()),
             Err(StoreFault::Memory) => Err(StoreFault::Memory),
             Err(_) => {
@@ -92,7 +96,11 @@ impl<S: Alter> Stable for SqliteStable<S> {
     }
 
     fn load(&mut self) -> Result<Vec<SavedRow>, StoreFault> {
-        match load_rows(&mut self.conn) {
+        let Base::Open(conn) = &mut self.base else {
+            self.failures.raise();
+            return Err(StoreFault::Unsure);
+        };
+        match load_rows(conn) {
             Ok(list) => Ok(list),
             Err(StoreFault::Memory) => Err(StoreFault::Memory),
             Err(_) => {

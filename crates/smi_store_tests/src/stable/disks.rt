@@ -69,7 +69,10 @@ impl<S: Database> OnDisks for SqliteStable<S> {
     }
 
     fn close(self) -> S::Disks {
-        self.release().into_store().into_disks()
+        match self.release() {
+            Ok(connection) => connection.into_store().into_disks(),
+            Err(left) => left.into_disks(),
+        }
     }
 }
 
