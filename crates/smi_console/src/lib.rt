@@ -26,8 +26,9 @@
 //! `Runs` (`specs/Running`) is made of what the calls below promise: all of `migrate` (`MigratesOn`), all of
 //! `Station::open` (`OpensOn`), and of the service that each round is `Serves` of `smi_node`.
 //!
-//! - `ServesFor` (`specs/Serving`) says of an endless node that it was served a million turns, so often, and then
-//!   ended with a fault. The loop's invariant counts the rounds.
+//! - `ServesFor` (`specs/Serving`) says of an endless node that it was served a hundred turns, so often, and then
+//!   ended with a fault. After each hundred its log may be copied, which leaves its rows. The loop's invariant counts
+//!   the rounds.
 //! - `IsServed` hides the link, the desk, the board and the observer as "some", so that no caller has to name the
 //!   node's own.
 //! - If the station is open and no service begins, it is left unchanged.
@@ -49,6 +50,7 @@ mod fitting;
 mod guest;
 mod hall;
 mod journal_keeper;
+mod log_timer;
 mod outlet;
 mod peers;
 mod reading;

@@ -16,7 +16,7 @@ use smi_commands::status::Status;
 use smi_journal::JournalSetup;
 use smi_link::DatagramLink;
 use smi_node::{ServeFault, StepObserver};
-use smi_rows::Stable;
+use smi_stable::LoggedStable;
 use smi_station::{Station, migrate};
 use smi_tree::Tree;
 use smi_view::{Board, BoardId, NewBoard, open_board};
@@ -44,7 +44,13 @@ pub struct NodeSetup {
 }
 
 /// Serves a station that is open, with a board that is, where all is there that it is served with.
-fn crewed<S: Stable, L: DatagramLink + Drop, V: StepObserver + Drop, J: BoardId, R: Wait>(
+fn crewed<
+    S: LoggedStable,
+    L: DatagramLink + Drop,
+    V: StepObserver + Drop,
+    J: BoardId,
+    R: Wait + Clock + AllocGlobal,
+>(
     rt: &R,
     setup: &NodeSetup,
     station: &mut Station<'_, S>,
@@ -73,7 +79,7 @@ fn over_board<J, S, H, I, O, E>(
 ) -> Result<Result<(), ServeFault>, Halt>
 where
     J: BoardId + Send + Sync + 'static,
-    S: Stable,
+    S: LoggedStable,
     H: Files + Net + Wait + Threads + Clock + AllocGlobal + Clone + Drop + Send + 'static,
     I: Read + Drop + Send + 'static,
     O: Write + Drop + Send + 'static,
@@ -98,7 +104,7 @@ fn opened<S, H, I, O, E, F>(
     faults: &mut F,
 ) -> (Status, S)
 where
-    S: Stable,
+    S: LoggedStable,
     H: Files + Net + Wait + Threads + Clock + AllocGlobal + Clone + Drop + Send + 'static,
     I: Read + Drop + Send + 'static,
     O: Write + Drop + Send + 'static,
@@ -131,8 +137,8 @@ where
 /// console. What is amiss is told in one line on `faults`, and the status says how the node ended. Those threads tell
 /// their own faults on those of the console, and these end the console alone.
 ///
-/// Nothing but the opening and the steps of the station changes the store. That it serves over its own socket and its
-/// own seats no clause says, and none what the threads of the console do:
+/// Nothing but the opening and the steps of the station changes the store, and copies of its log, which keep the rows.
+/// That it serves over its own socket and its own seats no clause says, and none what the threads of the console do:
 /// tests/full_test.py, tests/nodes_test.py and tests/consoles_test.py see that.
 pub fn run<S, H, I, O, E, F>(
     rt: &H,
@@ -142,7 +148,7 @@ pub fn run<S, H, I, O, E, F>(
     faults: &mut F,
 ) -> (Status, S)
 where
-    S: Stable,
+    S: LoggedStable,
     H: Files + Net + Wait + Threads + Clock + AllocGlobal + Clone + Drop + Send + 'static,
     I: Read + Drop + Send + 'static,
     O: Write + Drop + Send + 'static,

@@ -1,21 +1,24 @@
 //! What a station is served with, and how long.
 
-ghost use Rattle.std.specs.Prelude.{◌≡◌};
+ghost use Rattle.std.specs.Prelude.{◌≡◌, Result};
+ghost use Rattle.smi_rows.specs.declared.stable.StoreFault.{StoreFault};
 ghost use Rattle.smi_station.specs.Readers.{operators_in};
 ghost use Rattle.smi_node.specs.Carried as carried;
 ghost use Rattle.smi_node.specs.Linked.{shown_by};
-ghost use Rattle.smi_console.specs.Serving.{IsServed, ServesFor, serving};
+ghost use Rattle.smi_console.specs.Serving.{CopiesLog, IsServed, KeepsAll, ServesFor, serving};
 
+use crate::log_timer::LogTimer;
 use smi_link::DatagramLink;
 use smi_node::{Node, NodeStats, ServeFault, StepObserver};
 use smi_operator::Desk;
-use smi_rows::Stable;
 use smi_session::boxed;
+use smi_stable::LoggedStable;
 use smi_station::Station;
 use smi_station_output::Out;
 use smi_view::{Board, BoardId};
 use std::alloc::{AllocError, Global};
 use std::sync::{Arc, Wait};
+use std::time::{Clock, Instant};
 
 /// How long a node serves.
 #[derive(Clone, Copy)]
@@ -26,11 +29,41 @@ pub enum Turns {
     Endless,
 }
 
-/// How many turns an endless node serves at once, before it begins again with all that it has.
-pub(crate) const TURNS_AT_ONCE: u32 = 1_000_000;
+/// How many turns an endless node serves at once, before it begins again with all that it has. Nothing comes to a node
+/// at rest, whose turns then take a second.
+pub(crate) const TURNS_AT_ONCE: u32 = 100;
+
+/// Lets the store of a station copy its log into its file. A store that is shut by that saves nothing more, so that the
+/// station stops at its next save.
+fn copy_log<S: LoggedStable>(alloc: Global, station: &mut Station<'_, S>)
+    ensures core { station.new.core ≡ station.old.core }
+    ensures store { (r : Result (Unit {0}) StoreFault) × CopiesLog S.is_honest S.is_open S.rows S.may_find S.saves
+        S.failures S.doubts station.old.store station.new.store r }
+{
+    let _ = station.stable_mut().copy_log(alloc);
+}
+
+/// Does so if it is time for it.
+fn rest<S: LoggedStable, R: Clock + AllocGlobal>(
+    rt: &R,
+    timer: &mut LogTimer,
+    station: &mut Station<'_, S>,
+)
+    ensures { KeepsAll S.is_honest S.is_open S.rows S.may_find S.saves S.failures S.doubts station.old station.new }
+{
+    if timer.is_due(Instant::now(rt).ok()) {
+        copy_log(rt.alloc(), station);
+    }
+}
 
 /// Serves so many turns, or until a fault ends it.
-fn served<S: Stable, L: DatagramLink, J: BoardId, V: StepObserver, R: Wait>(
+fn served<
+    S: LoggedStable,
+    L: DatagramLink,
+    J: BoardId,
+    V: StepObserver,
+    R: Wait + Clock + AllocGlobal,
+>(
     rt: &R,
     turns: Turns,
     node: &mut Node<'_, '_, '_, S, J>,
@@ -54,9 +87,10 @@ fn served<S: Stable, L: DatagramLink, J: BoardId, V: StepObserver, R: Wait>(
     match turns {
         Turns::Count(turns) => node.serve(rt, link, observer, turns),
         Turns::Endless => {
+            let mut timer = LogTimer::new();
             for _ in rt.forever() {
                 match node.serve(rt, link, observer, TURNS_AT_ONCE) {
-                    Ok(()) => {}
+                    Ok(()) => rest(rt, &mut timer, node.station),
                     Err(fault) => return Err(fault),
                 }
             }
@@ -67,7 +101,13 @@ fn served<S: Stable, L: DatagramLink, J: BoardId, V: StepObserver, R: Wait>(
 
 /// Makes a node of a station and its parts, and serves it.
 // The parts come one by one: the prover loses what becomes of a station whose node is made of a larger value.
-fn serve_parts<S: Stable, L: DatagramLink, J: BoardId, V: StepObserver, R: Wait>(
+fn serve_parts<
+    S: LoggedStable,
+    L: DatagramLink,
+    J: BoardId,
+    V: StepObserver,
+    R: Wait + Clock + AllocGlobal,
+>(
     rt: &R,
     turns: Turns,
     station: &mut Station<'_, S>,
@@ -135,7 +175,7 @@ impl<L: DatagramLink + Drop, V: StepObserver + Drop> Service<L, V> {
     }
 
     /// Serves a station, so long or until a fault ends it.
-    pub(crate) fn serve<S: Stable, J: BoardId, R: Wait>(
+    pub(crate) fn serve<S: LoggedStable, J: BoardId, R: Wait + Clock + AllocGlobal>(
         &mut self,
         rt: &R,
         turns: Turns,

@@ -25,9 +25,11 @@ loop-preserved g c =
         suc c.loop.invariant.serves.0,
         (
           before,
+          after,
           c.loop.invariant.serves.1,
-          subst (λ (o : List ℕ). serving {S = g.row.S.Denot} s.is_honest s.is_open s.rows s.may_find s.saves s.failures
-              s.doubts o TURNS_AT_ONCE before after (Ok tt)) c.loop.invariant.operators c.in-Ok.ensures.serves,
+          subst (λ (o : List ℕ). (serving {S = g.row.S.Denot} s.is_honest s.is_open s.rows s.may_find s.saves s.failures
+              s.doubts o).Makes TURNS_AT_ONCE before after (Ok tt)) c.loop.invariant.operators c.in-Ok.ensures.serves,
+          (refl, c.rest.ensures),
         ),
       );
       station = c.serve-in-loop.ensures.station ∙ c.loop.invariant.station;
@@ -52,7 +54,7 @@ returns-in-Err-clause-serves g c =
       c.loop.invariant.serves.0,
       before,
       c.loop.invariant.serves.1,
-      subst (λ (o : List ℕ). serving {S = g.row.S.Denot} s.is_honest s.is_open s.rows s.may_find s.saves s.failures
-          s.doubts o TURNS_AT_ONCE before after (Err c.in-Err.fault)) c.loop.invariant.operators
+      subst (λ (o : List ℕ). (serving {S = g.row.S.Denot} s.is_honest s.is_open s.rows s.may_find s.saves s.failures
+          s.doubts o).Makes TURNS_AT_ONCE before after (Err c.in-Err.fault)) c.loop.invariant.operators
           c.in-Err.ensures.serves,
     )
