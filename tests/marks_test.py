@@ -8,6 +8,7 @@ import shutil
 import socket
 import stat
 import tempfile
+import time
 
 import pytest
 
@@ -21,6 +22,8 @@ CHANGED = ([], ["store of a changed tree"], 0)
 STOPPED = ["stopped"]
 # The row of DCS, and what it says once ANN has taken it and ordered nothing.
 DCS, TAKEN = (1, 1, 0), "020100010000000000000001" + 24 * "0"
+# And after she has dropped it, and taken it again.
+DROPPED, RETAKEN = "020000000000000000000002" + 24 * "0", "020100010000000000000003" + 24 * "0"
 EMPTY = ([], ["store is empty beside its label"], 1)
 OLDER = ([], ["store is older than its label"], 1)
 FAULT = ([], ["store fault"], 3)
@@ -89,6 +92,10 @@ class Room:
             for end in ends:
                 shutil.copy(self.store + end, os.path.join(there, "store" + end))
             return dict(stores.rows_in(os.path.join(there, "store")))
+
+    def log_bytes(self):
+        """Returns how many bytes its log has."""
+        return os.path.getsize(self.store + "-wal")
 
     def boot(self):
         """Returns the boot that the store has of the station."""
@@ -324,3 +331,84 @@ def test_copied(room, subtests):
     told = node.ask("order ANN ask DCS")
     with subtests.test("and then in the file"):
         assert [told, room.rows([""]).get(DCS)] == ["told ANN ask DCS ANN 1 0 settled 0", TAKEN]
+
+
+# How many bytes a log has whose rows are all in the file, and how many seconds a node at rest needs at most for that.
+EMPTIED, QUIET = 41, 10
+
+
+def is_soon(holds):
+    """Returns whether something comes to hold while nothing is saved, on a busy machine too."""
+    end = time.monotonic() + 3 * QUIET
+    while not holds() and time.monotonic() < end:
+        time.sleep(0.0005)
+    return holds()
+
+
+def test_copied_at_rest(room, subtests):
+    """What a node has saved is in its file some seconds later, and needs no log. It goes on then, and saves no less."""
+    node = room.node()
+    for order, want in [("take", TAKEN), ("drop", DROPPED)]:
+        with subtests.test("%s is saved" % order):
+            assert node.ask("order ANN %s DCS" % order) == "told ANN %s DCS 0" % order
+        with subtests.test("it is copied after %s" % order):
+            assert [is_soon(lambda: room.log_bytes() == EMPTIED), room.rows([""]).get(DCS)] == [True, want]
+        with subtests.test("the log holds nothing else after %s" % order):
+            assert room.rows() == room.rows([""])
+    size, before = room.log_bytes(), read(room.store)
+    time.sleep(QUIET)
+    with subtests.test("a node that saves nothing copies nothing"):
+        assert [room.log_bytes(), read(room.store)] == [size, before]
+    told = node.ask("order ANN take DCS")
+    node.kill()
+    with subtests.test("what is saved after a copy is in the log"):
+        assert [told, room.rows().get(DCS), room.rows([""]).get(DCS)] == ["told ANN take DCS 0", RETAKEN, DROPPED]
+    with subtests.test("and the next start finds it"):
+        assert [room.begun(), room.rows().get(DCS)] == [WELL, RETAKEN]
+
+
+def test_busy(room, subtests):
+    """A node that saves all the time does not copy its log meanwhile: that waits until it is quiet."""
+    node = room.node()
+    told, orders = [], ["take", "drop"] * 8
+    for order in orders:
+        told.append(node.ask("order ANN %s DCS" % order))
+        time.sleep(0.7)
+    with subtests.test("all is saved, in the log alone"):
+        assert [told, DCS in room.rows(), DCS in room.rows([""])] == [
+            ["told ANN %s DCS 0" % order for order in orders], True, False]
+    with subtests.test("until it is quiet"):
+        assert is_soon(lambda: DCS in room.rows([""]))
+
+
+def test_copy_killed(room, subtests):
+    """A node that is killed while it copies its log, or just then, finds all at its next start."""
+    for boot, wait in enumerate([0, 0.0002, 0.0005, 0.001, 0.002, 0.004], start=1):
+        node = room.node()
+        told = [node.ask("order ANN %s DCS" % order) for order in ("take", "drop", "take", "drop")]
+        saved, before = room.rows(), read(room.store)
+        copied = is_soon(lambda before=before: read(room.store) != before)
+        time.sleep(wait)
+        node.kill()
+        with subtests.test("start %d" % boot):
+            assert [len(told), copied, room.rows() == saved, room.boot()] == [4, True, True, boot]
+    with subtests.test("the last start"):
+        assert room.begun() == WELL
+
+
+@pytest.mark.parametrize("end", [pytest.param("", id="of a store"), pytest.param("-wal", id="of a log")])
+def test_copied_nowhere(room, end, subtests):
+    """A node whose store or log was replaced copies nothing: neither into the file that it has, nor at the path."""
+    node = room.node()
+    told = node.ask("order ANN take DCS")
+    replace(room.store + end)
+    files = [read(room.store + it) for it in ("", "-wal")]
+    time.sleep(QUIET)
+    with subtests.test("both stay as they are"):
+        assert [told, [read(room.store + it) for it in ("", "-wal")] == files] == ["told ANN take DCS 0", True]
+    node.say("order ANN do DCS CONFIGURE")
+    ended = node.end()
+    with subtests.test("the station stops at its next save"):
+        assert ended is not None and ended[1:] == (STOPPED, 3)
+    with subtests.test("what was answered is there"):
+        assert [room.begun(), room.rows().get(DCS)] == [WELL, TAKEN]
