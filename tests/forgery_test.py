@@ -102,7 +102,7 @@ def test_a_forged_run_is_told(both):
     both.forge(B, datagram(layout.RUN, **{"from": A}, to=B, subject=TPC, holder_kind=DOMAIN, holder=DCS, code=1, epoch=1,
                            number=1, argument=1))
     assert both.says("B", "ran TPC 1 1 do CONFIGURE")
-    # What A was shown waits for B's journal, where it stands behind this run; the run waits for what A never did.
+    # What A was shown waits for an entry of B that follows this run, and the run waits for what A never did.
     status, said = both.audit()
     assert status == 1 and said.startswith("unsafe: ") and ": ran TPC 1 1 do CONFIGURE waits for " in said, said
 

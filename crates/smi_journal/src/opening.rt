@@ -57,7 +57,7 @@ impl Room {
         }
     }
 
-    /// Sets what the next lines of a station begin with. Many steps fall into one millisecond, and these have one prefix.
+    /// Sets what the next lines of a station begin with. The steps of one millisecond share a prefix.
     pub(crate) fn set_prefix(
         &mut self,
         tree: &Tree,

@@ -45,7 +45,7 @@ pub(crate) struct Account {
 }
 
 impl DomainState {
-    /// The state of a domain that nobody has held yet, or of one that is free since an epoch.
+    /// Returns the state of a domain that nobody has held yet, or of one that is free since an epoch.
     fn free(epoch: u64) -> DomainState {
         DomainState {
             epoch,
@@ -71,7 +71,7 @@ impl DomainState {
 }
 
 impl LinkState {
-    /// A link that is not held.
+    /// Returns a link that is not held.
     fn out(holder: Holder, domain: u16) -> LinkState {
         LinkState {
             holder,

@@ -15,7 +15,7 @@ pub struct DomainStands {
     pub record: Record,
 }
 
-/// How a holder's link to a domain stands.
+/// The state of a holder's link to a domain.
 #[derive(Clone, Copy)]
 pub struct LinkStands {
     pub holder: Holder,
@@ -45,7 +45,7 @@ pub struct PendingCommand {
     pub command: Command,
 }
 
-/// Returns how a domain stands by the words `D E H N PHASE X`.
+/// Returns the state of a domain by the words `D E H N PHASE X`.
 pub(crate) fn domain_stands(tree: &Tree, rest: Option<&[u8]>) -> Result<DomainStands, LineFault> {
     let (what, grant, who, last, phase, outcome) = six_words(rest)?;
     Ok(DomainStands {
@@ -64,7 +64,7 @@ fn stage_not_held(word: &[u8]) -> Result<LinkStage, LineFault> {
     }
 }
 
-/// Returns how a link stands by the words `H D STAGE E`, of a held one `H D held E N MODE`.
+/// Returns the state of a link by the words `H D STAGE E`, of a held one `H D held E N MODE`.
 pub(crate) fn link_stands(tree: &Tree, rest: Option<&[u8]>) -> Result<LinkStands, LineFault> {
     let rest = rest.ok_or(LineFault::WordCount)?;
     let (who, rest) = next_word(rest)?;

@@ -9,7 +9,7 @@ use smi_tree::Tree;
 use std::alloc::{AllocError, AllocFailed, Global};
 use std::collections::VecDeque;
 
-/// Why an audit came to no verdict.
+/// The reason for which an audit has no verdict.
 #[derive(Clone, Copy, Debug, PartialEq, Eq)]
 pub(crate) enum AuditFault {
     /// The line of this number in the file of this number is none.
@@ -32,7 +32,7 @@ impl<T: Drop> From<AllocFailed<T>> for AuditFault {
 }
 
 impl AuditFault {
-    /// What is wrong with the file of this number.
+    /// Returns the fault of the file of this number.
     fn of_file(file: usize, fault: FileFault) -> AuditFault {
         match fault {
             FileFault::Line(line, fault) => AuditFault::Line(file, line, fault),

@@ -42,7 +42,7 @@ pub struct JournalFile<R: JournalSource + Drop> {
 }
 
 impl FileFault {
-    /// The fault of a line that was not read or not taken.
+    /// Returns the fault of a line that was not read or not taken.
     pub(crate) fn of_line(line: u64, error: LineError) -> FileFault {
         match error {
             LineError::Fault(fault) => FileFault::Line(line, fault),

@@ -9,7 +9,7 @@ use smi_tree::Tree;
 use std::alloc::Global;
 use std::io::Write;
 
-/// What an audit came to.
+/// How an audit ended.
 #[derive(Clone, Copy, Debug, PartialEq, Eq)]
 pub enum AuditEnd {
     /// All entries merged into a safe trace.

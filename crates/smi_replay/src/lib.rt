@@ -1,7 +1,7 @@
 //! Journals are read back, replayed station by station, and audited together.
 //!
 //! [`read_line`] reads one line of a journal (docs/FORMATS.md, "Journals"). [`audit`] takes the files of all stations
-//! and comes to a verdict. A file is cut into lines (`cutter`, `journal_file`). The lines of one station are replayed
+//! and says its verdict. A file is cut into lines (`cutter`, `journal_file`). The lines of one station are replayed
 //! (`station_journal`), which puts in front of a start what only that start tells (`account`, `loss`). What all
 //! stations tell is merged by `smi_audit` (`night`, `beginning`) and judged (`judge`, `verdict`, `wording`).
 //!

@@ -37,9 +37,9 @@ pub struct JournalLine {
 pub enum Says {
     /// An entry of a trace.
     Entry(Entry),
-    /// How a domain of the station stands, in a block.
+    /// The state of a domain of the station, in a block.
     Stands(DomainStands),
-    /// How a link of the station stands, in a block.
+    /// The state of a link of the station, in a block.
     Link(LinkStands),
     /// A command that is pending, in a block.
     Pending(PendingCommand),

@@ -118,7 +118,7 @@ impl Found {
         self.add_lost(Rank::Run, &run, command.is_some())
     }
 
-    /// Compares how a domain stands with how it stood.
+    /// Compares the state of a domain with the one before.
     fn compare_domain(
         &mut self,
         domain: u16,
@@ -199,7 +199,7 @@ impl Found {
         )
     }
 
-    /// Compares how a link stands with how it stood.
+    /// Compares the state of a link with the one before.
     fn compare_link(
         &mut self,
         was: &LinkState,

@@ -16,7 +16,7 @@ use std::alloc::{AllocError, Global};
 use std::collections::VecDeque;
 use std::mem;
 
-/// Where something stands: the number of its file and of its line, and when that was written.
+/// The place of something: the number of its file and of its line, and when that was written.
 #[derive(Clone, Copy)]
 pub(crate) struct Place {
     pub(crate) file: usize,
@@ -40,9 +40,9 @@ pub(crate) struct PlacedEntry {
 #[derive(Clone, Copy)]
 enum Block {
     None,
-    /// Behind a start.
+    /// After a start.
     Start(Place, Entry),
-    /// Behind a line that says that the file goes on.
+    /// After a line that says that the file goes on.
     Continued(Place, u32),
 }
 
@@ -381,7 +381,7 @@ impl StationJournal {
         Ok(())
     }
 
-    /// Tells a gap if a file that goes on does not begin with what the lines before it come to.
+    /// Tells a gap if a file that goes on does not begin with what the lines before it say.
     fn check_continued(
         &mut self,
         tree: &Tree,

@@ -17,7 +17,7 @@ use smi_base::Tally;
 use smi_rows::StoreFault;
 use sqlite::{Alter, Connection};
 
-/// The table of stable rows is there, and is made where there is none.
+/// Makes the table of stable rows if there is none.
 fn with_table<S: Alter>(conn: Connection<S>) -> Result<Connection<S>, (StoreFault, Connection<S>)>
     ensures adopted { IfOk result (λ c. HasCleanDisk (state S.Store c)
         → IsAdopted (state S.Store conn) (state S.Store c)) }
@@ -59,7 +59,7 @@ impl<S: Alter> SqliteStable<S> {
     ghost use Rattle.smi_stable.specs.SqlReady.{IsAdopted, IsInUse};
     ghost use Rattle.smi_stable.specs.SqlTable.{stable_schema, no_schema};
 
-    /// Takes over a connection, and makes the table where there is none.
+    /// Takes over a connection, and makes the table if there is none.
     ///
     /// A refusal gives the connection back: `Memory` where the database had no memory for it, and
     /// `Unsure` for all else, as a file with other tables, or a connection in a transaction. It holds

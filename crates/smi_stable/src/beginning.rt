@@ -43,7 +43,7 @@ fn is_part_of(bytes: &[u8], page: &[u8]) -> bool
     (*byte == 0 || *byte == *own) && is_part_of(more, rest)
 }
 
-/// Whether a file of so many bytes as there is room for holds nothing but zeros and bytes of its first page.
+/// Returns true if a file of as many bytes as there is room for holds nothing but zeros and bytes of its first page.
 fn is_unbegun<D: Disk>(db: &mut D, room: &mut [u8]) -> io::Result<bool>
     requires { IsTrue (D.Disk.is_usable db.old) }
     ensures part { IfOk result (λ is_so. IsTrue (D.Disk.is_clean db.new)

@@ -37,7 +37,7 @@ fn put<S: Alter>(conn: &mut Connection<S>, key: Key, bytes: &[u8]) -> Result<usi
         (CommitsBy upsert_text (key_values key bytes.now) (state S.Store conn.old)) }
     ensures live { IsLive (state S.Store conn.old) }
 {
-    // Whoever asks for the schema learns that the rows obey it: each key stands once, and is three numbers.
+    // for the prover: the rows obey the schema, so each key is there once, and is three numbers
     let _schema = conn.schema();
     conn.execute(
         SAVE,

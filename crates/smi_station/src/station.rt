@@ -1,4 +1,4 @@
-//! A station, what it keeps, and how an event comes to it.
+//! A station, what it keeps, and its steps.
 
 ghost use Rattle.std.specs.Prelude.{◌≡◌};
 ghost use Rattle.smi_station.specs.Core.{is_stopped_by};
@@ -57,36 +57,36 @@ impl<'a, S> Station<'a, S> {
     ghost use Rattle.smi_station.specs.Lending.{LendsStore};
     ghost use Rattle.std.specs.Borrow.{sem};
 
-    /// How often the station has started, 1 to 4,000,000,000.
+    /// Returns how often the station has started, 1 to 4,000,000,000.
     pub fn boot(&self) -> u32
         ensures { result ≡ (station_of self.now.core).grants.boot }
     {
         self.core.boot()
     }
 
-    /// Whether the station has stopped: a save was left unsure, or an object has come to its last sequence. It then
-    /// makes no step until it is opened again.
+    /// Returns true if the station has stopped: a save was left unsure, or an object has reached its last sequence. It
+    /// then makes no step until it is opened again.
     pub fn is_stopped(&self) -> bool
         ensures { result ≡ (station_of self.now.core).is_stopped }
     {
         self.core.is_stopped()
     }
 
-    /// The operators of the station, by number.
+    /// Returns the operators of the station, by number.
     pub fn operators(&self) -> &'a [u16]
         ensures { result.now ≡ operators_in self.now.core }
     {
         self.core.operators()
     }
 
-    /// The record of a domain, by its number from 1; none where the station does not keep it.
+    /// Returns the record of a domain, by its number from 1, None if the station does not keep it.
     pub fn record(&self, domain: u16) -> Option<Record>
         ensures { result ≡ record_in self.now.core domain }
     {
         self.core.record(domain)
     }
 
-    /// The link of a holder to a domain, by its number from 1; none where the holder is of another station, or may
+    /// Returns the link of a holder to a domain, by its number from 1. None if the holder is of another station, or may
     /// not hold the domain.
     pub fn link(&self, holder: Holder, domain: u16) -> Option<Link>
         ensures { result ≡ link_in self.now.core holder domain }
@@ -94,29 +94,29 @@ impl<'a, S> Station<'a, S> {
         self.core.link(holder, domain)
     }
 
-    /// The mode in which a domain is held by the one above it; none where the station does not keep that one.
+    /// Returns the mode in which a domain is held by the one above it, None if the station does not keep that one.
     pub fn mode(&self, domain: u16) -> Option<Mode>
         ensures { result ≡ mode_in self.now.core domain }
     {
         self.core.mode(domain)
     }
 
-    /// What an object shows: units by the numbers of their domains, then devices; none where the station does not
-    /// keep it.
+    /// Returns what an object shows, None if the station does not keep it. Units have the numbers of their domains, and
+    /// devices follow.
     pub fn current(&self, object: u16) -> Option<Shown>
         ensures { result ≡ current_of (station_of self.now.core) object }
     {
         self.core.current(object)
     }
 
-    /// What it keeps of grants.
+    /// Returns what it keeps of grants.
     pub fn grants(&self) -> &GrantTable<'a>
         ensures { result.now ≡ self.now.core.kept }
     {
         &self.core.kept
     }
 
-    /// The store of its rows, for one who leaves the rows as they are.
+    /// Returns the store of its rows. The caller must leave the rows as they are.
     pub fn stable_mut(&mut self) -> &mut S
         ensures* given_back { sem 𝓛 (LendsStore S.row self.entry result) }
         ensures lent { result.now ≡ self.old.store }
@@ -124,7 +124,7 @@ impl<'a, S> Station<'a, S> {
         &mut self.store
     }
 
-    /// The station is given up for the store of its rows.
+    /// Gives the station up for the store of its rows.
     pub fn into_stable(self) -> S
         ensures { result ≡ self.entry.store }
     {
@@ -149,16 +149,16 @@ impl<'a, S: Stable> Station<'a, S> {
     ghost use Rattle.smi_station_grants.specs.Leaving.{Leaves};
     ghost use Rattle.smi_station.specs.Wanting.{adds_by, wants_memory};
 
-    /// A station opens on the store of its rows, by its number of the tree: it is what the rows mean, one boot later,
+    /// Opens a station on the store of its rows, by its number in the tree. It is what the rows mean, one boot later,
     /// and the raised boot is saved. All memory is taken and all rows are read before that. Rows of other stations
     /// are left alone.
     ///
-    /// A fault gives the store back. They are found in this order: `NoSuchStation`, where the tree has no such
-    /// station; `Row`, with the least key whose row is refused and the code of the test that it fails; `BootsSpent`,
-    /// where the station has started 4,000,000,000 times. `Store`, where the store failed, and `Memory`, where memory
-    /// was refused, come where they come; that it was refused then, tests alone see. After each the rows are as before,
-    /// but that after an unsure save the boot may be one higher. The store failed where `Store` is answered, and
-    /// nowhere else.
+    /// A fault gives the store back. They are found in this order: `NoSuchStation`, if the tree has no such station;
+    /// `Row`, with the least key whose row is refused and the code of the test that it fails; `BootsSpent`, if the
+    /// station has started 4,000,000,000 times. `Store` (the store failed) and `Memory` (memory was refused) can come
+    /// at any point. That `Memory` means a refused allocation is tested, not proved. After each the rows are as before,
+    /// but after an unsure save the boot may be one higher. The store failed if `Store` is answered, and in no other
+    /// case.
     pub fn open(
         alloc: Global,
         tree: &'a Tree,
@@ -200,17 +200,17 @@ impl<'a, S: Stable> Station<'a, S> {
         }
     }
 
-    /// An event comes to the station: bytes, an order, a report, or a tick. `out` then holds what the step hands out,
+    /// Makes the step of an event: of bytes, an order, a report, or a tick. `out` then holds what the step hands out,
     /// and nothing of an earlier one.
     ///
-    /// A step saves before it changes anything and before anything is handed out. After `NotStored`, where the store
-    /// answered `Device`, and `Memory`, where memory was refused to the station or the store, the station and its
-    /// rows are unchanged; `Memory` comes only where a row is saved, or where a watch adds an entry, so ticks, reports
-    /// and all that is refused never answer it. `Stopped` is answered by a station that has stopped, before all other
-    /// tests, and where the store answered `Unsure`: the station has then stopped, and its rows are as before or as
-    /// after the step. The store failed where `NotStored` is answered, or `Stopped` by a station that ran, and nowhere
-    /// else; that memory was refused where `Memory` is, tests alone see. After each of the three nothing is handed out.
-    /// A stop at any moment of a step leaves the rows as before or as after it.
+    /// A step saves before it changes anything and before anything is handed out. After `NotStored` (the store answered
+    /// `Device`) and `Memory` (memory was refused to the station or the store) the station and its rows are unchanged.
+    /// `Memory` comes only if a row is saved or a watch adds an entry, so ticks, reports and refusals never answer it.
+    /// `Stopped` is answered by a station that has stopped, before all other tests, and if the store answered `Unsure`:
+    /// the station has then stopped, and its rows are as before or as after the step. The store failed if `NotStored`
+    /// is answered, or `Stopped` by a station that ran, and in no other case. That memory was refused if `Memory` is
+    /// answered is tested, not proved. After each of the three nothing is handed out. A stop at any moment of a step
+    /// leaves the rows as before or as after it.
     pub fn step(&mut self, event: Event<'_>, out: &mut Out) -> Result<Heard, StepFault>
         ensures step { self.old.core.is_stopped ≡ false
             → Steps self.old.core self.new.core (after_event (tree_of self.old.core) (number_of self.old.core)
@@ -241,7 +241,7 @@ impl<'a, S: Stable> Station<'a, S> {
     }
 }
 
-/// Whether a step has stopped its station.
+/// Returns true if a step has stopped its station.
 fn is_stopped_by(heard: &Result<Heard, StepFault>) -> bool
     ensures { result ≡ is_stopped_by heard.now }
 {
@@ -261,7 +261,7 @@ impl<'a> Core<'a> {
     ghost use Rattle.smi_station_grants.specs.Leaving.{Leaves};
     ghost use Rattle.smi_station.specs.Wanting.{adds_by, adds_read, wants_memory};
 
-    /// An event comes. A station that has stopped makes no step.
+    /// Makes the step of an event. A station that has stopped makes none.
     fn step<S: Stable>(
         &mut self,
         store: &mut S,
@@ -294,7 +294,7 @@ impl<'a> Core<'a> {
         heard
     }
 
-    /// An event comes to a station that runs.
+    /// Makes the step of an event at a station that runs.
     fn step_running<S: Stable>(
         &mut self,
         store: &mut S,
@@ -323,7 +323,7 @@ impl<'a> Core<'a> {
         }
     }
 
-    /// Bytes come.
+    /// Reads the bytes of a datagram and hears it.
     fn read<S: Stable>(
         &mut self,
         store: &mut S,

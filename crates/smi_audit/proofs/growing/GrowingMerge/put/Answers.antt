@@ -10,7 +10,8 @@ invariant_of-self-2 c =
     (unwrap_or (option_map (λ last. last.value) c.self.inside.last_put) []) c.args.number c.args.entry.now
     c.push_at.new.journals.items c.of.result.value c.in_ok-push_at.ensures
     (c.of.ensures
-    ∙ ap (λ z. (c.args.number, c.args.entry.now) ∷ unwrap_or (option_map (λ last. last.value) z) []) c.take.ensures.value)
+    ∙ ap (λ z. (c.args.number, c.args.entry.now) ∷ unwrap_or (option_map (λ last. last.value) z) [])
+    c.take.ensures.value)
     c.self.invariant
 
 pub returns-clause-count : goal.returns-clause-count
