@@ -28,12 +28,12 @@ pub(crate) struct Room {
     /// What each line of a step begins with: the time, the station, the boot.
     pub(crate) prefix: Vec<u8>,
     /// The boot and the time that the prefix has; none if it is not whole.
-    stamp: Option<Stamp>,
+    stamp: Option<PrefixStamp>,
 }
 
 /// When a line is written: in which boot, and at how many milliseconds since 1970.
 #[derive(Clone, Copy, PartialEq, Eq)]
-struct Stamp {
+struct PrefixStamp {
     boot: u32,
     now: u64,
 }
@@ -65,7 +65,7 @@ impl Room {
         boot: u32,
         now: u64,
     ) -> Result<(), AllocError> {
-        let stamp = Some(Stamp { boot, now });
+        let stamp = Some(PrefixStamp { boot, now });
         if self.stamp == stamp {
             return Ok(());
         }

@@ -375,8 +375,8 @@ fn is_held_up(fronts: &[Front], hold: &Hold) -> bool {
 
 /// Returns the number of the front whose first entry is the earliest that can never be taken.
 ///
-/// In a ring of waits this is one that waits for what no journal tells, if there is one: it holds up those that wait for
-/// a later entry of its journal.
+/// In a ring of waits this is one that waits for what no journal tells, if there is one. It holds up those that wait
+/// for a later entry of its journal.
 fn first_contradicted(night: &Night<'_>, holds: &[Hold]) -> Option<usize> {
     let fronts = night.fronts.all.as_slice();
     let mut first = None;
