@@ -12,12 +12,12 @@ pub record GrowingState : Type 0 where
   pub start : AuditState
   pub puts : List (ℕ × Entry)
 
--- so many journals without entries
+-- this many journals without entries
 abbrev pub empties : ℕ → List (List Entry)
 empties zero = []
 empties (suc n) = [] ∷ empties n
 
--- so many journals with the entries that were put in
+-- this many journals with the entries that were put in
 abbrev pub put_into : ℕ → List (ℕ × Entry) → List (List Entry)
 put_into n [] = empties n
 put_into n (x ∷ before) = pushed (put_into n before) x.0 x.1

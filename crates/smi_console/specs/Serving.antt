@@ -36,7 +36,7 @@ KeepsAll is_honest is_open rows may_find saves failures doubts before after =
 
 -- How a node is served.
 pub record Serving (T : Type 0) : Type 1 where
-  -- so many turns may lead from one node to another, and end so
+  -- this many turns may lead from one node to another, with this end
   pub Makes : ℕ → Node T → Node T → Result (Unit {0}) ServeFault → Type 0
   -- what may become of its station between two rounds
   pub Rests : T → T → Type 0
