@@ -10,7 +10,7 @@ use smi_rows::Mode;
 use smi_tree::{Tree, holder_station, is_parent};
 
 /// What is known of the last grant of a domain, but for what was ordered under it.
-#[derive(Clone, Copy, Debug, PartialEq, Eq)]
+#[derive(Clone, Copy, PartialEq, Eq)]
 pub struct GrantState {
     /// The epoch of the last grant or end of a grant.
     pub epoch: u64,

@@ -16,7 +16,7 @@ use smi_tree::{Tree, has_domain, has_object, holder_station};
 use smi_view::is_newer;
 
 /// Why an entry is not taken now.
-#[derive(Clone, Copy, Debug, PartialEq, Eq)]
+#[derive(Clone, Copy, PartialEq, Eq)]
 pub enum Obstacle {
     /// What was taken contradicts it, for good.
     Never(Contradiction),
@@ -27,7 +27,7 @@ pub enum Obstacle {
 }
 
 /// What an entry waits for.
-#[derive(Clone, Copy, Debug, PartialEq, Eq)]
+#[derive(Clone, Copy, PartialEq, Eq)]
 pub enum Need {
     /// The grant of this epoch.
     Granted {
@@ -69,7 +69,7 @@ pub enum Need {
 }
 
 /// What an entry contradicts.
-#[derive(Clone, Copy, Debug, PartialEq, Eq)]
+#[derive(Clone, Copy, PartialEq, Eq)]
 pub enum Contradiction {
     /// The domain is at this epoch, and this holder has it.
     Epoch { epoch: u64, holder: Holder },

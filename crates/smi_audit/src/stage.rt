@@ -4,7 +4,7 @@ ghost use Rattle.std.specs.Prelude.{◌≡◌};
 ghost use Rattle.smi_audit.specs.Tables as spec;
 
 /// How far a holder has come with its grant.
-#[derive(Clone, Copy, Debug, PartialEq, Eq)]
+#[derive(Clone, Copy, PartialEq, Eq)]
 pub enum GrantStage {
     /// Nobody holds the domain, or its holder has not learned of the grant.
     Given,

@@ -6,7 +6,7 @@ use crate::{Link, Pending, Settlements};
 use smi_grant::{Holder, LAST_EPOCH, Outcome, Phase, Record};
 
 /// What a link has learned from a record.
-#[derive(Clone, Copy, Debug, PartialEq, Eq)]
+#[derive(Clone, Copy, PartialEq, Eq)]
 pub enum LinkHeard {
     /// Nothing: the link is unchanged.
     Unchanged,

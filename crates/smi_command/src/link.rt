@@ -2,7 +2,7 @@ use crate::Pending;
 use smi_grant::Command;
 
 /// What a holder knows of its grant of a domain (docs/PROTOCOL.md, "The link").
-#[derive(Clone, Copy, Debug, PartialEq, Eq)]
+#[derive(Clone, Copy, PartialEq, Eq)]
 pub enum Link {
     /// It does not have the domain. The epoch is the last that it heard of.
     Out(u64),

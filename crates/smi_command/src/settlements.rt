@@ -4,7 +4,7 @@ use smi_grant::Outcome;
 use std::marker::Model;
 
 /// The command of this number has settled with this code; a take or a drop has number 0.
-#[derive(Clone, Copy, Debug, PartialEq, Eq)]
+#[derive(Clone, Copy, PartialEq, Eq)]
 pub struct Settlement {
     pub number: u32,
     pub code: u16,
@@ -14,7 +14,7 @@ pub struct Settlement {
 ///
 /// Only the newest one's outcome can have been seen, so the others have the code of [`Outcome::Unseen`].
 /// Contracts see the list of settlements, by rising number.
-#[derive(Clone, Copy, Debug, PartialEq, Eq)]
+#[derive(Clone, Copy, PartialEq, Eq)]
 pub struct Settlements {
     first: u32,
     code: u16,

@@ -13,21 +13,21 @@ const START_BYTES: usize = 6;
 pub const LABEL_BYTES: usize = MARK_BYTES + START_BYTES;
 
 /// The last start on a store: its station, and the boot that this gave it.
-#[derive(Clone, Copy, Debug, PartialEq, Eq)]
+#[derive(Clone, Copy, PartialEq, Eq)]
 pub struct LastStart {
     pub station: u16,
     pub boot: u32,
 }
 
 /// The tree that a store was made for, and the last start on it, unless the label is older than such notes.
-#[derive(Clone, Copy, Debug, PartialEq, Eq)]
+#[derive(Clone, Copy, PartialEq, Eq)]
 pub struct StoreLabel {
     pub tree: TreeMark,
     pub last: Option<LastStart>,
 }
 
 /// How old the rows of a store are by its label.
-#[derive(Clone, Copy, Debug, PartialEq, Eq)]
+#[derive(Clone, Copy, PartialEq, Eq)]
 pub enum StoreAge {
     /// They are of the start that the label names, or of a later one, or it names none.
     Current,

@@ -7,14 +7,14 @@ ghost use Rattle.smi_disks.specs.Mark.{kin};
 pub const MARK_BYTES: usize = 34;
 
 /// The number of a tree, and the digest of what its file says.
-#[derive(Clone, Copy, Debug, PartialEq, Eq)]
+#[derive(Clone, Copy, PartialEq, Eq)]
 pub struct TreeMark {
     pub number: u16,
     pub digest: [u8; 32],
 }
 
 /// How a tree compares with the one that a store was made for.
-#[derive(Clone, Copy, Debug, PartialEq, Eq)]
+#[derive(Clone, Copy, PartialEq, Eq)]
 pub enum Kinship {
     /// It is the same, word for word.
     Same,

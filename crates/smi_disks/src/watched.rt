@@ -100,7 +100,7 @@ impl<H: Files + Drop> Surroundings for StoreFiles<H> {
 }
 
 /// What the log of a store holds beside the file.
-#[derive(Clone, Copy, Debug, PartialEq, Eq)]
+#[derive(Clone, Copy, PartialEq, Eq)]
 pub enum LogState {
     /// Nothing that the file does not hold too.
     Copied,

@@ -5,7 +5,7 @@ ghost use Rattle.smi_grant.specs.Keeper.{take_after, drop_after, admits, started
 use crate::{Holder, LAST_EPOCH, LAST_NUMBER, Phase, Record};
 
 /// What becomes of a record.
-#[derive(Clone, Copy, Debug, PartialEq, Eq)]
+#[derive(Clone, Copy, PartialEq, Eq)]
 pub enum Verdict {
     New(Record),
     Same,

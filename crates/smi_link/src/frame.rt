@@ -4,7 +4,7 @@ use crate::link::MOST_BYTES;
 use std::marker::Model;
 
 /// The bytes of a datagram, as far as they are received. Contracts see their list.
-#[derive(Debug, Drop)]
+#[derive(Drop)]
 pub(crate) struct ReceivedBytes {
     bytes: [u8; 45],
     count: usize,
@@ -46,7 +46,7 @@ impl ReceivedBytes {
 }
 
 /// What a link is to give.
-#[derive(Debug, Drop)]
+#[derive(Drop)]
 pub(crate) enum ToReceive {
     Datagram(ReceivedBytes),
     Nothing,
@@ -54,7 +54,7 @@ pub(crate) enum ToReceive {
 }
 
 /// A datagram that was sent to a station.
-#[derive(Clone, Copy, Debug)]
+#[derive(Clone, Copy)]
 pub(crate) struct Sent {
     pub(crate) station: u16,
     pub(crate) bytes: [u8; 44],

@@ -10,7 +10,7 @@ use std::time::Instant;
 pub(crate) const MOST_PATIENCE: u64 = 10;
 
 /// The patience of a link: it begins with the first look after nothing has come, and datagrams do not renew it.
-#[derive(Clone, Copy, Debug)]
+#[derive(Clone, Copy)]
 pub(crate) struct Patience {
     /// When it began; nothing if it begins with the next look.
     begun: Option<Instant>,

@@ -3,7 +3,7 @@ use smi_grant::{Command, Holder, Shown};
 use smi_rows::Mode;
 
 /// What an event leaves in a trace. Domains, stations and operators have their numbers of the tree.
-#[derive(Clone, Copy, Debug, PartialEq, Eq)]
+#[derive(Clone, Copy, PartialEq, Eq)]
 pub enum Entry {
     /// A station has started.
     Booted {

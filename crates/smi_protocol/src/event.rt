@@ -2,7 +2,7 @@ use crate::order::Order;
 use thiserror::Error;
 
 /// An event of a station.
-#[derive(Clone, Copy, Debug)]
+#[derive(Clone, Copy)]
 pub enum Event<'a> {
     /// The bytes of a datagram.
     Datagram(&'a [u8]),
@@ -15,7 +15,7 @@ pub enum Event<'a> {
 }
 
 /// What a station made of an event.
-#[derive(Clone, Copy, Debug, PartialEq, Eq)]
+#[derive(Clone, Copy, PartialEq, Eq)]
 pub enum Heard {
     /// A datagram that was refused with 1 to 9, or an order or a report refused with 21 to 26
     /// (docs/PROTOCOL.md, "Refusals" and "Orders").

@@ -43,7 +43,7 @@ pub enum Item {
 }
 
 /// A line of a trace: what an event left in it, or that a datagram was sent, with its number from 1.
-#[derive(Clone, Copy, Debug, PartialEq, Eq)]
+#[derive(Clone, Copy, PartialEq, Eq)]
 pub enum Line {
     Entry(Entry),
     Sent(u64, Datagram),

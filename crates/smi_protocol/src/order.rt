@@ -30,7 +30,7 @@ pub enum Order {
 }
 
 /// What an order asks for: an action, and each change of a mode, is a command.
-#[derive(Clone, Copy, Debug, PartialEq, Eq)]
+#[derive(Clone, Copy, PartialEq, Eq)]
 pub enum Request {
     /// To take the domain.
     Take(u16),
@@ -103,7 +103,7 @@ impl OrderCode {
 }
 
 /// An order and how it ended.
-#[derive(Clone, Copy, Debug, PartialEq, Eq)]
+#[derive(Clone, Copy, PartialEq, Eq)]
 pub struct Told {
     pub order: Order,
     /// An outcome 0 to 9 (docs/PROTOCOL.md, "Outcomes"), a refusal 21 to 26 ("Orders"), or a fault
@@ -114,7 +114,7 @@ pub struct Told {
 }
 
 /// Which command of which grant.
-#[derive(Clone, Copy, Debug, PartialEq, Eq)]
+#[derive(Clone, Copy, PartialEq, Eq)]
 pub struct Mark {
     pub domain: u16,
     pub epoch: u64,
@@ -122,7 +122,7 @@ pub struct Mark {
 }
 
 /// What an operator is told.
-#[derive(Clone, Copy, Debug, PartialEq, Eq)]
+#[derive(Clone, Copy, PartialEq, Eq)]
 pub struct Answer {
     pub operator: u16,
     pub told: Told,

@@ -1,5 +1,5 @@
 /// The place at which a tick goes on, in the order in which it goes through what it may have to send.
-#[derive(Clone, Copy, Debug, PartialEq, Eq, PartialOrd, Ord)]
+#[derive(Clone, Copy, PartialEq, Eq, PartialOrd, Ord)]
 pub enum ResendCursor {
     /// What a domain of the station asks of this child.
     Child(u16),

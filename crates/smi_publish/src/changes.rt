@@ -8,7 +8,7 @@ pub const MOST_CHANGES: usize = MOST_DEVICES_OF_A_DOMAIN + 1;
 /// The changes of a step: the new states of devices by number, then of the unit.
 ///
 /// The list lies in the value itself, so it takes no memory. Contracts see the list.
-#[derive(Debug, Drop)]
+#[derive(Drop)]
 pub struct Changes {
     shown: [Shown; MOST_CHANGES],
     count: usize,

@@ -6,7 +6,7 @@ ghost use Rattle.smi_publish.specs.Published.{condition_in};
 use smi_grant::{Shown, Version};
 
 /// The state of an object, and how often it has changed since its station's start.
-#[derive(Clone, Copy, Debug, PartialEq, Eq)]
+#[derive(Clone, Copy, PartialEq, Eq)]
 pub(crate) struct Condition {
     pub(crate) state: u16,
     pub(crate) sequence: u32,

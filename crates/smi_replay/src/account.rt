@@ -9,7 +9,7 @@ use std::alloc::{AllocError, Global};
 use std::vec;
 
 /// How a domain stands: the values of its record.
-#[derive(Clone, Copy, Debug, PartialEq, Eq)]
+#[derive(Clone, Copy, PartialEq, Eq)]
 pub(crate) struct DomainState {
     pub(crate) epoch: u64,
     pub(crate) holder: Holder,

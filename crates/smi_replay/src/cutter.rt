@@ -12,7 +12,7 @@ const MOST_READS: u64 = 1 << 32;
 const CHUNK: usize = 4096;
 
 /// What became of the search for a line.
-#[derive(Clone, Copy, Debug, PartialEq, Eq)]
+#[derive(Clone, Copy, PartialEq, Eq)]
 pub(crate) enum JournalCut {
     /// There is one.
     Line,

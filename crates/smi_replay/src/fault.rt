@@ -56,7 +56,7 @@ impl LineFault {
 }
 
 /// Why a line was not read.
-#[derive(Clone, Copy, Debug, PartialEq, Eq)]
+#[derive(Clone, Copy, PartialEq, Eq)]
 pub enum LineError {
     /// The line is none.
     Fault(LineFault),

@@ -10,7 +10,7 @@ use std::alloc::{AllocError, AllocFailed, Global};
 use std::collections::VecDeque;
 
 /// The reason for which an audit has no verdict.
-#[derive(Clone, Copy, Debug, PartialEq, Eq)]
+#[derive(Clone, Copy, PartialEq, Eq)]
 pub(crate) enum AuditFault {
     /// The line of this number in the file of this number is none.
     Line(usize, u64, LineFault),

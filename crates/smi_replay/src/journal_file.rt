@@ -10,7 +10,7 @@ use std::alloc::Global;
 use std::io::Read;
 
 /// Why a file was not read on.
-#[derive(Clone, Copy, Debug, PartialEq, Eq)]
+#[derive(Clone, Copy, PartialEq, Eq)]
 pub(crate) enum FileFault {
     /// The line of this number, counting all lines from 1, is none.
     Line(u64, LineFault),

@@ -10,7 +10,7 @@ use std::alloc::Global;
 use std::io::Write;
 
 /// How an audit ended.
-#[derive(Clone, Copy, Debug, PartialEq, Eq)]
+#[derive(Clone, Copy, PartialEq, Eq)]
 pub enum AuditEnd {
     /// All entries merged into a safe trace.
     Safe,

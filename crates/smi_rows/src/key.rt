@@ -9,7 +9,7 @@ pub struct Key {
 }
 
 /// What a row is about.
-#[derive(Clone, Copy, Debug, PartialEq, Eq)]
+#[derive(Clone, Copy, PartialEq, Eq)]
 pub enum RowKind {
     Boot,
     Domain,

@@ -1,5 +1,5 @@
 /// The mode in which a domain holds a child.
-#[derive(Clone, Copy, Debug, PartialEq, Eq)]
+#[derive(Clone, Copy, PartialEq, Eq)]
 pub enum Mode {
     /// The child gets commands, and its state counts.
     Included,

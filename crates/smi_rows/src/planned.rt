@@ -22,7 +22,7 @@ pub enum Plan {
 }
 
 /// A save that is planned to fail.
-#[derive(Clone, Copy, Debug, PartialEq, Eq)]
+#[derive(Clone, Copy, PartialEq, Eq)]
 pub struct Planned {
     /// Which save from now, from 1.
     pub nth: u64,

@@ -5,7 +5,7 @@ use std::marker::Model;
 
 /// A holder's link to a domain, as it is stored. A domain that has no stored link is out, and
 /// nobody was ever heard of: `Out(0)`.
-#[derive(Clone, Copy, Debug, PartialEq, Eq)]
+#[derive(Clone, Copy, PartialEq, Eq)]
 pub struct StoredLink {
     /// 1 to 128.
     pub domain: u16,
@@ -15,7 +15,7 @@ pub struct StoredLink {
 }
 
 /// What a domain's row says. Contracts see the links as a list.
-#[derive(Debug, Drop)]
+#[derive(Drop)]
 pub struct DomainRow {
     pub standing: Record,
     /// The greatest code so far of the command at work, 0 if none is.
@@ -33,7 +33,7 @@ impl Model for DomainRow {
 }
 
 /// What an operator's row says. Contracts see the list of its links.
-#[derive(Debug, Drop)]
+#[derive(Drop)]
 pub struct OperatorRow {
     /// The links to domains, by rising number.
     pub links: Vec<StoredLink>,
@@ -49,7 +49,7 @@ impl Model for OperatorRow {
 }
 
 /// What a row says.
-#[derive(Debug, Drop)]
+#[derive(Drop)]
 pub enum Row {
     /// How often the station has started, 1 to 4,000,000,000.
     Boot(u32),

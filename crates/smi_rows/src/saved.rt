@@ -5,7 +5,7 @@ use crate::key::Key;
 use std::marker::Model;
 
 /// A row as a store has it: its key and its bytes.
-#[derive(Debug, Drop)]
+#[derive(Drop)]
 pub struct SavedRow {
     pub key: Key,
     pub bytes: Vec<u8>,

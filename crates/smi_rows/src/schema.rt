@@ -1,7 +1,7 @@
 use crate::key::RowKind;
 
 /// How a row is written. Later schemas of a kind can say more.
-#[derive(Clone, Copy, Debug, PartialEq, Eq)]
+#[derive(Clone, Copy, PartialEq, Eq)]
 pub struct Schema {
     pub kind: RowKind,
     /// The first byte of the row.

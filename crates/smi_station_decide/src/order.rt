@@ -31,7 +31,7 @@ use smi_station_output::{Entries, Out};
 use smi_tree::Tree;
 
 /// What an order that is not refused does to the grants, decided before anything changes.
-#[derive(Clone, Copy, Debug)]
+#[derive(Clone, Copy)]
 pub enum DecidedOrder {
     /// Nothing: the order asks or watches.
     Unlinked,

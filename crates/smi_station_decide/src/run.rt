@@ -47,7 +47,7 @@ use std::alloc::AllocError;
 
 /// A command that begins at a domain: the domain's record with it, the code that the domain has then gathered, and what
 /// the command does to its children.
-#[derive(Debug, Drop)]
+#[derive(Drop)]
 pub struct BegunCommand {
     pub standing: Record,
     pub code: u16,

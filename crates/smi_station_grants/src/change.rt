@@ -3,7 +3,7 @@ use smi_command::Link;
 use smi_grant::{Command, Record};
 
 /// What a step changes of the grants. It is made before anything is saved.
-#[derive(Debug, Drop)]
+#[derive(Drop)]
 pub enum Change {
     Nothing,
     /// A domain gets another holder, or becomes free.

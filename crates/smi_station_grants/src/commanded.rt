@@ -10,7 +10,7 @@ use smi_rows::Mode;
 use std::marker::Model;
 
 /// What happens to a child.
-#[derive(Clone, Copy, Debug)]
+#[derive(Clone, Copy)]
 pub enum ChildChange {
     /// Nothing, and the outcome says why, if it is not `Done`.
     Stays(Outcome),
@@ -40,14 +40,14 @@ pub fn mode_after(change: &ChildChange, mode: Mode) -> Mode
 }
 
 /// What a command does to a child, by the child's number.
-#[derive(Clone, Copy, Debug)]
+#[derive(Clone, Copy)]
 pub struct CommandedChild {
     pub child: u16,
     pub change: ChildChange,
 }
 
 /// What a command does to children of its domain. Contracts see the list.
-#[derive(Debug, Drop)]
+#[derive(Drop)]
 pub struct CommandedChildren {
     children: Vec<CommandedChild>,
 }

@@ -7,7 +7,7 @@ pub const MOST_ENTRIES: usize = 3;
 /// What an event leaves in a trace, in its order.
 ///
 /// The list lies in the value itself, so it takes no memory. Contracts see the list.
-#[derive(Debug, Drop)]
+#[derive(Drop)]
 pub struct Entries {
     places: [Entry; MOST_ENTRIES],
     count: usize,

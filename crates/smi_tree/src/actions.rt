@@ -5,7 +5,7 @@ use std::collections::HashSet;
 use std::marker::Model;
 
 /// Actions, in the order in which they came, and at hand by number.
-#[derive(Debug, Drop)]
+#[derive(Drop)]
 pub(crate) struct Actions {
     rows: Vec<u16>,
     index: HashSet<u16>,

@@ -24,14 +24,14 @@ pub(crate) enum Keyword {
 }
 
 /// What a class is for.
-#[derive(Clone, Copy, Debug, PartialEq, Eq)]
+#[derive(Clone, Copy, PartialEq, Eq)]
 pub enum ClassKind {
     Device,
     Unit,
 }
 
 /// How many members a rule asks to be in its state.
-#[derive(Clone, Copy, Debug, PartialEq, Eq)]
+#[derive(Clone, Copy, PartialEq, Eq)]
 pub enum Quantifier {
     /// Some member.
     Any,

@@ -5,7 +5,7 @@ use std::alloc::{AllocError, Global};
 use std::marker::Model;
 
 /// Devices, in the order in which they came, and how many lie in each domain.
-#[derive(Debug, Drop)]
+#[derive(Drop)]
 pub(crate) struct Devices {
     rows: Vec<Device>,
     /// At the place of each domain's number.

@@ -6,7 +6,7 @@ use std::alloc::{AllocError, Global};
 use std::marker::Model;
 
 /// The moves of a class from one state, at hand by the action's number.
-#[derive(Debug, Drop)]
+#[derive(Drop)]
 struct StateMoves {
     by_action: Vec<Option<Move>>,
 }
@@ -21,7 +21,7 @@ impl Model for StateMoves {
 }
 
 /// The moves of a class, at hand by the state's number and then by the action's.
-#[derive(Debug, Drop)]
+#[derive(Drop)]
 struct ClassMoves {
     by_state: Vec<StateMoves>,
 }
@@ -36,7 +36,7 @@ impl Model for ClassMoves {
 }
 
 /// Moves, in the order in which they came, and at hand by class, state and action.
-#[derive(Debug, Drop)]
+#[derive(Drop)]
 pub(crate) struct Moves {
     rows: Vec<Move>,
     by_class: Vec<ClassMoves>,

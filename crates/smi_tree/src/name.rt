@@ -47,7 +47,7 @@ impl<'a> Model for Sought<'a> {
 }
 
 /// A name that is kept, in the value itself.
-#[derive(Debug, Drop)]
+#[derive(Drop)]
 pub(crate) struct NameBuf {
     text: ArrayVec<u8, MOST_BYTES_OF_A_NAME>,
 }

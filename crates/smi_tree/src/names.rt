@@ -29,7 +29,7 @@ fn mark_of(name: &Name) -> usize
 }
 
 /// Names, numbered from 1 in the order in which they came, each there once.
-#[derive(Debug, Drop)]
+#[derive(Drop)]
 pub(crate) struct Names {
     names: IndexSet<NameBuf>,
     /// At each mark the number of the last name that has it. A guess takes less than a search.

@@ -8,7 +8,7 @@ ghost use Rattle.smi_tree.specs.Number.{decimal, is_number, number_within, part_
 use crate::text::{Separator, length_before};
 
 /// The address of a station: four parts of a host, and a port from 1.
-#[derive(Clone, Copy, Debug, PartialEq, Eq)]
+#[derive(Clone, Copy, PartialEq, Eq)]
 pub struct Address {
     pub host: [u8; 4],
     pub port: u16,

@@ -7,7 +7,7 @@ use std::alloc::{AllocError, Global};
 use std::marker::Model;
 
 /// A rule of a unit class: if its members are in `state` as it asks, the unit is in `target`.
-#[derive(Clone, Copy, Debug, PartialEq, Eq)]
+#[derive(Clone, Copy, PartialEq, Eq)]
 pub struct Rule {
     pub quantifier: Quantifier,
     pub state: u16,
@@ -15,7 +15,7 @@ pub struct Rule {
 }
 
 /// A row of a device class: by this action a device goes from one state to another.
-#[derive(Clone, Copy, Debug, PartialEq, Eq)]
+#[derive(Clone, Copy, PartialEq, Eq)]
 pub struct Move {
     pub class: u16,
     pub from: u16,
@@ -24,7 +24,7 @@ pub struct Move {
 }
 
 /// A domain: the station that keeps it, its unit's class, and the domain above it.
-#[derive(Clone, Copy, Debug, PartialEq, Eq)]
+#[derive(Clone, Copy, PartialEq, Eq)]
 pub struct Domain {
     pub station: u16,
     pub class: u16,
@@ -32,14 +32,14 @@ pub struct Domain {
 }
 
 /// A device: the domain that it lies in, and its class.
-#[derive(Clone, Copy, Debug, PartialEq, Eq)]
+#[derive(Clone, Copy, PartialEq, Eq)]
 pub struct Device {
     pub domain: u16,
     pub class: u16,
 }
 
 /// What a class says of its objects, all but the moves.
-#[derive(Debug, Drop)]
+#[derive(Drop)]
 pub(crate) struct Class {
     pub(crate) kind: ClassKind,
     pub(crate) first: u16,

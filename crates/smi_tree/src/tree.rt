@@ -15,14 +15,14 @@ use std::marker::Model;
 /// numbered as its domain, or a device, numbered after all domains. Every tree is lawful: it has a number from 1 and
 /// at least one station, operator, state, action and domain, it keeps every limit of docs/FORMATS.md ("The tree
 /// file"), and each number in it is one that is there.
-#[derive(Debug, Drop)]
+#[derive(Drop)]
 pub struct Tree {
     // In a box, because each place that drops a tree is expensive to prove.
     pub(crate) parts: Box<Parts>,
 }
 
 /// What a tree is made of.
-#[derive(Debug, Drop)]
+#[derive(Drop)]
 pub(crate) struct Parts {
     pub(crate) tables: Tables,
     /// The children of each domain, by number.

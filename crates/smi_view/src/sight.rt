@@ -3,7 +3,7 @@
 use smi_grant::{Record, Shown};
 
 /// The newest state of an object, and when it was shown.
-#[derive(Clone, Copy, Debug, PartialEq, Eq)]
+#[derive(Clone, Copy, PartialEq, Eq)]
 pub struct Sight {
     pub shown: Shown,
     /// In milliseconds.
@@ -11,7 +11,7 @@ pub struct Sight {
 }
 
 /// The furthest record of a domain, when it was told first, and when the domain was last heard of.
-#[derive(Clone, Copy, Debug, PartialEq, Eq)]
+#[derive(Clone, Copy, PartialEq, Eq)]
 pub struct Hearing {
     pub record: Record,
     /// In milliseconds.

@@ -6,7 +6,7 @@ use std::alloc::{AllocError, Global};
 use std::marker::Model;
 
 /// What a view makes of a told state (docs/PROTOCOL.md, "Shown states").
-#[derive(Clone, Copy, Debug, PartialEq, Eq)]
+#[derive(Clone, Copy, PartialEq, Eq)]
 pub enum Acceptance {
     /// The version is newer than the last one that was accepted of its object: the state is shown.
     Accepted,

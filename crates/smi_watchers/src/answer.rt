@@ -1,7 +1,7 @@
 use thiserror::Error;
 
 /// What a watch found of its station in the list of the object (docs/PROTOCOL.md, "Watching").
-#[derive(Clone, Copy, Debug, PartialEq, Eq)]
+#[derive(Clone, Copy, PartialEq, Eq)]
 pub enum WatchAnswer {
     /// The station did not watch the object: it is now the last in the list.
     Added,

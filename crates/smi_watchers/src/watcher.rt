@@ -1,5 +1,5 @@
 /// A station that watches an object.
-#[derive(Clone, Copy, Debug, PartialEq, Eq)]
+#[derive(Clone, Copy, PartialEq, Eq)]
 pub struct Watcher {
     /// The number of the station, 1 to 128.
     pub station: u16,

@@ -13,7 +13,7 @@ use smi_protocol::{Deed, Order, Request};
 use smi_tree::Tree;
 
 /// An event of a station.
-#[derive(Clone, Copy, Debug)]
+#[derive(Clone, Copy)]
 pub(crate) enum Coming {
     /// A datagram that was sent.
     Datagram(Datagram),
@@ -26,7 +26,7 @@ pub(crate) enum Coming {
 }
 
 /// Something reaches a station.
-#[derive(Clone, Copy, Debug)]
+#[derive(Clone, Copy)]
 pub(crate) struct Arrival {
     pub station: u16,
     pub what: Coming,

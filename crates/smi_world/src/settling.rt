@@ -154,7 +154,7 @@ fn settle<W: Write>(
 }
 
 /// How a schedule ended after which the world was led to rest.
-#[derive(Clone, Copy, Debug, PartialEq, Eq)]
+#[derive(Clone, Copy, PartialEq, Eq)]
 pub enum Settled {
     /// The schedule did not end well, and nothing was made after it; or what came after it could not be written, or
     /// memory ran out.

@@ -19,7 +19,7 @@ use smi_rows::Plan;
 use smi_tree::Tree;
 
 /// What is made of a station.
-#[derive(Clone, Copy, Debug)]
+#[derive(Clone, Copy)]
 pub(crate) enum Doing {
     /// Something comes.
     Come(Coming),
@@ -32,7 +32,7 @@ pub(crate) enum Doing {
 }
 
 /// What is made, and at which station.
-#[derive(Clone, Copy, Debug)]
+#[derive(Clone, Copy)]
 pub(crate) struct Task {
     pub station: u16,
     pub doing: Doing,
