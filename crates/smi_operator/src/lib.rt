@@ -1,7 +1,8 @@
 //! What is between operators and their station: a seat for each operator, and the desk at which the station
 //! serves them.
 //!
-//! [`open_seats`] makes seats and their desk. A [`Seat`] goes to the operator's thread: it submits orders, and
+//! [`open_seats`] makes seats and their desk, [`open_many_seats`] as many as a node wants whose operators have several
+//! each ([`operators_by_seat`]). A [`Seat`] goes to the operator's thread: it submits orders, and
 //! is told how they ended. The [`Desk`] stays with the station: it gives each seat's orders in their order, a
 //! further one while others are in work only if all are commands on one domain, and hands their answers out
 //! in the order in which they were given. Neither end ever waits, and neither takes memory after it was made.
@@ -40,13 +41,15 @@
 mod desk;
 mod ends;
 mod handing;
+mod lanes;
 mod meeting;
 mod seat;
 mod seat_end;
 mod work;
 
 pub use ends::{Desk, Finished, Seat};
-pub use meeting::open_seats;
+pub use lanes::{LANES, operators_by_seat};
+pub use meeting::{open_many_seats, open_seats};
 pub use work::Work;
 
 #[cfg(test)]

@@ -45,13 +45,11 @@ fn open_seat(alloc: Global) -> Result<(Seat, SeatEnd), AllocError>
     Ok((seat, end))
 }
 
-/// Opens this many seats, 1 to 9, and their desk. Nothing was submitted, given, answered or told yet.
+/// Opens this many seats, and their desk. Nothing was submitted, given, answered or told yet.
 ///
 /// It fails only if memory ran out, which tests alone see.
 #[tactic(auto, using(crate::proofs::Pushes::seats_push))]
-pub fn open_seats(alloc: Global, count: usize) -> Result<(Vec<Seat>, Desk), AllocError>
-    requires least { 1 ≤ count }
-    requires most { count ≤ 9 }
+pub fn open_many_seats(alloc: Global, count: usize) -> Result<(Vec<Seat>, Desk), AllocError>
     ensures seats { IfOk result (λ opened. IsDeskOf opened.1 opened.0.items) }
     ensures count { IfOk result (λ opened. length opened.0.items ≡ count) }
     ensures desk { IfOk result (λ opened. seat_count opened.1 ≡ count) }
@@ -64,4 +62,17 @@ pub fn open_seats(alloc: Global, count: usize) -> Result<(Vec<Seat>, Desk), Allo
         seat_ends.push(end)?;
     }
     Ok((seats, Desk { seat_ends }))
+}
+
+/// Opens this many seats, 1 to 9, and their desk. Nothing was submitted, given, answered or told yet.
+///
+/// It fails only if memory ran out, which tests alone see.
+pub fn open_seats(alloc: Global, count: usize) -> Result<(Vec<Seat>, Desk), AllocError>
+    requires least { 1 ≤ count }
+    requires most { count ≤ 9 }
+    ensures seats { IfOk result (λ opened. IsDeskOf opened.1 opened.0.items) }
+    ensures count { IfOk result (λ opened. length opened.0.items ≡ count) }
+    ensures desk { IfOk result (λ opened. seat_count opened.1 ≡ count) }
+{
+    open_many_seats(alloc, count)
 }

@@ -11,7 +11,7 @@ use smi_protocol::{Mark, Order, Request, Told};
 pub(crate) const MOST_WORK: usize = 8;
 
 /// An order in work: one that the desk gave, and whose answer was not handed out yet.
-#[derive(Clone, Copy, Debug, PartialEq, Eq)]
+#[derive(Clone, Copy, PartialEq, Eq)]
 pub struct Work {
     pub order: Order,
     /// The command that the order became, if the desk was told of it.
@@ -19,14 +19,14 @@ pub struct Work {
 }
 
 /// How an order ended.
-#[derive(Clone, Copy, Debug, PartialEq, Eq)]
+#[derive(Clone, Copy, PartialEq, Eq)]
 pub(crate) struct Ending {
     pub(crate) code: u16,
     pub(crate) asked: Option<Record>,
 }
 
 /// An order in work, and how it ended if its answer waits for those of older orders.
-#[derive(Clone, Copy, Debug, PartialEq, Eq)]
+#[derive(Clone, Copy, PartialEq, Eq)]
 pub(crate) struct WorkSlot {
     pub(crate) work: Work,
     pub(crate) ending: Option<Ending>,

@@ -1,4 +1,3 @@
-use Rattle.std.proofs.Common.{◌≡◌}
 use Rattle.smi_operator.specs.Working.{IsOfNone}
 use Rattle.smi_operator.proofs.work.place_in_work.Given as goal
 
