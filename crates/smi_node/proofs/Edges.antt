@@ -1,5 +1,5 @@
 -- What each carry leaves unchanged: how many seats there are, and what was received.
-use Rattle.std.proofs.Common.{◌≡◌, ℕ, ◌≤◌, Bool, true, false, List, [], ◌∷◌, Option, Some, None, Result, ap, ◌∙◌}
+use Rattle.std.proofs.Common.{◌≡◌, ℕ, ◌≤◌, ◌+◌, Bool, true, false, List, [], ◌∷◌, Option, Some, None, Result, ap, ◌∙◌}
 use Rattle.std.proofs.Common.{arith}
 use Rattle.smi_grant.specs.Record.{Standing}
 use Rattle.smi_protocol.specs.Step.{Out}
@@ -14,10 +14,11 @@ use Rattle.smi_operator.specs.Sides.{seat_count}
 use Rattle.smi_operator.specs.Working.{newest_of}
 use Rattle.smi_operator.specs.declared.ends.Desk.{Desk}
 use Rattle.smi_station.specs.Core.{is_stopped_by}
-use Rattle.smi_node.specs.Carried.{Edges, Follows, FollowsStep, Node, Tells, code_of, is_report}
+use Rattle.smi_node.specs.Carried.{Edges, Follows, FollowsStep, Node, Tells, asker_of, code_of, is_report}
 use Rattle.smi_node.specs.Linked.{LinkShows, Sends}
 use Rattle.smi_node.specs.Served.{Obeys, ObeysGiven, ServesSeat, carrying, event_of, with_desk}
-use Rattle.smi_node.specs.Told.{EndsAt, MarksAt, MarksNewest, TellsAll, TellsAt, TellsNewest, seat_of, work_at}
+use Rattle.smi_node.specs.Told.{EndsAt, EndsFound, EndsIf, EndsQuestions, EndsReplaced, MarksAt, MarksNewest, TellsAll}
+use Rattle.smi_node.specs.Told.{TellsNewest, is_replaced, replaced, work_at}
 use Rattle.smi_node.specs.declared.node.CarryFault.{CarryFault}
 use Rattle.smi_node.specs.declared.node.CarryFault.TheVariants.{Stopped, Memory}
 
@@ -49,20 +50,37 @@ marks (Some seat) (Some m) a b marked = marks_at seat (newest_of (work_at a seat
 marks (Some seat) None a b same = ap seat_count same
 marks None issued a b same = ap seat_count same
 
-tells_at : (seat : Option ℕ) (x : Answer) (a b : Desk) → TellsAt seat x a b → seat_count b ≡ seat_count a
-tells_at None x a b same = ap seat_count same
-tells_at (Some seat) x a b told = ends_at seat told.0 x.told.code x.told.asked a b told.2
+ends_found : (found : Option (ℕ × ℕ)) (x : Answer) (a b : Desk) → EndsFound found x a b → seat_count b ≡ seat_count a
+ends_found None x a b same = ap seat_count same
+ends_found (Some found) x a b told = ends_at found.0 (Some found.1) x.told.code x.told.asked a b told
 
 tells_all : (operators : List ℕ) (xs : List Answer) (a b : Desk) → TellsAll operators xs a b
     → seat_count b ≡ seat_count a
 tells_all operators [] a b same = ap seat_count same
 tells_all operators (x ∷ xs) a b told = tells_all operators xs told.0 b told.2
-    ∙ tells_at (seat_of operators x.operator) x a told.0 told.1
+    ∙ ends_found told.1.0 x a told.0 told.1.2
 
-tells : (operators : List ℕ) (seat code : Option ℕ) (xs : List Answer) (a b : Desk)
-    → Tells operators seat code xs a b → seat_count b ≡ seat_count a
-tells operators seat (Some code) xs a b told = tells_newest seat code a b told
-tells operators seat None xs a b told = tells_all operators xs a b told
+ends_if : (is : Bool) (seat : ℕ) (a b : Desk) → EndsIf is seat a b → seat_count b ≡ seat_count a
+ends_if true seat a b ended = ends_at seat (Some 0) replaced None a b ended
+ends_if false seat a b same = ap seat_count same
+
+ends_questions : (who : ℕ) (asking : Option ℕ) (operators : List ℕ) (seat : ℕ) (a b : Desk)
+    → EndsQuestions who asking operators seat a b → seat_count b ≡ seat_count a
+ends_questions who asking [] seat a b same = ap seat_count same
+ends_questions who asking (operator ∷ more) seat a b ended =
+    ends_questions who asking more (seat + 1) ended.0 b ended.2
+    ∙ ends_if (is_replaced who asking operator seat a) seat a ended.0 ended.1
+
+ends_replaced : (operators : List ℕ) (asking asker : Option ℕ) (a b : Desk) → EndsReplaced operators asking asker a b
+    → seat_count b ≡ seat_count a
+ends_replaced operators asking None a b same = ap seat_count same
+ends_replaced operators asking (Some who) a b ended = ends_questions who asking operators 0 a b ended
+
+tells : (operators : List ℕ) (seat code asker : Option ℕ) (xs : List Answer) (a b : Desk)
+    → Tells operators seat code asker xs a b → seat_count b ≡ seat_count a
+tells operators seat (Some code) asker xs a b told = tells_newest seat code a b told
+tells operators seat None asker xs a b told = ends_replaced operators seat asker told.0 b told.2
+    ∙ tells_all operators xs a told.0 told.1
 
 -- The link.
 
@@ -71,17 +89,17 @@ sends_on ms a b sent = let e = sent.failures in omega (arith, e)
 
 -- A carry.
 
-follows : (operators : List ℕ) (seat code : Option ℕ) (handed : Out) (a b : Edges) (f : Option CarryFault)
-    → Follows operators seat code handed a b f → IsKept a b
-follows operators seat code handed a b None all = record {
-  seats = tells operators seat code handed.answers all.marked b.desk all.tells
+follows : (operators : List ℕ) (seat code asker : Option ℕ) (handed : Out) (a b : Edges) (f : Option CarryFault)
+    → Follows operators seat code asker handed a b f → IsKept a b
+follows operators seat code asker handed a b None all = record {
+  seats = tells operators seat code asker handed.answers all.marked b.desk all.tells
       ∙ marks seat handed.issued a.desk all.marked all.marks;
   received = all.sent.received;
   receives = all.sent.receives;
   failures = sends_on handed.datagrams a.link b.link all.sent;
 }
-follows operators seat code handed a b (Some Stopped) wrong = absurd wrong
-follows operators seat code handed a b (Some Memory) most = record {
+follows operators seat code asker handed a b (Some Stopped) wrong = absurd wrong
+follows operators seat code asker handed a b (Some Memory) most = record {
   seats = marks seat handed.issued a.desk b.desk most.marks;
   received = most.sent.received;
   receives = most.sent.receives;
@@ -96,17 +114,18 @@ all_kept a b same = record {
   failures = (let n = ap (λ (e : Edges). e.link.failures) same in omega (arith, n));
 }
 
-follows_step : (stopped : Bool) (operators : List ℕ) (seat code : Option ℕ) (handed : Out) (a b : Edges)
+follows_step : (stopped : Bool) (operators : List ℕ) (seat code asker : Option ℕ) (handed : Out) (a b : Edges)
     (f : Option CarryFault)
-    → FollowsStep stopped operators seat code handed a b f → IsKept a b
-follows_step true operators seat code handed a b f none = all_kept a b none.1
-follows_step false operators seat code handed a b f all = follows operators seat code handed a b f all
+    → FollowsStep stopped operators seat code asker handed a b f → IsKept a b
+follows_step true operators seat code asker handed a b f none = all_kept a b none.1
+follows_step false operators seat code asker handed a b f all = follows operators seat code asker handed a b f all
 
 pub carry_keeps : {T : Type 0} (StepsBy : T → Event → T → Out → Result Heard StepFault → Type 0) (operators : List ℕ)
     (e : Event) (seat : Option ℕ) (a b : Node T) (f : Option CarryFault)
     → carrying StepsBy operators e seat a b f → IsKept a.edges b.edges
 carry_keeps StepsBy operators e seat a b f carried =
-    follows_step (is_stopped_by carried.1.made) operators seat (code_of (is_report e) carried.1.made) carried.0
+    follows_step (is_stopped_by carried.1.made) operators seat (code_of (is_report e) carried.1.made) (asker_of e)
+    carried.0
     a.edges b.edges f carried.1.follows
 
 -- one and then another

@@ -6,7 +6,7 @@ use Rattle.std.specs.Option.{option_or}
 use Rattle.std.proofs.lemmas.Bool.{eqb-true}
 use Rattle.smi_grant.specs.declared.state.Shown.{Shown}
 use Rattle.smi_grant.specs.declared.state.Version.{Version}
-use Rattle.smi_view.specs.Accepting.{is_newer, is_newer_than_last}
+use Rattle.smi_view.specs.Accepting.{is_newer_than_last}
 use Rattle.smi_view.specs.Rising.{IsRising}
 use Rattle.smi_view.specs.Rows.{last_row}
 use Rattle.smi_view.specs.Shows.{BoardShows}
@@ -18,7 +18,7 @@ use Rattle.smi_protocol.specs.declared.event.StepFault.{StepFault}
 use Rattle.smi_protocol.specs.declared.order.Order.{Order}
 use Rattle.smi_operator.specs.Sides.{seat_count}
 use Rattle.smi_station.specs.Core.{is_stopped_by}
-use Rattle.smi_node.specs.Carried.{Edges, Follows, FollowsStep, Node, code_of, is_report}
+use Rattle.smi_node.specs.Carried.{Edges, Follows, FollowsStep, Node, asker_of, code_of, is_report}
 use Rattle.smi_node.specs.Rising.{IsBlank, IsRisen, rows_of}
 use Rattle.smi_node.specs.Served.{Breaks, Coming, Came, Ends, Failed, Hears, Obeys, ObeysGiven, Quiet, ServesAll}
 use Rattle.smi_node.specs.Served.{Serves, ServesSeat, ServesSeats, TakesTurns, Turns, carrying, event_of}
@@ -148,23 +148,24 @@ module _ (T : Type 0) (S : T → Event → T → Out → Result Heard StepFault 
   abbrev Risen : Node T → Type 0
   Risen n = IsRisen (at n.station) n.edges.board
 
-  follows : (operators : List ℕ) (seat code : Option ℕ) (handed : Out) (a b : Edges) (f : Option CarryFault)
-      → Follows operators seat code handed a b f → Grows handed.shown (rows_of a.board) (rows_of b.board)
-  follows operators seat code handed a b None all = put_on handed.shown a.board b.board all.shown
-  follows operators seat code handed a b (Some Stopped) wrong = absurd wrong
-  follows operators seat code handed a b (Some Memory) most = refused_on handed.shown a.board b.board most.refused
+  follows : (operators : List ℕ) (seat code asker : Option ℕ) (handed : Out) (a b : Edges) (f : Option CarryFault)
+      → Follows operators seat code asker handed a b f → Grows handed.shown (rows_of a.board) (rows_of b.board)
+  follows operators seat code asker handed a b None all = put_on handed.shown a.board b.board all.shown
+  follows operators seat code asker handed a b (Some Stopped) wrong = absurd wrong
+  follows operators seat code asker handed a b (Some Memory) most = refused_on handed.shown a.board b.board most.refused
 
-  follows_step : (stopped : Bool) (operators : List ℕ) (seat code : Option ℕ) (handed : Out) (a b : Edges)
-      (f : Option CarryFault) → FollowsStep stopped operators seat code handed a b f
+  follows_step : (stopped : Bool) (operators : List ℕ) (seat code asker : Option ℕ) (handed : Out) (a b : Edges)
+      (f : Option CarryFault) → FollowsStep stopped operators seat code asker handed a b f
       → Grows handed.shown (rows_of a.board) (rows_of b.board)
-  follows_step true operators seat code handed a b f none = inl (ap (λ (e : Edges). rows_of e.board) none.1)
-  follows_step false operators seat code handed a b f all = follows operators seat code handed a b f all
+  follows_step true operators seat code asker handed a b f none = inl (ap (λ (e : Edges). rows_of e.board) none.1)
+  follows_step false operators seat code asker handed a b f all = follows operators seat code asker handed a b f all
 
   carried : (operators : List ℕ) (e : Event) (seat : Option ℕ) (a b : Node T) (f : Option CarryFault)
       → carrying S operators e seat a b f → Risen a → Risen b
   carried operators e seat a b f c = stays_risen (at a.station) (at b.station) c.0.shown a.edges.board b.edges.board
       (shows a.station b.station e c.0 c.1.made c.1.steps)
-      (follows_step (is_stopped_by c.1.made) operators seat (code_of (is_report e) c.1.made) c.0 a.edges b.edges f
+      (follows_step (is_stopped_by c.1.made) operators seat (code_of (is_report e) c.1.made) (asker_of e) c.0 a.edges
+      b.edges f
       c.1.follows)
 
   obeys : (operators : List ℕ) (seat : ℕ) (e : Option Event) (a b : Node T) (f : Option CarryFault)

@@ -1,5 +1,5 @@
 -- What a step makes of the states that its station was shown: one that it shows was news.
-use Rattle.std.proofs.Common.{ℕ, ◌≡◌, Bool, true, false, List, ◌⊎◌, inl, inr, refl, sym, ap, ◌∙◌, subst, arith}
+use Rattle.std.proofs.Common.{ℕ, ◌≡◌, Bool, true, false, refl, sym, ap, ◌∙◌, subst, arith}
 use Rattle.std.specs.Prelude.{◌==◌, nat_lt, not, Option, Some, None, Result, Ok, Err, OnOk, OnErr, if◌then◌else◌}
 use Rattle.std.proofs.lemmas.Bool.{eqb-true}
 use Rattle.std.proofs.lemmas.Bool.Decides.{nat_tests}
@@ -22,7 +22,6 @@ use Rattle.smi_protocol.specs.Refusals.{refusal_of}
 use Rattle.smi_protocol.specs.Step.{Out, after, after_event, after_reading, answered_or, body_noticed, notice}
 use Rattle.smi_protocol.specs.Step.{nothing_out, ordered_or_reported}
 use Rattle.smi_protocol.specs.Watching.{Notice, is_watched, order_noticed, showed_if, state_comes, told_state}
-use Rattle.smi_protocol.specs.Watching.{unwatch_comes, watch_comes}
 use Rattle.smi_protocol.specs.declared.event.Event.{Event}
 use Rattle.smi_protocol.specs.declared.event.Event.TheVariants as event
 use Rattle.smi_protocol.specs.declared.event.Heard.{Heard}

@@ -24,7 +24,7 @@ use Rattle.smi_node.specs.declared.node.CarryFault.TheVariants.{Stopped, Memory}
 use Rattle.smi_node.specs.Linked.{LinkShows, Sends}
 use Rattle.smi_node.specs.Observed.{Stepped, stepped}
 use Rattle.smi_node.specs.Shown.{Publishes, Refuses}
-use Rattle.smi_node.specs.Told.{MarksNewest, TellsAll, TellsNewest}
+use Rattle.smi_node.specs.Told.{EndsReplaced, MarksNewest, TellsAll, TellsNewest}
 
 -- what the event makes of a station that runs
 abbrev pub outcome_of : Core → Event → Outcome
@@ -84,10 +84,17 @@ code_of report (Err fault.NotStored) = Some 31
 code_of report (Err fault.Stopped) = None
 code_of report (Err fault.Memory) = Some 33
 
--- that code goes to the newest order of the seat; if there is none, the answers go to their orders
-abbrev pub Tells : List ℕ → Option ℕ → Option ℕ → List Answer → Desk → Desk → Type 0
-Tells operators seat (Some code) answers before after = TellsNewest seat code before after
-Tells operators seat None answers before after = TellsAll operators answers before after
+-- the operator whose question an event is
+abbrev pub asker_of : Event → Option ℕ
+asker_of (event.Order o (order.Ask d)) = Some o
+asker_of _ = None
+
+-- that code goes to the newest order of the seat; if there is none, the answers go to their orders, and a question that
+-- is asked again ends those that its operator asked before
+abbrev pub Tells : List ℕ → (seat code asker : Option ℕ) → List Answer → Desk → Desk → Type 0
+Tells operators seat (Some code) asker answers before after = TellsNewest seat code before after
+Tells operators seat None asker answers before after =
+    (told : Desk) × TellsAll operators answers before told × EndsReplaced operators seat asker told after
 
 -- the fault of a result
 abbrev pub fault_in : {X : Type 0} → Result X CarryFault → Option CarryFault
@@ -95,11 +102,12 @@ fault_in (Ok x) = None
 fault_in (Err f) = Some f
 
 -- all that follows a step: it is sent, its command marked, its answers told, what it showed published
-pub record FollowsWhole (operators : List ℕ) (seat code : Option ℕ) (handed : Out) (before after : Edges) : Type 0 where
+pub record FollowsWhole (operators : List ℕ) (seat code asker : Option ℕ) (handed : Out) (before after : Edges)
+    : Type 0 where
   pub sent : Sends handed.datagrams before.link after.link
   pub marked : Desk
   pub marks : MarksNewest seat handed.issued before.desk marked
-  pub tells : Tells operators seat code handed.answers marked after.desk
+  pub tells : Tells operators seat code asker handed.answers marked after.desk
   pub shown : Publishes handed.shown before.board after.board
 
 -- the board refused: nothing is published and nothing answered
@@ -108,10 +116,10 @@ pub record FollowsRefused (seat : Option ℕ) (handed : Out) (before after : Edg
   pub marks : MarksNewest seat handed.issued before.desk after.desk
   pub refused : Refuses handed.shown before.board after.board
 
-abbrev pub Follows : List ℕ → Option ℕ → Option ℕ → Out → Edges → Edges → Option CarryFault → Type 0
-Follows operators seat code handed before after None = FollowsWhole operators seat code handed before after
-Follows operators seat code handed before after (Some Stopped) = ⊥
-Follows operators seat code handed before after (Some Memory) = FollowsRefused seat handed before after
+abbrev pub Follows : List ℕ → (seat code asker : Option ℕ) → Out → Edges → Edges → Option CarryFault → Type 0
+Follows operators seat code asker handed before after None = FollowsWhole operators seat code asker handed before after
+Follows operators seat code asker handed before after (Some Stopped) = ⊥
+Follows operators seat code asker handed before after (Some Memory) = FollowsRefused seat handed before after
 
 -- what a step hands out is sent, unless it has stopped the station
 abbrev pub SendsStep : Bool → List Message → LinkShows → LinkShows → Type 0
@@ -119,9 +127,10 @@ SendsStep true datagrams before after = after ≡ before
 SendsStep false datagrams before after = Sends datagrams before after
 
 -- a step that stopped the station is followed by nothing, and any other by what is said above
-abbrev pub FollowsStep : Bool → List ℕ → Option ℕ → Option ℕ → Out → Edges → Edges → Option CarryFault → Type 0
-FollowsStep true operators seat code handed before after f = (f ≡ Some Stopped) × (after ≡ before)
-FollowsStep false operators seat code handed before after f = Follows operators seat code handed before after f
+abbrev pub FollowsStep : Bool → List ℕ → (seat code asker : Option ℕ) → Out → Edges → Edges → Option CarryFault → Type 0
+FollowsStep true operators seat code asker handed before after f = (f ≡ Some Stopped) × (after ≡ before)
+FollowsStep false operators seat code asker handed before after f =
+    Follows operators seat code asker handed before after f
 
 -- An event is carried: it steps the station, the observer is told, and what follows the step is done.
 pub record Carries {T : Type 0} (StepsBy : T → Event → T → Out → Result Heard StepFault → Type 0)
@@ -129,6 +138,7 @@ pub record Carries {T : Type 0} (StepsBy : T → Event → T → Out → Result 
     : Type 0 where
   pub made : Result Heard StepFault
   pub steps : StepsBy before.station e after.station handed made
-  pub follows : FollowsStep (is_stopped_by made) operators seat (code_of (is_report e) made) handed before.edges
+  pub follows : FollowsStep (is_stopped_by made) operators seat (code_of (is_report e) made) (asker_of e) handed
+      before.edges
       after.edges f
   pub told : Grows before.told after.told (stepped e made handed)

@@ -37,7 +37,7 @@ pub trait StepObserver {
 }
 
 /// Ignores every step.
-#[derive(Clone, Copy, Debug, Drop)]
+#[derive(Clone, Copy, Drop)]
 pub struct NoObserver;
 
 impl StepObserver for NoObserver {

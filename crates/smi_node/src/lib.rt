@@ -39,6 +39,7 @@ mod send;
 mod stats;
 mod turns;
 
+pub use answers::REPLACED;
 pub use event::{NoObserver, StepObserver};
 pub use law::blank_boards_are_risen;
 pub use node::{CarryFault, Node, NodeInput, carry, is_stopped_by, step_and_send};

@@ -3,11 +3,11 @@
 ghost use Rattle.std.specs.Prelude.{◌≡◌, None};
 ghost use Rattle.smi_station.specs.Core.{is_stopped_by};
 ghost use Rattle.smi_station.specs.Readers.{operators_in};
-ghost use Rattle.smi_node.specs.Carried.{Carries, Follows, SendsStep, StepsTo, Tells, code_of, edges, fault_in};
-ghost use Rattle.smi_node.specs.Carried.{is_report, node};
+ghost use Rattle.smi_node.specs.Carried.{Carries, Follows, SendsStep, StepsTo, Tells, asker_of, code_of, edges};
+ghost use Rattle.smi_node.specs.Carried.{fault_in, is_report, node};
 ghost use Rattle.smi_node.specs.Linked.{LinkShows, Sends, shown_by};
 
-use crate::answers::{mark_newest, tell_all, tell_newest};
+use crate::answers::{end_replaced, mark_newest, tell_all, tell_newest};
 use crate::event::{NoObserver, StepObserver};
 use crate::publish::publish;
 use crate::send::send_all;
@@ -35,14 +35,15 @@ pub enum CarryFault {
 
 /// A station that is served: with the desk of its seats, its board, and what its last step handed out.
 #[derive(Drop)]
-pub struct Node<'s, 't, 'd, S, J: BoardId> {
+pub struct Node<'s, 't, 'd, 'o, S, J: BoardId> {
     pub station: &'s mut Station<'t, S>,
     pub desk: &'d mut Desk,
     pub board: &'d mut Board<J>,
     /// What the last step handed out.
     pub out: &'d mut Out,
-    /// The operators of the station, by number: seat i is that of the i-th, from 0.
-    pub operators: &'t [u16],
+    /// The operators by seat: seat i is that of the i-th of them, from 0. One who has several seats stands there as
+    /// often.
+    pub operators: &'o [u16],
     /// Counts what the node does.
     pub stats: &'d NodeStats,
 }
@@ -62,6 +63,16 @@ fn is_report(event: &Event<'_>) -> bool
         Event::Report(_, _) => true,
         Event::Order(_, Order::Report(_, _)) => true,
         _ => false,
+    }
+}
+
+/// Returns the operator whose question an event is.
+fn asker_of(event: &Event<'_>) -> Option<u16>
+    ensures { result ≡ asker_of event.now }
+{
+    match event {
+        Event::Order(operator, Order::Ask(_)) => Some(*operator),
+        _ => None,
     }
 }
 
@@ -146,15 +157,22 @@ struct StepReply<'a> {
     operators: &'a [u16],
     seat: Option<usize>,
     code: Option<u16>,
+    /// The operator whose question the event is.
+    asker: Option<u16>,
 }
 
-/// Tells the code of a step to the seat that gave it its event; if it has none, tells its answers to their orders.
+/// Tells the code of a step to the seat that gave it its event; if it has none, tells its answers to their orders, and
+/// ends the questions that it replaces.
 fn answer_orders(desk: &mut Desk, reply: StepReply<'_>, answers: &[Answer])
-    ensures { Tells reply.entry.operators.now reply.entry.seat reply.entry.code answers.now desk.old desk.new }
+    ensures { Tells reply.entry.operators.now reply.entry.seat reply.entry.code reply.entry.asker answers.now desk.old
+        desk.new }
 {
     match reply.code {
         Some(code) => tell_newest(desk, reply.seat, code),
-        None => tell_all(desk, reply.operators, answers),
+        None => {
+            tell_all(desk, reply.operators, answers);
+            end_replaced(desk, reply.operators, reply.seat, reply.asker);
+        }
     }
 }
 
@@ -168,7 +186,7 @@ fn follow<J: BoardId, R: Wait>(
 ) -> Result<(), CarryFault>
     // Over whatever link its datagrams were sent.
     ensures { (before after : LinkShows) → Sends out.now.datagrams before after
-        → Follows reply.entry.operators.now reply.entry.seat reply.entry.code out.now
+        → Follows reply.entry.operators.now reply.entry.seat reply.entry.code reply.entry.asker out.now
         (edges before desk.old board.old) (edges after desk.new board.new) (fault_in result) }
 {
     mark_newest(desk, reply.seat, out.issued());
@@ -181,7 +199,7 @@ fn follow<J: BoardId, R: Wait>(
     }
 }
 
-impl<S: Stable, J: BoardId> Node<'_, '_, '_, S, J> {
+impl<S: Stable, J: BoardId> Node<'_, '_, '_, '_, S, J> {
     ghost use Rattle.std.specs.Prelude.{◌≡◌};
     ghost use Rattle.smi_node.specs.Carried.{Carries, StepsTo, edges, fault_in, node};
     ghost use Rattle.smi_node.specs.Linked.{shown_by};
@@ -211,6 +229,7 @@ impl<S: Stable, J: BoardId> Node<'_, '_, '_, S, J> {
     {
         let NodeInput { event, seat } = input;
         let is_report = is_report(&event);
+        let asker = asker_of(&event);
         let made = step(self.station, event, self.out);
         self.stats.count_step(&made);
         observer.on_step(self.station, &event, &made, self.out);
@@ -222,6 +241,7 @@ impl<S: Stable, J: BoardId> Node<'_, '_, '_, S, J> {
             operators: self.operators,
             seat,
             code: code_of(is_report, &made),
+            asker,
         };
         follow(rt, reply, self.out, self.desk, self.board)
     }
@@ -235,9 +255,14 @@ impl<S: Stable, J: BoardId> Node<'_, '_, '_, S, J> {
 /// step issued, and is told the code of a report, of a refusal, and of a step that was not made (31 not stored, 33 no
 /// memory); such a datagram is lost. `out` then has what the step handed out.
 ///
+/// A station keeps one question of each operator. So if an operator has several seats, a question that is asked again
+/// ends the one that waits at another seat ([`REPLACED`]).
+///
 /// `Stopped` comes exactly when the step answered that the station has stopped, and then nothing is sent, published
 /// or answered. `Memory` comes only if the board refused, and leaves what success would but for the publication
 /// and the answers.
+///
+/// [`REPLACED`]: crate::REPLACED
 pub fn carry<S: Stable, L: DatagramLink, J: BoardId, R: Wait>(
     rt: &R,
     station: &mut Station<'_, S>,

@@ -91,7 +91,7 @@ fn ended_by(fault: CarryFault) -> ServeFault
     }
 }
 
-impl<S: Stable, J: BoardId> Node<'_, '_, '_, S, J> {
+impl<S: Stable, J: BoardId> Node<'_, '_, '_, '_, S, J> {
     ghost use Rattle.std.specs.Prelude.{◌≡◌, ◌<◌};
     ghost use Rattle.smi_operator.specs.Sides.{seat_count};
     ghost use Rattle.smi_node.specs.Carried.{StepsTo, edges, fault_in, node};

@@ -16,7 +16,8 @@ returns-in-Ok g c =
       marks = subst (λ (m : Option Mark). MarksNewest c.args.reply.seat m c.args.desk.now c.mark_newest.new.desk)
           c.issued.ensures c.mark_newest.ensures;
       tells = subst (λ (answers : List Answer). Tells c.args.reply.operators.now c.args.reply.seat c.args.reply.code
-          answers c.mark_newest.new.desk c.answer_orders.new.desk) c.answers.ensures c.answer_orders.ensures;
+          c.args.reply.asker answers c.mark_newest.new.desk c.answer_orders.new.desk) c.answers.ensures
+          c.answer_orders.ensures;
       shown = subst (λ (s : Option Shown). Publishes s c.args.board.now c.publish.new.board) c.shown.ensures
           c.in-Ok.ensures.published;
     }

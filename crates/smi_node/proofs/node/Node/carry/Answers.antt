@@ -24,10 +24,12 @@ returns-clause-carries g c =
     let shows = shown_by g.L.DatagramLink.received g.L.DatagramLink.handed g.L.DatagramLink.failures
     g.L.DatagramLink.receives in
     let made = c.step-made in
-    carried_on steps c.args.self.now.operators.now c.args.input.event c.args.input.seat c.code_of.result made.new.out
+    carried_on steps c.args.self.now.operators.now c.args.input.event c.args.input.seat c.code_of.result
+    c.asker_of-asker.result made.new.out
     c.args.self.now.station.now made.new.station (shows c.args.link.now) (shows c.send_of.new.link)
     c.args.self.now.desk.now c.follow.new.desk c.args.self.now.board.now c.follow.new.board
     (g.V.StepObserver.told c.args.observer.now) (g.V.StepObserver.told c.on_step.new.self) made.result
     (fault_in c.follow.result) made.ensures c.send_of.ensures c.on_step.ensures
     (sym c.is_stopped_by.ensures ∙ c.if-is_stopped_by.false)
-    (c.code_of.ensures ∙ ap (λ (b : Bool). code_of b made.result) c.is_report-is_report.ensures) c.follow.ensures
+    (c.code_of.ensures ∙ ap (λ (b : Bool). code_of b made.result) c.is_report-is_report.ensures)
+    c.asker_of-asker.ensures c.follow.ensures

@@ -6,7 +6,7 @@ use Rattle.smi_node.specs.Served.{Serves, carrying}
 use Rattle.smi_node.specs.Turning.{TurnsSo}
 use Rattle.smi_node.specs.declared.node.CarryFault.{CarryFault}
 use Rattle.smi_node.specs.declared.turns.ServeFault.{ServeFault}
-use Rattle.smi_node.proofs.Service.{broken, link_failed, none_made, served, still_made, still_short}
+use Rattle.smi_node.proofs.Service.{broken, link_failed, served, still_made, still_short}
 use Rattle.smi_node.proofs.node.Node.make_turns.Goals as goal
 
 pub in_a_row-faults-requires : goal.in_a_row-faults-requires

@@ -1,5 +1,3 @@
-use Rattle.std.proofs.Common.{ℕ, Option}
-use Rattle.smi_grant.specs.declared.state.Shown.{Shown}
 use Rattle.smi_station.specs.Readers.{Whole}
 use Rattle.smi_node.specs.Carried.{Node, StepsTo, edges, node}
 use Rattle.smi_node.specs.Linked.{shown_by}
