@@ -1,13 +1,12 @@
 -- One queue changes, and all others stay.
 use Rattle.std.proofs.Common.{◌≡◌, ◌≢◌, ℕ, zero, suc, ◌<◌, Bool, List, [], ◌∷◌, length, get_or, slice_get, slice_set}
-use Rattle.std.proofs.Common.{refl, ap, ◌∙◌, inl, inr, arith, true, Option, Some}
+use Rattle.std.proofs.Common.{refl, ap, ◌∙◌, arith, true, false, Some}
 use Rattle.std.proofs.Math.Seq.{map-set_same}
 use Rattle.std.proofs.lemmas.List.{get_or-set_same, length-set}
 use Rattle.std.proofs.lemmas.Option.{slice_get-get_or}
-use Rattle.smi_session.specs.Session.{SessionState}
-use Rattle.smi_session.specs.SeatTable.{AreQueuesOf, ChangesAt, Gives, SeatTableState, place_of}
+use Rattle.smi_session.specs.SeatTable.{AreQueuesOf, Attempts, ChangesAt, SeatTableState, lane_of}
+use Rattle.smi_session.specs.declared.session.Deferred.{Deferred}
 use Rattle.smi_session.specs.SeatQueue.{Keeps, SeatQueueState, Submits}
-use Rattle.smi_session.specs.declared.seat_queue.PendingOrder.{PendingOrder}
 
 -- the element at a place that was written, and at any other
 get_written : {X : Type 0} (xs : List X) (i : ℕ) (y : X) → i < length xs → slice_get (slice_set xs i y) i ≡ Some y
@@ -36,22 +35,22 @@ changes R a i q d given within r = record {
   others = λ j other. get_another a.queues i j q other;
   count = length-set a.queues i q;
   operators = refl;
+  held = refl;
 }
 
--- an order is given at the queue of a place
-pub gave_at : (operator : Option ℕ) (p : PendingOrder) (a : SeatTableState) (c : SessionState) (i : ℕ)
-    (q d : SeatQueueState) → i ≡ place_of a.operators operator → i < length a.queues → d ≡ get_or a.queues i d
-    → Submits p d q → Gives operator p a c (record a { queues = slice_set a.queues i q; has_given = true }) c
-gave_at operator p a c i q d at within read gave =
-    inl (rw (← at) (changes (Submits p) a i q d true within (rw (← read) gave)), refl, refl)
+-- an order is submitted at the queue of a place
+pub gave_at : (x : Deferred) (a : SeatTableState) (i : ℕ) (q d : SeatQueueState) → lane_of a x ≡ Some i
+    → i < length a.queues → d ≡ get_or a.queues i d → Submits x.pending d q
+    → Attempts x a (record a { queues = slice_set a.queues i q; has_given = true }) true
+gave_at x a i q d at within read gave =
+    rw at (changes (Submits x.pending) a i q d true within (rw (← read) gave), refl)
 
--- or deferred
-pub deferred_at : (operator : Option ℕ) (p : PendingOrder) (a : SeatTableState) (c e : SessionState) (i : ℕ)
-    (q d : SeatQueueState) → i ≡ place_of a.operators operator → i < length a.queues → d ≡ get_or a.queues i d
-    → Keeps d q → e ≡ record c { deferred = Some (record { operator = operator; pending = p }) }
-    → Gives operator p a c (record a { queues = slice_set a.queues i q }) e
-deferred_at operator p a c e i q d at within read same deferred =
-    inr (rw (← at) (changes Keeps a i q d a.has_given within (rw (← read) same)), refl, deferred)
+-- or its seat has no room
+pub full_at : (x : Deferred) (a : SeatTableState) (i : ℕ) (q d : SeatQueueState) → lane_of a x ≡ Some i
+    → i < length a.queues → d ≡ get_or a.queues i d → Keeps d q
+    → Attempts x a (record a { queues = slice_set a.queues i q }) false
+full_at x a i q d at within read same =
+    rw at (changes Keeps a i q d a.has_given within (rw (← read) same), refl)
 
 -- an answer is taken, or there is none
 pub took_at : (R : SeatQueueState → SeatQueueState → Type 0) (a : SeatTableState) (i : ℕ) (q d : SeatQueueState)

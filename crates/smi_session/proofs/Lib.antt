@@ -3,3 +3,4 @@ pub mod Rising
 pub mod Seating
 pub mod Splitting
 pub mod Stepping
+pub mod Willing

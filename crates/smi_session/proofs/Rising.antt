@@ -1,12 +1,12 @@
 -- The states of an object that are told rise up to what is had of it.
 use Rattle.std.proofs.Common.{◌≡◌, ◌⊎◌, ℕ, ◌≤◌, ◌++◌, Bool, true, false, List, [], ◌∷◌, Option, Some, None, length}
-use Rattle.std.proofs.Common.{◌≢◌, refl, sym, ap, ◌∙◌, subst, inl, inr, arith, append-nil, if◌then◌else◌}
+use Rattle.std.proofs.Common.{◌≢◌, refl, sym, ap, subst, inl, inr, arith, append-nil, if◌then◌else◌}
 use Rattle.std.specs.Prelude.{◌==◌}
 use Rattle.std.proofs.lemmas.Bool.Decides.{nat_tests, eqb_tells}
 use Rattle.smi_grant.specs.declared.state.Shown.{Shown}
 use Rattle.smi_grant.specs.declared.state.Version.{Version}
 use Rattle.smi_view.specs.Accepting.{is_newer}
-use Rattle.smi_view.specs.Newest.{IsNotNewer, ShowsAtLeast, shown_after, sight}
+use Rattle.smi_view.specs.Newest.{IsNotNewer, shown_after}
 use Rattle.smi_view.specs.Noted.{Showed, TakesIn}
 use Rattle.smi_view.specs.Pictured.{Pictured, object_of}
 use Rattle.smi_view.specs.declared.sight.Sight.{Sight}

@@ -1,14 +1,14 @@
 -- Bytes are cut into the same lines, however they come in blocks.
-use Rattle.std.proofs.Common.{◌≡◌, ℕ, suc, ◌+◌, ◌-◌, ◌<◌, Bool, true, false, not, cond, nat_lt, if◌then◌else◌}
+use Rattle.std.proofs.Common.{◌≡◌, ℕ, suc, ◌+◌, ◌-◌, Bool, true, false, not, cond, nat_lt, if◌then◌else◌}
 use Rattle.std.proofs.Common.{List, [], ◌∷◌, ◌++◌, length, take, drop, Option, Some, None}
 use Rattle.std.specs.List.{concat}
 use Rattle.std.proofs.Common.{refl, sym, ap, ◌∙◌, arith, true≢false, append-nil, append_assoc, take_all}
 use Rattle.std.proofs.lemmas.Bool.Decides.{nat_tests}
 use Rattle.std.proofs.lemmas.List.{length-append}
 use Rattle.smi_tree.specs.Text.{is_line_feed}
-use Rattle.smi_session.specs.LineSplitter.{SplitterState, TakesLine, behind_first, first_line, kept, left_in, left_of}
+use Rattle.smi_session.specs.LineSplitter.{SplitterState, TakesLine, behind_first, first_line, kept, left_of}
 use Rattle.smi_session.specs.LineSplitter.{line_end}
-use Rattle.smi_session.specs.LineSplitter.{lines_in, lines_of, lines_of_blocks, trimmed, with_byte}
+use Rattle.smi_session.specs.LineSplitter.{lines_of, lines_of_blocks, trimmed, with_byte}
 
 -- one more byte of a line
 step_by : (line : List ℕ) (byte : ℕ) (bytes : List ℕ) (c : Bool) → nat_lt (length line) 202 ≡ c

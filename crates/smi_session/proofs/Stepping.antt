@@ -1,11 +1,10 @@
 -- The pending orders of a queue are those that were submitted and not told.
-use Rattle.std.proofs.Common.{◌≡◌, ◌≤◌, ◌<◌, ◌+◌, ◌-◌, ℕ, zero, suc, List, [], ◌∷◌, ◌++◌, length, drop, map, Some}
+use Rattle.std.proofs.Common.{◌≡◌, ◌≤◌, ◌+◌, ◌-◌, ℕ, zero, suc, List, [], ◌∷◌, ◌++◌, length, drop, Some}
 use Rattle.std.proofs.Common.{slice_get}
-use Rattle.std.proofs.Common.{refl, sym, ap, ◌∙◌, arith, length-append, length-drop}
-use Rattle.smi_protocol.specs.declared.order.Order.{Order}
+use Rattle.std.proofs.Common.{sym, ap, ◌∙◌, arith, length-append, length-drop}
 use Rattle.smi_protocol.specs.declared.order.Told.{Told}
 use Rattle.smi_operator.specs.Sides.{submitted, told_to}
-use Rattle.smi_session.specs.SeatQueue.{IsInStep, Keeps, SeatQueueState, Submits, TellsOldest, orders_of}
+use Rattle.smi_session.specs.SeatQueue.{IsInStep, SeatQueueState, TellsOldest, orders_of}
 use Rattle.smi_session.specs.declared.seat_queue.PendingOrder.{PendingOrder}
 
 none : {X : Type 0} (ys : List X) (y : X) → [] ≡ y ∷ ys → ⊥

@@ -1,5 +1,6 @@
 -- What a session is told of a line that is refused.
 use Rattle.std.specs.Prelude.{ℕ, ◌++◌, Bool, true, false, List, [], ◌∷◌, codes, Option, Some, None, is_some}
+use Rattle.std.specs.Prelude.{if◌then◌else◌}
 use Rattle.std.specs.Fmt.{decimal}
 use Rattle.smi_tree.specs.Fault.{fault_code}
 use Rattle.smi_tree.specs.Hierarchy.{Hierarchy}
@@ -7,7 +8,7 @@ use Rattle.smi_tree.specs.Text.{words}
 use Rattle.smi_tree.specs.declared.fault.Fault.{Fault}
 use Rattle.smi_tree.specs.declared.fault.Fault.TheVariants as fault
 use Rattle.smi_session.specs.Session.{SessionState, with_error, with_reply}
-use Rattle.smi_session.specs.UnknownName.{unknown_in}
+use Rattle.smi_session.specs.UnknownName.{is_verb, unknown_in}
 use Rattle.smi_session.specs.declared.session.ReplyStyle.{ReplyStyle}
 use Rattle.smi_session.specs.declared.session.ReplyStyle.TheVariants.{Script, Human}
 use Rattle.smi_session.specs.declared.tag.Tag.{Tag}
@@ -31,8 +32,15 @@ abbrev pub named_reason : Option (List ℕ × List ℕ) → Fault → List ℕ
 named_reason (Some unknown) what = unknown.0 ++ 32 ∷ unknown.1
 named_reason None what = words_of what
 
+-- the first word is unknown: an order lacks what it begins with, if that word is the verb of one
+abbrev pub words_of_word : List (List ℕ) → List ℕ
+words_of_word [] = words_of fault.UnknownWord
+words_of_word (word ∷ more) =
+    if is_verb word then codes "an order begins with order OPERATOR" else words_of fault.UnknownWord
+
 abbrev pub reason_of : Hierarchy → List ℕ → List ℕ → Fault → List ℕ
 reason_of h operators line fault.UnknownName = named_reason (unknown_in h operators (words line)) fault.UnknownName
+reason_of h operators line fault.UnknownWord = words_of_word (words line)
 reason_of h operators line what = words_of what
 
 -- the whole line: a person is told the reason too

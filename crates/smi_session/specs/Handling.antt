@@ -1,5 +1,5 @@
 -- What a line does: to the seats, and to its session.
-use Rattle.std.specs.Prelude.{ℕ, zero, suc, ◌≡◌, ◌⊎◌, nat_lt, Bool, true, false, List, [], ◌∷◌, length, Option, Some}
+use Rattle.std.specs.Prelude.{ℕ, zero, suc, ◌≡◌, ◌⊎◌, nat_lt, Bool, true, false, List, ◌∷◌, length, Option, Some}
 use Rattle.std.specs.Prelude.{None, is_some, Result, Ok, Err, if◌then◌else◌}
 use Rattle.std.specs.declared.time.Instant.{Instant}
 use mathlib.Core.List.{IsPrefix}
@@ -16,9 +16,10 @@ use Rattle.smi_session.specs.Request.{request_of_line}
 use Rattle.smi_session.specs.SeatTable.{Gives, GivesDeferred}
 use Rattle.smi_session.specs.Service.{ServiceState}
 use Rattle.smi_session.specs.Session.{LineAt, SessionState, beginning, counted, is_refused, may_go_on, next_line, waits}
-use Rattle.smi_session.specs.Session.{with_reply}
+use Rattle.smi_session.specs.Session.{with_reply, with_will}
 use Rattle.smi_session.specs.Tag.{tag_of, tag_text}
 use Rattle.smi_session.specs.Trust.{admitted, judged}
+use Rattle.smi_session.specs.Will.{will_text}
 use Rattle.smi_session.specs.declared.request.SessionRequest.{SessionRequest}
 use Rattle.smi_session.specs.declared.request.SessionRequest.TheVariants as request
 use Rattle.smi_session.specs.declared.tag.Tag.{Tag}
@@ -36,6 +37,8 @@ abbrev pub Does : Hierarchy → Option Instant → Option Tag → List ℕ → O
 Does h now tag text (Some (request.Order operator order)) a c b d =
     Gives operator (record { session = c.number; tag = tag; order = order; since = now }) a.seats (beginning tag c)
     b.seats d × (b ≡ record a { seats = b.seats })
+Does h now tag text (Some (request.Will will)) a c b d =
+    (d ≡ with_reply tag (will_text h will) (with_will will c)) × (b ≡ a)
 Does h now tag text (Some (request.Show object)) a c b d = Shows h tag object a c b d
 Does h now tag text (Some (request.Query query)) a c b d = Answers h now tag (words text) query a c d × (b ≡ a)
 Does h now tag text None a c b d = (d ≡ c) × (b ≡ a)

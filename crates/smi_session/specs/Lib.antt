@@ -1,7 +1,9 @@
 pub mod FaultReply
 pub mod Handling
+pub mod Lane
 pub mod Line
 pub mod LineSplitter
+pub mod Mode
 pub mod Query
 pub mod Reply
 pub mod Request
@@ -15,3 +17,4 @@ pub mod Subscription
 pub mod Tag
 pub mod Trust
 pub mod UnknownName
+pub mod Will

@@ -10,6 +10,7 @@ use Rattle.smi_tree.specs.File.{is_comment}
 use Rattle.smi_tree.specs.Declaration as declaration
 use Rattle.smi_tree.specs.Hierarchy.{Hierarchy}
 use Rattle.smi_tree.specs.Lookups.{object_named}
+use Rattle.smi_tree.specs.Name.{number_of}
 use Rattle.smi_tree.specs.declared.fault.Fault.{Fault}
 use Rattle.smi_tree.specs.declared.fault.Fault.TheVariants.{UnknownWord, UnknownName, LineTooLong}
 use Rattle.smi_protocol.specs.declared.item.Item.{Item}
@@ -58,13 +59,22 @@ shown h more = do
   object ← ok_or (object_named h name) UnknownName
   Ok (request.Show object)
 
+-- after `will` come a device and a state
+unfoldable pub willed : Hierarchy → List (List ℕ) → Result SessionRequest Fault
+willed h more = do
+  names ← declaration.two_names more
+  device ← ok_or (number_of h.device_names names.0) UnknownName
+  state ← ok_or (number_of h.state_names names.1) UnknownName
+  Ok (request.Will (record { device = device; state = state }))
+
 -- what a line may begin with
 abbrev pub kind_of : List ℕ → Option LineKind
 kind_of word =
     if bytes_eq word (codes "show") then Some kind.Show
     else (if bytes_eq word (codes "order") then Some kind.Order
     else (if bytes_eq word (codes "report") then Some kind.Report
-    else None))
+    else (if bytes_eq word (codes "will") then Some kind.Will
+    else None)))
 
 unfoldable pub request_of : Hierarchy → List ℕ → LineKind → List ℕ → List (List ℕ)
     → Result (Option SessionRequest) Fault
@@ -73,6 +83,9 @@ request_of h operators kind.Show line more = do
   Ok (Some it)
 request_of h operators kind.Order line more = request_as_item h operators line
 request_of h operators kind.Report line more = request_as_item h operators line
+request_of h operators kind.Will line more = do
+  it ← willed h more
+  Ok (Some it)
 
 abbrev pub request_by : Hierarchy → List ℕ → List ℕ → List (List ℕ) → Result (Option SessionRequest) Fault
 request_by h operators line [] = Ok None

@@ -1,6 +1,6 @@
 -- What a session is told of the whole node.
 use Rattle.std.specs.Prelude.{ℕ, zero, suc, ◌≡◌, ◌+◌, ◌-◌, ◌/◌, ◌^◌, min, ◌++◌, List, [], ◌∷◌, codes, length, Option}
-use Rattle.std.specs.Prelude.{Some, None}
+use Rattle.std.specs.Prelude.{Some, None, false}
 use Rattle.std.specs.Fmt.{decimal}
 use Rattle.std.specs.Time.{instant_nanos}
 use Rattle.std.specs.declared.time.Instant.{Instant}
@@ -9,13 +9,18 @@ use Rattle.smi_tree.specs.Lookups.{device_count, domain_count}
 use Rattle.smi_schedule.specs.Node.{board_text, waiting_text}
 use Rattle.smi_view.specs.Pictured.{Pictured, object_of}
 use Rattle.smi_view.specs.declared.sight.Sight.{Sight}
+use Rattle.smi_session.specs.Mode.{mode_text}
+use Rattle.smi_session.specs.Query.{numbers_in}
 use Rattle.smi_session.specs.Request.{behind_first}
 use Rattle.smi_session.specs.SeatQueue.{SeatQueueState}
+use Rattle.smi_session.specs.SeatTable.{SeatTableState}
 use Rattle.smi_session.specs.Service.{ServiceState}
 use Rattle.smi_session.specs.Session.{OnlyReplies, SessionState, with_reply}
 use Rattle.smi_session.specs.Subscription.{SubscriptionState, subscription_of, tag_for}
+use Rattle.smi_session.specs.declared.mode.ChildState.{ChildState}
 use Rattle.smi_session.specs.declared.query.Query.{Query}
-use Rattle.smi_session.specs.declared.query.Query.TheVariants.{Counts, UnderWay, States, Follow, Actions, Help}
+use Rattle.smi_session.specs.declared.query.Query.TheVariants.{Counts, UnderWay, States, Follow, Actions, Modes, Help}
+use Rattle.smi_session.specs.declared.session.Deferred.{Deferred}
 use Rattle.smi_session.specs.declared.seat_queue.PendingOrder.{PendingOrder}
 use Rattle.smi_session.specs.declared.tag.Tag.{Tag}
 
@@ -91,7 +96,41 @@ abbrev pub listed_beside : ℕ → List SeatQueueState → ℕ
 listed_beside count [] = count
 listed_beside count (q ∷ more) = listed_beside (min (count + listed_in q.operator q.pending) (2 ^ 64 - 1)) more
 
+-- the same of orders that wait for a seat
+abbrev pub with_held_one : Hierarchy → Option Tag → Option Instant → Deferred → SessionState → SessionState
+with_held_one h tag now x s = with_queue_of h tag now x.operator (x.pending ∷ []) s
+
+abbrev pub with_held : Hierarchy → Option Tag → Option Instant → List Deferred → SessionState → SessionState
+with_held h tag now [] s = s
+with_held h tag now (x ∷ more) s = with_held h tag now more (with_held_one h tag now x s)
+
+abbrev pub one_if_listed : Deferred → ℕ
+one_if_listed x = listed_in x.operator (x.pending ∷ [])
+
+abbrev pub held_beside : ℕ → List Deferred → ℕ
+held_beside count [] = count
+held_beside count (x ∷ more) = held_beside (min (count + one_if_listed x) (2 ^ 64 - 1)) more
+
+-- first those that have a seat, then those that wait for one, and how many they are
+abbrev pub with_under_way : Hierarchy → Option Tag → Option Instant → SeatTableState → SessionState → SessionState
+with_under_way h tag now t s =
+    with_count tag (codes "under way") (held_beside (listed_beside 0 t.queues) t.held)
+    (with_held h tag now t.held (with_queues h tag now t.queues s))
+
+-- How children are had.
+
+abbrev pub with_modes : Hierarchy → Option Tag → List ChildState → SessionState → SessionState
+with_modes h tag [] s = s
+with_modes h tag (m ∷ more) s = with_modes h tag more (with_reply tag (mode_text h m) s)
+
 -- What a query asks for from now on.
+
+abbrev pub states_asked : Hierarchy → Option Tag → List (List ℕ) → SubscriptionState
+states_asked h tag line = subscription_of h tag false (behind_first line)
+
+abbrev pub actions_asked : Hierarchy → Option Tag → List (List ℕ) → SubscriptionState
+actions_asked h tag line =
+    subscription_of h tag (numbers_in (behind_first line)).0 (numbers_in (behind_first line)).1
 
 -- at how many devices actions are followed: at those that are named, or at all
 abbrev pub followed_count : Hierarchy → Option (List ℕ) → ℕ
@@ -99,11 +138,12 @@ followed_count h (Some objects) = length objects
 followed_count h None = device_count h
 
 abbrev pub subscribed : Hierarchy → Option Tag → List (List ℕ) → Query → SessionState → SessionState
-subscribed h tag line Follow s = record s { states = Some (subscription_of h tag (behind_first line)) }
-subscribed h tag line Actions s = record s { actions = Some (subscription_of h tag (behind_first line)) }
+subscribed h tag line Follow s = record s { states = Some (states_asked h tag line) }
+subscribed h tag line Actions s = record s { actions = Some (actions_asked h tag line) }
 subscribed h tag line Counts s = s
 subscribed h tag line UnderWay s = s
 subscribed h tag line States s = s
+subscribed h tag line Modes s = s
 subscribed h tag line Help s = s
 
 -- how many objects there are
@@ -115,11 +155,12 @@ abbrev pub Answers : Hierarchy → Option Instant → Option Tag → List (List 
     → SessionState → Type 0
 Answers h now tag line States a c d = d ≡ with_count tag (codes "states") (states_known a.picture (objects h))
     (with_states h tag a.picture (objects h) c)
-Answers h now tag line UnderWay a c d = d ≡ with_count tag (codes "under way") (listed_beside 0 a.seats.queues)
-    (with_queues h tag now a.seats.queues c)
+Answers h now tag line UnderWay a c d = d ≡ with_under_way h tag now a.seats c
 Answers h now tag line Follow a c d = d ≡ with_followed h a.picture (objects h) (subscribed h tag line Follow c)
 Answers h now tag line Actions a c d =
-    d ≡ with_count tag (codes "actions") (followed_count h (subscription_of h tag (behind_first line)).objects)
+    d ≡ with_count tag (codes "actions") (followed_count h (actions_asked h tag line).objects)
     (subscribed h tag line Actions c)
+Answers h now tag line Modes a c d =
+    d ≡ with_count tag (codes "modes") (length a.modes) (with_modes h tag a.modes c)
 Answers h now tag line Counts a c d = OnlyReplies c d
 Answers h now tag line Help a c d = OnlyReplies c d

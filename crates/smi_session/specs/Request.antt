@@ -11,9 +11,9 @@ use Rattle.smi_tree.specs.Name.{number_of}
 use Rattle.smi_tree.specs.declared.fault.Fault.{Fault}
 use Rattle.smi_tree.specs.declared.fault.Fault.TheVariants.{UnknownName, WordCount}
 use Rattle.smi_session.specs.Line.{request_in}
-use Rattle.smi_session.specs.Query.{query_in}
+use Rattle.smi_session.specs.Query.{numbers_in, query_in}
 use Rattle.smi_session.specs.declared.query.Query.{Query}
-use Rattle.smi_session.specs.declared.query.Query.TheVariants.{Counts, UnderWay, States, Follow, Actions, Help}
+use Rattle.smi_session.specs.declared.query.Query.TheVariants.{Counts, UnderWay, States, Follow, Actions, Modes, Help}
 use Rattle.smi_session.specs.declared.request.SessionRequest.{SessionRequest}
 use Rattle.smi_session.specs.declared.request.SessionRequest.TheVariants as request
 use Rattle.smi_session.specs.declared.session.ReplyStyle.{ReplyStyle}
@@ -36,6 +36,7 @@ may_name h Actions name = is_some (number_of h.device_names name)
 may_name h Counts name = false
 may_name h UnderWay name = false
 may_name h States name = false
+may_name h Modes name = false
 may_name h Help name = false
 
 abbrev pub may_name_all : Hierarchy → Query → List (List ℕ) → Bool
@@ -51,10 +52,11 @@ named_request h query names = if may_name_all h query names then Ok (request.Que
 
 abbrev pub query_request : Hierarchy → Query → List (List ℕ) → Result SessionRequest Fault
 query_request h Follow line = named_request h Follow (behind_first line)
-query_request h Actions line = named_request h Actions (behind_first line)
+query_request h Actions line = named_request h Actions (numbers_in (behind_first line)).1
 query_request h Counts line = Ok (request.Query Counts)
 query_request h UnderWay line = Ok (request.Query UnderWay)
 query_request h States line = Ok (request.Query States)
+query_request h Modes line = Ok (request.Query Modes)
 query_request h Help line = Ok (request.Query Help)
 
 -- nothing is asked by a line that is skipped, which one with a tag can't be

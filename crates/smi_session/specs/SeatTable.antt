@@ -1,28 +1,31 @@
 -- The seats of a station, and what becomes of an order of a session there.
-use Rattle.std.specs.Prelude.{ℕ, ◌≡◌, ◌≢◌, ◌==◌, Bool, true, false, List, [], ◌∷◌, ◌++◌, length, map, take, zip, All}
-use Rattle.std.specs.Prelude.{slice_get, Option, Some, None, IfSome, ◌⊎◌}
-use Rattle.std.specs.List.{list_all, list_any, position_or_len}
+use Rattle.std.specs.Prelude.{ℕ, zero, suc, ◌≡◌, ◌≢◌, ◌==◌, ◌+◌, ◌&&◌, ◌||◌, nat_lt, Bool, true, false, List, [], ◌∷◌}
+use Rattle.std.specs.Prelude.{◌++◌, length}
+use Rattle.std.specs.Prelude.{map, take, drop, slice_get, Option, Some, None, IfSome}
+use Rattle.std.specs.List.{list_all, list_any}
 use Rattle.smi_operator.specs.declared.ends.Seat.{Seat}
+use Rattle.smi_session.specs.Lane.{lane_at, lane_for}
 use Rattle.smi_session.specs.Session.{SessionState}
-use Rattle.smi_session.specs.SeatQueue.{IsInStep, IsUnused, Keeps, SeatQueueState, Submits, TellsOldest, new_queue}
+use Rattle.smi_session.specs.SeatQueue.{Keeps, SeatQueueState, Submits, TellsOldest, new_queue}
 use Rattle.smi_session.specs.declared.seat_queue.PendingOrder.{PendingOrder}
 use Rattle.smi_session.specs.declared.session.Deferred.{Deferred}
 use Rattle.smi_session.specs.declared.seat_table.SeatAnswer.{SeatAnswer}
+use Rattle.smi_session.specs.declared.lane.Lane.TheVariants.{Any}
+use Rattle.smi_session.specs.declared.will.DeviceWill.{DeviceWill}
+use Rattle.smi_protocol.specs.declared.order.Order.TheVariants as order
+use Rattle.std.specs.declared.time.Instant.{Instant}
 
--- the operators, their queues and after them nobody's, and whether an order was given since that was last asked
+-- the operators by seat, their queues and after them nobody's, the orders that wait for a seat, the oldest first, and
+-- whether an order was given since that was last asked
 pub record SeatTableState : Type 0 where
   pub operators : List ℕ
   pub queues : List SeatQueueState
+  pub held : List Deferred
   pub has_given : Bool
 
 -- whose seats they are: the operators', and after them nobody's
 abbrev pub AreQueuesOf : List ℕ → List SeatQueueState → Type 0
 AreQueuesOf operators queues = map (λ q. q.operator) queues ≡ map Some operators ++ None ∷ []
-
--- the place of an operator's queue, the last for nobody
-abbrev pub place_of : List ℕ → Option ℕ → ℕ
-place_of operators None = length operators
-place_of operators (Some operator) = position_or_len (λ o. o == operator) operators
 
 -- the queue of this place changes so, and the others not at all
 pub record ChangesAt (place : ℕ) (R : SeatQueueState → SeatQueueState → Type 0) (before after : SeatTableState) : Type 0
@@ -31,19 +34,84 @@ pub record ChangesAt (place : ℕ) (R : SeatQueueState → SeatQueueState → Ty
     pub others : (i : ℕ) → i ≢ place → slice_get after.queues i ≡ slice_get before.queues i
     pub count : length after.queues ≡ length before.queues
     pub operators : after.operators ≡ before.operators
+    pub held : after.held ≡ before.held
 
--- the order is submitted at the seat of its operator, or nobody's, or its session keeps it as deferred
+-- an order is submitted at this place, if there is one and its seat has room
+abbrev pub GivesAt : Option ℕ → PendingOrder → SeatTableState → SeatTableState → Bool → Type 0
+GivesAt None p a b given = (b ≡ a) × (given ≡ false)
+GivesAt (Some place) p a b true = ChangesAt place (Submits p) a b × (b.has_given ≡ true)
+GivesAt (Some place) p a b false = ChangesAt place Keeps a b × (b.has_given ≡ a.has_given)
+
+-- the seat that takes an order now
+abbrev pub lane_of : SeatTableState → Deferred → Option ℕ
+lane_of t x = lane_for t.queues (length t.operators) x.operator x.pending.order
+
+-- it is submitted where a seat takes it now
+abbrev pub Attempts : Deferred → SeatTableState → SeatTableState → Bool → Type 0
+Attempts x a b given = GivesAt (lane_of a x) x.pending a b given
+
+-- else it waits for a seat, or if too many do, its session keeps it
+abbrev pub waits_too : Deferred → SeatTableState → SeatTableState
+waits_too x t = record t { held = t.held ++ x ∷ [] }
+
+abbrev pub Waits : Bool → Deferred → SeatTableState → SessionState → SeatTableState → SessionState → Type 0
+Waits true x m c b d = (b ≡ waits_too x m) × (d ≡ c)
+Waits false x m c b d = (b ≡ m) × (d ≡ record c { deferred = Some x })
+
+abbrev pub WaitsUnless : Bool → Deferred → SeatTableState → SessionState → SeatTableState → SessionState → Type 0
+WaitsUnless true x m c b d = (b ≡ m) × (d ≡ c)
+WaitsUnless false x m c b d = Waits (nat_lt (length m.held) 64) x m c b d
+
+-- an order of an operator, or of nobody, is given: it is submitted, waits, or stays with its session
+abbrev pub GivesIt : Deferred → SeatTableState → SessionState → SeatTableState → SessionState → Type 0
+GivesIt x a c b d = (given : Bool) × (m : SeatTableState) × Attempts x a m given × WaitsUnless given x m c b d
+
 abbrev pub Gives : Option ℕ → PendingOrder → SeatTableState → SessionState → SeatTableState → SessionState → Type 0
-Gives operator pending a c b d =
-    (ChangesAt (place_of a.operators operator) (Submits pending) a b × (b.has_given ≡ true) × (d ≡ c))
-    ⊎ (ChangesAt (place_of a.operators operator) Keeps a b × (b.has_given ≡ a.has_given)
-    × (d ≡ record c { deferred = Some (record { operator = operator; pending = pending }) }))
+Gives operator pending a c b d = GivesIt (record { operator = operator; pending = pending }) a c b d
+
+-- an order that was not submitted waits
+abbrev pub waits_unless : Bool → Deferred → SeatTableState → SeatTableState
+waits_unless true x t = t
+waits_unless false x t = waits_too x t
+
+-- the report of a session that ends waits, however many orders do
+abbrev pub report_of : Option Instant → ℕ → DeviceWill → Deferred
+report_of now session w = record {
+  operator = None;
+  pending = record { session = session; tag = None; order = order.Report w.device w.state; since = now };
+}
+
+abbrev pub Reports : Deferred → SeatTableState → SeatTableState → Type 0
+Reports x a b = (given : Bool) × (m : SeatTableState) × Attempts x a m given × (b ≡ waits_unless given x m)
+
+abbrev pub ReportsAll : Option Instant → ℕ → List DeviceWill → SeatTableState → SeatTableState → Type 0
+ReportsAll now session [] a b = b ≡ a
+ReportsAll now session (w ∷ more) a b =
+    (m : SeatTableState) × Reports (report_of now session w) a m × ReportsAll now session more m b
+
+-- the oldest order that waits is taken out once it is submitted, and else waits after the others
+abbrev pub after_attempt : Bool → SeatTableState → SeatTableState
+after_attempt true t = record t { held = drop 1 t.held }
+after_attempt false t = record t { held = drop 1 t.held ++ take 1 t.held }
+
+abbrev pub GivesFirst : Option Deferred → SeatTableState → SeatTableState → Type 0
+GivesFirst None a b = b ≡ a
+GivesFirst (Some x) a b = (given : Bool) × (m : SeatTableState) × Attempts x a m given × (b ≡ after_attempt given m)
+
+-- the oldest order that waits is submitted if a seat takes it now
+abbrev pub GivesOldest : SeatTableState → SeatTableState → Type 0
+GivesOldest a b = GivesFirst (slice_get a.held 0) a b
+
+-- so many orders, one after the other
+abbrev pub GivesHeld : ℕ → SeatTableState → SeatTableState → Type 0
+GivesHeld zero a b = b ≡ a
+GivesHeld (suc n) a b = (m : SeatTableState) × GivesHeld n a m × GivesOldest m b
 
 -- an order that its session keeps is given
 abbrev pub GivesSo : Option Deferred → SeatTableState → SessionState → SeatTableState → SessionState → Type 0
 GivesSo None a c b d = (b ≡ a) × (d ≡ c)
 GivesSo (Some deferred) a c b d =
-    Gives deferred.operator deferred.pending a (record c { deferred = None }) b d
+    GivesIt deferred a (record c { deferred = None }) b d
 
 abbrev pub GivesDeferred : SeatTableState → SessionState → SeatTableState → SessionState → Type 0
 GivesDeferred a c b d = GivesSo c.deferred a c b d
@@ -52,23 +120,31 @@ GivesDeferred a c b d = GivesSo c.deferred a c b d
 abbrev pub TakesAnswer : SeatAnswer → SeatQueueState → SeatQueueState → Type 0
 TakesAnswer r a b = TellsOldest r.pending r.told a b × (r.operator ≡ a.operator)
 
--- the queues of these operators over these seats, each over the one at its place
-abbrev pub queues_over : List ℕ → List Seat → List SeatQueueState
-queues_over [] seats = []
-queues_over (operator ∷ operators) [] = []
-queues_over (operator ∷ operators) (seat ∷ seats) = new_queue (Some operator) seat ∷ queues_over operators seats
+-- then each order that waited for a seat may have one
+abbrev pub TakesNext : ℕ → SeatAnswer → SeatTableState → SeatTableState → Type 0
+TakesNext place r a b = (m : SeatTableState) × ChangesAt place (TakesAnswer r) a m × (m.has_given ≡ a.has_given)
+    × GivesHeld (length m.held) m b
 
--- each operator has the seat at the operator's place, as far as there are both, and nobody has the last one; nothing
+-- the queues of these operators over these seats, each over the one at its place, the first of which has this number
+abbrev pub queues_over : ℕ → List ℕ → List Seat → List SeatQueueState
+queues_over number [] seats = []
+queues_over number (operator ∷ operators) [] = []
+queues_over number (operator ∷ operators) (seat ∷ seats) =
+    new_queue (Some operator) (lane_at number) seat ∷ queues_over (number + 1) operators seats
+
+-- each operator has the seats at the operator's places, as far as there are both, and nobody has the last one; nothing
 -- is pending
 pub record IsOpened (own : List ℕ) (seats : List Seat) (reports : Seat) (t : SeatTableState) : Type 0 where
   pub operators : t.operators ≡ take (length seats) own
-  pub queues : t.queues ≡ queues_over own seats ++ new_queue None reports ∷ []
+  pub queues : t.queues ≡ queues_over 0 own seats ++ new_queue None Any reports ∷ []
+  pub held : t.held ≡ []
   pub has_given : t.has_given ≡ false
 
 -- no order is pending
 abbrev pub is_idle : SeatTableState → Bool
-is_idle t = list_all (λ q. length q.pending == 0) t.queues
+is_idle t = list_all (λ q. length q.pending == 0) t.queues && length t.held == 0
 
 -- an order of this session is pending
 abbrev pub has_pending : SeatTableState → ℕ → Bool
 has_pending t session = list_any (λ q. list_any (λ p. p.session == session) q.pending) t.queues
+    || list_any (λ x. x.pending.session == session) t.held

@@ -1,8 +1,11 @@
 -- What contracts see of a session, and what becomes of it.
 use Rattle.std.specs.Prelude.{ℕ, ◌≡◌, ◌+◌, ◌-◌, ◌^◌, ◌&&◌, ◌||◌, nat_lt, nat_le, min, not, Bool, true, false}
 use Rattle.std.specs.Prelude.{List, [], ◌∷◌, ◌++◌, length, Option, Some, None, is_some, is_none}
+use Rattle.std.specs.Option.{option_map_or}
 use Rattle.smi_session.specs.Subscription.{SubscriptionState}
 use Rattle.smi_session.specs.Tag.{tag_text}
+use Rattle.smi_session.specs.Will.{with_newest}
+use Rattle.smi_session.specs.declared.will.DeviceWill.{DeviceWill}
 use Rattle.smi_session.specs.declared.tag.Tag.{Tag}
 use Rattle.smi_session.specs.declared.session.Deferred.{Deferred}
 use Rattle.smi_session.specs.declared.session.ReplyStyle.{ReplyStyle}
@@ -15,7 +18,8 @@ pub record LineAt : Type 0 where
   pub line : List ℕ
 
 -- a session: what its lines have shown of it, its lines that wait, whether an order of a line without a tag is pending,
--- an order for which its seat had no room, what it wants to be told of, what it is to be told, and apart from that the
+-- an order that waits for a seat, what it wants to be told of, what is reported when it ends, what it is to be told,
+-- and apart from that the
 -- faults of its lines
 pub record SessionState : Type 0 where
   pub number : ℕ
@@ -27,6 +31,7 @@ pub record SessionState : Type 0 where
   pub deferred : Option Deferred
   pub states : Option SubscriptionState
   pub actions : Option SubscriptionState
+  pub wills : List DeviceWill
   pub output : List ℕ
   pub errors : List ℕ
 
@@ -42,6 +47,7 @@ new_session number style = record {
   deferred = None;
   states = None;
   actions = None;
+  wills = [];
   output = [];
   errors = [];
 }
@@ -87,6 +93,14 @@ ending tag s = record s { is_busy = s.is_busy && is_some tag }
 -- a line waits for those before it
 abbrev pub waits : ℕ → List ℕ → SessionState → SessionState
 waits number line s = record s { waiting = s.waiting ++ (record { number = number; line = line }) ∷ [] }
+
+-- the newest will of a device is what counts
+abbrev pub with_will : DeviceWill → SessionState → SessionState
+with_will w s = record s { wills = with_newest w s.wills }
+
+-- it asks for the numbers of commands with their actions
+abbrev pub wants_numbers : SessionState → Bool
+wants_numbers s = option_map_or (λ subscription. subscription.has_numbers) s.actions false
 
 -- a text after a tag
 abbrev pub behind : Option Tag → List ℕ → List ℕ

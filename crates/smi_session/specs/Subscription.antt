@@ -5,10 +5,11 @@ use Rattle.smi_tree.specs.Hierarchy.{Hierarchy}
 use Rattle.smi_tree.specs.Lookups.{object_named}
 use Rattle.smi_session.specs.declared.tag.Tag.{Tag}
 
--- the tag of the line that asked for it, and the objects: all, or these
+-- the tag of the line that asked for it, the objects: all, or these; and whether the numbers of commands are told
 pub record SubscriptionState : Type 0 where
   pub tag : Option Tag
   pub objects : Option (List ℕ)
+  pub has_numbers : Bool
 
 abbrev pub includes_object : Option (List ℕ) → ℕ → Bool
 includes_object None object = true
@@ -31,5 +32,6 @@ abbrev pub listed : List ℕ → Option (List ℕ)
 listed [] = None
 listed (object ∷ objects) = Some (object ∷ objects)
 
-abbrev pub subscription_of : Hierarchy → Option Tag → List (List ℕ) → SubscriptionState
-subscription_of h tag names = record { tag = tag; objects = listed (objects_in h names) }
+abbrev pub subscription_of : Hierarchy → Option Tag → Bool → List (List ℕ) → SubscriptionState
+subscription_of h tag has_numbers names =
+    record { tag = tag; objects = listed (objects_in h names); has_numbers = has_numbers }

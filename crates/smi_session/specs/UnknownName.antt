@@ -7,11 +7,11 @@ use Rattle.smi_tree.specs.Hierarchy.{Hierarchy}
 use Rattle.smi_tree.specs.Lookups.{object_named}
 use Rattle.smi_tree.specs.Name.{number_of}
 use Rattle.smi_session.specs.Line.{kind_of}
-use Rattle.smi_session.specs.Query.{query_named}
+use Rattle.smi_session.specs.Query.{numbers_in, query_named}
 use Rattle.smi_session.specs.declared.line.LineKind.{LineKind}
 use Rattle.smi_session.specs.declared.line.LineKind.TheVariants as line
 use Rattle.smi_session.specs.declared.query.Query.{Query}
-use Rattle.smi_session.specs.declared.query.Query.TheVariants.{Counts, UnderWay, States, Follow, Actions, Help}
+use Rattle.smi_session.specs.declared.query.Query.TheVariants.{Counts, UnderWay, States, Follow, Actions, Modes, Help}
 use Rattle.smi_session.specs.declared.unknown_name.NameKind.{NameKind}
 use Rattle.smi_session.specs.declared.unknown_name.NameKind.TheVariants as kind
 
@@ -48,6 +48,10 @@ kinds_of_order verb =
     else (if bytes_eq verb (codes "watch") || bytes_eq verb (codes "unwatch") then (Some kind.Object, None)
     else (if bytes_eq verb (codes "do") then (Some kind.Domain, Some kind.Action)
     else (None, None))))
+
+-- a word is the verb of an order
+abbrev pub is_verb : List ℕ → Bool
+is_verb word = is_some (kinds_of_order word).0
 
 -- the first word is no such name
 abbrev pub unknown_first : Hierarchy → List ℕ → Option NameKind → List (List ℕ) → Option (List ℕ × List ℕ)
@@ -87,15 +91,18 @@ unknown_among h operators k (name ∷ names) =
 abbrev pub unknown_of_query : Hierarchy → List ℕ → Option Query → List (List ℕ) → Option (List ℕ × List ℕ)
 unknown_of_query h operators None names = None
 unknown_of_query h operators (Some Follow) names = unknown_among h operators kind.Object names
-unknown_of_query h operators (Some Actions) names = unknown_among h operators kind.Device names
+unknown_of_query h operators (Some Actions) names = unknown_among h operators kind.Device (numbers_in names).1
 unknown_of_query h operators (Some Counts) names = None
 unknown_of_query h operators (Some UnderWay) names = None
 unknown_of_query h operators (Some States) names = None
+unknown_of_query h operators (Some Modes) names = None
 unknown_of_query h operators (Some Help) names = None
 
 abbrev pub unknown_of_kind : Hierarchy → List ℕ → List ℕ → Option LineKind → List (List ℕ) → Option (List ℕ × List ℕ)
 unknown_of_kind h operators first (Some line.Order) names = unknown_of_order h operators names
 unknown_of_kind h operators first (Some line.Report) names =
+    unknown_of_two h operators (Some kind.Device, Some kind.State) names
+unknown_of_kind h operators first (Some line.Will) names =
     unknown_of_two h operators (Some kind.Device, Some kind.State) names
 unknown_of_kind h operators first (Some line.Show) names = unknown_among h operators kind.Object names
 unknown_of_kind h operators first None names = unknown_of_query h operators (query_named first) names

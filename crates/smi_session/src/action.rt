@@ -13,6 +13,12 @@ use smi_tree::Tree;
 pub struct StepAction<'a> {
     pub action: u16,
     pub devices: &'a [u16],
+    /// The domain at which its command has run.
+    pub domain: u16,
+    /// The epoch of the grant under which it has run.
+    pub epoch: u64,
+    /// The number of the command under that grant.
+    pub number: u32,
 }
 
 /// Returns the action of a command. None if its domain does not accept it, or the command is no action.
@@ -27,11 +33,14 @@ fn action_of(tree: &Tree, domain: u16, command: Command) -> Option<u16>
 
 /// Returns the action of a datagram whose command has run.
 fn run_action<'a>(tree: &'a Tree, body: &Body) -> Option<StepAction<'a>>
-    ensures { option_map (λ d. (d.action, d.devices.now)) result ≡ spec.run_action tree.now body.now }
+    ensures { option_map (λ d. (d.action, d.devices.now, d.domain, d.epoch, d.number)) result
+        ≡ spec.run_action tree.now body.now }
 {
     match *body {
         Body::Run {
             domain,
+            epoch,
+            number,
             command,
             ..
         } if 1 <= domain && domain <= tree.domain_count() => {
@@ -39,6 +48,9 @@ fn run_action<'a>(tree: &'a Tree, body: &Body) -> Option<StepAction<'a>>
             Some(StepAction {
                 action,
                 devices: tree.devices(domain),
+                domain,
+                epoch,
+                number,
             })
         }
         _ => None,
@@ -52,7 +64,8 @@ pub fn step_action<'a>(
     event: &Event<'_>,
     made: &Result<Heard, StepFault>,
 ) -> Option<StepAction<'a>>
-    ensures { option_map (λ d. (d.action, d.devices.now)) result ≡ spec.step_action tree.now event.now made.now }
+    ensures { option_map (λ d. (d.action, d.devices.now, d.domain, d.epoch, d.number)) result
+        ≡ spec.step_action tree.now event.now made.now }
 {
     match (event, made) {
         (Event::Datagram(bytes), Ok(Heard::Done)) => match decode(bytes) {

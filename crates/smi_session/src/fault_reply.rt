@@ -2,13 +2,15 @@
 
 ghost use Rattle.std.specs.Prelude.{◌≡◌, ◌++◌, ◌∷◌, [], OnOk, is_some};
 ghost use Rattle.std.specs.Fmt.{decimal};
+ghost use Rattle.smi_tree.specs.Text.{words};
+ghost use Rattle.smi_tree.specs.declared.fault.Fault.TheVariants as fault;
 ghost use Rattle.smi_session.specs.FaultReply as spec;
 ghost use Rattle.smi_session.specs.declared.session.ReplyStyle.TheVariants.{Script, Human};
 
 use crate::session::{ReplyStyle, Session};
 use crate::tag::TaggedLine;
-use crate::unknown_name::unknown_in;
-use smi_tree::{Fault, Tree};
+use crate::unknown_name::{is_verb, unknown_in};
+use smi_tree::{Fault, Tree, first_word};
 use std::alloc::AllocError;
 use std::io::Write;
 
@@ -26,6 +28,37 @@ fn words_of(fault: Fault) -> &'static [u8]
     }
 }
 
+/// Returns what is wrong with a line whose first word is unknown: an order lacks what it begins with, if that word is
+/// the verb of one.
+fn words_of_word(line: &[u8]) -> &'static [u8]
+    ensures { result.now ≡ spec.words_of_word (words line.now) }
+{
+    match first_word(line) {
+        Some((word, _)) if is_verb(word.text()) => b"an order begins with order OPERATOR",
+        _ => words_of(Fault::UnknownWord),
+    }
+}
+
+/// Adds which name of a line is unknown.
+fn push_unknown(
+    text: &mut Vec<u8>,
+    tree: &Tree,
+    operators: &[u16],
+    line: &[u8],
+) -> Result<(), AllocError>
+    ensures { OnOk result (text.new.items
+        ≡ text.old.items ++ spec.reason_of tree.now operators.now line.now fault.UnknownName) }
+{
+    match unknown_in(tree, operators, line) {
+        Some(unknown) => {
+            text.extend_from_slice(unknown.name)?;
+            text.push(b' ')?;
+            text.extend_from_slice(unknown.message)
+        }
+        None => text.extend_from_slice(words_of(Fault::UnknownName)),
+    }
+}
+
 /// Adds what is wrong with a line in words. If a name of it is unknown, that name is told.
 fn push_reason(
     text: &mut Vec<u8>,
@@ -36,17 +69,10 @@ fn push_reason(
 ) -> Result<(), AllocError>
     ensures { OnOk result (text.new.items ≡ text.old.items ++ spec.reason_of tree.now operators.now line.now fault) }
 {
-    let unknown = match fault {
-        Fault::UnknownName => unknown_in(tree, operators, line),
-        _ => None,
-    };
-    match unknown {
-        Some(unknown) => {
-            text.extend_from_slice(unknown.name)?;
-            text.push(b' ')?;
-            text.extend_from_slice(unknown.message)
-        }
-        None => text.extend_from_slice(words_of(fault)),
+    match fault {
+        Fault::UnknownName => push_unknown(text, tree, operators, line),
+        Fault::UnknownWord => text.extend_from_slice(words_of_word(line)),
+        _ => text.extend_from_slice(words_of(fault)),
     }
 }
 

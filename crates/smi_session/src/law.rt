@@ -1,6 +1,6 @@
 //! What follows for a client that types at a node.
 
-ghost use Rattle.std.specs.Prelude.{ℕ, ◌≡◌, ◌+◌, ◌==◌, ◌++◌, ◌∷◌, [], List, length, map, slice_get, true, Some};
+ghost use Rattle.std.specs.Prelude.{ℕ, ◌≡◌, ◌+◌, ◌++◌, ◌∷◌, [], List, length, map, slice_get, true, Some};
 ghost use Rattle.std.specs.Prelude.{None};
 ghost use Rattle.std.specs.List.{concat, list_any};
 ghost use Rattle.smi_grant.specs.declared.state.Shown.{Shown};
@@ -10,19 +10,24 @@ ghost use Rattle.smi_operator.specs.Sides.{submitted, told_to};
 ghost use Rattle.smi_protocol.specs.declared.order.Told.{Told};
 ghost use Rattle.smi_session.specs.LineSplitter.{lines_of, lines_of_blocks};
 ghost use Rattle.smi_session.specs.SeatQueue.{IsInStep, SeatQueueState, TellsOldest};
-ghost use Rattle.smi_session.specs.SeatTable.{IsOpened, SeatTableState, place_of};
+ghost use Rattle.smi_session.specs.Lane.{takes_of};
+ghost use Rattle.smi_session.specs.SeatTable.{AreQueuesOf, IsOpened, SeatTableState, lane_of};
 ghost use Rattle.smi_session.specs.Service.{Records, ServiceState};
 ghost use Rattle.smi_session.specs.StationEvent.{AreInOrder};
 ghost use Rattle.smi_session.specs.declared.seat_queue.PendingOrder.{PendingOrder};
+ghost use Rattle.smi_session.specs.declared.session.Deferred.{Deferred};
 ghost use Rattle.smi_session.specs.declared.station_event.StationEvent.{StationEvent};
 
-/// States that an order goes to the seat that the node serves as its operator's, and a report to the last one, which
-/// is nobody's. The queues of a table that was opened are over its seats, in their order.
+/// States that an order is submitted at a seat that the node serves as its operator's, and a report at the last one,
+/// which is nobody's. The queues of a table that was opened are over its seats, in their order.
 pub fn orders_go_to_their_operators_seat()
-    ensures operator { (operators : List ℕ) (operator : ℕ) → list_any (λ o. o == operator) operators ≡ true
-        → operator_of_seat operators (length operators + 1) (place_of operators (Some operator)) ≡ Some operator }
-    ensures nobody { (operators : List ℕ)
-        → operator_of_seat operators (length operators + 1) (place_of operators None) ≡ None }
+    ensures operator { (t : SeatTableState) (x : Deferred) (operator place : ℕ)
+        → AreQueuesOf t.operators t.queues → x.operator ≡ Some operator → lane_of t x ≡ Some place
+        → list_any (takes_of x.operator x.pending.order) t.queues ≡ true
+        → operator_of_seat t.operators (length t.operators + 1) place ≡ Some operator }
+    ensures nobody { (t : SeatTableState) (x : Deferred) (place : ℕ)
+        → AreQueuesOf t.operators t.queues → x.operator ≡ None → lane_of t x ≡ Some place
+        → operator_of_seat t.operators (length t.operators + 1) place ≡ None }
     ensures seats { (operators : List ℕ) (seats : List Seat) (reports : Seat) (t : SeatTableState)
         → IsOpened operators seats reports t → length operators ≡ length seats
         → map (λ q. q.seat) t.queues ≡ seats ++ reports ∷ [] }

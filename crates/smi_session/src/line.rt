@@ -1,4 +1,4 @@
-//! Lines that are those of a schedule, and `show`.
+//! Lines that are those of a schedule, `show` and `will`.
 
 ghost use Rattle.std.specs.Prelude.{◌≡◌, ◌≤◌, IsTrue};
 ghost use Rattle.smi_tree.specs.Lookups.{operators_of, station_count};
@@ -6,10 +6,11 @@ ghost use Rattle.smi_tree.specs.Text.{words};
 ghost use Rattle.smi_session.specs.Line as spec;
 
 use crate::request::SessionRequest;
+use crate::will::DeviceWill;
 use smi_base::MOST_BYTES_OF_A_LINE;
 use smi_protocol::{Deed, Item, Order};
 use smi_schedule::read_item;
-use smi_tree::{Fault, Tree, first_word, is_comment, one_name};
+use smi_tree::{Fault, Tree, first_word, is_comment, one_name, two_names};
 
 /// Returns true if an operator is one of a station.
 fn is_of(operators: &[u16], operator: u16) -> bool
@@ -47,6 +48,17 @@ fn shown(tree: &Tree, text: &[u8]) -> Result<SessionRequest, Fault>
     Ok(SessionRequest::Show(object))
 }
 
+/// Returns what the words after `will` ask.
+#[tactic(auto, unfolding(crate::specs::Line::willed))]
+fn willed(tree: &Tree, text: &[u8]) -> Result<SessionRequest, Fault>
+    ensures { result ≡ spec.willed tree.now (words text.now) }
+{
+    let (device, state) = two_names(text)?;
+    let device = tree.device_named(device.text()).ok_or(Fault::UnknownName)?;
+    let state = tree.state_named(state.text()).ok_or(Fault::UnknownName)?;
+    Ok(SessionRequest::Will(DeviceWill { device, state }))
+}
+
 /// Returns what an `order` or a `report` asks, as a schedule has it.
 #[tactic(auto, unfolding(crate::specs::Line::request_as_item))]
 fn request_as_item(
@@ -68,6 +80,7 @@ pub(crate) enum LineKind {
     Show,
     Order,
     Report,
+    Will,
 }
 
 /// Returns what a line is that begins with this word.
@@ -80,6 +93,8 @@ pub(crate) fn kind_of(word: &[u8]) -> Option<LineKind>
         Some(LineKind::Order)
     } else if word == b"report".as_slice() {
         Some(LineKind::Report)
+    } else if word == b"will".as_slice() {
+        Some(LineKind::Will)
     } else {
         None
     }
@@ -100,14 +115,15 @@ fn request_of(
         LineKind::Show => Ok(Some(shown(tree, rest)?)),
         LineKind::Order => request_as_item(tree, operators, line),
         LineKind::Report => request_as_item(tree, operators, line),
+        LineKind::Will => Ok(Some(willed(tree, rest)?)),
     }
 }
 
 /// Returns what a line asks of a station with these operators. None if it has no words or is a comment.
 ///
 /// The line is without its line feed and the carriage return before it. An `order` or a `report` is as in a schedule,
-/// and `show` is followed by an object's name. The faults are those of schedules, in their order. An operator of
-/// another station is unknown here. It takes no memory.
+/// `show` is followed by an object's name, and `will` by those of a device and a state. The faults are those of
+/// schedules, in their order. An operator of another station is unknown here. It takes no memory.
 #[tactic(auto, unfolding(crate::specs::Line::request_in))]
 pub fn request_in(
     tree: &Tree,

@@ -19,6 +19,8 @@ pub enum Query {
     Follow,
     /// Each action of operators at devices: at those that are named, or at all if none is.
     Actions,
+    /// How the domains of the node have their children.
+    Modes,
     /// What a line may ask.
     Help,
 }
@@ -37,6 +39,8 @@ pub(crate) fn query_named(word: &[u8]) -> Option<Query>
         Some(Query::Follow)
     } else if word == b"actions".as_slice() {
         Some(Query::Actions)
+    } else if word == b"modes".as_slice() {
+        Some(Query::Modes)
     } else if word == b"help".as_slice() {
         Some(Query::Help)
     } else {
@@ -61,12 +65,29 @@ fn is_way(text: &[u8]) -> bool
     }
 }
 
+/// Returns whether words begin with `--with numbers`, and the words behind that, or all of them.
+pub(crate) fn numbers_in(text: &[u8]) -> (bool, &[u8])
+    ensures { (result.0, words result.1.now) ≡ spec.numbers_in (words text.now) }
+{
+    let Some((first, rest)) = first_word(text) else {
+        return (false, text);
+    };
+    let Some((second, names)) = first_word(rest) else {
+        return (false, text);
+    };
+    if first.text() == b"--with".as_slice() && second.text() == b"numbers".as_slice() {
+        (true, names)
+    } else {
+        (false, text)
+    }
+}
+
 /// Returns true if a query may have these further words.
 fn may_have(query: Query, text: &[u8]) -> bool
     ensures { result ≡ spec.may_have query (words text.now) }
 {
     match query {
-        Query::Counts | Query::States | Query::Help => has_no_words(text),
+        Query::Counts | Query::States | Query::Modes | Query::Help => has_no_words(text),
         Query::UnderWay => is_way(text),
         Query::Follow | Query::Actions => true,
     }

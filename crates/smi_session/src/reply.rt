@@ -1,42 +1,95 @@
 //! What a session is told: how its orders ended, and what it asks of the whole node.
 
-ghost use Rattle.std.specs.Prelude.{◌≡◌, OnOk, IfOk, codes};
+ghost use Rattle.std.specs.Prelude.{◌≡◌, OnOk, IfOk, codes, length, option_map};
+ghost use Rattle.smi_tree.specs.Hierarchy.{entry};
 ghost use Rattle.smi_session.specs.Reply as spec;
-ghost use Rattle.smi_session.specs.Service.{told_by};
+ghost use Rattle.smi_session.specs.Service.{ending_text, replaced_text, told_by};
 ghost use Rattle.smi_session.specs.Session.{OnlyReplies};
 ghost use Rattle.smi_tree.specs.Text.{words};
 
-use crate::query::Query;
+use crate::mode::{ChildState, write_mode};
+use crate::query::{Query, numbers_in};
 use crate::request::behind_first;
 use crate::seat_queue::SeatQueue;
+use crate::seat_table::SeatTable;
 use crate::service::SessionService;
-use crate::session::Session;
+use crate::session::{Deferred, Session};
 use crate::state_reader::StateReader;
+use crate::station_event::{object_name, push_called};
 use crate::subscription::{Subscription, subscription_in};
 use crate::tag::{Tag, TaggedLine};
-use smi_protocol::{Entry, Line, Told};
+use smi_node::REPLACED;
+use smi_protocol::{Entry, Line, Order, Told};
 use smi_schedule::{spell, spell_board, spell_report, spell_waiting};
 use smi_tree::Tree;
 use smi_view::{Picture, Sight};
 use std::alloc::AllocError;
+use std::collections::VecDeque;
 use std::io::Write;
 use std::time::Instant;
 
 /// What a line may ask, a line each, with its line feed.
-const HELP: [&str; 12] = [
+const HELP: [&str; 15] = [
     "help order OPERATOR take|drop|ask DOMAIN\n",
     "help order OPERATOR do DOMAIN ACTION\n",
     "help order OPERATOR include|exclude|manual|ignore DOMAIN CHILD\n",
     "help order OPERATOR watch|unwatch OBJECT\n",
     "help report DEVICE STATE\n",
+    "help will DEVICE STATE -- the node reports this state when the connection ends\n",
     "help show OBJECT -- the last state that the station took of an object that it watches\n",
     "help states -- the newest state of each object that the station keeps or watches\n",
     "help follow [OBJECT ..] -- these states and each later one, of some objects or of all\n",
     "help actions [DEVICE ..] -- each action that is done at some devices from now on, or at all\n",
+    "help actions --with numbers [DEVICE ..] -- the same, with domain, epoch and number of the command\n",
+    "help modes -- how the domains of this node have their children: included, manual, ignored or out\n",
     "help under way -- the orders that are not answered yet, with their seconds\n",
     "help counts -- what this node has counted since it began\n",
     "help @TAG LINE -- any of these at once, its answers behind the tag\n",
 ];
+
+/// Returns the name of an operator, by its number.
+fn operator_name(tree: &Tree, number: u16) -> Option<&[u8]>
+    ensures { option_map (λ n. n.now) result ≡ entry tree.now.operator_names number }
+{
+    if 1 <= number && number <= tree.operator_count() {
+        Some(tree.operator_name(number))
+    } else {
+        None
+    }
+}
+
+/// Puts the line of a question that another one of its operator has replaced into a text.
+fn write_replaced(
+    text: &mut Vec<u8>,
+    tree: &Tree,
+    operator: u16,
+    domain: u16,
+) -> Result<(), AllocError>
+    ensures { OnOk result (text.new.items ≡ replaced_text tree.now operator domain) }
+{
+    text.clear();
+    text.extend_from_slice(b"replaced")?;
+    push_called(text, operator_name(tree, operator), operator)?;
+    text.extend_from_slice(b" ask")?;
+    push_called(text, object_name(tree, domain), domain)?;
+    text.push(b'\n')?;
+    Ok(())
+}
+
+/// Puts how an order of an operator ended into a text, in place of what was there.
+fn write_ending(
+    text: &mut Vec<u8>,
+    tree: &Tree,
+    operator: u16,
+    told: Told,
+) -> Result<(), AllocError>
+    ensures { OnOk result (text.new.items ≡ ending_text tree.now operator told) }
+{
+    match told.order {
+        Order::Ask(domain) if told.code == REPLACED => write_replaced(text, tree, operator, domain),
+        _ => spell(text, tree, &Line::Entry(Entry::Told { operator, told })),
+    }
+}
 
 /// Puts how an order of an operator ended into a text, in place of what was there; or how a report did, which is
 /// nobody's.
@@ -51,7 +104,7 @@ pub(crate) fn write_told(
     ensures { OnOk result (text.new.items ≡ told_by tree.now operator told) }
 {
     match operator {
-        Some(operator) => spell(text, tree, &Line::Entry(Entry::Told { operator, told })),
+        Some(operator) => write_ending(text, tree, operator, told),
         None => spell_report(text, tree, &told),
     }
 }
@@ -137,6 +190,71 @@ fn push_queue(
     Ok(queue.pending().len())
 }
 
+/// Lists the orders of seats that are under way, and returns how many they are.
+fn push_queues(
+    text: &mut Vec<u8>,
+    tree: &Tree,
+    now: Option<Instant>,
+    session: &mut Session,
+    tag: Option<Tag>,
+    queues: &[SeatQueue],
+) -> Result<usize, AllocError>
+    ensures told { OnOk result (session.new ≡ spec.with_queues tree.now tag now queues.now session.old) }
+    ensures count { IfOk result (λ count. count ≡ spec.listed_beside 0 queues.now) }
+{
+    let mut count: usize = 0;
+    for queue in queues {
+        let more = push_queue(text, tree, now, session, tag, queue)?;
+        count = count.saturating_add(more);
+    }
+    Ok(count)
+}
+
+/// Lists an order that waits for a seat, and returns how many that are: one, or none if it is a report.
+fn push_held_one(
+    text: &mut Vec<u8>,
+    tree: &Tree,
+    now: Option<Instant>,
+    session: &mut Session,
+    tag: Option<Tag>,
+    held: Deferred,
+) -> Result<usize, AllocError>
+    ensures told { OnOk result (session.new ≡ spec.with_held_one tree.now tag now held session.old) }
+    ensures count { IfOk result (λ count. count ≡ spec.one_if_listed held) }
+{
+    let Deferred { operator, pending } = held;
+    match operator {
+        Some(operator) => {
+            let seconds = seconds_since(now, pending.since);
+            spell_waiting(text, tree, operator, pending.order, seconds)?;
+            session.push_reply(tag, text.as_slice())?;
+            Ok(1)
+        }
+        None => Ok(0),
+    }
+}
+
+/// Lists the orders that wait for a seat, and returns this many and how many they are.
+fn push_held(
+    text: &mut Vec<u8>,
+    tree: &Tree,
+    now: Option<Instant>,
+    session: &mut Session,
+    tag: Option<Tag>,
+    listed: (usize, &VecDeque<Deferred>),
+) -> Result<usize, AllocError>
+    ensures told { OnOk result (session.new ≡ spec.with_held tree.now tag now listed.entry.1.now.items session.old) }
+    ensures count { IfOk result (λ count. count ≡ spec.held_beside listed.entry.0 listed.entry.1.now.items) }
+{
+    let (count, held) = listed;
+    let mut count = count;
+    for it in held.iter() {
+        let more = push_held_one(text, tree, now, session, tag, *it)?;
+        count = count.saturating_add(more);
+    }
+    Ok(count)
+}
+
 /// Lists the orders of operators that are under way, a line each, and at the end how many they are.
 fn push_under_way(
     text: &mut Vec<u8>,
@@ -144,16 +262,12 @@ fn push_under_way(
     now: Option<Instant>,
     session: &mut Session,
     tag: Option<Tag>,
-    queues: &[SeatQueue],
+    seats: &SeatTable,
 ) -> Result<(), AllocError>
-    ensures { OnOk result (session.new ≡ spec.with_count tag (codes "under way") (spec.listed_beside 0 queues.now)
-        (spec.with_queues tree.now tag now queues.now session.old)) }
+    ensures { OnOk result (session.new ≡ spec.with_under_way tree.now tag now seats.now session.old) }
 {
-    let mut count: usize = 0;
-    for queue in queues {
-        let more = push_queue(text, tree, now, session, tag, queue)?;
-        count = count.saturating_add(more);
-    }
+    let count = push_queues(text, tree, now, session, tag, seats.queues())?;
+    let count = push_held(text, tree, now, session, tag, (count, seats.held()))?;
     push_count(text, session, tag, b"under way", count)
 }
 
@@ -219,6 +333,24 @@ fn push_followed(
     Ok(())
 }
 
+/// Lists how the domains of a node have their children, a line each, and at the end how many they are.
+fn push_modes(
+    text: &mut Vec<u8>,
+    tree: &Tree,
+    session: &mut Session,
+    tag: Option<Tag>,
+    states: &[ChildState],
+) -> Result<(), AllocError>
+    ensures { OnOk result (session.new ≡ spec.with_count tag (codes "modes") (length states.now)
+        (spec.with_modes tree.now tag states.now session.old)) }
+{
+    for state in states {
+        write_mode(text, tree, *state)?;
+        session.push_reply(tag, text.as_slice())?;
+    }
+    push_count(text, session, tag, b"modes", states.len())
+}
+
 /// Lists what a line may ask, and at the end how many lines that were.
 fn push_help(text: &mut Vec<u8>, session: &mut Session, tag: Option<Tag>) -> Result<(), AllocError>
     ensures { OnlyReplies session.old session.new }
@@ -266,16 +398,19 @@ impl<G: StateReader + Drop> SessionService<G> {
                 push_drops(text, self.drops)?;
                 session.push_reply(tag, text.as_slice())
             }
-            Query::UnderWay => push_under_way(text, tree, now, session, tag, self.seats.queues()),
+            Query::UnderWay => push_under_way(text, tree, now, session, tag, &self.seats),
+            Query::Modes => push_modes(text, tree, session, tag, self.modes.as_slice()),
             Query::States => push_states(text, tree, &self.picture, session, tag),
             Query::Help => push_help(text, session, tag),
             Query::Follow => {
-                let subscription = subscription_in(self.alloc, tree, tag, behind_first(line.text))?;
+                let names = behind_first(line.text);
+                let subscription = subscription_in(self.alloc, tree, tag, false, names)?;
                 session.follow_states(subscription);
                 push_followed(text, tree, &self.picture, session)
             }
             Query::Actions => {
-                let subscription = subscription_in(self.alloc, tree, tag, behind_first(line.text))?;
+                let (has_numbers, names) = numbers_in(behind_first(line.text));
+                let subscription = subscription_in(self.alloc, tree, tag, has_numbers, names)?;
                 let count = followed_count(tree, &subscription);
                 session.follow_actions(subscription);
                 push_count(text, session, tag, b"actions", count)

@@ -5,8 +5,9 @@ ghost use Rattle.smi_tree.specs.Text.{words};
 ghost use Rattle.smi_session.specs.Request as spec;
 
 use crate::line::request_in;
-use crate::query::{Query, query_in};
+use crate::query::{Query, numbers_in, query_in};
 use crate::session::ReplyStyle;
+use crate::will::DeviceWill;
 use smi_base::MOST_BYTES_OF_A_LINE;
 use smi_protocol::Order;
 use smi_tree::{Fault, Tree, first_word};
@@ -20,6 +21,8 @@ pub enum SessionRequest {
     Show(u16),
     /// Something of the whole node.
     Query(Query),
+    /// What the node reports when the session ends: the state of a device.
+    Will(DeviceWill),
 }
 
 /// Returns true if a line may ask of the whole node, with a tag or without one.
@@ -50,7 +53,7 @@ fn may_name(tree: &Tree, query: Query, name: &[u8]) -> bool
     match query {
         Query::Follow => tree.object_named(name).is_some(),
         Query::Actions => tree.device_named(name).is_some(),
-        Query::Counts | Query::UnderWay | Query::States | Query::Help => false,
+        Query::Counts | Query::UnderWay | Query::States | Query::Modes | Query::Help => false,
     }
 }
 
@@ -95,8 +98,11 @@ fn query_request(tree: &Tree, query: Query, text: &[u8]) -> Result<SessionReques
 {
     match query {
         Query::Follow => named_request(tree, Query::Follow, behind_first(text)),
-        Query::Actions => named_request(tree, Query::Actions, behind_first(text)),
-        Query::Counts | Query::UnderWay | Query::States | Query::Help => {
+        Query::Actions => {
+            let (_, names) = numbers_in(behind_first(text));
+            named_request(tree, Query::Actions, names)
+        }
+        Query::Counts | Query::UnderWay | Query::States | Query::Modes | Query::Help => {
             Ok(SessionRequest::Query(query))
         }
     }

@@ -1,5 +1,6 @@
 //! A seat, and the orders given there that are not answered yet.
 
+use crate::lane::{Lane, are_of_one_domain, is_same_operator};
 use crate::tag::Tag;
 use smi_operator::Seat;
 use smi_protocol::{Order, Told};
@@ -25,10 +26,11 @@ pub struct PendingOrder {
 
 /// A seat with its orders that are not answered yet, the oldest first. The station answers them in this order.
 ///
-/// Contracts see the operator, the seat and these orders.
+/// Contracts see the operator, the lane, the seat and these orders.
 #[derive(Drop)]
 pub struct SeatQueue {
     operator: Option<u16>,
+    lane: Lane,
     seat: Seat,
     pending: VecDeque<PendingOrder>,
 }
@@ -41,7 +43,7 @@ impl Model for SeatQueue {
 
     ghost Value = { SeatQueueState };
 
-    ghost view = { λ q. record { operator = q.operator; seat = q.seat; pending = q.pending.items } };
+    ghost view = { λ q. record { operator = q.operator; lane = q.lane; seat = q.seat; pending = q.pending.items } };
 
     ghost invariant = { λ q. MOST_PENDING ≤ deque_capacity q.pending };
 }
@@ -51,16 +53,23 @@ impl SeatQueue {
     ghost use Rattle.std.specs.Prelude.{◌≡◌, ◌==◌, ◌<◌, ◌∷◌, [], length, IsOk, IfOk, IfErr, IfNone, IfSome, OnOk};
     ghost use Rattle.smi_operator.specs.Sides.{submitted};
     ghost use Rattle.smi_session.specs.SeatQueue.{IsInStep, IsUnused, Keeps, Submits, TellsOldest, new_queue};
+    ghost use Rattle.smi_session.specs.Lane.{are_of_one_domain, is_about, may_take, takes_of};
 
     /// Makes the queue of an operator's seat, or of nobody's, at which nothing is pending.
     ///
     /// Its error is that memory was refused.
-    pub fn new(alloc: Global, operator: Option<u16>, seat: Seat) -> Result<SeatQueue, AllocError>
-        ensures new { IfOk result (λ q. q ≡ new_queue operator seat) }
+    pub fn new(
+        alloc: Global,
+        operator: Option<u16>,
+        lane: Lane,
+        seat: Seat,
+    ) -> Result<SeatQueue, AllocError>
+        ensures new { IfOk result (λ q. q ≡ new_queue operator lane seat) }
         ensures step { IfOk result (λ q. IsUnused seat → IsInStep q) }
     {
         Ok(SeatQueue {
             operator,
+            lane,
             seat,
             pending: VecDeque::with_capacity(alloc, MOST_PENDING)?,
         })
@@ -94,6 +103,36 @@ impl SeatQueue {
         self.pending
             .iter()
             .any(|pending| pending.session == session)
+    }
+
+    /// Returns true if an order about the same domain as this one, and of the same operator, is pending.
+    pub(crate) fn is_about(&self, operator: Option<u16>, order: Order) -> bool
+        ensures { result ≡ is_about operator order self.now }
+    {
+        is_same_operator(self.operator, operator) && self.has_about(order)
+    }
+
+    /// Returns true if an order about the same domain as this one is pending.
+    fn has_about(&self, order: Order) -> bool
+        ensures { result ≡ list_any (λ p. are_of_one_domain p.order order) self.now.pending }
+    {
+        self.pending
+            .iter()
+            .any(|pending| are_of_one_domain(pending.order, order))
+    }
+
+    /// Returns true if its lane takes such an order of this operator.
+    pub(crate) fn takes(&self, operator: Option<u16>, order: Order) -> bool
+        ensures { result ≡ takes_of operator order self.now }
+    {
+        is_same_operator(self.operator, operator) && self.lane.takes(order)
+    }
+
+    /// Returns true if its lane takes such an order of this operator, and none is pending that would hold it up.
+    pub(crate) fn may_take(&self, operator: Option<u16>, order: Order) -> bool
+        ensures { result ≡ may_take operator order self.now }
+    {
+        self.takes(operator, order) && (self.lane.is_shared() || self.pending.is_empty())
     }
 
     /// Submits an order. Hands it back if the seat is full: then all is as before.

@@ -1,37 +1,60 @@
 //! The seats of a station, each with its queue.
 
-ghost use Rattle.std.specs.Prelude.{◌≡◌, ◌≤◌, ◌==◌, ◌++◌, ◌∷◌, [], OnOk, length};
-ghost use Rattle.std.specs.List.{position_or_len};
+ghost use Rattle.std.specs.Prelude.{◌≡◌, ◌==◌, ◌<◌, ◌++◌, ◌∷◌, [], IfSome, OnOk, drop, length, take};
+ghost use Rattle.std.proofs.Common.{deque_capacity};
+ghost use Rattle.std.specs.List.{list_all, list_any, position};
+ghost use Rattle.smi_session.specs.Lane.{is_about, may_take, takes_of};
 ghost use Rattle.smi_session.specs.SeatQueue.{new_queue};
 
+use crate::lane::{Lane, lane_at};
 use crate::seat_queue::{PendingOrder, SeatQueue};
 use crate::session::{Deferred, Session};
 use crate::tag::Tag;
+use crate::will::DeviceWill;
 use smi_operator::Seat;
 use smi_protocol::{Order, Told};
 use std::alloc::{AllocError, Global};
+use std::collections::VecDeque;
 use std::marker::Model;
 use std::time::Instant;
 
-/// The queues of a station's seats: one for each of its operators, in their order, and last the one for reports, which
-/// is nobody's.
+/// The most orders that wait for a seat. Then their sessions keep further ones.
+const MOST_HELD: usize = 64;
+
+/// The queues of a station's seats: seven for each of its operators, in their order, and last the one for reports,
+/// which is nobody's.
 ///
-/// Contracts see the operators, the queues, and whether an order was given since that was last asked.
+/// An order goes where an order of its operator about the same domain is pending, so that these keep their order, and
+/// else to an idle seat of the operator. If none is idle, it waits for one: so an order that is not answered for long
+/// holds up those about its own domain, and no other as long as fewer than four wait. A seat becomes idle by an answer
+/// alone, and then those that wait have it first: so no order overtakes another about the same domain.
+///
+/// Contracts see the operators by seat, the queues, the orders that wait for a seat, and whether an order was given
+/// since that was last asked.
 #[derive(Drop)]
 pub struct SeatTable {
     operators: Vec<u16>,
     queues: Vec<SeatQueue>,
+    /// The orders that wait for a seat, the oldest first.
+    held: VecDeque<Deferred>,
     has_given: bool,
 }
 
 impl Model for SeatTable {
+    ghost use Rattle.std.specs.Prelude.{◌≤◌};
+    ghost use Rattle.std.proofs.Common.{deque_capacity};
     ghost use Rattle.smi_session.specs.SeatTable.{AreQueuesOf, SeatTableState};
 
     ghost Value = { SeatTableState };
 
-    ghost view = { λ t. record { operators = t.operators.items; queues = t.queues.items; has_given = t.has_given } };
+    ghost view = { λ t. record {
+      operators = t.operators.items;
+      queues = t.queues.items;
+      held = t.held.items;
+      has_given = t.has_given;
+    } };
 
-    ghost invariant = { λ t. AreQueuesOf t.operators.items t.queues.items };
+    ghost invariant = { λ t. AreQueuesOf t.operators.items t.queues.items × (64 ≤ deque_capacity t.held) };
 }
 
 /// An answer of a seat.
@@ -44,19 +67,6 @@ pub struct SeatAnswer {
     pub told: Told,
 }
 
-/// Returns the place of an operator among others. All of them if the operator is none.
-fn place_among(operators: &[u16], operator: u16) -> usize
-    ensures place { result ≡ position_or_len (λ o. o == operator) operators.now }
-    ensures within { result ≤ length operators.now }
-{
-    for (place, other) in operators.iter().enumerate() {
-        if *other == operator {
-            return place;
-        }
-    }
-    operators.len()
-}
-
 /// Adds the queue of a seat, at which nothing is pending.
 ///
 /// Its error is that memory was refused.
@@ -64,24 +74,88 @@ fn add_queue(
     alloc: Global,
     queues: &mut Vec<SeatQueue>,
     operator: Option<u16>,
+    lane: Lane,
     seat: Seat,
 ) -> Result<(), AllocError>
-    ensures { OnOk result (queues.new.items ≡ queues.old.items ++ new_queue operator seat ∷ []) }
+    ensures { OnOk result (queues.new.items ≡ queues.old.items ++ new_queue operator lane seat ∷ []) }
 {
-    let queue = SeatQueue::new(alloc, operator, seat)?;
+    let queue = SeatQueue::new(alloc, operator, lane, seat)?;
     queues.push(queue)?;
     Ok(())
 }
 
+/// Returns the place of the first queue at which an order about the same domain is pending.
+#[tactic(auto, using(crate::proofs::Seating::within_of))]
+fn place_about(queues: &[SeatQueue], operator: Option<u16>, order: Order) -> Option<usize>
+    ensures place { result ≡ position (is_about operator order) queues.now }
+    ensures within { IfSome result (λ place. place < length queues.now) }
+{
+    queues
+        .iter()
+        .position(|queue| queue.is_about(operator, order))
+}
+
+/// Returns the place of the first queue that may take an order.
+#[tactic(auto, using(crate::proofs::Seating::within_of))]
+fn place_free(queues: &[SeatQueue], operator: Option<u16>, order: Order) -> Option<usize>
+    ensures place { result ≡ position (may_take operator order) queues.now }
+    ensures within { IfSome result (λ place. place < length queues.now) }
+{
+    queues
+        .iter()
+        .position(|queue| queue.may_take(operator, order))
+}
+
+/// Returns true if one of these queues takes such an order.
+fn any_takes(queues: &[SeatQueue], operator: Option<u16>, order: Order) -> bool
+    ensures { result ≡ list_any (takes_of operator order) queues.now }
+{
+    queues.iter().any(|queue| queue.takes(operator, order))
+}
+
+/// Returns true if no order is pending at these queues.
+fn are_idle(queues: &[SeatQueue]) -> bool
+    ensures { result ≡ list_all (λ q. length q.pending == 0) queues.now }
+{
+    queues.iter().all(|queue| queue.is_idle())
+}
+
+/// Returns true if an order of this session is pending at these queues.
+fn have_pending(queues: &[SeatQueue], session: u64) -> bool
+    ensures { result ≡ list_any (λ q. list_any (λ p. p.session == session) q.pending) queues.now }
+{
+    queues.iter().any(|queue| queue.has_pending(session))
+}
+
+/// Returns true if one of these orders is of this session.
+fn are_of(held: &VecDeque<Deferred>, session: u64) -> bool
+    ensures { result ≡ list_any (λ x. x.pending.session == session) held.now.items }
+{
+    held.iter().any(|it| it.pending.session == session)
+}
+
+/// Moves the oldest of these orders after the others.
+fn move_back(held: &mut VecDeque<Deferred>)
+    ensures items { held.new.items ≡ drop 1 held.old.items ++ take 1 held.old.items }
+    ensures room { deque_capacity held.new ≡ deque_capacity held.old }
+{
+    if let Some(order) = held.pop_front() {
+        held.push_back_reserved(order);
+    }
+}
+
 impl SeatTable {
-    ghost use Rattle.std.specs.Prelude.{◌≡◌, ◌<◌, None, IfOk, IfSome, IfNone, false, length};
+    ghost use Rattle.std.specs.Prelude.{◌≡◌, ◌<◌, None, IfOk, IfSome, IfNone, OnOk, false, length};
     ghost use Rattle.smi_session.specs.SeatQueue.{Keeps};
-    ghost use Rattle.smi_session.specs.SeatTable.{ChangesAt, Gives, GivesDeferred, IsOpened, TakesAnswer};
-    ghost use Rattle.smi_session.specs.SeatTable.{is_idle, has_pending, place_of};
+    ghost use Rattle.smi_session.specs.SeatTable.{Attempts, ChangesAt, Gives, GivesDeferred, GivesHeld};
+    ghost use Rattle.smi_session.specs.SeatTable.{GivesOldest};
+    ghost use Rattle.smi_session.specs.SeatTable.{GivesIt, IsOpened, TakesAnswer, TakesNext, WaitsUnless, has_pending};
+    ghost use Rattle.smi_session.specs.SeatTable.{Reports, ReportsAll, is_idle, lane_of, report_of};
     ghost use Rattle.smi_session.specs.Session.{beginning};
 
-    /// Opens the seats: each operator gets the one at the operator's place, as far as there are both, and the last one
-    /// is for reports.
+    /// Opens the seats of operators by seat: each gets the seats at the operator's places, as far as there are both,
+    /// and the last one is for reports. Of each seven seats from the first four are for orders, one is for watches, and
+    /// two are for questions.
     ///
     /// Its error is that memory was refused.
     pub fn open(
@@ -95,22 +169,23 @@ impl SeatTable {
         let mut own = Vec::new(alloc);
         let mut queues = Vec::new(alloc);
         let mut left = seats.into_iter();
-        for operator in operators {
+        for (number, operator) in operators.iter().enumerate() {
             let Some(seat) = left.next() else {
                 break;
             };
             own.push(*operator)?;
-            add_queue(alloc, &mut queues, Some(*operator), seat)?;
+            add_queue(alloc, &mut queues, Some(*operator), lane_at(number), seat)?;
         }
-        add_queue(alloc, &mut queues, None, reports)?;
+        add_queue(alloc, &mut queues, None, Lane::Any, reports)?;
         Ok(SeatTable {
             operators: own,
             queues,
+            held: VecDeque::with_capacity(alloc, MOST_HELD)?,
             has_given: false,
         })
     }
 
-    /// Returns the operators that have a seat.
+    /// Returns the operators by seat.
     pub fn operators(&self) -> &[u16]
         ensures { result.now ≡ self.now.operators }
     {
@@ -124,18 +199,25 @@ impl SeatTable {
         self.queues.as_slice()
     }
 
+    /// Returns the orders that wait for a seat, the oldest first.
+    pub fn held(&self) -> &VecDeque<Deferred>
+        ensures { result.now.items ≡ self.now.held }
+    {
+        &self.held
+    }
+
     /// Returns true if no order is pending.
     pub fn is_idle(&self) -> bool
         ensures { result ≡ is_idle self.now }
     {
-        self.queues.iter().all(|queue| queue.is_idle())
+        are_idle(self.queues.as_slice()) && self.held.is_empty()
     }
 
     /// Returns true if an order of this session is pending.
     pub fn has_pending(&self, session: u64) -> bool
         ensures { result ≡ has_pending self.now session }
     {
-        self.queues.iter().any(|queue| queue.has_pending(session))
+        have_pending(self.queues.as_slice(), session) || are_of(&self.held, session)
     }
 
     /// Returns true if an order was given since this was last asked: then the station has to look at its seats.
@@ -148,25 +230,82 @@ impl SeatTable {
         has_given
     }
 
-    /// Returns the place of an operator's queue, or of the one for reports.
-    fn place_of(&self, operator: Option<u16>) -> usize
-        ensures place { result ≡ place_of self.now.operators operator }
-        ensures within { result < length self.now.queues }
+    /// Returns the place of the seat that takes an order now. None if the order has to wait for one.
+    fn lane_of(&self, order: Deferred) -> Option<usize>
+        ensures place { result ≡ lane_of self.now order }
+        ensures within { IfSome result (λ place. place < length self.now.queues) }
     {
-        match operator {
-            Some(operator) => place_among(self.operators.as_slice(), operator),
-            None => self.operators.len(),
+        let Deferred { operator, pending } = order;
+        let queues = self.queues.as_slice();
+        if let Some(place) = place_about(queues, operator, pending.order) {
+            return Some(place);
+        }
+        if let Some(place) = place_free(queues, operator, pending.order) {
+            return Some(place);
+        }
+        if any_takes(queues, operator, pending.order) {
+            None
+        } else {
+            Some(self.operators.len())
         }
     }
 
-    /// Gives an order at the seat of its operator. If the seat is full, the session keeps the order as deferred.
-    fn give(&mut self, session: &mut Session, operator: Option<u16>, pending: PendingOrder)
-        ensures { Gives operator pending self.old session.old self.new session.new }
+    /// Submits an order where a seat takes it now. Returns false if none does, or it has no room.
+    fn attempt(&mut self, order: Deferred) -> bool
+        ensures { Attempts order self.old self.new result }
     {
-        let place = self.place_of(operator);
-        match self.queues[place].give(pending) {
-            Ok(()) => self.has_given = true,
-            Err(pending) => session.defer(operator, pending),
+        match self.lane_of(order) {
+            Some(place) => match self.queues[place].give(order.pending) {
+                Ok(()) => {
+                    self.has_given = true;
+                    true
+                }
+                Err(_) => false,
+            },
+            None => false,
+        }
+    }
+
+    /// Has an order wait for a seat. If too many do, its session keeps it as deferred.
+    fn hold(&mut self, session: &mut Session, order: Deferred)
+        ensures { WaitsUnless false order self.old session.old self.new session.new }
+    {
+        if self.held.len() < MOST_HELD {
+            self.held.push_back_reserved(order);
+        } else {
+            session.defer(order);
+        }
+    }
+
+    /// Gives an order: at a seat that takes it now, or it waits for one.
+    fn give(&mut self, session: &mut Session, order: Deferred)
+        ensures { GivesIt order self.old session.old self.new session.new }
+    {
+        if !self.attempt(order) {
+            self.hold(session, order);
+        }
+    }
+
+    /// Submits the oldest order that waits, if a seat takes it now. Else it waits after the others.
+    fn give_oldest(&mut self)
+        ensures { GivesOldest self.old self.new }
+    {
+        let oldest = self.held.front().copied();
+        if let Some(order) = oldest {
+            if self.attempt(order) {
+                let _ = self.held.pop_front();
+            } else {
+                move_back(&mut self.held);
+            }
+        }
+    }
+
+    /// Submits each order that waits, if a seat takes it now. The others wait in their order.
+    fn give_held(&mut self)
+        ensures { GivesHeld (length self.old.held) self.old self.new }
+    {
+        for _ in 0..self.held.len() {
+            self.give_oldest();
         }
     }
 
@@ -174,8 +313,8 @@ impl SeatTable {
     pub fn give_deferred(&mut self, session: &mut Session)
         ensures { GivesDeferred self.old session.old self.new session.new }
     {
-        if let Some(Deferred { operator, pending }) = session.take_deferred() {
-            self.give(session, operator, pending);
+        if let Some(order) = session.take_deferred() {
+            self.give(session, order);
         }
     }
 
@@ -198,11 +337,58 @@ impl SeatTable {
             order,
             since: now,
         };
-        self.give(session, operator, pending);
+        self.give(session, Deferred { operator, pending });
+    }
+
+    /// Reports a state of a device for a session that ends. The report waits for its seat, however many orders do.
+    ///
+    /// Its error is that memory was refused: then it was not reported.
+    pub fn report(
+        &mut self,
+        now: Option<Instant>,
+        session: u64,
+        will: DeviceWill,
+    ) -> Result<(), AllocError>
+        ensures ok { OnOk result (Reports (report_of now session will) self.old self.new) }
+    {
+        let pending = PendingOrder {
+            session,
+            tag: None,
+            order: Order::Report(will.device, will.state),
+            since: now,
+        };
+        let order = Deferred {
+            operator: None,
+            pending,
+        };
+        if self.attempt(order) {
+            return Ok(());
+        }
+        match self.held.push_back(order) {
+            Ok(()) => Ok(()),
+            Err(_) => Err(AllocError),
+        }
+    }
+
+    /// Reports all these states of devices for a session that ends, one after the other.
+    ///
+    /// Its error is that memory was refused: then some are not reported.
+    pub fn report_all(
+        &mut self,
+        now: Option<Instant>,
+        session: u64,
+        wills: &[DeviceWill],
+    ) -> Result<(), AllocError>
+        ensures { OnOk result (ReportsAll now session wills.now self.old self.new) }
+    {
+        for will in wills {
+            self.report(now, session, *will)?;
+        }
+        Ok(())
     }
 
     /// Returns the next answer of the seat at a place, from 0. None if there is no answer yet, or no such seat.
-    pub fn next_answer(&mut self, place: usize) -> Option<SeatAnswer>
+    fn take_answer(&mut self, place: usize) -> Option<SeatAnswer>
         ensures some { IfSome result (λ r. ChangesAt place (TakesAnswer r) self.old self.new) }
         ensures none { IfNone result (ChangesAt place Keeps self.old self.new) }
         ensures given { self.new.has_given ≡ self.old.has_given }
@@ -218,5 +404,17 @@ impl SeatTable {
             operator,
             told,
         })
+    }
+
+    /// Returns the next answer of the seat at a place, from 0. None if there is no answer yet, or no such seat. Orders
+    /// that waited for a seat may then have one.
+    pub fn next_answer(&mut self, place: usize) -> Option<SeatAnswer>
+        ensures some { IfSome result (λ r. TakesNext place r self.old self.new) }
+        ensures none { IfNone result (ChangesAt place Keeps self.old self.new
+            × (self.new.has_given ≡ self.old.has_given)) }
+    {
+        let answer = self.take_answer(place)?;
+        self.give_held();
+        Some(answer)
     }
 }

@@ -5,6 +5,7 @@ ghost use Rattle.smi_session.specs.StationEvent.{after_event};
 
 use crate::boxes::boxed;
 use crate::fault_reply::push_fault;
+use crate::mode::{ChildState, place_of_child};
 use crate::reply::write_told;
 use crate::request::{SessionRequest, request_of_line};
 use crate::seat_table::{SeatAnswer, SeatTable};
@@ -12,6 +13,7 @@ use crate::session::Session;
 use crate::state_reader::StateReader;
 use crate::station_event::{StationEvent, write_event};
 use crate::tag::{TaggedLine, tagged};
+use crate::will::write_will;
 use smi_base::MOST_BYTES_OF_A_LINE;
 use smi_grant::Shown;
 use smi_node::NodeStats;
@@ -28,7 +30,8 @@ const LINES_AT_ONCE: usize = 64;
 
 /// Serves the sessions of a node: the seats of its station, what the board shows, and what else a line may ask.
 ///
-/// Contracts see the seats, what the board has shown, the newest states, and the events that are to be told.
+/// Contracts see the seats, what the board has shown, the newest states, the events that nobody was told yet, and how
+/// the domains of the station have their children.
 #[derive(Drop)]
 pub struct SessionService<G: StateReader + Drop> {
     pub(crate) seats: SeatTable,
@@ -39,6 +42,8 @@ pub struct SessionService<G: StateReader + Drop> {
     pub(crate) drops: Option<u64>,
     /// The events that were recorded and not cleared.
     events: Vec<StationEvent>,
+    /// How the domains of the station have their children.
+    pub(crate) modes: Vec<ChildState>,
     pub(crate) text: Vec<u8>,
     pub(crate) alloc: Global,
 }
@@ -54,6 +59,7 @@ impl<G: StateReader + Drop> Model for SessionService<G> {
       board = G.shows s.board;
       picture = s.picture;
       events = s.events.items;
+      modes = s.modes.items;
     } };
 
     ghost invariant = { λ s. AreInOrder s.picture s.events.items };
@@ -75,7 +81,7 @@ fn deliver_event(
     };
     match tag {
         Some(tag) => {
-            write_event(text, tree, event)?;
+            write_event(text, tree, session.wants_numbers(), event)?;
             session.push_reply(tag, text.as_slice())
         }
         None => Ok(()),
@@ -86,9 +92,10 @@ impl<G: StateReader + Drop> SessionService<G> {
     ghost use Rattle.std.specs.Prelude.{◌≡◌, ◌≢◌, [], true, false, length, Ok, IfOk, IfSome, IfNone, OnOk, OnErr};
     ghost use Rattle.smi_session.specs.Handling.{Does, Handles, HandlesLine, HandlesNext, HandlesSome, HandlesWaiting};
     ghost use Rattle.smi_session.specs.Handling.{Receives, ReceivesPart, Refuses, Resumes, ResumesPart};
+    ghost use Rattle.smi_session.specs.Mode.{with_newest};
     ghost use Rattle.smi_session.specs.Request.{request_of_line};
     ghost use Rattle.smi_session.specs.SeatQueue.{Keeps};
-    ghost use Rattle.smi_session.specs.SeatTable.{ChangesAt, TakesAnswer, has_pending, is_idle};
+    ghost use Rattle.smi_session.specs.SeatTable.{ChangesAt, ReportsAll, TakesNext, has_pending, is_idle};
     ghost use Rattle.smi_session.specs.Service.{Records, is_new, new_service, told_text};
     ghost use Rattle.smi_session.specs.Session.{ending, may_go_on, with_reply};
     ghost use Rattle.smi_session.specs.StationEvent.{after_events};
@@ -114,6 +121,7 @@ impl<G: StateReader + Drop> SessionService<G> {
             picture,
             drops: None,
             events: Vec::new(alloc),
+            modes: Vec::new(alloc),
             text: Vec::new(alloc),
             alloc,
         };
@@ -193,6 +201,11 @@ impl<G: StateReader + Drop> SessionService<G> {
             Some(SessionRequest::Show(object)) => {
                 let shown = self.board.shown(object);
                 spell_board(&mut self.text, tree, object, shown)?;
+                session.push_reply(line.tag, self.text.as_slice())
+            }
+            Some(SessionRequest::Will(will)) => {
+                session.set_will(will)?;
+                write_will(&mut self.text, tree, will)?;
                 session.push_reply(line.tag, self.text.as_slice())
             }
             Some(SessionRequest::Query(query)) => self.answer_query(
@@ -364,10 +377,26 @@ impl<G: StateReader + Drop> SessionService<G> {
         }
     }
 
+    /// Reports what a session that ends has left to be reported. Nobody is told how these reports end.
+    ///
+    /// Its error is that memory was refused: then some are not reported.
+    pub fn execute_wills(
+        &mut self,
+        now: Option<Instant>,
+        session: &Session,
+    ) -> Result<(), AllocError>
+        ensures ok { OnOk result (ReportsAll now session.now.number session.now.wills self.old.seats self.new.seats) }
+        ensures rest { self.new ≡ record self.old { seats = self.new.seats } }
+    {
+        self.seats
+            .report_all(now, session.number(), session.wills())
+    }
+
     /// Returns the next answer of the seat at a place, from 0. None if there is none yet.
     pub fn next_answer(&mut self, place: usize) -> Option<SeatAnswer>
-        ensures some { IfSome result (λ r. ChangesAt place (TakesAnswer r) self.old.seats self.new.seats) }
-        ensures none { IfNone result (ChangesAt place Keeps self.old.seats self.new.seats) }
+        ensures some { IfSome result (λ r. TakesNext place r self.old.seats self.new.seats) }
+        ensures none { IfNone result (ChangesAt place Keeps self.old.seats self.new.seats
+            × (self.new.seats.has_given ≡ self.old.seats.has_given)) }
         ensures rest { self.new ≡ record self.old { seats = self.new.seats } }
     {
         self.seats.next_answer(place)
@@ -438,6 +467,25 @@ impl<G: StateReader + Drop> SessionService<G> {
                 self.events.push(event)?;
                 Ok(())
             }
+        }
+    }
+
+    /// Sets how a child is had, in place of what was set of it before.
+    ///
+    /// Its error is that memory was refused.
+    pub fn set_mode(&mut self, state: ChildState) -> Result<(), AllocError>
+        ensures set { OnOk result (self.new ≡ record self.old { modes = with_newest state self.old.modes }) }
+        ensures err { OnErr result (self.new ≡ self.old) }
+    {
+        match place_of_child(self.modes.as_slice(), state.child) {
+            Some(place) => {
+                self.modes[place] = state;
+                Ok(())
+            }
+            None => match self.modes.push(state) {
+                Ok(()) => Ok(()),
+                Err(_) => Err(AllocError),
+            },
         }
     }
 

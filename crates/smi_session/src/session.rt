@@ -1,12 +1,14 @@
 //! A client that types lines, and what is to be told there.
 
-ghost use Rattle.std.specs.Prelude.{◌≡◌};
+ghost use Rattle.std.specs.Prelude.{◌≡◌, ◌==◌, ◌<◌, IfSome, length};
+ghost use Rattle.std.specs.List.{position};
 
 use crate::request::SessionRequest;
 use crate::seat_queue::PendingOrder;
 use crate::subscription::Subscription;
 use crate::tag::Tag;
 use crate::trust::{Trust, is_strange};
+use crate::will::DeviceWill;
 use std::alloc::{AllocError, Global};
 use std::collections::VecDeque;
 use std::marker::Model;
@@ -46,7 +48,7 @@ impl Model for NumberedLine {
     ghost view = { λ n. record { number = n.number; line = n.line.items } };
 }
 
-/// An order for which its seat had no room yet.
+/// An order that waits for a seat.
 #[derive(Clone, Copy)]
 pub struct Deferred {
     /// The operator who orders. None for a report.
@@ -70,6 +72,8 @@ pub struct Session {
     deferred: Option<Deferred>,
     states: Option<Subscription>,
     actions: Option<Subscription>,
+    /// What the node reports when it ends, one state for each device.
+    wills: Vec<DeviceWill>,
     output: Vec<u8>,
     errors: Vec<u8>,
 }
@@ -89,9 +93,19 @@ impl Model for Session {
       deferred = s.deferred;
       states = s.states;
       actions = s.actions;
+      wills = s.wills.items;
       output = s.output.items;
       errors = s.errors.items;
     } };
+}
+
+/// Returns the place of a device's will among others.
+#[tactic(auto, using(crate::proofs::Willing::within_of))]
+fn place_of_will(wills: &[DeviceWill], device: u16) -> Option<usize>
+    ensures place { result ≡ position (λ other. other.device == device) wills.now }
+    ensures within { IfSome result (λ place. place < length wills.now) }
+{
+    wills.iter().position(|other| other.device == device)
 }
 
 impl Session {
@@ -99,6 +113,7 @@ impl Session {
     ghost use Rattle.std.specs.Prelude.{is_none, option_map, IfOk, OnOk, OnErr, MatchOption};
     ghost use Rattle.smi_session.specs.Session.{OnlyReplies, beginning, counted, ending, has_room, is_idle, is_refused};
     ghost use Rattle.smi_session.specs.Session.{may_go_on, new_session, next_line, waits, with_error, with_reply};
+    ghost use Rattle.smi_session.specs.Session.{wants_numbers, with_will};
     ghost use Rattle.smi_session.specs.Subscription.{tag_for};
     ghost use Rattle.smi_session.specs.Trust.{admitted, judged};
     ghost use Rattle.smi_tree.specs.Text.{words};
@@ -119,6 +134,7 @@ impl Session {
             deferred: None,
             states: None,
             actions: None,
+            wills: Vec::new(alloc),
             output: Vec::new(alloc),
             errors: Vec::new(alloc),
         })
@@ -274,11 +290,11 @@ impl Session {
         self.is_busy = self.is_busy && tag.is_some();
     }
 
-    /// Keeps an order until its seat has room.
-    pub(crate) fn defer(&mut self, operator: Option<u16>, pending: PendingOrder)
-        ensures { self.new ≡ record self.old { deferred = Some (record { operator = operator; pending = pending }) } }
+    /// Keeps an order until it may be given.
+    pub(crate) fn defer(&mut self, order: Deferred)
+        ensures { self.new ≡ record self.old { deferred = Some order } }
     {
-        self.deferred = Some(Deferred { operator, pending });
+        self.deferred = Some(order);
     }
 
     /// Takes the order that it keeps, if any.
@@ -303,6 +319,42 @@ impl Session {
         ensures { self.new ≡ record self.old { actions = Some subscription } }
     {
         self.actions = Some(subscription);
+    }
+
+    /// Returns what the node reports when it ends: one state for each device.
+    pub fn wills(&self) -> &[DeviceWill]
+        ensures { result.now ≡ self.now.wills }
+    {
+        self.wills.as_slice()
+    }
+
+    /// Sets what the node reports of a device when it ends, in place of what was set of this device before.
+    ///
+    /// Its error is that memory was refused.
+    pub(crate) fn set_will(&mut self, will: DeviceWill) -> Result<(), AllocError>
+        ensures set { OnOk result (self.new ≡ with_will will self.old) }
+        ensures err { OnErr result (self.new ≡ self.old) }
+    {
+        match place_of_will(self.wills.as_slice(), will.device) {
+            Some(place) => {
+                self.wills[place] = will;
+                Ok(())
+            }
+            None => match self.wills.push(will) {
+                Ok(()) => Ok(()),
+                Err(_) => Err(AllocError),
+            },
+        }
+    }
+
+    /// Returns true if it wants to be told the numbers of commands with their actions.
+    pub(crate) fn wants_numbers(&self) -> bool
+        ensures { result ≡ wants_numbers self.now }
+    {
+        match &self.actions {
+            Some(subscription) => subscription.has_numbers,
+            None => false,
+        }
     }
 
     /// Returns the tag after which it is told of this object's states. None if it is not told.

@@ -4,7 +4,7 @@ ghost use Rattle.std.specs.Prelude.{◌≡◌, ◌++◌, ◌∷◌, [], OnOk, op
 ghost use Rattle.std.specs.Fmt.{decimal};
 ghost use Rattle.smi_tree.specs.Hierarchy.{entry};
 ghost use Rattle.smi_tree.specs.Lookups.{object_name};
-ghost use Rattle.smi_schedule.specs.TraceWords.{called, version_word};
+ghost use Rattle.smi_schedule.specs.TraceWords.{called, object_word, version_word};
 ghost use Rattle.smi_session.specs.StationEvent.{action_text, lagged_text, event_text};
 
 use smi_grant::{Shown, Version};
@@ -19,6 +19,12 @@ pub struct ActionDone {
     pub action: u16,
     /// The state of the device then.
     pub shown: Shown,
+    /// The domain at which the command has run.
+    pub domain: u16,
+    /// The epoch of the grant under which it has run.
+    pub epoch: u64,
+    /// The number of the command under that grant.
+    pub number: u32,
 }
 
 /// What happens at a station. Events are told in the order in which they happen.
@@ -41,7 +47,11 @@ fn push_word(text: &mut Vec<u8>, word: &[u8]) -> Result<(), AllocError>
 }
 
 /// Adds a blank and a name, or the number if the tree has no such thing.
-fn push_called(text: &mut Vec<u8>, name: Option<&[u8]>, number: u16) -> Result<(), AllocError>
+pub(crate) fn push_called(
+    text: &mut Vec<u8>,
+    name: Option<&[u8]>,
+    number: u16,
+) -> Result<(), AllocError>
     ensures { OnOk result (text.new.items ≡ text.old.items ++ 32 ∷ called (option_map (λ n. n.now) name.entry) number) }
 {
     match name {
@@ -58,7 +68,7 @@ fn push_version(text: &mut Vec<u8>, version: Version) -> Result<(), AllocError>
 }
 
 /// Returns the name of an object, by its number.
-fn object_name(tree: &Tree, number: u16) -> Option<&[u8]>
+pub(crate) fn object_name(tree: &Tree, number: u16) -> Option<&[u8]>
     ensures { option_map (λ n. n.now) result ≡ object_name tree.now number }
 {
     if number <= tree.domain_count() {
@@ -89,7 +99,7 @@ fn action_name(tree: &Tree, number: u16) -> Option<&[u8]>
 }
 
 /// Returns the name of a state, by its number.
-fn state_name(tree: &Tree, number: u16) -> Option<&[u8]>
+pub(crate) fn state_name(tree: &Tree, number: u16) -> Option<&[u8]>
     ensures { option_map (λ n. n.now) result ≡ entry tree.now.state_names number }
 {
     if 1 <= number && number <= tree.state_count() {
@@ -99,9 +109,24 @@ fn state_name(tree: &Tree, number: u16) -> Option<&[u8]>
     }
 }
 
-/// Puts the line of an action into a text, in place of what was there.
-fn write_action(text: &mut Vec<u8>, tree: &Tree, done: ActionDone) -> Result<(), AllocError>
-    ensures { OnOk result (text.new.items ≡ action_text tree.now done) }
+/// Adds the domain, the epoch and the number of the command that an action was done by.
+fn push_numbers(text: &mut Vec<u8>, tree: &Tree, done: ActionDone) -> Result<(), AllocError>
+    ensures { OnOk result (text.new.items ≡ text.old.items ++ 32 ∷ object_word tree.now done.domain
+        ++ 32 ∷ decimal done.epoch ++ 32 ∷ decimal done.number) }
+{
+    push_called(text, object_name(tree, done.domain), done.domain)?;
+    write!(text, " {} {}", done.epoch, done.number).map_err(|_| AllocError)
+}
+
+/// Puts the line of an action into a text, in place of what was there: with the numbers of its command, or without
+/// them.
+fn write_action(
+    text: &mut Vec<u8>,
+    tree: &Tree,
+    has_numbers: bool,
+    done: ActionDone,
+) -> Result<(), AllocError>
+    ensures { OnOk result (text.new.items ≡ action_text tree.now has_numbers done) }
 {
     let shown = done.shown;
     text.clear();
@@ -110,6 +135,9 @@ fn write_action(text: &mut Vec<u8>, tree: &Tree, done: ActionDone) -> Result<(),
     push_called(text, action_name(tree, done.action), done.action)?;
     push_version(text, shown.version)?;
     push_called(text, state_name(tree, shown.state), shown.state)?;
+    if has_numbers {
+        push_numbers(text, tree, done)?;
+    }
     text.push(b'\n')?;
     Ok(())
 }
@@ -122,17 +150,19 @@ fn write_lagged(text: &mut Vec<u8>, count: u32) -> Result<(), AllocError>
     writeln!(text, "missed {count}").map_err(|_| AllocError)
 }
 
-/// Puts the line of an event into a text, in place of what was there.
+/// Puts the line of an event into a text, in place of what was there: an action with the numbers of its command, or
+/// without them.
 pub(crate) fn write_event(
     text: &mut Vec<u8>,
     tree: &Tree,
+    has_numbers: bool,
     event: StationEvent,
 ) -> Result<(), AllocError>
-    ensures { OnOk result (text.new.items ≡ event_text tree.now event) }
+    ensures { OnOk result (text.new.items ≡ event_text tree.now has_numbers event) }
 {
     match event {
         StationEvent::StateChanged(shown) => spell_board(text, tree, shown.object, Some(shown)),
-        StationEvent::ActionDone(done) => write_action(text, tree, done),
+        StationEvent::ActionDone(done) => write_action(text, tree, has_numbers, done),
         StationEvent::Lagged(count) => write_lagged(text, count),
     }
 }

@@ -11,12 +11,14 @@ use std::marker::Model;
 
 /// What a session wants to be told of from now on, and the tag of the line that asked for it.
 ///
-/// Contracts see both.
+/// Contracts see all of it.
 #[derive(Drop)]
 pub struct Subscription {
     pub(crate) tag: Option<Tag>,
     /// The objects, or None for all.
     pub(crate) objects: Option<Vec<u16>>,
+    /// True if actions are told with the numbers of their commands.
+    pub(crate) has_numbers: bool,
 }
 
 impl Model for Subscription {
@@ -25,7 +27,11 @@ impl Model for Subscription {
 
     ghost Value = { SubscriptionState };
 
-    ghost view = { λ s. record { tag = s.tag; objects = option_map (λ v. v.items) s.objects } };
+    ghost view = { λ s. record {
+      tag = s.tag;
+      objects = option_map (λ v. v.items) s.objects;
+      has_numbers = s.has_numbers;
+    } };
 }
 
 impl Subscription {
@@ -65,9 +71,10 @@ pub(crate) fn subscription_in(
     alloc: Global,
     tree: &Tree,
     tag: Option<Tag>,
+    has_numbers: bool,
     text: &[u8],
 ) -> Result<Subscription, AllocError>
-    ensures { IfOk result (λ s. s ≡ subscription_of tree.now tag (words text.now)) }
+    ensures { IfOk result (λ s. s ≡ subscription_of tree.now tag has_numbers (words text.now)) }
 {
     let objects = objects_in(alloc, tree, text)?;
     let objects = if objects.is_empty() {
@@ -75,5 +82,9 @@ pub(crate) fn subscription_in(
     } else {
         Some(objects)
     };
-    Ok(Subscription { tag, objects })
+    Ok(Subscription {
+        tag,
+        objects,
+        has_numbers,
+    })
 }

@@ -5,7 +5,7 @@ ghost use Rattle.smi_tree.specs.Text.{words};
 ghost use Rattle.smi_session.specs.UnknownName as spec;
 
 use crate::line::{LineKind, kind_of};
-use crate::query::{Query, query_named};
+use crate::query::{Query, numbers_in, query_named};
 use smi_tree::{Tree, first_word};
 
 /// What a name of a line stands for.
@@ -106,6 +106,14 @@ fn unknown_first<'a>(
     })
 }
 
+/// Returns true if a word is the verb of an order.
+pub(crate) fn is_verb(word: &[u8]) -> bool
+    ensures { result ≡ spec.is_verb word.now }
+{
+    let (first, _) = kinds_of_order(word);
+    first.is_some()
+}
+
 /// Returns the first of two names of a text that is unknown.
 fn unknown_of_two<'a>(
     tree: &Tree,
@@ -174,14 +182,17 @@ pub(crate) fn unknown_in<'a>(
     let (first, rest) = first_word(text)?;
     match kind_of(first.text()) {
         Some(LineKind::Order) => unknown_of_order(tree, operators, rest),
-        Some(LineKind::Report) => {
+        Some(LineKind::Report | LineKind::Will) => {
             let kinds = (Some(NameKind::Device), Some(NameKind::State));
             unknown_of_two(tree, operators, kinds, rest)
         }
         Some(LineKind::Show) => unknown_among(tree, operators, NameKind::Object, rest),
         None => match query_named(first.text()) {
             Some(Query::Follow) => unknown_among(tree, operators, NameKind::Object, rest),
-            Some(Query::Actions) => unknown_among(tree, operators, NameKind::Device, rest),
+            Some(Query::Actions) => {
+                let (_, names) = numbers_in(rest);
+                unknown_among(tree, operators, NameKind::Device, names)
+            }
             _ => None,
         },
     }

@@ -1,6 +1,6 @@
 use Rattle.std.proofs.Common.{◌≡◌, drop}
 use Rattle.smi_session.specs.Reply.{listed_beside, with_queues}
-use Rattle.smi_session.proofs.reply.push_under_way.Given as goal
+use Rattle.smi_session.proofs.reply.push_queues.Given as goal
 
 -- the queues that are left are still to be listed and counted
 abbrev pub invariant-loop-queue : goal.invariant-loop-queue
