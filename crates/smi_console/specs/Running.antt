@@ -10,6 +10,7 @@ use Rattle.smi_station_grants.specs.Migrating.{Counts, IfRefused, IsPartly, Migr
 use Rattle.smi_station_grants.specs.Starting.{IfCertain, IfInDoubt, IfStoreFailed, IfStoreUnfailed, IfUnchanged}
 use Rattle.smi_station_grants.specs.Starting.{IsToldAsMemory, after_start}
 use Rattle.smi_station.specs.Core.{IsOf, IsStoredIn, begun}
+use Rattle.smi_operator.specs.Lanes.{by_seat}
 use Rattle.smi_station.specs.Readers.{Whole, core_in, operators_in, store_in}
 use Rattle.smi_node.specs.declared.turns.ServeFault.{ServeFault}
 use Rattle.smi_console.specs.declared.ending.Halt.{Halt}
@@ -71,7 +72,7 @@ abbrev pub EndsWith : {S : Type 0} → (List ℕ → Serving (Whole S)) → Turn
     → Status × S → Type 0
 EndsWith {S} V turns (Ok station) r =
     (last : Whole S) × (how : Result (Result (Unit {0}) ServeFault) Halt)
-    × IsCrewed (V (operators_in station.core)) turns station last how
+    × IsCrewed (V (by_seat (operators_in station.core))) turns station last how
     × (r.0 ≡ status_in how) × (r.1 ≡ last.store)
 EndsWith V turns (Err e) r = (r.0 ≡ status_of e.0) × (r.1 ≡ e.1)
 

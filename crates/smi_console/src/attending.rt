@@ -1,6 +1,7 @@
 //! The thread at the front: it hears all who talk to the node, and tells them what they asked for.
 
 use crate::bell::Bell;
+use crate::event_queue::StationNews;
 use crate::faults::journal_fault;
 use crate::hall::Hall;
 use crate::outlet::Outlet;
@@ -11,7 +12,7 @@ use smi_base::write_whole;
 use smi_commands::status::{no_memory, read_fault, write_fault};
 use smi_journal::Noted;
 use smi_schedule::Unwritten;
-use smi_session::{MOST_PENDING, SessionService, StateReader, StationEvent};
+use smi_session::{MOST_PENDING, SessionService, StateReader};
 use smi_tree::Tree;
 use std::io::Write;
 use std::sync::Wait;
@@ -34,7 +35,7 @@ pub(crate) struct Attendant<G: StateReader + Drop> {
     pub(crate) outlet: Outlet,
     /// What is typed at the standard input, and what the station tells.
     pub(crate) lines: Receiver<Input>,
-    pub(crate) news: Receiver<StationEvent>,
+    pub(crate) news: Receiver<StationNews>,
     /// What becomes of the journal of the node.
     pub(crate) journal: Receiver<Noted>,
     /// Whether the standard input is heard no more.
@@ -48,10 +49,14 @@ impl<G: StateReader + Drop> Attendant<G> {
     fn note_news<R: Wait>(&mut self, rt: &R) -> bool {
         for _ in 0..NEWS {
             match self.news.try_recv(rt) {
-                Ok(news) => {
-                    if self.front.record(news).is_err() {
+                Ok(StationNews::Event(event)) => {
+                    if self.front.record(event).is_err() {
                         self.hall.lose_followers();
                     }
+                }
+                // Without memory the mode that was known of the child stays.
+                Ok(StationNews::Mode(state)) => {
+                    let _ = self.front.set_mode(state);
                 }
                 Err(_) => return false,
             }
@@ -203,6 +208,8 @@ fn attend_plain<G: StateReader + Drop, R: Wait, F: Write>(
     };
     if let Some(ending) = ending {
         attendant.is_plain_over = true;
+        // Without memory nobody is left who could be told.
+        let _ = attendant.front.execute_wills(now, &attendant.hall.plain);
         tell_ending(ending, faults);
     }
     false
@@ -221,7 +228,7 @@ fn round<G: StateReader + Drop, R: Wait + Clock, F: Write>(
     let has_more_news = attendant.note_news(rt);
     attendant.tell_answers(tree);
     let has_more_lines = attend_plain(rt, tree, now, attendant, faults);
-    attendant.hall.welcome_all();
+    attendant.hall.welcome_all(&attendant.front, now);
     attendant
         .hall
         .serve_guests(rt, &mut attendant.front, tree, now);

@@ -2,14 +2,14 @@
 
 ghost use Rattle.std.specs.Prelude.{None};
 
-use crate::event_queue::EventQueue;
+use crate::event_queue::{EventQueue, StationNews};
 use crate::journal_keeper::JournalKeeper;
-use smi_grant::Shown;
+use smi_grant::{Holder, Shown};
 use smi_journal::StationState;
 use smi_node::StepObserver;
 use smi_protocol::{Event, Heard, StepFault};
-use smi_rows::Stable;
-use smi_session::{ActionDone, StationEvent, step_action};
+use smi_rows::{Mode, Stable};
+use smi_session::{ActionDone, ChildMode, ChildState, StationEvent, step_action};
 use smi_station::Station;
 use smi_station_output::Out;
 use smi_tree::Tree;
@@ -22,7 +22,8 @@ use std::time::Clock;
 /// it does, and wakes the front at the end of a turn that brought it an answer or news. Before that it notes the step
 /// in the journal of the node, if there is one.
 ///
-/// A state for which there is no room is told at a later step, as the newest of its object by then.
+/// A state for which there is no room is told at a later step, as the newest of its object by then. So is the mode of a
+/// child.
 #[derive(Drop)]
 pub(crate) struct EventForwarder<H: Files + Drop> {
     tree: Arc<Tree, Global>,
@@ -30,8 +31,38 @@ pub(crate) struct EventForwarder<H: Files + Drop> {
     /// The states that are not told yet, by object, and whether there are any.
     coalesced: Vec<Option<Shown>>,
     has_coalesced: bool,
+    /// The children of the domains of the station, and their modes as they were told last.
+    children: Vec<u16>,
+    modes: Vec<Option<ChildMode>>,
     /// The journal of the node, if it has one.
     journal: Option<JournalKeeper<H>>,
+}
+
+/// Returns how a domain of a station has its child: None if it is no child of one.
+fn mode_of<T: StationState>(tree: &Tree, station: &T, child: u16) -> Option<ChildMode> {
+    let mode = station.mode(child)?;
+    let parent = tree.parent(child)?;
+    let is_held = match station.link(Holder::Domain(parent), child) {
+        Some(link) => link.is_held(),
+        None => false,
+    };
+    match mode {
+        _ if !is_held => Some(ChildMode::Out),
+        Mode::Included => Some(ChildMode::Included),
+        Mode::Manual => Some(ChildMode::Manual),
+        Mode::Ignored => Some(ChildMode::Ignored),
+    }
+}
+
+/// Returns true if a mode is the one that was told.
+fn is_told(told: Option<ChildMode>, mode: ChildMode) -> bool {
+    matches!(
+        (told, mode),
+        (Some(ChildMode::Out), ChildMode::Out)
+            | (Some(ChildMode::Included), ChildMode::Included)
+            | (Some(ChildMode::Manual), ChildMode::Manual)
+            | (Some(ChildMode::Ignored), ChildMode::Ignored)
+    )
 }
 
 impl<H: Files + Wait + Clock + Drop> EventForwarder<H> {
@@ -48,14 +79,25 @@ impl<H: Files + Wait + Clock + Drop> EventForwarder<H> {
         for object in 1..=tree.object_count() {
             coalesced.push(station.current(object))?;
         }
+        let mut children = Vec::new(alloc);
+        let mut modes = Vec::new(alloc);
+        for child in 1..=tree.domain_count() {
+            if mode_of(&tree, station, child).is_some() {
+                children.push(child)?;
+                modes.push(None)?;
+            }
+        }
         let mut forwarder = EventForwarder {
             tree,
             queue,
             coalesced,
             has_coalesced: true,
+            children,
+            modes,
             journal: None,
         };
         forwarder.send_coalesced();
+        forwarder.send_modes(station);
         Ok(forwarder)
     }
 
@@ -66,7 +108,11 @@ impl<H: Files + Wait + Clock + Drop> EventForwarder<H> {
 
     /// Tells a state, or coalesces it if there is no room for it, or if others are to be told before it.
     fn send_or_coalesce(&mut self, shown: Shown) {
-        if self.has_coalesced || !self.queue.tell(StationEvent::StateChanged(shown)) {
+        if self.has_coalesced
+            || !self
+                .queue
+                .tell(StationNews::Event(StationEvent::StateChanged(shown)))
+        {
             self.coalesce(shown);
         }
     }
@@ -90,11 +136,30 @@ impl<H: Files + Wait + Clock + Drop> EventForwarder<H> {
         self.has_coalesced = false;
         for coalesced in self.coalesced.iter_mut() {
             if let Some(shown) = *coalesced {
-                if self.queue.tell(StationEvent::StateChanged(shown)) {
+                if self
+                    .queue
+                    .tell(StationNews::Event(StationEvent::StateChanged(shown)))
+                {
                     *coalesced = None;
                 } else {
                     self.has_coalesced = true;
                 }
+            }
+        }
+    }
+
+    /// Tells the modes of children that are not as they were told last, as far as there is room.
+    fn send_modes<T: StationState>(&mut self, station: &T) {
+        for (child, told) in self.children.iter().zip(self.modes.iter_mut()) {
+            let Some(mode) = mode_of(&self.tree, station, *child) else {
+                continue;
+            };
+            let state = ChildState {
+                child: *child,
+                mode,
+            };
+            if !is_told(*told, mode) && self.queue.tell(StationNews::Mode(state)) {
+                *told = Some(mode);
             }
         }
     }
@@ -115,6 +180,9 @@ impl<H: Files + Wait + Clock + Drop> EventForwarder<H> {
                 self.queue.tell_act(ActionDone {
                     action: done.action,
                     shown,
+                    domain: done.domain,
+                    epoch: done.epoch,
+                    number: done.number,
                 });
             }
         }
@@ -146,6 +214,9 @@ impl<H: Files + Wait + Clock + Drop> StepObserver for EventForwarder<H> {
         }
         for shown in out.transitions().as_slice() {
             self.send_or_coalesce(*shown);
+        }
+        if matches!(made, Ok(Heard::Done)) {
+            self.send_modes(station);
         }
         self.tell_done(station, event, made);
     }

@@ -2,7 +2,7 @@
 
 use crate::console_waker::ConsoleWaker;
 use crossbeam_channel::Sender;
-use smi_session::{ActionDone, StationEvent, boxed};
+use smi_session::{ActionDone, ChildState, StationEvent, boxed};
 use std::alloc::{AllocError, Global};
 use std::collections::VecDeque;
 use std::sync::{Arc, Wait};
@@ -10,13 +10,22 @@ use std::sync::{Arc, Wait};
 /// How many events may wait here, beside those in the channel.
 const MOST_WAITING: usize = 4_096;
 
+/// What the thread of the sessions is told of the station.
+#[derive(Clone, Copy)]
+pub(crate) enum StationNews {
+    /// What sessions are told of as it happens.
+    Event(StationEvent),
+    /// How a domain has a child, for an operator who asks.
+    Mode(ChildState),
+}
+
 /// The channel of events, and those that wait for it.
 #[derive(Drop)]
 struct EventQueueParts<H: Drop> {
     rt: H,
     waker: Arc<ConsoleWaker, Global>,
-    way: Sender<StationEvent>,
-    waiting: VecDeque<StationEvent>,
+    way: Sender<StationNews>,
+    waiting: VecDeque<StationNews>,
     /// How many actions were dropped, because the queue was full.
     dropped: u32,
     /// True if the thread of the sessions is to be woken once the turn is over.
@@ -37,7 +46,7 @@ impl<H: Wait + Drop> EventQueue<H> {
         alloc: Global,
         rt: H,
         waker: Arc<ConsoleWaker, Global>,
-        way: Sender<StationEvent>,
+        way: Sender<StationNews>,
     ) -> Result<EventQueue<H>, AllocError> {
         let parts = EventQueueParts {
             rt,
@@ -80,7 +89,7 @@ impl<H: Wait + Drop> EventQueue<H> {
     }
 
     /// Tells news. Returns whether there was room.
-    pub(crate) fn tell(&mut self, news: StationEvent) -> bool {
+    pub(crate) fn tell(&mut self, news: StationNews) -> bool {
         let waiting = &mut self.parts.waiting;
         if waiting.len() >= MOST_WAITING || waiting.push_back(news).is_err() {
             return false;
@@ -93,14 +102,14 @@ impl<H: Wait + Drop> EventQueue<H> {
     pub(crate) fn go_on(&mut self) {
         self.hand_on();
         let dropped = self.parts.dropped;
-        if dropped > 0 && self.tell(StationEvent::Lagged(dropped)) {
+        if dropped > 0 && self.tell(StationNews::Event(StationEvent::Lagged(dropped))) {
             self.parts.dropped = 0;
         }
     }
 
     /// Tells of an action, or counts it.
     pub(crate) fn tell_act(&mut self, act: ActionDone) {
-        if self.parts.dropped > 0 || !self.tell(StationEvent::ActionDone(act)) {
+        if self.parts.dropped > 0 || !self.tell(StationNews::Event(StationEvent::ActionDone(act))) {
             self.parts.dropped = self.parts.dropped.saturating_add(1);
         }
     }

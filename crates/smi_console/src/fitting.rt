@@ -1,13 +1,13 @@
 //! Builds all that an open station is served with: its seats, its sockets, and the threads of its consoles.
 
-ghost use Rattle.std.specs.Prelude.{◌≡◌, ◌++◌, ◌∷◌, [], IfOk, length, min};
+ghost use Rattle.std.specs.Prelude.{◌≡◌, ◌*◌, ◌++◌, ◌∷◌, [], IfOk, length, min};
 ghost use Rattle.smi_operator.specs.Sides.{IsDeskOf};
 
 use crate::bell::Bell;
 use crate::console_waker::ConsoleWaker;
 use crate::ending::Halt;
 use crate::event_forwarder::EventForwarder;
-use crate::event_queue::EventQueue;
+use crate::event_queue::{EventQueue, StationNews};
 use crate::hall::Hall;
 use crate::journal_keeper::{KeeperWays, begin_journal, journal_ways};
 use crate::peers::{Linking, UdpLinking};
@@ -20,8 +20,8 @@ use smi_base::MOST_OPERATORS_OF_A_STATION;
 use smi_journal::StationState;
 use smi_link::{DatagramLink, UdpLink};
 use smi_node::NodeStats;
-use smi_operator::{Desk, Seat, open_seats};
-use smi_session::{SeatTable, SessionService, StateReader, StationEvent, boxed};
+use smi_operator::{Desk, LANES, Seat, open_many_seats, operators_by_seat};
+use smi_session::{SeatTable, SessionService, StateReader, boxed};
 use smi_view::Picture;
 use std::alloc::{AllocError, Global};
 use std::fs::Files;
@@ -41,13 +41,14 @@ struct Seats {
     desk: Box<Desk>,
 }
 
-/// Opens a seat for each operator of a station, one more for reports, and their desk.
+/// Opens the seats of each operator of a station, one more for reports, and their desk.
 fn seated(alloc: Global, operators: &[u16]) -> Result<Seats, AllocError>
-    ensures count { IfOk result (λ r. length r.own.items ≡ min (length operators.now) MOST_OPERATORS_OF_A_STATION) }
+    ensures count { IfOk result (λ r. length r.own.items
+        ≡ min (length operators.now) MOST_OPERATORS_OF_A_STATION * 7) }
     ensures desk { IfOk result (λ r. IsDeskOf r.desk.value (r.own.items ++ r.reports ∷ [])) }
 {
-    let count = operators.len().min(MOST_OPERATORS_OF_A_STATION) + 1;
-    let (mut seats, desk) = open_seats(alloc, count)?;
+    let count = operators.len().min(MOST_OPERATORS_OF_A_STATION) * LANES + 1;
+    let (mut seats, desk) = open_many_seats(alloc, count)?;
     let Some(reports) = seats.pop() else {
         unreachable!();
     };
@@ -81,7 +82,8 @@ fn seated_front<G: StateReader + Drop>(
     stats: &Arc<NodeStats, Global>,
 ) -> Result<(Box<SessionService<G>>, Box<Desk>), AllocError> {
     let Seats { own, reports, desk } = seated(alloc, operators)?;
-    let office = SeatTable::open(alloc, operators, own, reports)?;
+    let by_seat = operators_by_seat(alloc, operators)?;
+    let office = SeatTable::open(alloc, by_seat.as_slice(), own, reports)?;
     match front_of(alloc, setup, office, glance, stats) {
         Ok(front) => Ok((front, desk)),
         Err(refused) => Err(refused),
@@ -176,7 +178,7 @@ fn new_stats(alloc: Global) -> Result<Arc<NodeStats, Global>, Halt> {
 fn queue_of<H: Wait + AllocGlobal + Clone + Drop>(
     rt: &H,
     waker: &Arc<ConsoleWaker, Global>,
-    news: Sender<StationEvent>,
+    news: Sender<StationNews>,
 ) -> Result<EventQueue<H>, AllocError> {
     let waker = Arc::try_clone(waker)?;
     let there = rt.clone()?;
@@ -189,7 +191,7 @@ fn forwarder_of<T: StationState, H: Files + Wait + Clock + AllocGlobal + Clone +
     setup: &NodeSetup,
     station: &T,
     waker: &Arc<ConsoleWaker, Global>,
-    news: Sender<StationEvent>,
+    news: Sender<StationNews>,
 ) -> Result<EventForwarder<H>, AllocError> {
     let queue = queue_of(rt, waker, news)?;
     let tree = Arc::try_clone(&setup.tree)?;

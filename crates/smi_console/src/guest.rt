@@ -10,7 +10,7 @@ use smi_tree::Tree;
 use std::alloc::{AllocError, Global};
 use std::io::ErrorKind;
 use std::sync::Wait;
-use std::time::Instant;
+use std::time::{Duration, Instant};
 
 /// How many bytes are read at once.
 const AT_ONCE: usize = 512;
@@ -28,6 +28,8 @@ const PATIENCE: u64 = 2;
 #[derive(Drop)]
 pub(crate) struct ConsoleGuest {
     alloc: Global,
+    /// The place of its listener.
+    entrance: usize,
     stream: Stream,
     typed: TypedLines,
     caller: Session,
@@ -41,6 +43,8 @@ pub(crate) struct ConsoleGuest {
     is_deaf: bool,
     /// Since when it has taken nothing of its output, or takes no more.
     since: Option<Instant>,
+    /// When it came, or typed its last line.
+    heard: Option<Instant>,
     leaves: bool,
 }
 
@@ -51,17 +55,20 @@ enum Read {
 }
 
 impl ConsoleGuest {
-    /// Returns a connection of this number, over which nothing was typed.
+    /// Returns a connection of this number, to the listener at this place, over which nothing was typed and which came
+    /// now.
     ///
     /// Its error is that memory was refused.
     pub(crate) fn new(
         alloc: Global,
-        number: u64,
+        (number, entrance): (u64, usize),
         stream: Stream,
         typed: TypedLines,
+        now: Option<Instant>,
     ) -> Result<ConsoleGuest, AllocError> {
         Ok(ConsoleGuest {
             alloc,
+            entrance,
             stream,
             typed,
             caller: Session::new(alloc, number, ReplyStyle::Human)?,
@@ -71,8 +78,14 @@ impl ConsoleGuest {
             is_over: false,
             is_deaf: false,
             since: None,
+            heard: now,
             leaves: false,
         })
+    }
+
+    /// Returns true if it takes a place of the listener at this place.
+    pub(crate) fn is_at(&self, entrance: usize) -> bool {
+        self.entrance == entrance && !self.leaves
     }
 
     /// Returns its session.
@@ -93,6 +106,31 @@ impl ConsoleGuest {
     /// Marks it to be closed.
     pub(crate) fn leave(&mut self) {
         self.leaves = true;
+    }
+
+    /// Tells it this, as far as there is room, and marks it to be closed.
+    pub(crate) fn dismiss(&mut self, words: &[u8]) {
+        let _ = self.stream.write(words);
+        self.leaves = true;
+    }
+
+    /// Returns true if nobody waits for what it does: it follows nothing, leaves nothing to be reported when it ends,
+    /// and nothing of it is under way.
+    pub(crate) fn is_idle<G: StateReader + Drop>(&self, front: &SessionService<G>) -> bool {
+        self.splitter.is_empty()
+            && self.caller.is_idle()
+            && self.caller.output().is_empty()
+            && self.caller.wills().is_empty()
+            && !self.caller.has_subscription()
+            && !front.has_pending(self.caller.number())
+    }
+
+    /// Returns for how long it has typed nothing.
+    pub(crate) fn silence(&self, now: Option<Instant>) -> Duration {
+        match (now, self.heard) {
+            (Some(now), Some(heard)) => now.duration_since(heard),
+            _ => Duration::ZERO,
+        }
     }
 
     /// Takes in what the system says of its connection.
@@ -155,6 +193,7 @@ impl ConsoleGuest {
             }
             match self.next_line()? {
                 Some(line) => {
+                    self.heard = now;
                     let session = self.caller.number();
                     self.typed.tell(rt, self.alloc, session, line.as_slice());
                     front.receive_line(tree, now, &mut self.caller, line)?;
@@ -232,14 +271,26 @@ impl ConsoleGuest {
         self.caller.is_refused() && self.caller.output().is_empty()
     }
 
-    /// Returns true if all its lines are answered, or its client is gone.
+    /// Returns true if all its lines are answered, or its client is gone. One with a will ends as soon as it sends no
+    /// more: so ends a program that was killed.
     fn is_done<G: StateReader + Drop>(&self, front: &SessionService<G>) -> bool {
         self.is_over
             && self.splitter.is_empty()
             && self.caller.is_idle()
             && self.caller.output().is_empty()
             && (self.is_deaf
+                || !self.caller.wills().is_empty()
                 || !self.caller.has_subscription() && !front.has_pending(self.caller.number()))
+    }
+
+    /// Reports what it has left to be reported when it ends.
+    pub(crate) fn execute_wills<G: StateReader + Drop>(
+        &self,
+        front: &mut SessionService<G>,
+        now: Option<Instant>,
+    ) {
+        // Without memory nobody is left who could be told.
+        let _ = front.execute_wills(now, &self.caller);
     }
 
     /// Handles its lines, and writes what it is to be told, as far as nothing waits.

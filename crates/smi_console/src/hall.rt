@@ -15,11 +15,14 @@ use std::net::Net;
 use std::sync::Wait;
 use std::time::{Duration, Instant};
 
-/// The most connections at once.
-const MOST_GUESTS: usize = 64;
+/// The most connections at once at one listener: so programs at one never shut people out who come to the other.
+const MOST_GUESTS: usize = 128;
 
 /// What a connection is told if there is no room for it.
 const FULL: &[u8] = b"full\n";
+
+/// For how many seconds a connection must have typed nothing before it has to make room for a new one.
+const SILENCE: u64 = 30;
 
 /// How many connections are taken in one round, and how many events are looked at.
 const COMERS: usize = 16;
@@ -196,10 +199,42 @@ impl Hall {
         self.is_plain_lost
     }
 
-    /// Takes a new connection in.
-    fn welcome(&mut self, stream: Stream) -> Result<(), AllocError> {
+    /// Returns true if a listener has as many connections as it may have.
+    fn is_full(&self, place: usize) -> bool {
+        let guests = self.guests.iter().filter(|guest| guest.is_at(place));
+        guests.count() >= MOST_GUESTS
+    }
+
+    /// Closes the connection of a listener that has typed nothing for longest, if nobody waits for what it does. So
+    /// connections that nobody uses shut nobody out.
+    fn make_room<G: StateReader + Drop>(
+        &mut self,
+        place: usize,
+        front: &SessionService<G>,
+        now: Option<Instant>,
+    ) {
+        let mut longest = Duration::from_secs(SILENCE);
+        let mut oldest = None;
+        for (at, guest) in self.guests.iter().enumerate() {
+            if guest.is_at(place) && guest.silence(now) >= longest && guest.is_idle(front) {
+                longest = guest.silence(now);
+                oldest = Some(at);
+            }
+        }
+        if let Some(guest) = oldest.and_then(|at| self.guests.get_mut(at)) {
+            guest.dismiss(FULL);
+        }
+    }
+
+    /// Takes a new connection of a listener in.
+    fn welcome(
+        &mut self,
+        place: usize,
+        stream: Stream,
+        now: Option<Instant>,
+    ) -> Result<(), AllocError> {
         let mut stream = stream;
-        if self.guests.len() >= MOST_GUESTS {
+        if self.is_full(place) {
             let _ = stream.write(FULL);
             return Ok(());
         }
@@ -207,7 +242,8 @@ impl Hall {
         self.next = number.saturating_add(1);
         if let Ok(token) = usize::try_from(number) {
             if stream.register(self.poll.registry(), token).is_ok() {
-                let guest = ConsoleGuest::new(self.alloc, number, stream, self.typed.try_clone()?)?;
+                let typed = self.typed.try_clone()?;
+                let guest = ConsoleGuest::new(self.alloc, (number, place), stream, typed, now)?;
                 self.guests.push(guest)?;
             }
         }
@@ -229,13 +265,20 @@ impl Hall {
         }
     }
 
-    /// Accepts the connections that wait.
-    pub(crate) fn welcome_all(&mut self) {
+    /// Accepts the connections that wait. If a listener has as many as it may have, one that nobody uses is closed.
+    pub(crate) fn welcome_all<G: StateReader + Drop>(
+        &mut self,
+        front: &SessionService<G>,
+        now: Option<Instant>,
+    ) {
         for place in 0..self.entrances.len() {
             for _ in 0..COMERS {
                 match self.next_comer(place) {
                     Some(stream) => {
-                        let _ = self.welcome(stream);
+                        if self.is_full(place) {
+                            self.make_room(place, front, now);
+                        }
+                        let _ = self.welcome(place, stream, now);
                     }
                     None => break,
                 }
@@ -253,6 +296,9 @@ impl Hall {
     ) {
         for guest in self.guests.iter_mut() {
             guest.turn(rt, front, tree, now);
+            if guest.leaves() {
+                guest.execute_wills(front, now);
+            }
         }
         self.guests.retain(|guest| !guest.leaves());
     }

@@ -2,6 +2,7 @@
 
 ghost use Rattle.std.specs.Prelude.{◌≡◌};
 ghost use Rattle.std.specs.Arc.{arc_value};
+ghost use Rattle.smi_operator.specs.Lanes.{by_seat};
 ghost use Rattle.smi_station.specs.Readers.{operators_in};
 ghost use Rattle.smi_console.specs.Running.{Begins, Runs};
 ghost use Rattle.smi_console.specs.Serving.{IsCrewed, serving};
@@ -16,6 +17,7 @@ use smi_commands::status::Status;
 use smi_journal::JournalSetup;
 use smi_link::DatagramLink;
 use smi_node::{ServeFault, StepObserver};
+use smi_operator::operators_by_seat;
 use smi_stable::LoggedStable;
 use smi_station::{Station, migrate};
 use smi_tree::Tree;
@@ -58,12 +60,13 @@ fn crewed<
     fitted: Result<Service<L, V>, Halt>,
 ) -> Result<Result<(), ServeFault>, Halt>
     ensures { IsCrewed (serving S.is_honest S.is_open S.rows S.may_find S.saves S.failures S.doubts
-        (operators_in station.old.core)) setup.now.turns station.old station.new result }
+        (by_seat (operators_in station.old.core))) setup.now.turns station.old station.new result }
 {
     match fitted {
         Ok(service) => {
             let mut service = service;
-            Ok(service.serve(rt, setup.turns, station, board))
+            let seats = operators_by_seat(rt.alloc(), station.operators())?;
+            Ok(service.serve(rt, setup.turns, seats.as_slice(), station, board))
         }
         Err(halt) => Err(halt),
     }
@@ -86,7 +89,7 @@ where
     E: Write + Drop + Send + 'static,
     requires { blank.seen.book ≡ J.book }
     ensures { IsCrewed (serving S.is_honest S.is_open S.rows S.may_find S.saves S.failures S.doubts
-        (operators_in station.old.core)) setup.now.turns station.old station.new result }
+        (by_seat (operators_in station.old.core))) setup.now.turns station.old station.new result }
 {
     let (mut board, glances) = open_board::<J, H>(rt, rt.alloc(), blank, 1)?;
     let fitted = fitted(rt, setup, station, glances, console);

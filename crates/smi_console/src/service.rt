@@ -2,7 +2,6 @@
 
 ghost use Rattle.std.specs.Prelude.{◌≡◌, Result};
 ghost use Rattle.smi_rows.specs.declared.stable.StoreFault.{StoreFault};
-ghost use Rattle.smi_station.specs.Readers.{operators_in};
 ghost use Rattle.smi_node.specs.Carried as carried;
 ghost use Rattle.smi_node.specs.Linked.{shown_by};
 ghost use Rattle.smi_console.specs.Serving.{CopiesLog, IsServed, KeepsAll, ServesFor, serving};
@@ -66,7 +65,7 @@ fn served<
 >(
     rt: &R,
     turns: Turns,
-    node: &mut Node<'_, '_, '_, S, J>,
+    node: &mut Node<'_, '_, '_, '_, S, J>,
     link: &mut L,
     observer: &mut V,
 ) -> Result<(), ServeFault>
@@ -99,6 +98,27 @@ fn served<
     }
 }
 
+/// How a station is served: how long, whose seats its desk has, and where it is counted.
+#[derive(Clone, Copy)]
+struct ServicePlan<'a, 'b> {
+    turns: Turns,
+    /// The operators by seat.
+    operators: &'a [u16],
+    stats: &'b NodeStats,
+}
+
+/// Returns the plan of a service.
+fn plan_of<'a, 'b>(turns: Turns, operators: &'a [u16], stats: &'b NodeStats) -> ServicePlan<'a, 'b>
+    ensures turns { result.turns ≡ turns }
+    ensures operators { result.operators.now ≡ operators.now }
+{
+    ServicePlan {
+        turns,
+        operators,
+        stats,
+    }
+}
+
 /// Makes a node of a station and its parts, and serves it.
 // The parts come one by one: the prover loses what becomes of a station whose node is made of a larger value.
 fn serve_parts<
@@ -109,33 +129,31 @@ fn serve_parts<
     R: Wait + Clock + AllocGlobal,
 >(
     rt: &R,
-    turns: Turns,
+    plan: ServicePlan<'_, '_>,
     station: &mut Station<'_, S>,
     link: &mut L,
     desk: &mut Desk,
     board: &mut Board<J>,
-    stats: &NodeStats,
     observer: &mut V,
 ) -> Result<(), ServeFault>
     ensures { ServesFor
-        (serving S.is_honest S.is_open S.rows S.may_find S.saves S.failures S.doubts (operators_in station.old.core))
-        turns
+        (serving S.is_honest S.is_open S.rows S.may_find S.saves S.failures S.doubts plan.entry.operators.now)
+        plan.entry.turns
         (carried.node station.old (carried.edges (shown_by L.received L.handed L.failures L.receives link.old) desk.old
         board.old) (V.told observer.old))
         (carried.node station.new (carried.edges (shown_by L.received L.handed L.failures L.receives link.new) desk.new
         board.new) (V.told observer.new)) result }
 {
-    let operators = station.operators();
     let mut out = Out::new();
     let mut node = Node {
         station,
         desk,
         board,
         out: &mut out,
-        operators,
-        stats,
+        operators: plan.operators,
+        stats: plan.stats,
     };
-    served(rt, turns, &mut node, link, observer)
+    served(rt, plan.turns, &mut node, link, observer)
 }
 
 /// What a station is served with.
@@ -174,16 +192,17 @@ impl<L: DatagramLink + Drop, V: StepObserver + Drop> Service<L, V> {
         Ok(Service { parts })
     }
 
-    /// Serves a station, so long or until a fault ends it.
+    /// Serves a station whose desk has the seats of these operators by seat, so long or until a fault ends it.
     pub(crate) fn serve<S: LoggedStable, J: BoardId, R: Wait + Clock + AllocGlobal>(
         &mut self,
         rt: &R,
         turns: Turns,
+        operators: &[u16],
         station: &mut Station<'_, S>,
         board: &mut Board<J>,
     ) -> Result<(), ServeFault>
         ensures { IsServed (serving S.is_honest S.is_open S.rows S.may_find S.saves S.failures S.doubts
-            (operators_in station.old.core)) turns station.old station.new result }
+            operators.now) turns station.old station.new result }
     {
         let ServiceParts {
             link,
@@ -191,6 +210,7 @@ impl<L: DatagramLink + Drop, V: StepObserver + Drop> Service<L, V> {
             stats,
             observer,
         } = &mut *self.parts;
-        serve_parts(rt, turns, station, link, desk, board, stats, observer)
+        let plan = plan_of(turns, operators, stats);
+        serve_parts(rt, plan, station, link, desk, board, observer)
     }
 }

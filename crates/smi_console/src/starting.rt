@@ -3,6 +3,7 @@
 use crate::attending::{Attendant, attend};
 use crate::bell::Bell;
 use crate::console_waker::ConsoleWaker;
+use crate::event_queue::StationNews;
 use crate::hall::Hall;
 use crate::outlet::{Outlet, open_outlet, write_all};
 use crate::reading::{Input, read_all};
@@ -11,7 +12,7 @@ use crate::socket_drops::SocketDrops;
 use crate::typed_lines::TypedLines;
 use crossbeam_channel::{Receiver, Sender, bounded};
 use smi_journal::{Noted, TypedLine};
-use smi_session::{SessionService, StateReader, StationEvent, boxed};
+use smi_session::{SessionService, StateReader, boxed};
 use std::alloc::{AllocError, Global};
 use std::io::{Read, Write};
 use std::sync::{Arc, Wait};
@@ -116,7 +117,7 @@ fn attendant_of<G: StateReader + Drop>(
     lobby: Lobby<G>,
     outlet: Outlet,
     lines: Receiver<Input>,
-    news: Receiver<StationEvent>,
+    news: Receiver<StationNews>,
     drops: SocketDrops,
 ) -> Result<Box<Attendant<G>>, AllocError> {
     let Lobby {
@@ -153,7 +154,7 @@ fn begin_front<
     outlet: Outlet,
     lines: Receiver<Input>,
     faults: E,
-) -> Result<Sender<StationEvent>, AllocError> {
+) -> Result<Sender<StationNews>, AllocError> {
     let (sender, news) = bounded(rt.alloc(), NEWS)?;
     let drops = SocketDrops::of(rt.alloc(), setup)?;
     let attendant = attendant_of(rt.alloc(), lobby, outlet, lines, news, drops)?;
@@ -174,7 +175,7 @@ pub(crate) fn begin_console<
     lobby: Lobby<G>,
     waker: &Arc<ConsoleWaker, Global>,
     console: Console<I, O, E>,
-) -> Result<Sender<StationEvent>, AllocError> {
+) -> Result<Sender<StationNews>, AllocError> {
     let Console {
         input,
         output,
