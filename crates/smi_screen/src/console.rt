@@ -75,7 +75,7 @@ impl ConsoleStream {
 }
 
 /// The state of a connection after a turn.
-#[derive(Clone, Copy, Debug, PartialEq, Eq)]
+#[derive(Clone, Copy, PartialEq, Eq)]
 enum Standing {
     Sound,
     Broken,

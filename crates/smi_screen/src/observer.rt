@@ -29,7 +29,7 @@ const MOST_ASKED: u32 = 8;
 pub struct Stopped;
 
 /// The outcome of a turn's receives.
-#[derive(Clone, Copy, Debug, PartialEq, Eq)]
+#[derive(Clone, Copy, PartialEq, Eq)]
 pub enum ReceiveOutcome {
     /// Something, and perhaps there is more.
     Something,

@@ -12,7 +12,7 @@ const MOST_LATE: u64 = 160;
 const BETWEEN_TICKS: u64 = 300;
 
 /// The schedule of an observer: which objects and domains come next, and when.
-#[derive(Clone, Copy, Debug, PartialEq, Eq)]
+#[derive(Clone, Copy, PartialEq, Eq)]
 pub struct Pace {
     objects: u16,
     domains: u16,

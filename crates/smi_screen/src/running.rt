@@ -22,7 +22,7 @@ use std::sync::Wait;
 use std::time::{Clock, Instant};
 
 /// How a screen ended, or why it did not begin.
-#[derive(Clone, Copy, Debug, PartialEq, Eq)]
+#[derive(Clone, Copy, PartialEq, Eq)]
 pub enum Ended {
     /// All its turns were made.
     Turns,

@@ -28,7 +28,7 @@ use smi_view::{Hearing, Picture, Sight};
 use std::alloc::{AllocError, Global};
 
 /// A metric of each domain.
-#[derive(Clone, Copy, Debug, PartialEq, Eq)]
+#[derive(Clone, Copy, PartialEq, Eq)]
 enum Metric {
     Held,
     Busy,

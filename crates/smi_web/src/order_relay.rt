@@ -17,7 +17,7 @@ pub const MOST_ORDERS: usize = 64;
 pub const MOST_UNSENT: usize = 8_192;
 
 /// Why an order may be given, or not.
-#[derive(Clone, Copy, Debug, PartialEq, Eq)]
+#[derive(Clone, Copy, PartialEq, Eq)]
 pub enum Admission {
     /// It may be given.
     Accepted,

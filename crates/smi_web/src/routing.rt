@@ -44,7 +44,7 @@ impl<'a> Model for RequestParts<'a> {
 }
 
 /// The route of a request.
-#[derive(Clone, Copy, Debug, PartialEq, Eq)]
+#[derive(Clone, Copy, PartialEq, Eq)]
 pub enum Route {
     Page,
     Tree,

@@ -149,7 +149,7 @@ fn put_device(text: &mut Vec<u8>, tree: &Tree, number: u16) -> Result<(), AllocE
 }
 
 /// What a tree has by number.
-#[derive(Clone, Copy, Debug, PartialEq, Eq)]
+#[derive(Clone, Copy, PartialEq, Eq)]
 enum Kind {
     State,
     Action,
