@@ -1,16 +1,19 @@
 //! A line for each doubt.
 
 ghost use Rattle.std.specs.Prelude.{◌≤◌};
-ghost use Rattle.smi_tree.specs.Lookups.{state_count, action_count, domain_count};
+ghost use Rattle.smi_tree.specs.Lookups.{state_count, action_count, domain_count, device_count};
 
 use crate::idle_actions::is_idle;
+use crate::obedient_devices::is_obedient;
+use crate::refused_actions::is_refused;
+use crate::rule_holes::{is_mixed, is_unruled};
 use crate::twin_addresses::twin;
 use crate::unreached_states::is_unreached;
 use smi_tree::Tree;
 use std::io::{self, Write};
 
-/// Writes a line for each doubt about a tree: of stations, of actions by domain, and of states, each by number. What
-/// can't be written is passed over.
+/// Writes a line for each doubt about a tree: of stations, of actions and rules by domain, of states, of devices, each
+/// by number. What can't be written is passed over.
 pub fn tell<W: Write>(tree: &Tree, writer: &mut W) {
     for station in 1..=tree.station_count() {
         if let Some(other) = twin(tree, station) {
@@ -18,16 +21,57 @@ pub fn tell<W: Write>(tree: &Tree, writer: &mut W) {
         }
     }
     for domain in 1..=tree.domain_count() {
-        for action in 1..=tree.action_count() {
-            if is_idle(tree, domain, action) {
-                let _ = tell_idle(tree, domain, action, writer);
-            }
-        }
+        tell_actions(tree, domain, writer);
+    }
+    for domain in 1..=tree.domain_count() {
+        tell_rules(tree, domain, writer);
     }
     for state in 1..=tree.state_count() {
         if is_unreached(tree, state) {
             let _ = tell_unreached(tree, state, writer);
         }
+    }
+    for device in 1..=tree.device_count() {
+        for action in 1..=tree.action_count() {
+            if is_obedient(tree, device, action) {
+                let _ = tell_obedient(tree, device, action, writer);
+            }
+        }
+    }
+}
+
+fn tell_actions<W: Write>(tree: &Tree, domain: u16, writer: &mut W)
+    requires least { 1 ≤ domain }
+    requires most { domain ≤ domain_count tree.now }
+{
+    for action in 1..=tree.action_count() {
+        if is_idle(tree, domain, action) {
+            let _ = tell_idle(tree, domain, action, writer);
+        }
+        if is_refused(tree, domain, action) {
+            let _ = tell_refused(tree, domain, action, writer);
+        }
+    }
+}
+
+fn tell_rules<W: Write>(tree: &Tree, domain: u16, writer: &mut W)
+    requires least { 1 ≤ domain }
+    requires most { domain ≤ domain_count tree.now }
+{
+    for state in 1..=tree.state_count() {
+        if is_unruled(tree, domain, state) {
+            let _ = tell_unruled(tree, domain, state, writer);
+        }
+    }
+    let mut is_begun = false;
+    for state in 1..=tree.state_count() {
+        if is_mixed(tree, domain, state) {
+            let _ = tell_mixed(tree, domain, state, is_begun, writer);
+            is_begun = true;
+        }
+    }
+    if is_begun {
+        let _ = writer.write_all(b"\n");
     }
 }
 
@@ -59,6 +103,69 @@ fn tell_idle<W: Write>(tree: &Tree, domain: u16, action: u16, writer: &mut W) ->
     writer.write_all(b" accepts ")?;
     writer.write_all(tree.action_name(action))?;
     writer.write_all(b", by which no device moves below a domain of its class\n")
+}
+
+fn tell_refused<W: Write>(tree: &Tree, domain: u16, action: u16, writer: &mut W) -> io::Result<()>
+    requires least_domain { 1 ≤ domain }
+    requires most_domain { domain ≤ domain_count tree.now }
+    requires least_action { 1 ≤ action }
+    requires most_action { action ≤ action_count tree.now }
+{
+    writer.write_all(b"doubt: domain ")?;
+    writer.write_all(tree.domain_name(domain))?;
+    writer.write_all(b" does not accept ")?;
+    writer.write_all(tree.action_name(action))?;
+    writer.write_all(
+        b", which its parent accepts, so each such order from above ends with code 1\n",
+    )
+}
+
+fn tell_unruled<W: Write>(tree: &Tree, domain: u16, state: u16, writer: &mut W) -> io::Result<()>
+    requires least_domain { 1 ≤ domain }
+    requires most_domain { domain ≤ domain_count tree.now }
+    requires least_state { 1 ≤ state }
+    requires most_state { state ≤ state_count tree.now }
+{
+    writer.write_all(b"doubt: domain ")?;
+    writer.write_all(tree.domain_name(domain))?;
+    writer.write_all(b" keeps its old state if all its members are in ")?;
+    writer.write_all(tree.state_name(state))?;
+    writer.write_all(b"\n")
+}
+
+/// Writes a state of those over two or more of which no rule holds, behind the ones before it.
+fn tell_mixed<W: Write>(
+    tree: &Tree,
+    domain: u16,
+    state: u16,
+    is_begun: bool,
+    writer: &mut W,
+) -> io::Result<()>
+    requires least_domain { 1 ≤ domain }
+    requires most_domain { domain ≤ domain_count tree.now }
+    requires least_state { 1 ≤ state }
+    requires most_state { state ≤ state_count tree.now }
+{
+    if !is_begun {
+        writer.write_all(b"doubt: domain ")?;
+        writer.write_all(tree.domain_name(domain))?;
+        writer.write_all(b" keeps its old state if its members are in two or more of")?;
+    }
+    writer.write_all(b" ")?;
+    writer.write_all(tree.state_name(state))
+}
+
+fn tell_obedient<W: Write>(tree: &Tree, device: u16, action: u16, writer: &mut W) -> io::Result<()>
+    requires least_device { 1 ≤ device }
+    requires most_device { device ≤ device_count tree.now }
+    requires least_action { 1 ≤ action }
+    requires most_action { action ≤ action_count tree.now }
+{
+    writer.write_all(b"doubt: device ")?;
+    writer.write_all(tree.device_name(device))?;
+    writer.write_all(b" is moved by ")?;
+    writer.write_all(tree.action_name(action))?;
+    writer.write_all(b" though nobody has reported it\n")
 }
 
 fn tell_unreached<W: Write>(tree: &Tree, state: u16, writer: &mut W) -> io::Result<()>

@@ -6,7 +6,7 @@ ghost use Rattle.smi_commands.specs.Doubts as spec;
 use smi_tree::Tree;
 
 /// Returns the class of a domain's unit, 0 if the tree does not have the domain.
-fn class_of(tree: &Tree, domain: u16) -> u16
+pub(crate) fn class_of(tree: &Tree, domain: u16) -> u16
     ensures { result ≡ spec.class_of tree.now domain }
 {
     if 1 <= domain && domain <= tree.domain_count() {
@@ -17,7 +17,7 @@ fn class_of(tree: &Tree, domain: u16) -> u16
 }
 
 /// Returns the domain of a device, 0 if the tree does not have the device.
-fn home_of(tree: &Tree, device: u16) -> u16
+pub(crate) fn home_of(tree: &Tree, device: u16) -> u16
     ensures { result ≡ spec.home_of tree.now device }
 {
     if 1 <= device && device <= tree.device_count() {
@@ -53,7 +53,7 @@ fn stirs_below(tree: &Tree, class: u16, action: u16) -> bool
 }
 
 /// Returns true if a domain is the first of its class.
-fn is_first_of_class(tree: &Tree, domain: u16) -> bool
+pub(crate) fn is_first_of_class(tree: &Tree, domain: u16) -> bool
     ensures { result ≡ spec.is_first_of_class tree.now domain }
 {
     let class = class_of(tree, domain);

@@ -5,9 +5,11 @@
 //! it is lawful and surely not meant. [`rows::rows`] lists the stable rows of a store. [`status`] has the exit statuses
 //! and the lines on standard error. The command line, the files and SQLite are in crates above.
 //!
-//! There are three kinds of doubts about a tree: a station with the address of another (`twin_addresses`), an action
-//! that a unit accepts and that moves no device (`idle_actions`), and a state that nothing leads to
-//! (`unreached_states`). Each is a function of the tree, and takes no memory. Searches go through all numbers from 0
+//! There are six kinds of doubts about a tree: a station with the address of another (`twin_addresses`), an action that
+//! a unit accepts and that moves no device (`idle_actions`), one that a domain does not accept and its parent does
+//! (`refused_actions`), states of members over which no rule holds (`rule_holes`), a state that nothing leads to
+//! (`unreached_states`), and a device that an action moves before anybody has reported it (`obedient_devices`). Each is
+//! a function of the tree, and takes no memory. Searches go through all numbers from 0
 //! to the last. What has a number in a tree has it from 1, and 0 passes no test; as the state of a member it means
 //! one that was not shown yet.
 //!
@@ -62,12 +64,18 @@ mod doubts;
 mod idle_actions;
 mod keeper;
 mod losses;
+mod obedient_devices;
+mod refused_actions;
 pub mod rows;
+mod rule_holes;
 pub mod status;
 mod twin_addresses;
 mod unreached_states;
 
 pub use doubts::tell;
 pub use idle_actions::is_idle;
+pub use obedient_devices::is_obedient;
+pub use refused_actions::is_refused;
+pub use rule_holes::{is_mixed, is_unruled};
 pub use twin_addresses::twin;
 pub use unreached_states::is_unreached;

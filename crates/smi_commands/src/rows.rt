@@ -11,7 +11,7 @@ use smi_rows::{SavedRow, Stable, StoreFault};
 use std::io::Write;
 
 /// How a listing ended.
-#[derive(Clone, Copy, Debug, PartialEq, Eq)]
+#[derive(Clone, Copy, PartialEq, Eq)]
 pub enum Listed {
     /// All rows are written.
     Done,

@@ -6,7 +6,7 @@ ghost use Rattle.smi_commands.specs.Doubts as spec;
 use smi_tree::Tree;
 
 /// Returns true if an object begins in this state.
-fn begins(tree: &Tree, object: u16, state: u16) -> bool
+pub(crate) fn begins(tree: &Tree, object: u16, state: u16) -> bool
     ensures { result ≡ spec.begins tree.now object state }
 {
     match tree.first_state(object) {
@@ -31,7 +31,7 @@ fn comes_from(tree: &Tree, device: u16, from: u16, state: u16) -> bool
 }
 
 /// Returns true if some action brings a device to this state from another one.
-fn comes(tree: &Tree, device: u16, state: u16) -> bool
+pub(crate) fn comes(tree: &Tree, device: u16, state: u16) -> bool
     ensures { result ≡ spec.comes tree.now device state }
 {
     (0..tree.state_count() + 1).any(|from| comes_from(tree, device, from, state))
@@ -53,7 +53,7 @@ fn goes_with(tree: &Tree, domain: u16, first: u16, state: u16) -> bool
 
 /// Returns true if a domain's unit goes to this state over some two members. A rule that can win at all wins over
 /// two.
-fn goes(tree: &Tree, domain: u16, state: u16) -> bool
+pub(crate) fn goes(tree: &Tree, domain: u16, state: u16) -> bool
     ensures { result ≡ spec.goes tree.now domain state }
 {
     (0..tree.state_count() + 1).any(|first| goes_with(tree, domain, first, state))
