@@ -17,6 +17,7 @@ import pytest
 import browsers
 import demo
 import nodes
+import page_server
 import screens
 from browser import CONTRASTS, DOTS, GIVEN, LEADER, QUESTION, SHOWN, TOP, Hand, labels, shows, traced
 from running import is_so
@@ -29,6 +30,8 @@ TRIP, SILENT, LOST, SLACK = 1, 3, 2, 2
 FRAME = 100
 # The most domains and devices that a tree has.
 DOMAINS, DEVICES = 128, 512
+# That a station is silent and nothing of it is under way any more: on a busy machine one that lives may be silent too.
+DEAD = "domains.get('%s').silence > 5000"
 CONNECTED = "document.getElementById('console').textContent === 'orders: connected'"
 
 
@@ -63,12 +66,19 @@ def check_shift(program, detector, browser, subtests):
 def check_key(detector, browser, subtests):
     """The keyboard alone reaches all."""
     browser.run("document.activeElement.blur()")
-    reached = set()
-    for _ in range(len(detector.names.domains) + 10):
+    here, reached = "document.activeElement.dataset.domain || ''", []
+    for _ in range(30):
         browser.key("Tab")
-        reached.add(browser.run("document.activeElement.dataset.domain || ''"))
-    with subtests.test("keys: Tab reaches every domain"):
-        assert set(detector.names.domains) <= reached
+        reached.append(browser.run(here))
+    with subtests.test("keys: Tab leads into the tree and out of it"):
+        assert set(reached) == {"", TOP}
+    browser.run("domains.get('%s').at.top.focus()" % TOP)
+    reached = [TOP]
+    for _ in detector.names.domains:
+        browser.key("ArrowDown")
+        reached.append(browser.run(here))
+    with subtests.test("keys: arrows reach every domain, and the first one again"):
+        assert sorted(reached[:-1]) == sorted(detector.names.domains) and reached[-1] == TOP
     browser.run("document.querySelector('[data-domain=TRK]').focus()")
     browser.key("ArrowDown")
     with subtests.test("keys: an arrow leads on"):
@@ -183,7 +193,7 @@ def check_silent(detector, browser, hand, subtests):
     detector.stop("MUON")
     silent = "document.querySelector('#main [data-domain=MUO]').closest('section').classList.contains('silent')"
     with subtests.test("silent: it is"):
-        assert browser.waits_for(silent, 20) is not None
+        assert browser.waits_for(silent + " && " + DEAD % "MUO", 20) is not None
     hand.open(TOP)
     words, choices = hand.click("STOP")
     with subtests.test("silent: the question (%s)" % words):
@@ -267,12 +277,14 @@ def check_waiting(detector, browser, subtests):
     hand = Hand(browser)
     hand.choose(LEADER)
     detector.stop("SERVICES")
-    silent = "document.querySelector('#main [data-domain=INFRA]').closest('section').classList.contains('silent')"
-    browser.waits_for(silent, 20)
+    with subtests.test("waiting: the station is silent"):
+        assert browser.waits_for(DEAD % "INFRA", 20) is not None
     hand.open("INFRA")
     asked = hand.click("take", "SERVICES")
-    with subtests.test("waiting: it is asked"):
-        assert asked == ["take INFRA?", ["yes, take", "cancel"]]
+    with subtests.test("waiting: it is asked %s" % asked):
+        assert re.fullmatch(r"SERVICES, which keeps INFRA, has been silent for [0-9]+ s\. take will wait until it is back, "
+                            r"and so will what SHIFT_LEADER orders of INFRA after it\.", asked[0])
+        assert asked[1] == ["take anyway", "cancel"]
     hand.answer(0)
     waits = "%s.some((text) => /^%s take INFRAwaits [2-9] s for station SERVICES$/.test(text))" % (GIVEN, LEADER)
     with subtests.test("waiting: with its seconds and its station"):
@@ -295,10 +307,14 @@ def check_trip(detector, browser, subtests):
     """A trip is on top, a silent station is told, and it comes back."""
     begun = time.monotonic()
     detector.report("PIXEL_HV7", "ERROR")
-    seen = browser.waits_for("/PIXEL_HV ERROR: PIXEL_HV7/.test(document.getElementById('alarms').textContent)", 20)
+    seen = browser.waits_for("/PIXEL_HV7 ERROR/.test(document.getElementById('alarms').textContent)", 20)
     took = time.monotonic() - begun
     with subtests.test("trips: one is on top in %.1f s" % took):
         assert seen is not None and took < TRIP + SLACK
+    with subtests.test("trips: it is one alarm, with what follows from it above"):
+        assert browser.waits_for("[...document.querySelectorAll('#alarms .alarm:not(.warn) [data-alarm]')]"
+                                 ".map((b) => b.textContent.slice(9)).join()"
+                                 " === 'PIXEL_HV7 ERROR so PIXEL_HV PIXEL TRK EXPERIMENT'", 10) is not None
     detector.report("PIXEL_HV7", "READY")
     detector.stop("MUON")
     begun = time.monotonic()
@@ -318,7 +334,7 @@ def check_trip(detector, browser, subtests):
     with subtests.test("trips: it comes back"):
         assert browser.waits_for("!" + silent, 20) is not None
     browser.run("document.getElementById('hour').open = true")
-    logged = browser.waits_for("/MUO silent/.test(document.getElementById('log').textContent)"
+    logged = browser.waits_for("/station MUON, which keeps MUO: silent/.test(document.getElementById('log').textContent)"
                                " && /PIXEL_HV7 ERROR/.test(document.getElementById('log').textContent)", 5)
     with subtests.test("trips: the log has both"):
         assert logged is not None
@@ -374,7 +390,7 @@ UNHELD = """(() => {""" + LEVELS + """
   const none = getComputedStyle(probe).color;
   probe.remove();
   return [...[...domains.values()].map((d) => getComputedStyle(d.at.box).borderLeftColor === none),
-    ...[...document.querySelectorAll("#alarms button")].map((b) => b.textContent)]; })()"""
+    ...[...document.querySelectorAll("#alarms [data-alarm] b")].map((b) => b.textContent)]; })()"""
 # Whether the page takes the silent domain for manual after each of these steps: an order of its own, with the code with
 # which it ends, or `waits`, or `lost` if it is not known; or a record of the domain above, its epoch and last command.
 COUNTED = """(async () => {""" + LEVELS + """
@@ -523,13 +539,14 @@ def check_parts(browser, subtests):
 
 @pytest.mark.alone
 @pytest.mark.skipif(not browsers.program(), reason="there is no browser (Debian's chromium)")
-def test_page(program, folder, subtests):
+def test_page(program, folder, request, subtests):
     """The page during a shift, from its first picture on: each check goes on after the one before it."""
     detector = demo.Detector(program, folder, "127.0.0.1:%d" % screens.tcp_port())
     browser = browsers.Browser(browsers.program())
+    before = page_server.PageServer(page_server.Before(detector.http)) if request.config.getoption("page_files") else None
     try:
         assert is_so(lambda: is_there(detector.http))
-        browser.open("http://%s/" % detector.http)
+        browser.open(before.url if before else "http://%s/" % detector.http)
         check_shift(program, detector, browser, subtests)
         check_key(detector, browser, subtests)
         check_look(browser, subtests)
@@ -540,6 +557,8 @@ def test_page(program, folder, subtests):
     finally:
         browser.end()
         detector.end()
+        if before:
+            before.end()
     is_safe, said = nodes.audit(program, detector.tree, os.path.join(folder, "night"))
     with subtests.test("night: what an audit of the shift says: %s" % said):
         assert is_safe

@@ -115,6 +115,19 @@ class Browser:
         self.call("Emulation.setDeviceMetricsOverride", width=width, height=height, deviceScaleFactor=1,
                   mobile=is_telephone)
 
+    def before_each_page(self, script):
+        """Has a script run in each page before its own."""
+        self.call("Page.addScriptToEvaluateOnNewDocument", source=script)
+
+    def forced_colors(self, is_on):
+        value = "active" if is_on else "none"
+        self.call("Emulation.setEmulatedMedia", features=[{"name": "forced-colors", "value": value}])
+
+    def zoom(self, width, height, factor):
+        """Has the window the size and the pixels that it has if somebody zooms the page by a factor."""
+        self.call("Emulation.setDeviceMetricsOverride", width=round(width / factor), height=round(height / factor),
+                  deviceScaleFactor=factor, mobile=False)
+
     def scheme(self, name):
         self.call("Emulation.setEmulatedMedia", features=[{"name": "prefers-color-scheme", "value": name}])
 

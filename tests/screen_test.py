@@ -15,6 +15,7 @@ import time
 import pytest
 
 import nodes
+import page as served
 import running
 import screens
 
@@ -101,7 +102,7 @@ def test_answers(world, subtests):
     with subtests.test("it is up"):
         assert screen.is_up()
     own, local = screen.host, "localhost:%d" % screen.port
-    page = running.read(os.path.join(running.ROOT, "crates", "smi_program", "page.html"))
+    page = served.text_of("page").encode()
     with subtests.test("the page"):
         assert screen.get("/") == (200, page)
     with subtests.test("by the name of this machine"):

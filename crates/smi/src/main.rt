@@ -4,24 +4,22 @@
 #![tactic(auto)]
 
 use smi_commands::status::no_memory;
-use smi_program::{program, tell_help, words_of};
+use smi_program::{program, tell_help, tell_tree_fault, words_of};
 use std::io::IsTerminal;
 use std::process::ExitCode;
 
 fn main(rt: HostRuntime) -> ExitCode {
     let mut faults = rt.stderr();
+    let is_terminal = faults.is_terminal();
     let status = match words_of(&rt) {
-        Ok(words) => program(
-            &rt,
-            &words,
-            rt.reader(),
-            rt.stdout(),
-            &mut faults,
-            rt.stderr(),
-        ),
+        Ok(words) => {
+            let (reader, writer, aside) = (rt.reader(), rt.stdout(), rt.stderr());
+            let status = program(&rt, &words, reader, writer, &mut faults, aside);
+            tell_tree_fault(&rt, &words, status, is_terminal, &mut faults);
+            status
+        }
         Err(_) => no_memory(&mut faults).code(),
     };
-    let is_terminal = faults.is_terminal();
     // If that can't be written there is nowhere left to say so.
     let _ = tell_help(status, is_terminal, &mut faults);
     ExitCode::from(status)

@@ -1,18 +1,19 @@
 //! The commands of the program, over any files, stores, input and outputs.
 //!
 //! [`words_of`] takes the words of a command line as the system has them, which need not be text, and [`line_of`]
-//! says what they ask for. [`program`] does that, and [`tell_help`] says after a wrong line where help is. A path is
-//! found again by the bytes of its word ([`bytes_of`]). What a command without stations does is proved in
-//! `smi_commands`; a node is run by `smi_console`, and a screen by `smi_screen`.
+//! says what they ask for. [`program`] does that. At a terminal [`tell_help`] says after a wrong line where help is,
+//! and [`tell_tree_fault`] after a tree file that was refused what is wrong with it. A path is found again by the bytes
+//! of its word ([`bytes_of`]). What a command without stations does is proved in `smi_commands`; a node is run by
+//! `smi_console`, and a screen by `smi_screen`.
 //!
 //! [`simulating::sim`] runs a schedule that is read, [`simulating::sim_drawn`] one that is drawn. What they write is
 //! the text of the schedule's trace, which is safe at every moment (`stream` and `stream_drawn` of `smi_world`); what
 //! is amiss is told in one line.
 //!
 //! The page of a screen is one file, with its style and its script, which fetches nothing from elsewhere. It is
-//! written as page.html, beside this crate's sources, and served as the constant [`PAGE`], which tools/page.py makes
-//! of it. If orders may be given the page goes on ([`page_with_orders`]): after it come the key that a page has
-//! to show with each order, and what is written as orders.html.
+//! written in parts, in the folder `page` beside this crate's sources, and served as the constant [`PAGE`], which
+//! tools/page.py puts together. If orders may be given the page goes on ([`page_with_orders`]): after it come the key
+//! that a page has to show with each order, and the parts that give orders ([`ORDERS`]).
 #![tactic(auto)]
 
 mod audit;
@@ -27,6 +28,7 @@ mod screen;
 mod sim;
 pub mod simulating;
 mod tree;
+mod tree_words;
 mod with_orders;
 mod words;
 
@@ -37,5 +39,6 @@ pub use line::{
 };
 pub use orders::ORDERS;
 pub use page::PAGE;
+pub use tree_words::tell_tree_fault;
 pub use with_orders::{page_bytes, page_with_orders};
 pub use words::{Words, bytes_after, bytes_of, words_of};

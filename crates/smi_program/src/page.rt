@@ -1,4 +1,4 @@
-//! The page of the screen. It is made of page.html by tools/page.py.
+//! The page of the screen. It is made of the files of page/ by tools/page.py.
 
 /// The page.
 pub const PAGE: &str = "<!doctype html>
@@ -7,7 +7,7 @@ pub const PAGE: &str = "<!doctype html>
 <meta charset=\"utf-8\">
 <meta name=\"viewport\" content=\"width=device-width, initial-scale=1\">
 <title>screen</title>
-<link rel=\"icon\" href=\"data:,\">
+<link rel=\"icon\" id=\"icon\" href=\"data:,\">
 <style>
 :root { color-scheme: light; --back: #eceff3; --card: #fff; --part: #f3f5f8; --ink: #12161c; --soft: #465160;
   --line: #c3ccd6; --focus: #0b57d0; --none: #d5dbe2 }
@@ -17,34 +17,54 @@ pub const PAGE: &str = "<!doctype html>
 :root[data-theme=dark] { color-scheme: dark; --back: #0c0f14; --card: #171c24; --part: #1f2630; --ink: #eef2f7;
   --soft: #a9b4c2; --line: #36414f; --focus: #8ab4f8; --none: #333d49 }
 * { box-sizing: border-box }
-html { font-size: calc(var(--size, 1) * clamp(12px, min(.9vw, 1.6vh), 44px)); background: var(--back) }
+html { font-size: calc(var(--size, 1) * 100%); background: var(--back) }
 body { margin: 0; color: var(--ink); font: 1rem/1.25 system-ui, \"DejaVu Sans\", \"Segoe UI\", Roboto, sans-serif;
   font-variant-numeric: tabular-nums }
 button { font: inherit; color: inherit; background: none; border: 0; padding: 0; text-align: left; cursor: pointer }
-:focus-visible { outline: 4px solid var(--focus); outline-offset: 2px; border-radius: 6px }
-header { display: flex; flex-wrap: wrap; align-items: center; gap: .4rem 1.2rem; padding: .5rem 1.2rem;
+:focus-visible { outline: 3px solid var(--focus); outline-offset: 1px; border-radius: 4px }
+header { display: flex; flex-wrap: wrap; align-items: center; gap: .3rem .8rem; padding: .3rem .8rem;
   border-bottom: 2px solid var(--line) }
-h1 { font-size: 1.3rem; margin: 0; font-weight: 600 }
+h1 { font-size: 1.2rem; margin: 0; font-weight: 600 }
 h1 a, a.tool { color: var(--soft); text-decoration: none }
 a.tool { display: inline-block; margin-top: .8rem }
-#live { font-size: 1.15rem; font-weight: 700; padding: .2rem .8rem; border-radius: 99px; background: #15803d;
-  color: #fff }
+#live { font-weight: 700; padding: .1rem .7rem; border-radius: 99px; background: #15803d; color: #fff }
 #live.late { background: #f0b429; color: #000 }
 #live.lost { background: #c81e1e; color: #fff }
-#clock { margin-left: auto; font-size: 2.1rem; font-weight: 700 }
-.tool { border: 2px solid var(--line); border-radius: 8px; padding: .3rem .7rem; color: var(--soft); font-weight: 600 }
-#alarms { display: flex; flex-wrap: wrap; gap: .5rem .7rem; padding: .6rem 1.2rem 0; min-height: 3.4rem;
-  max-height: 7.6rem; overflow: auto; align-items: center }
-#alarms .calm { color: var(--soft); font-size: 1.3rem; font-weight: 600 }
-#alarms button { font-size: 1.45rem; font-weight: 700; padding: .3rem .9rem; border-radius: 8px; background: #c81e1e;
-  color: #fff }
-#alarms button.warn { background: #f0b429; color: #000 }
+#clock { margin-left: auto; font-size: 1.5rem; font-weight: 700 }
+.tool { border: 2px solid var(--line); border-radius: 8px; padding: .15rem .6rem; color: var(--soft); font-weight: 600 }
+.tool[aria-pressed=true] { color: var(--ink); border-color: var(--soft) }
+#find { font: inherit; width: 11rem; padding: .15rem .5rem; border: 2px solid var(--line); border-radius: 8px;
+  background: var(--card); color: var(--ink) }
+select { font: inherit; color: var(--ink); background: var(--card); border: 2px solid var(--line); border-radius: 8px }
+#all { display: grid; grid-template: \"aside\" \"main\" \"footer\" / minmax(0, 1fr) }
+aside { grid-area: aside; padding: .4rem .8rem 0 }
+main { grid-area: main; padding: .4rem .8rem }
+footer { grid-area: footer; padding: 0 .8rem .4rem; color: var(--soft); display: grid; gap: .25rem }
+@media (min-width: 64rem) and (min-height: 32rem) {
+  body { display: grid; grid-template-rows: auto minmax(0, 1fr); height: 100vh }
+  #all { grid-template: \"main aside\" minmax(0, 1fr) \"footer aside\" auto / minmax(0, 1fr) 18rem }
+  main, aside { overflow: auto; position: relative }
+  aside { border-left: 2px solid var(--line) }
+}
+@media (min-width: 100rem) and (min-height: 32rem) { #all { grid-template-columns: minmax(0, 1fr) 24rem } }
 #lost { display: none; position: fixed; inset: 0; z-index: 3; background: #7f1010e6; color: #fff;
-  place-content: center;  text-align: center; font-size: 7.5vw; font-weight: 900; line-height: 1.05; padding: 4vw }
-#lost small { display: block; font-size: 2.6vw; font-weight: 600; margin-top: 2vw }
+  place-content: center; text-align: center; font-size: 6rem; font-weight: 900; line-height: 1.05; padding: 1rem }
 .lost #lost { display: grid }
-.lost main, .lost #alarms { filter: grayscale(1); opacity: .45 }
-main { padding: .6rem 1.2rem 1rem; display: grid; gap: 1rem }
+.lost #all { filter: grayscale(1); opacity: .45 }
+kbd { border: 1px solid var(--line); border-radius: 4px; padding: 0 .35em; font: inherit; font-weight: 700 }
+details { border-top: 2px solid var(--line); padding: .25rem 0 }
+summary { font-weight: 700; cursor: pointer }
+#help p { margin: .3rem 0 0 }
+.legend { display: flex; flex-wrap: wrap; gap: .2rem 1rem; align-items: center }
+.legend b, #people button { display: inline-flex; align-items: center; gap: .35rem; font-weight: 600 }
+.legend i { width: 1rem; height: 1rem; border-radius: 50%; background: var(--c, var(--none)) }
+.legend i.initials { width: auto; height: auto; border-radius: 4px; padding: 0 .3em; font-style: normal;
+  font-weight: 800; font-size: .85em; color: var(--t, var(--ink)) }
+#people [aria-pressed=true] { text-decoration: underline; text-underline-offset: .25em }
+#people .idle { display: none }
+.hidden { position: absolute; width: 1px; height: 1px; overflow: hidden; clip-path: inset(50%) }
+.left-out { display: none }
+#main { display: grid; gap: .8rem }
 section { min-width: 0 }
 .name { font-weight: 800; overflow-wrap: anywhere }
 .state { display: inline-flex; align-items: center; border-radius: 8px; padding: .05em .5em; font-weight: 800;
@@ -52,88 +72,146 @@ section { min-width: 0 }
 .who { font-weight: 700; border-radius: 6px; padding: 0 .45em; white-space: nowrap; background: var(--who, #0000);
   color: var(--whot, var(--soft)) }
 .who:empty, .mode:empty, .note:empty { display: none }
-.mode { color: var(--soft); font-size: .95rem }
+.mode { color: var(--soft); font-size: .9rem; font-weight: 700 }
 .note { font-weight: 800; border-radius: 6px; padding: 0 .45em; white-space: nowrap; color: var(--soft) }
 .silent > .top > .note { background: #f0b429; color: #000 }
-.top { display: flex; flex-wrap: wrap; align-items: center; gap: .15rem .6rem; width: 100% }
-.root > .top { padding: .35rem 1rem; border-radius: 12px; background: var(--card); border: 2px solid var(--line);
+.top { display: flex; flex-wrap: wrap; align-items: center; gap: .1rem .5rem; width: 100% }
+.fold { flex: none; width: 1em; color: var(--soft); text-align: center; font-weight: 800 }
+.fold::before { content: \"\\25BE\" }
+.folded > .top > .fold::before { content: \"\\25B8\" }
+.folded > .top > .fold.hot { color: #fff; background: #c81e1e; border-radius: 4px }
+body:not(.finding) .folded > .kids { display: none }
+.root > .top { padding: .2rem .7rem; border-radius: 10px; background: var(--card); border: 2px solid var(--line);
   border-left: 12px solid var(--edge, var(--line)) }
-.root > .top .name { font-size: 2.5rem }
-.root > .top .state { font-size: 2.6rem }
-.root > .top .who { font-size: 1.4rem }
-.cards { display: grid; gap: .8rem; margin-top: .7rem; grid-template-columns: repeat(auto-fit, minmax(16rem, 1fr)) }
-.root.small .cards { grid-template-columns: repeat(auto-fit, minmax(13rem, 1fr)) }
+.root > .top > .name { font-size: 2rem }
+.root > .top > .state { font-size: 2rem }
+.root > .top > .who { font-size: 1.2rem }
+.cards { display: grid; gap: .6rem; margin-top: .5rem; grid-template-columns: repeat(auto-fit, minmax(14rem, 1fr)) }
+.root.small > .cards { grid-template-columns: repeat(auto-fit, minmax(11rem, 1fr)) }
 .card { background: var(--card); border: 2px solid var(--line); border-left: 12px solid var(--edge, var(--line));
-  border-radius: 12px; padding: .5rem .8rem .7rem }
-.card > .top { justify-content: space-between }
-.card > .top .name { font-size: 1.9rem }
-.card > .top .state { font-size: 1.65rem }
-.card > .top .who { font-size: 1.15rem }
-.part { background: var(--part); border-radius: 8px; border-left: 8px solid var(--edge, var(--line)); margin-top: .5rem;
-  padding: .3rem .6rem .45rem }
-.part > .top .name { font-size: 1.3rem }
-.part > .top .state { font-size: 1.15rem; margin-left: auto }
-.part > .top .mode, .group > .top .mode, .part:not(.own) > .top .note, .group:not(.own) > .top .note { display: none }
-.group { border-left: 6px solid var(--edge, var(--line)); padding-left: .45rem; margin-top: .35rem }
-.group > .top .name { font-size: 1.05rem; font-weight: 600 }
-.group > .top .state { font-size: 1rem; margin-left: auto; padding: .05em .4em }
+  border-radius: 10px; padding: .35rem .6rem .5rem }
+.card > .top > .name { font-size: 1.5rem; margin-right: auto }
+.card > .top > .state { font-size: 1.35rem }
+.part { background: var(--part); border-radius: 8px; border-left: 8px solid var(--edge, var(--line)); margin-top: .4rem;
+  padding: .2rem .5rem .35rem }
+.part > .top > .name { font-size: 1.15rem }
+.part > .top > .state { margin-left: auto }
+.part:not(.own) > .top > .note, .group:not(.own) > .top > .note { display: none }
+.group { border-left: 6px solid var(--edge, var(--line)); padding-left: .35rem; margin-top: .25rem }
+.group > .top > .name { font-weight: 600 }
+.group > .top > .state { font-size: .9rem; margin-left: auto; padding: .05em .4em }
 .apart { border-left-style: dashed }
-.devices { display: flex; flex-wrap: wrap; gap: 3px; margin-top: .2rem }
-.devices i { width: 1.08rem; height: 1.08rem; border-radius: 50%; background: var(--c, var(--none));
-  color: var(--t, var(--ink)); font: 800 .8rem/1.08rem system-ui, sans-serif; text-align: center }
+.root.apart > .top { border-left-style: dashed }
+.devices { display: flex; flex-wrap: wrap; gap: 3px; flex: 100%; order: 1 }
+.devices i { width: 1rem; height: 1rem; border-radius: 50%; background: var(--c, var(--none));
+  color: var(--t, var(--ink)); font: 800 .75rem/1rem system-ui, sans-serif; text-align: center }
 .silent > .top > .name { color: var(--soft) }
-.silent > .top > .state, .silent > .devices i, .unseen { background: repeating-linear-gradient(135deg,
+.silent > .top > .state, .silent > .top i, .unseen, .old .state { background: repeating-linear-gradient(135deg,
   var(--none) 0 8px, var(--part) 8px 16px); color: var(--soft); outline: 2px dashed var(--soft); outline-offset: -2px }
-.silent > .top > .state { text-decoration: line-through }
-.root > .busy::after, .card > .busy::after, .part > .busy::after { content: \"\"; flex: 100%; height: 6px; border-radius: 3px; background: repeating-linear-gradient(90deg,
-  #f0b429 0 14px, #0000 14px 28px); animation: go 1.2s linear infinite }
+.silent > .top > .state, .old .state { text-decoration: line-through }
+.busy::after { content: \"\"; order: 2; flex: 100%; height: 5px; border-radius: 3px;
+  background: repeating-linear-gradient(90deg, #f0b429 0 14px, #0000 14px 28px); animation: go 1.2s linear infinite }
+.group > .busy::after { height: 3px }
 @keyframes go { to { background-position: 28px 0 } }
 @media (prefers-reduced-motion: reduce) { .top::after { animation: none !important } }
-footer { padding: 0 1.2rem 1rem; color: var(--soft); display: grid; gap: .5rem }
-.legend { display: flex; flex-wrap: wrap; gap: .3rem 1.2rem; align-items: center }
-.legend b { display: inline-flex; align-items: center; gap: .4rem; font-weight: 600 }
-.legend i { width: 1.1rem; height: 1.1rem; border-radius: 50%; background: var(--c, var(--none)) }
-.legend i.square { border-radius: 3px }
-kbd { border: 1px solid var(--line); border-radius: 4px; padding: 0 .35em; font: inherit; font-weight: 700 }
-h2 { font-size: 1.3rem; margin: 0 }
-details { border-top: 2px solid var(--line); padding: .5rem 0 }
-summary { font-weight: 700; cursor: pointer }
-#log { list-style: none; margin: .4rem 0 0; padding: 0; max-height: 40vh; overflow: auto; color: var(--ink) }
-#log li { padding: .1rem 0; border-bottom: 1px solid var(--line) }
+.dense #main, .dense .cards { display: block; margin: 0 }
+.dense #main { columns: 11.5rem; column-gap: .5rem }
+.dense .root > .top { column-span: all; padding: 0 .5rem; margin-bottom: .3rem }
+.dense .root > .top > .name, .dense .root > .top > .state { font-size: 1.3rem }
+.dense .root > .top > .who { font-size: 1rem }
+.dense.many .root { margin-bottom: .3rem }
+.dense.many .root > .top { column-span: none; margin: 0; padding: 0 .3rem }
+.dense.many .root > .top > .name, .dense.many .root > .top > .state { font-size: .95rem }
+.dense .top { gap: 0 .3rem; break-inside: avoid; min-height: 1.05rem }
+.dense #main section { font-size: .8rem; line-height: 1.2 }
+.dense .card, .dense .part, .dense .group { margin: 0; padding: 0 0 0 .3rem; border-radius: 0; background: none;
+  border-width: 0 0 0 5px; border-left-color: var(--edge, var(--line)) }
+.dense .card { margin-bottom: .3rem; padding-right: .2rem; background: var(--card); border-radius: 4px;
+  -webkit-box-decoration-break: clone; box-decoration-break: clone }
+.dense.many .card { margin: 0; background: none }
+.dense.many .usual.card > .top > .state, .dense.many .same.card > .top > .state { display: none }
+.dense .card > .top > .name { font-size: .95rem; margin: 0 }
+.dense.many .card > .top > .name { font-size: .8rem; font-weight: 600 }
+.dense .card > .top > .state { font-size: .85rem }
+.dense .part > .top > .name, .dense .group > .top > .name { font-size: .8rem; font-weight: 600 }
+.dense .part > .top > .name { font-weight: 800 }
+.dense .state, .dense .part > .top > .state, .dense .group > .top > .state { font-size: .72rem; padding: 0 .3em;
+  border-radius: 4px; margin-left: auto }
+.dense .note { font-size: .72rem; padding: 0 .3em }
+.dense .same:not(.root):not(.card) > .top > .state, .dense .usual:not(.root):not(.card) > .top > .state,
+.dense .silent:not(.own):not(.root) > .top > .state { display: none }
+.dense .same:not(.root):not(.card) > .top > .name, .dense .usual:not(.root):not(.card) > .top > .name {
+  font-weight: 500 }
+#usual { display: none; font-weight: 600 }
+.dense #usual { display: inline }
+.dense section:not(.root):not(.card):not(.apart) > .top > .who { display: none }
+.dense section:not(.root) > .top > .who { font-size: .72rem; padding: 0 .3em }
+.dense .devices { flex: none; order: 0; gap: 2px; max-width: 100% }
+.dense .devices i { width: .55rem; height: .55rem; font-size: .5rem; line-height: .55rem }
+.dense .fold { width: .8em; margin-left: -.2rem }
+.dense .busy::after { height: 2px }
+.dense .legend { font-size: .8rem; gap: 0 .8rem }
+.dense .legend i:not(.initials) { width: .7rem; height: .7rem }
+.dense footer { font-size: .8rem }
+#alarms ul { list-style: none; margin: 0; padding: 0 }
+#alarms h2 { font-size: 1.15rem; margin: 0 auto 0 0 }
+#alarms h3 { display: flex; gap: .5rem; font-size: .9rem; margin: .3rem 0 .1rem; color: var(--soft) }
+.alarm-head { display: flex; flex-wrap: wrap; align-items: center; gap: .3rem .5rem }
+.alarm-head .tool, .alarm-head select { font-size: .85rem; padding: .05rem .4rem }
+.calm { color: var(--soft); font-weight: 600 }
+.unknown { font-weight: 700; padding: .15rem .5rem; border-radius: 8px; border: 3px dashed var(--soft);
+  margin: .3rem 0 0 }
+.alarm { display: flex; align-items: stretch; gap: 2px; margin-bottom: 2px; font-size: .9rem }
+.alarm > [data-alarm] { flex: 1; display: flex; flex-wrap: wrap; gap: 0 .4rem; padding: .05rem .4rem;
+  border-radius: 5px; background: #c81e1e; color: #fff; border: 1px solid #0000 }
+.alarm.warn > [data-alarm] { background: #f0b429; color: #000 }
+.alarm time { font-weight: 400 }
+.alarm b { overflow-wrap: anywhere }
+.alarm small { flex: 100%; font-size: .75rem; overflow-wrap: anywhere }
+.alarm .small { border: 1px solid var(--line); border-radius: 5px; padding: 0 .35rem; color: var(--soft);
+  font-size: .75rem; background: var(--card) }
+.dense .alarm { font-size: .75rem }
+.dense .alarm .small { font-size: .65rem; padding: 0 .2rem }
+.dense .alarm small { display: none }
+.dense .alarm > [data-alarm] { padding: 0 .4rem }
+.dense #alarms h3 { margin: .15rem 0 0 }
+.shelved { color: var(--soft) }
+#hour { margin-top: .4rem; font-size: .9rem }
+#log { list-style: none; margin: .3rem 0 0; padding: 0; max-height: 50vh; overflow: auto }
+#log li { padding: .1rem 0; border-bottom: 1px solid var(--line); overflow-wrap: anywhere }
 #log time { color: var(--soft); margin-right: .8em }
-dialog { position: fixed; inset: 0 0 0 auto; width: min(34rem, 100vw); height: 100vh; max-height: 100vh; margin: 0;
-  padding: 1.2rem; background: var(--card); color: var(--ink); border: 0; border-left: 4px solid var(--line);
+@media (max-width: 63.99rem), (max-height: 31.99rem) { #alarms { max-height: min(11rem, 40vh); overflow: auto } }
+dialog { position: fixed; inset: 0 0 0 auto; width: min(34rem, 100%); height: 100vh; max-height: 100vh; margin: 0;
+  padding: 0 1.2rem 1.2rem; background: var(--card); color: var(--ink); border: 0; border-left: 4px solid var(--line);
   overflow: auto }
 dialog::backdrop { background: #0006 }
-dialog h2 { position: sticky; top: -1.2rem; z-index: 1; margin: 0 0 .6rem; background: var(--card); font-size: 2.1rem;
-  overflow-wrap: anywhere }
-dl { display: grid; grid-template-columns: auto 1fr; gap: .3rem 1rem; font-size: 1.2rem; margin: 0 }
+#more-head { position: sticky; top: 0; z-index: 1; display: flex; align-items: center; gap: .8rem; padding: .6rem 0;
+  background: var(--card) }
+#more-head h2 { font-size: 1.9rem; margin: 0 auto 0 0; overflow-wrap: anywhere }
+dl { display: grid; grid-template-columns: auto 1fr; gap: .25rem 1rem; font-size: 1.1rem; margin: 0 }
 dt { color: var(--soft) }
-dd { margin: 0; font-weight: 700 }
-table { width: 100%; border-collapse: collapse; margin: 1rem 0; font-size: 1.05rem }
-td, th { padding: .25rem .4rem; border-bottom: 1px solid var(--line); text-align: left }
-.hidden { position: absolute; width: 1px; height: 1px; overflow: hidden; clip-path: inset(50%) }
-@media (max-width: 640px) { html { font-size: 15px } main { padding: .5rem } #clock { font-size: 1.4rem }
-  .root > .top .name, .root > .top .state { font-size: 1.7rem } .cards { grid-template-columns: 1fr !important } }
-.old .state { background: repeating-linear-gradient(135deg, var(--none) 0 8px, var(--part) 8px 16px);
-  color: var(--soft); outline: 2px dashed var(--soft); outline-offset: -2px; text-decoration: line-through }
-#alarms b { font-size: 1.45rem }
-.dense .part > .top .who, .dense .mode { display: none }
-.dense .group.same > .top { display: none }
-.dense .group.same { margin-top: 2px; padding: 0 0 0 .3rem }
-.dense .cards { grid-template-columns: repeat(auto-fit, minmax(11rem, 1fr)); gap: .4rem }
-.dense .part { margin-top: .25rem; padding: .1rem .4rem .2rem }
-.dense .part > .top .name { font-size: 1.05rem }
-.dense .part > .top .state { font-size: .95rem }
-.dense .devices i { width: .7rem; height: .7rem; font-size: .55rem; line-height: .7rem }
-.left-out { display: none }
-#find { font: inherit; width: 12rem; padding: .3rem .5rem; border: 2px solid var(--line); border-radius: 8px;
-  background: var(--card); color: var(--ink) }
-#people button { display: inline-flex; align-items: center; gap: .4rem; font-weight: 600 }
-#people [aria-pressed=true] { text-decoration: underline; text-underline-offset: .25em }
-@media (max-width: 640px) { .top, .tool, #find, #alarms button { min-height: 44px } }
-@media (forced-colors: active) { .state, .who, .note, .devices i, .legend i, #alarms button, #live {
-  forced-color-adjust: none } }
+dd { margin: 0; font-weight: 700; overflow-wrap: anywhere }
+table { width: 100%; border-collapse: collapse; margin: 1rem 0 }
+td, th { padding: .2rem .4rem; border-bottom: 1px solid var(--line); text-align: left }
+@media (max-width: 40rem) {
+  #lost { font-size: 3rem }
+  #alarms { max-height: 45vh }
+  .root > .top > .name, .root > .top > .state { font-size: 1.5rem }
+  .cards { grid-template-columns: 1fr !important }
+  .dense #main { columns: auto }
+}
+@media (max-width: 40rem) {
+  button, summary, select, #find, h1 a, .tool { min-height: 44px; min-width: 44px }
+  h1 a { display: inline-flex; align-items: center }
+  .top { min-height: 44px !important }
+  .fold { min-width: 44px; line-height: 44px; margin: 0 -.3rem 0 -.8rem }
+  .alarm > * { align-items: center }
+}
+@media (forced-colors: active) {
+  .state, .who, .note, .devices i, .legend i, #live, .alarm > [data-alarm], .fold.hot, .initials {
+    forced-color-adjust: none }
+  .devices i, .legend i, .alarm > [data-alarm], .state { border: 1px solid CanvasText }
+}
 </style>
 </head>
 <body>
@@ -141,155 +219,92 @@ td, th { padding: .25rem .4rem; border-bottom: 1px solid var(--line); text-align
   <h1><a id=\"title\" href=\"#\" title=\"the whole tree\">screen</a></h1>
   <span id=\"live\" role=\"status\">joining</span>
   <span id=\"clock\" aria-hidden=\"true\"></span>
-  <input id=\"find\" type=\"search\" placeholder=\"find  /\" aria-label=\"find a domain or a device\">
+  <input id=\"find\" type=\"search\" placeholder=\"find  /\" aria-label=\"find a domain, a device, an operator or a state\">
   <button class=\"tool\" id=\"dense\" type=\"button\" aria-pressed=\"false\">dense</button>
+  <button class=\"tool\" id=\"fit\" type=\"button\" title=\"the largest letters with which all is in the window\">fit</button>
   <button class=\"tool\" id=\"theme\" type=\"button\">light / dark</button>
 </header>
-<div id=\"alarms\" role=\"region\" aria-label=\"alarms\"></div>
 <div id=\"said\" class=\"hidden\" role=\"alert\"></div>
-<main id=\"main\" aria-label=\"the domains\"></main>
+<div id=\"all\">
+<aside>
+  <section id=\"alarms\" aria-label=\"alarms\"></section>
+  <details id=\"hour\"><summary>What this page has seen in the last hour</summary><ol id=\"log\"></ol></details>
+</aside>
+<main><div id=\"main\" role=\"tree\" aria-label=\"the domains\"></div></main>
 <footer>
   <div class=\"legend\" id=\"states\" role=\"region\" aria-label=\"colours of states\"></div>
-  <div class=\"legend\" id=\"people\" role=\"region\" aria-label=\"colours of those who command\"></div>
-  <div><kbd>Tab</kbd> or arrows: go round, <kbd>Enter</kbd>: more, <kbd>Esc</kbd>: back, <kbd>t</kbd>: light or dark,
-    <kbd>/</kbd>: find, <kbd>+</kbd> and <kbd>-</kbd>: size. A name below: what that person commands.
-    <i>mode unknown</i>: nobody tells an observer whether a child is included, manual or ignored. A dashed edge: held by
-    somebody else than what stands above. <span id=\"never\">This page shows and never orders.</span></div>
-  <details id=\"hour\"><summary>What changed in the last hour</summary><ol id=\"log\"></ol></details>
+  <span id=\"usual\"></span>
+  <div class=\"legend\" id=\"people\" role=\"region\" aria-label=\"those who command, with their colours\"></div>
+  <details id=\"help\"><summary>keys and signs</summary>
+    <p><kbd>Tab</kbd>: into the tree and out of it. Arrows: go round in it, <kbd>Left</kbd> folds and <kbd>Right</kbd>
+    unfolds. <kbd>Enter</kbd>: more, <kbd>Esc</kbd>: back, <kbd>/</kbd>: find, <kbd>t</kbd>: light or dark,
+    <kbd>+</kbd> and <kbd>-</kbd>: size, <kbd>f</kbd>: fit. A name above: what that person commands. A dashed edge:
+    held by somebody else than what is above.
+    <i>mode unknown</i>: nobody tells an observer whether a child is included, manual or ignored.
+    <span id=\"never\">This page shows and never orders.</span></p></details>
 </footer>
+</div>
 <div id=\"lost\" role=\"alertdialog\" aria-labelledby=\"lost-words\"><span id=\"lost-words\"></span></div>
 <dialog id=\"more\" aria-labelledby=\"more-name\"></dialog>
 <noscript>This page needs JavaScript.</noscript>
 <script>
 \"use strict\";
-// How often a picture is asked for, how long an answer is waited for, and after what time nothing is trusted any more.
-const PAUSE = 250, PATIENCE = 1200, GONE = 1600, HOUR = 3600000, MOST_LOGGED = 2000;
-// A tree of more domains is shown in its dense form, unless somebody has chosen.
-const MOST_AT_EASE = 64;
-const ALARM = /ERROR|FAULT|ALARM|TRIP/;
-const KNOWN = { OFF: \"#5f6b7a\", UNKNOWN: \"#b9a7c9\", STANDBY: \"#7cc4ee\", RAMPING: \"#f0b429\", READY: \"#1f6fd6\",
-  RUNNING: \"#15803d\", ERROR: \"#c81e1e\" };
-const SPARE = [\"#6b8e23\", \"#008b8b\", \"#b565a7\", \"#a0522d\", \"#4682b4\", \"#c71585\", \"#556b2f\", \"#5f6fd0\"];
-const PEOPLE = [\"#1f6fd6\", \"#c2410c\", \"#15803d\", \"#8e44ad\", \"#a16207\", \"#0e7490\", \"#be185d\", \"#57534e\", \"#4d7c0f\",
-  \"#7c3aed\", \"#9f1239\", \"#0369a1\"];
-
 const by = (id) => document.getElementById(id);
-const make = (tag, name, text) => {
+function make(tag, name, text) {
   const e = document.createElement(tag);
   if (name) e.className = name;
   if (text !== undefined) e.textContent = text;
   return e;
-};
-// Only what differs is written, so that a picture that is as before costs nothing.
+}
 const set = (e, text) => { if (e.textContent !== text) e.textContent = text; };
 const flag = (e, name, on) => { if (e.classList.contains(name) !== on) e.classList.toggle(name, on); };
-const style = (e, key, value) => { if (e.style.getPropertyValue(key) !== value) e.style.setProperty(key, value); };
-const label = (e, text) => { if (e.getAttribute(\"aria-label\") !== text) e.setAttribute(\"aria-label\", text); };
-
-// Black or white, whichever stands out more on a colour.
-const inks = new Map();
-function inkOn(colour) {
-  if (!inks.has(colour)) {
-    const part = (at) => {
-      const c = parseInt(colour.slice(at, at + 2), 16) / 255;
-      return c <= 0.03928 ? c / 12.92 : ((c + 0.055) / 1.055) ** 2.4;
-    };
-    const light = 0.2126 * part(1) + 0.7152 * part(3) + 0.0722 * part(5);
-    inks.set(colour, 1.05 / (light + 0.05) >= (light + 0.05) / 0.05 ? \"#ffffff\" : \"#000000\");
-  }
-  return inks.get(colour);
+const style = (e, key, value) => {
+  if (e.style.getPropertyValue(key) !== value) e.style.setProperty(key, value);
+};
+const mark = (e, key, value) => { if (e.getAttribute(key) !== value) e.setAttribute(key, value); };
+const label = (e, text) => mark(e, \"aria-label\", text);
+let stop = null;
+function stopAt(top) {
+  if (stop) stop.tabIndex = -1;
+  stop = top;
+  if (top) top.tabIndex = 0;
 }
-
-// The tree, and what stands on the page for each of its domains and devices.
-let tree = null, shape = \"\", domains = new Map(), devices = new Map();
-// The newest picture, and when it came by the page's own clock.
-let picture = null, cameAt = 0, said = \"\", alarms = \"\", opened = null, facts = null, log = [], isLogOld = true;
-// What a further part of this page adds to the details of a domain, and does once a tree or a picture is shown, and
-// once the screen has begun again.
-const extras = [], afterBuild = [], afterShow = [], afterRestart = [];
-
-const stateColour = (state) => KNOWN[state] || SPARE[Math.max(0, tree.states.indexOf(state)) % SPARE.length];
-const personColour = (who) => PEOPLE[Math.max(0, tree.operators.findIndex((o) => o.name === who)) % PEOPLE.length];
-
-function paint(e, state) {
-  if (e.dataset.state === state) return;
-  e.dataset.state = state;
-  flag(e, \"unseen\", state === \"\");
-  style(e, \"--c\", state === \"\" ? \"\" : stateColour(state));
-  style(e, \"--t\", state === \"\" ? \"\" : inkOn(stateColour(state)));
+function enter(top) {
+  stopAt(top);
+  top.focus();
 }
-
-// Building the page of a tree.
-
-const CLASSES = [\"root\", \"card\", \"part\", \"group\"];
-
-function boxOf(d, deep) {
-  const box = make(\"section\", CLASSES[Math.min(deep, 3)]), top = make(\"button\", \"top\");
-  top.type = \"button\";
-  top.dataset.domain = d.name;
-  const at = { box, top, name: make(\"span\", \"name\", d.name), state: make(\"span\", \"state\", \"\"),
-    who: make(\"span\", \"who\"), mode: make(\"span\", \"mode\"), note: make(\"span\", \"note\") };
-  top.append(at.name, ...(deep < 2 ? [at.state, at.who] : [at.who, at.state]), at.mode, at.note);
-  top.addEventListener(\"click\", () => open(d.name));
-  box.append(top);
-  d.at = at;
-  if (d.devices.length) {
-    const row = make(\"div\", \"devices\");
-    row.setAttribute(\"aria-hidden\", \"true\");
-    d.devices.forEach((device) => { device.dot = make(\"i\"); row.append(device.dot); });
-    box.append(row);
-  }
-  const inside = deep === 0 ? make(\"div\", \"cards\") : box;
-  d.children.forEach((child) => inside.append(boxOf(child, deep + 1)));
-  if (deep === 0 && d.children.length) box.append(inside);
-  // What stands above says for how long a station has been silent, where it is the same.
-  flag(box, \"own\", !!d.parent && domains.get(d.parent).station !== d.station);
-  flag(box, \"small\", deep === 0 && d.children.every((child) => child.children.length === 0));
-  return box;
+function kept(what) {
+  try { return localStorage.getItem(what); } catch (refused) { return null; }
 }
-
-// The names of those who command: each leaves only what that person commands, and once more leaves all again.
-function peopleOf(items, place) {
-  place.replaceChildren(...items.map(([text, colour]) => {
-    const b = make(\"button\"), i = make(\"i\", \"square\");
-    b.type = \"button\";
-    b.dataset.person = text;
-    b.setAttribute(\"aria-pressed\", \"false\");
-    if (colour) i.style.setProperty(\"--c\", colour);
-    b.append(i, text);
-    b.addEventListener(\"click\", () => { person = person === text ? null : text; leaveOut(); });
-    return b;
-  }));
+function keep(what, value) {
+  try { localStorage.setItem(what, value); } catch (refused) { }
 }
-
-function legendOf(items, place, square) {
-  place.replaceChildren(...items.map(([text, colour]) => {
-    const b = make(\"b\"), i = make(\"i\", square ? \"square\" : \"\");
-    if (colour) i.style.setProperty(\"--c\", colour);
-    b.append(i, text);
-    return b;
-  }));
-}
-
-function build() {
-  domains = new Map(tree.domains.map((d) => [d.name, { ...d, children: [], devices: [], shown: null, told: null }]));
-  devices = new Map(tree.devices.map((d) => [d.name, { ...d, shown: null }]));
+const HOUR = 3600000;
+const ALARM = /ERROR|FAULT|ALARM|TRIP/;
+let tree = null;
+let domains = new Map();
+let devices = new Map();
+let picture = null;
+let cameAt = 0;
+const extras = [];
+const modeSayers = [];
+const afterBuild = [];
+const afterShow = [];
+const afterRestart = [];
+function plant(next) {
+  tree = next;
+  domains = new Map(next.domains.map((d) => [d.name, { ...d, children: [], devices: [], shown: null, told: null }]));
+  devices = new Map(next.devices.map((d) => [d.name, { ...d, shown: null }]));
   domains.forEach((d) => { if (d.parent) domains.get(d.parent).children.push(d); });
   devices.forEach((d) => domains.get(d.domain).devices.push(d));
-  by(\"main\").replaceChildren(...[...domains.values()].filter((d) => !d.parent).map((d) => boxOf(d, 0)));
-  legendOf([...tree.states.map((s) => [s, stateColour(s)]), [\"not seen or silent\", \"\"]], by(\"states\"), false);
-  peopleOf([...tree.operators.map((o) => [o.name, personColour(o.name)]), [\"free\", \"\"]], by(\"people\"));
-  document.title = \"tree \" + tree.tree;
-  set(by(\"title\"), document.title);
-  thicken(kept(\"dense\") === null ? domains.size > MOST_AT_EASE : kept(\"dense\") === \"true\");
-  leaveOut();
-  picture = null; log = []; alarms = \"\";
-  afterBuild.forEach((next) => next());
+  picture = null;
 }
-
-// What the picture says.
-
-// Who commands a domain, through all levels: null where that was not told, \"\" where nobody does.
+function hang(next) {
+  picture = next;
+  cameAt = performance.now();
+}
+const lateness = () => performance.now() - cameAt;
+const now = () => picture.now + lateness();
 function commander(d) {
   for (let level = 0; level <= 8 && d; level += 1) {
     if (!d.told) return null;
@@ -302,10 +317,9 @@ function commander(d) {
 const stateOf = (x) => x.shown === null ? \"\" : x.shown.state;
 const versionOf = (x) => x.shown === null ? \"\" : x.shown.boot + \".\" + x.shown.sequence;
 const isAlarm = (x) => ALARM.test(stateOf(x));
-const now = () => picture.now + performance.now() - cameAt;
-
-// When each station was last heard, by its domains, none where never; and how long one may be silent: two seconds, or
-// as long as it takes to ask about all domains and half as long again.
+const isUnknown = (x) => stateOf(x) === \"\" || stateOf(x) === \"UNKNOWN\";
+const holderOf = (d) => d.told && d.told.holder;
+const held = (d) => d.children.filter((c) => { const h = holderOf(c); return h && h.domain === d.name; });
 function heardStations() {
   const heard = new Map();
   domains.forEach((d) => {
@@ -314,177 +328,269 @@ function heardStations() {
   return heard;
 }
 const limit = () => Math.max(2000, 800 + 30 * domains.size);
-
-function age(ms) {
-  if (ms < 60000) return Math.max(0, Math.round(ms / 1000)) + \" s\";
-  return ms < HOUR ? Math.round(ms / 60000) + \" min\" : Math.round(ms / HOUR) + \" h\";
-}
-
-function describe(d, silence) {
-  const boss = commander(d), words = [d.name, stateOf(d) || \"not seen\"];
-  words.push(boss === null ? \"commander not told\" : boss === \"\" ? \"free\" : \"commanded by \" + boss);
-  if (silence !== null) words.push(silence < 0 ? \"not heard yet\" : \"silent for \" + age(silence));
-  if (d.told && d.told.busy) words.push(\"at work\");
-  return words.join(\", \");
-}
-
-// How long the station of a domain has been silent: null where it is heard, and -1 where it never was.
 function silenceOf(d, heard, time) {
   const last = heard.get(d.station);
   if (last === undefined) return -1;
   return time - last > limit() ? time - last : null;
 }
-
-function showDomain(d, heard, time) {
-  const at = d.at, state = stateOf(d), boss = commander(d), silence = silenceOf(d, heard, time);
-  const byDomain = d.told && d.told.holder && d.told.holder.domain, deep = !at.box.matches(\".root, .card\");
-  paint(at.state, state);
-  set(at.state, state || \"NOT SEEN\");
-  const colour = boss ? personColour(boss) : \"\";
-  // a box that is nobody's would have the colour of the box around it
-  style(at.box, \"--edge\", colour || \"var(--line)\");
-  style(at.who, \"--who\", colour);
-  style(at.who, \"--whot\", colour ? inkOn(colour) : \"\");
-  set(at.who, byDomain && deep ? \"\" : boss === null ? \"\" : boss || \"free\");
-  set(at.mode, byDomain ? \"mode unknown\" : \"\");
-  flag(at.box, \"apart\", boss !== null && !byDomain && !!d.parent);
-  flag(at.box, \"silent\", silence !== null);
-  flag(at.top, \"busy\", !!(d.told && d.told.busy) && silence === null);
-  set(at.note, silence === null ? \"\" : silence < 0 ? \"not heard yet\" : \"silent \" + age(silence));
-  label(at.top, describe(d, silence));
-  d.silence = silence;
-  const up = d.parent && domains.get(d.parent);
-  flag(at.box, \"same\", !!up && silence === null && state === stateOf(up) && !d.devices.some(isAlarm));
+function age(ms) {
+  if (ms < 60000) return Math.max(0, Math.round(ms / 1000)) + \" s\";
+  return ms < HOUR ? Math.round(ms / 60000) + \" min\" : Math.round(ms / HOUR) + \" h\";
 }
-
-function showDevice(d) {
-  const state = stateOf(d);
-  paint(d.dot, state);
-  const title = d.name + \" \" + (state || \"not seen\");
-  if (d.dot.title !== title) d.dot.title = title;
-  set(d.dot, isAlarm(d) ? \"!\" : state === \"\" || state === \"UNKNOWN\" ? \"?\" : \"\");
+const MOST_AT_EASE = 64;
+function theme(next) {
+  document.documentElement.dataset.theme = next;
+  keep(\"theme\", next);
 }
-
-function show() {
-  if (!picture) return;
-  const time = now(), heard = heardStations();
-  domains.forEach((d) => showDomain(d, heard, time));
-  tellAlarms(heard, time);
-  if (opened) fill();
-  if (person !== null) leaveOut();
-  afterShow.forEach((next) => next());
+function turnTheme() {
+  const chosen = document.documentElement.dataset.theme;
+  const dark = chosen ? chosen === \"dark\" : matchMedia(\"(prefers-color-scheme: dark)\").matches;
+  theme(dark ? \"light\" : \"dark\");
 }
-
-// What of the tree is left out: all but what has a name that is typed, the part below a domain that is linked to, and
-// what one person commands. What stands above is kept, so that each part has its place.
-let person = null;
-
-function leaveOut() {
-  const text = by(\"find\").value.trim().toUpperCase(), part = domains.get(location.hash.slice(1)), kept = new Set();
-  const isPart = (d) => { let up = d; while (up && up !== part) up = domains.get(up.parent); return !part || !!up; };
-  const isNamed = (d) => d.name.includes(text) || d.devices.some((device) => device.name.includes(text));
-  const isOf = (d) => person === null || (commander(d) || \"free\") === person && commander(d) !== null;
-  const isBelow = (d, holds) => { let up = d; while (up && !holds(up)) up = domains.get(up.parent); return !!up; };
-  domains.forEach((d) => {
-    if (!isPart(d) || !isBelow(d, isNamed) || !isOf(d)) return;
-    for (let up = d; up; up = domains.get(up.parent)) kept.add(up.name);
-  });
-  domains.forEach((d) => flag(d.at.box, \"left-out\", !kept.has(d.name)));
-  document.querySelectorAll(\"#people button\").forEach((b) => {
-    const is = String(b.dataset.person === person);
-    if (b.getAttribute(\"aria-pressed\") !== is) b.setAttribute(\"aria-pressed\", is);
-  });
+function thicken(is) {
+  document.body.classList.toggle(\"dense\", is);
+  by(\"dense\").setAttribute(\"aria-pressed\", String(is));
 }
-
-// Trips and silent stations: each a button that leads to its domain.
-function alarmsOf(heard, time) {
-  const out = [];
-  domains.forEach((d) => {
-    const bad = d.devices.filter(isAlarm).map((device) => device.name);
-    if (!isAlarm(d) && !bad.length) return;
-    if (!bad.length && d.children.some(isAlarm)) return;
-    const more = bad.length > 3 ? \" and \" + (bad.length - 3) + \" more\" : \"\";
-    out.push({ kind: \"\", domain: d.name, text: d.name + \" \" + (isAlarm(d) ? stateOf(d) : \"\") +
-      (bad.length ? \": \" + bad.slice(0, 3).join(\" \") + more : \"\"), said: d.name + \" in alarm\" });
-  });
-  const stations = new Set();
-  domains.forEach((d) => {
-    const silence = silenceOf(d, heard, time);
-    if (silence === null || (silence < 0 && time <= limit()) || stations.has(d.station)) return;
-    stations.add(d.station);
-    out.push({ kind: \"warn\", domain: d.name, text: d.station + (silence < 0 ? \" not heard\" : \" silent \" + age(silence)),
-      said: \"station \" + d.station + \" is silent\" });
-  });
-  return out;
+function fitForm() {
+  const isSmall = matchMedia(\"(max-width: 40rem)\").matches;
+  thicken(kept(\"dense\") === null ? isSmall || domains.size > MOST_AT_EASE : kept(\"dense\") === \"true\");
 }
-
-function tellAlarms(heard, time) {
-  const out = alarmsOf(heard, time), text = JSON.stringify(out);
-  if (text === alarms) return;
-  alarms = text;
-  const words = out.map((o) => o.said).join(\", \");
-  if (words !== said) { said = words; set(by(\"said\"), words || \"no alarms\"); }
-  const focus = document.activeElement && document.activeElement.dataset.alarm;
-  const silent = out.filter((o) => o.kind).length;
-  const total = make(\"b\", \"\", out.length - silent + \" in alarm, \" + silent + \" silent:\");
-  document.title = (out.length ? \"(\" + out.length + \") \" : \"\") + \"tree \" + tree.tree;
-  by(\"alarms\").replaceChildren(...(out.length ? [total] : []), ...(out.length ? out.map((o) => {
-    const b = make(\"button\", o.kind, o.text);
-    b.type = \"button\";
-    b.dataset.alarm = o.domain;
-    b.addEventListener(\"click\", () => open(o.domain));
-    return b;
-  }) : [make(\"span\", \"calm\", \"no alarms\")]));
-  const again = focus && by(\"alarms\").querySelector(\"[data-alarm=\" + focus + \"]\");
-  if (again) again.focus();
+let size = Math.min(4, Math.max(.5, Number(kept(\"size\")) || 1));
+function resize(factor) {
+  size = Math.min(4, Math.max(.5, size * factor));
+  document.documentElement.style.setProperty(\"--size\", String(size));
+  keep(\"size\", String(size));
 }
-
-// The log.
-
-function note(text, ms) {
-  log.push({ text, at: Date.now() - Math.max(0, now() - ms) });
-  if (log.length > 2 * MOST_LOGGED) log = log.slice(-MOST_LOGGED);
-  isLogOld = true;
+function isAllSeen() {
+  const root = document.documentElement, main = by(\"main\").parentElement;
+  const fits = (e) => e.scrollHeight <= e.clientHeight && e.scrollWidth <= e.clientWidth;
+  return fits(root) && fits(main);
 }
-
-function noteChanges(old, d) {
-  const shown = d.shown, told = d.told;
-  if (shown && (!old.shown || old.shown.state !== shown.state)) note(d.name + \" \" + shown.state, shown.at);
-  if (!told) return;
-  const who = (t) => t.holder === null ? \"free\" : t.holder.operator || \"domain \" + t.holder.domain;
-  if (!old.told || who(old.told) !== who(told)) note(d.name + \" held by \" + who(told), told.since);
-  if (old.told && !told.busy && told.outcome && told.last !== old.told.last) {
-    note(d.name + \" command \" + told.last + \" ended with \" + told.outcome, told.since);
+function fit() {
+  let low = .5, high = 4;
+  while (high - low > .02) {
+    const middle = (low + high) / 2;
+    document.documentElement.style.setProperty(\"--size\", String(middle));
+    if (isAllSeen()) low = middle; else high = middle;
   }
+  size = low;
+  resize(1);
 }
-
-function noteSilence(d) {
-  const is = d.silence !== null && d.silence >= 0;
-  if (d.wasSilent !== undefined && d.wasSilent !== is) note(d.name + (is ? \" silent\" : \" heard again\"), now());
-  d.wasSilent = is;
+by(\"theme\").addEventListener(\"click\", turnTheme);
+by(\"fit\").addEventListener(\"click\", fit);
+if (kept(\"theme\") === \"light\" || kept(\"theme\") === \"dark\") document.documentElement.dataset.theme = kept(\"theme\");
+by(\"dense\").addEventListener(\"click\", () => {
+  thicken(!document.body.classList.contains(\"dense\"));
+  keep(\"dense\", String(document.body.classList.contains(\"dense\")));
+});
+resize(1);
+const KNOWN = { OFF: \"#5f6b7a\", UNKNOWN: \"#b9a7c9\", STANDBY: \"#7cc4ee\", RAMPING: \"#f0b429\", READY: \"#1f6fd6\",
+  RUNNING: \"#15803d\", ERROR: \"#c81e1e\" };
+const NAMED = [[ALARM, KNOWN.ERROR], [/UNKNOWN|UNDEF|DEAD|LOST/, KNOWN.UNKNOWN],
+  [/^NOT_|_NOT_|OFF|CLOSED|DISABLED/, KNOWN.OFF],
+  [/RAMP|SWITCHING|STARTING|STOPPING|CONFIGURING|MOVING|WAIT|BUSY/, KNOWN.RAMPING],
+  [/STANDBY|IDLE|INIT/, KNOWN.STANDBY],
+  [/RUN|TAKING|PHYSICS/, KNOWN.RUNNING], [/READY|^ON$|_ON$|CONFIGURED/, KNOWN.READY]];
+const SPARE = [\"#6b8e23\", \"#008b8b\", \"#b565a7\", \"#a0522d\", \"#4682b4\", \"#556b2f\", \"#5f6fd0\"];
+const PEOPLE = [\"#5555aa\", \"#ff7700\", \"#339977\", \"#bb77ff\", \"#994422\", \"#ff66aa\", \"#aa8822\", \"#8888bb\", \"#aa4499\"];
+const inks = new Map();
+function inkOn(colour) {
+  if (!inks.has(colour)) {
+    const part = (at) => {
+      const c = parseInt(colour.slice(at, at + 2), 16) / 255;
+      return c <= 0.03928 ? c / 12.92 : ((c + 0.055) / 1.055) ** 2.4;
+    };
+    const light = 0.2126 * part(1) + 0.7152 * part(3) + 0.0722 * part(5);
+    inks.set(colour, 1.05 / (light + 0.05) >= (light + 0.05) / 0.05 ? \"#ffffff\" : \"#000000\");
+  }
+  return inks.get(colour);
 }
-
-function showLog() {
-  const first = Date.now() - HOUR;
-  if (!by(\"hour\").open || !isLogOld) return;
-  isLogOld = false;
-  log = log.filter((entry) => entry.at >= first).slice(-MOST_LOGGED);
-  const sorted = [...log].sort((a, b) => b.at - a.at);
-  by(\"log\").replaceChildren(...sorted.map((entry) => {
-    const li = make(\"li\"), when = new Date(entry.at);
-    const time = make(\"time\", \"\", when.toLocaleTimeString(\"en-GB\"));
-    time.dateTime = when.toISOString();
-    li.append(time, entry.text);
-    return li;
+function stateColour(state) {
+  const named = NAMED.find(([pattern]) => pattern.test(state));
+  return KNOWN[state] || (named ? named[1] : SPARE[Math.max(0, tree.states.indexOf(state)) % SPARE.length]);
+}
+const personColour = (name) =>
+  PEOPLE[Math.max(0, tree.operators.findIndex((o) => o.name === name)) % PEOPLE.length];
+function initialsOf(names) {
+  const made = new Map(), taken = new Set();
+  names.forEach((name, place) => {
+    const words = name.split(\"_\").filter((word) => word), letters = name.replaceAll(\"_\", \"\");
+    const first = words.length > 1 ? words[0][0] + words[1][0] : letters.slice(0, 2);
+    const more = [...letters].slice(1).map((letter) => letters[0] + letter);
+    const is = [first, ...more].find((it) => !taken.has(it)) || letters[0] + (place + 1);
+    taken.add(is);
+    made.set(name, is);
+  });
+  return made;
+}
+function paint(e, state) {
+  if (e.dataset.state === state) return;
+  e.dataset.state = state;
+  flag(e, \"unseen\", state === \"\");
+  style(e, \"--c\", state === \"\" ? \"\" : stateColour(state));
+  style(e, \"--t\", state === \"\" ? \"\" : inkOn(stateColour(state)));
+}
+let person = null;
+function isBelow(d, holds) {
+  let up = d;
+  while (up && !holds(up)) up = domains.get(up.parent);
+  return !!up;
+}
+function leaveOut() {
+  const text = by(\"find\").value.trim().toUpperCase(), part = domains.get(location.hash.slice(1)), wanted = new Set();
+  const isNamed = (d) => [d, ...d.devices].some((it) => it.name.includes(text)) ||
+    !!text && [commander(d) || \"\", ...[d, ...d.devices].map(stateOf)].some((name) => name.includes(text));
+  const isOf = (d) =>
+    person === null || (commander(d) || \"free\") === person && commander(d) !== null;
+  domains.forEach((d) => {
+    if (part && !isBelow(d, (up) => up === part) || !isBelow(d, isNamed) || !isOf(d)) return;
+    for (let up = d; up; up = domains.get(up.parent)) wanted.add(up.name);
+  });
+  domains.forEach((d) => flag(d.at.box, \"left-out\", !wanted.has(d.name)));
+  flag(document.body, \"finding\", !!text || !!part || person !== null);
+  document.querySelectorAll(\"#people button\").forEach((b) => {
+    mark(b, \"aria-pressed\", String((b).dataset.person === person));
+  });
+}
+function leaveOutAgain() {
+  if (person !== null || by(\"find\").value) leaveOut();
+  const bosses = new Set([...domains.values()].map((d) => commander(d) || \"free\"));
+  document.querySelectorAll(\"#people button\").forEach((b) => {
+    const name = (b).dataset.person;
+    flag(b, \"idle\", !bosses.has(name) && name !== person);
+  });
+}
+function peopleOf(items, place) {
+  const initials = initialsOf(items.map(([name]) => name));
+  place.replaceChildren(...items.map(([text, colour]) => {
+    const b = make(\"button\"), i = make(\"i\", \"initials\", colour ? initials.get(text) : \"--\");
+    b.type = \"button\";
+    b.dataset.person = text;
+    b.setAttribute(\"aria-pressed\", \"false\");
+    i.setAttribute(\"aria-hidden\", \"true\");
+    if (colour) { style(i, \"--c\", colour); style(i, \"--t\", inkOn(colour)); }
+    b.append(i, text);
+    b.addEventListener(\"click\", () => { person = person === text ? null : text; leaveOut(); });
+    return b;
   }));
 }
-
-// One domain and its devices.
-
+const folded = new Set((kept(\"folded\") || \"\").split(\" \").filter((name) => name));
+function fold(d, is = !folded.has(d.name)) {
+  if (is) folded.add(d.name); else folded.delete(d.name);
+  keep(\"folded\", [...folded].join(\" \"));
+  showFold(d);
+}
+const isFolded = (d) => folded.has(d.name);
+function isHidden(d) {
+  if (document.body.classList.contains(\"finding\")) return false;
+  let up = domains.get(d.parent);
+  while (up && !isFolded(up)) up = domains.get(up.parent);
+  return !!up;
+}
+const isHot = (d) => d.children.some((c) => isAlarm(c) || c.devices.some(isAlarm) || !!c.silence || isHot(c));
+function showFold(d) {
+  if (!d.children.length) return;
+  const is = isFolded(d);
+  flag(d.at.box, \"folded\", is);
+  flag(d.at.fold, \"hot\", is && isHot(d));
+  mark(d.at.top, \"aria-expanded\", String(!is));
+}
+function seen() {
+  const tops = ([...document.querySelectorAll(\"#main [data-domain]\")]);
+  return tops.map((top) => domains.get(top.dataset.domain))
+    .filter((d) => !d.at.box.classList.contains(\"left-out\") && !isHidden(d));
+}
+function moves(key) {
+  const all = seen(), here = document.activeElement && (document.activeElement).dataset.domain;
+  const d = domains.get(here), at = all.indexOf(d), step = ({ ArrowDown: 1, ArrowUp: -1 })[key];
+  let next = null;
+  if (!all.length) return false;
+  if (step) next = d ? all[(at + step + all.length) % all.length] : all[0];
+  else if (!d) return false;
+  else if (key === \"Home\" || key === \"End\") next = all[key === \"Home\" ? 0 : all.length - 1];
+  else if (key === \"ArrowRight\" && d.children.length) {
+    if (isFolded(d)) fold(d, false); else next = all[at + 1];
+  } else if (key === \"ArrowLeft\") {
+    if (d.children.length && !isFolded(d)) fold(d, true); else next = domains.get(d.parent);
+  } else return false;
+  if (next) enter(next.at.top);
+  return true;
+}
+const DEEDS = { t: turnTheme, f: fit, \"/\": () => by(\"find\").focus(), \"+\": () => resize(1.1),
+  \"-\": () => resize(1 / 1.1) };
+document.addEventListener(\"keydown\", (key) => {
+  const target = (key.target);
+  const isTyping = target.matches && target.matches(\"input, select\");
+  if (key.ctrlKey || key.metaKey || key.altKey || by(\"more\").open || isTyping) return;
+  if (DEEDS[key.key]) { DEEDS[key.key](); key.preventDefault(); } else if (moves(key.key)) key.preventDefault();
+});
+by(\"find\").addEventListener(\"input\", leaveOut);
+by(\"find\").addEventListener(\"keydown\", (key) => {
+  if (key.key === \"Escape\") { by(\"find\").value = \"\"; by(\"find\").blur(); leaveOut(); }
+});
+addEventListener(\"hashchange\", leaveOut);
+function groupOf(d) {
+  let at = d;
+  while (at.parent && domains.get(at.parent).parent) at = domains.get(at.parent);
+  return at.name;
+}
+const mayCount = (child, parent) => !child.told || !!holderOf(child) && holderOf(child).domain === parent.name;
+function alarmsAbove(d) {
+  const reached = [];
+  for (let at = d; at && isAlarm(at); at = mayCount(at, domains.get(at.parent) || at) ? domains.get(at.parent) : null) {
+    reached.push(at.name);
+  }
+  return reached;
+}
+const isOwnCause = (d) =>
+  isAlarm(d) && !d.devices.some(isAlarm) && !d.children.some((c) => isAlarm(c) && mayCount(c, d));
+function tripsOf() {
+  return [...domains.values()].flatMap((d) => {
+    const of = { isSilence: false, group: groupOf(d), domain: d.name };
+    const trips = d.devices.filter(isAlarm).map((device) => ({ ...of, key: \"device \" + device.name, name: device.name,
+      text: device.name + \" \" + stateOf(device), at: device.shown.at, follows: alarmsAbove(d) }));
+    return isOwnCause(d) ? [...trips, { ...of, key: \"domain \" + d.name, name: d.name, text: d.name + \" \" + stateOf(d),
+      at: d.shown.at, follows: alarmsAbove(d).slice(1) }] : trips;
+  });
+}
+function silencesOf(heard, time) {
+  const seen = new Set();
+  return [...domains.values()].flatMap((d) => {
+    const silence = silenceOf(d, heard, time);
+    if (seen.has(d.station)) return [];
+    seen.add(d.station);
+    if (silence === null || (silence < 0 && time <= limit())) return [];
+    return [{ key: \"station \" + d.station, isSilence: true, group: groupOf(d), domain: d.name, name: d.station,
+      text: d.station + (silence < 0 ? \" not heard\" : \" silent \" + age(silence)), at: heard.get(d.station) ?? null,
+      follows: [...domains.values()].filter((other) => other.station === d.station).map((other) => other.name) }];
+  });
+}
+const alarmsOf = (heard, time) => [...tripsOf(), ...silencesOf(heard, time)];
+function grouped(alarms) {
+  const sorted = [...alarms].sort((a, b) => (b.at ?? -1) - (a.at ?? -1) || (a.key < b.key ? -1 : 1));
+  const groups = new Map(sorted.map((it) => [it.group, ([])]));
+  sorted.forEach((it) => groups.get(it.group).push(it));
+  return [...groups];
+}
+function unknownWords() {
+  const lost = [...domains.values()].filter((d) => isUnknown(d) || d.devices.some(isUnknown));
+  const all = ([[domains, \" domain\"], [devices, \" device\"]]);
+  const counts = all.map(([them, name]) => {
+    const count = [...them.values()].filter(isUnknown).length;
+    return count ? count + \" of \" + them.size + name + (them.size > 1 ? \"s\" : \"\") : \"\";
+  }).filter((words) => words);
+  if (!counts.length) return \"\";
+  return \"UNKNOWN or not seen: \" + counts.join(\", \") + \" (\" + [...new Set(lost.map(groupOf))].join(\", \") + \")\";
+}
+let opened = null;
+let facts = null;
 function open(domain) {
-  const more = by(\"more\"), head = make(\"h2\", \"\", domain), shut = make(\"button\", \"tool\", \"close (Esc)\");
+  const more = by(\"more\"), name = make(\"h2\", \"\", domain), shut = make(\"button\", \"tool\", \"close (Esc)\");
+  const head = make(\"div\");
   opened = domain;
-  head.id = \"more-name\";
+  name.id = \"more-name\";
+  head.id = \"more-head\";
+  head.append(name, shut);
   facts = make(\"div\");
   shut.type = \"button\";
   shut.autofocus = true;
@@ -492,19 +598,19 @@ function open(domain) {
   const alone = make(\"a\", \"tool\", \"show this part alone\");
   alone.href = \"#\" + domain;
   alone.addEventListener(\"click\", () => more.close());
-  more.replaceChildren(head, facts, alone, ...extras.map((extra) => extra(domains.get(domain))), shut);
+  more.replaceChildren(head, facts, alone, ...extras.map((extra) => extra(domains.get(domain))));
   fill();
   if (!more.open) more.showModal();
 }
-
 function rows(d) {
   const told = d.told, shown = d.shown, boss = commander(d), holder = told && told.holder;
   return [
-    [d.silence === null ? \"state\" : \"last seen\", shown ? shown.state + \" (\" + versionOf(d) + \", since \" +
+    [d.silence === null ? \"state\" : \"last seen\", shown ? shown.state + \" (\" + versionOf(d) + \", seen for \" +
       age(now() - shown.at) + \")\" : \"not seen\"],
     [\"held by\", !told ? \"not heard\" : !holder ? \"nobody\" : holder.operator || \"domain \" + holder.domain],
     [\"commanded by\", boss === null ? \"not told\" : boss || \"nobody\"],
-    [\"mode\", holder && holder.domain ? \"mode unknown\" : \"has none: it is not held by what stands above\"],
+    [\"mode\", holder && holder.domain ? modeSayers.map((say) => say(d)).find((mode) => mode) || \"mode unknown\"
+      : \"has none: it is not held by what is above\"],
     [\"epoch\", told ? String(told.epoch) : \"\"],
     [\"last command\", !told || !told.last ? \"none\" : told.last +
       (told.busy ? \", at work\" : \", ended with \" + told.outcome)],
@@ -514,10 +620,9 @@ function rows(d) {
     [\"heard\", told ? age(now() - told.heard) + \" ago\" : \"never\"],
   ];
 }
-
 function tableOf(list) {
   const table = make(\"table\"), head = make(\"tr\");
-  [\"device\", \"state\", \"version\", \"since\"].forEach((text) => {
+  [\"device\", \"state\", \"version\", \"seen for\"].forEach((text) => {
     const th = make(\"th\", \"\", text);
     th.scope = \"col\";
     head.append(th);
@@ -533,7 +638,6 @@ function tableOf(list) {
   }));
   return table;
 }
-
 function fill() {
   const d = domains.get(opened), list = make(\"dl\");
   if (!d || !picture) return;
@@ -541,10 +645,381 @@ function fill() {
   flag(facts, \"old\", d.silence !== null);
   facts.replaceChildren(list, ...(d.devices.length ? [tableOf(d.devices)] : []));
 }
-
-// Asking the screen.
-
-// The text of a place: null where it is as before, and nothing where no answer came in time.
+by(\"more\").addEventListener(\"close\", () => {
+  let was = domains.get(opened);
+  opened = null;
+  while (was && isHidden(was)) was = domains.get(was.parent);
+  if (was) enter(was.at.top);
+});
+const shelf = new Map();
+function shelve(key, minutes) {
+  shelf.set(key, Date.now() + 60000 * minutes);
+  save();
+}
+function unshelve(key) {
+  shelf.delete(key);
+  save();
+}
+function save() { keep(\"shelf\", JSON.stringify([...shelf])); }
+function shelved() {
+  shelf.forEach((until, key) => { if (until <= Date.now()) unshelve(key); });
+  return [...shelf];
+}
+const isShelved = (key) => shelf.has(key) && shelf.get(key) > Date.now();
+try {
+  JSON.parse(kept(\"shelf\") || \"[]\").forEach(([key, until]) => shelf.set(key, until));
+} catch (faulty) { }
+let audio = null;
+let isLoud = kept(\"sound\") === \"on\";
+let shownCount = 0, isLost = false;
+function showLost(is) {
+  if (is === isLost) return;
+  isLost = is;
+  if (is) document.title = \"NO CONTACT\"; else if (tree) showCount(shownCount);
+}
+function showCount(count) {
+  shownCount = count;
+  document.title = (count ? \"(\" + count + \") \" : \"\") + \"tree \" + tree.tree;
+  const text = count > 99 ? \"99\" : String(count);
+  const icon = \"<svg xmlns='http://www.w3.org/2000/svg' viewBox='0 0 16 16'>\" +
+    \"<rect width='16' height='16' rx='4' fill='\" + (count ? \"#c81e1e\" : \"#15803d\") + \"'/>\" + (count ? \"<text x='8' \" +
+    \"y='12.5' font-size='12' font-family='sans-serif' font-weight='bold' text-anchor='middle' fill='#fff'>\" + text +
+    \"</text>\" : \"\") + \"</svg>\";
+  by(\"icon\").href = \"data:image/svg+xml,\" + encodeURIComponent(icon);
+}
+function beLoud(is) {
+  isLoud = is;
+  keep(\"sound\", is ? \"on\" : \"off\");
+  if (is) ring();
+}
+function ring() {
+  if (!isLoud) return;
+  audio = audio || new AudioContext();
+  if (audio.state === \"suspended\") audio.resume();
+  [[880, 0], [660, .18]].forEach(([pitch, after]) => {
+    const tone = audio.createOscillator(), volume = audio.createGain(), begin = audio.currentTime + after;
+    tone.frequency.value = pitch;
+    volume.gain.setValueAtTime(.2, begin);
+    volume.gain.exponentialRampToValueAtTime(.001, begin + .16);
+    tone.connect(volume).connect(audio.destination);
+    tone.start(begin);
+    tone.stop(begin + .17);
+  });
+}
+const MOST_LISTED = 40, MOST_READ = 3;
+let since = null;
+let listed = \"\", isAll = false;
+let texts = new Map();
+function forgetAlarms() { since = null; listed = \"\"; }
+function clock(at) {
+  return at === null ? \"--:--:--\" : new Date(Date.now() - (now() - at)).toLocaleTimeString(\"en-GB\");
+}
+function announce(alarms, fresh, unknown) {
+  if (fresh.length) {
+    const names = fresh.slice(0, MOST_READ).map((it) => it.isSilence ? \"station \" + it.name + \" is silent\" : it.text);
+    const more = fresh.length > MOST_READ ? \" and \" + (fresh.length - MOST_READ) + \" more\" : \"\";
+    set(by(\"said\"), names.join(\", \") + more);
+    ring();
+  } else if (!alarms.length) set(by(\"said\"), unknown || \"no alarms\");
+}
+function tellAlarms(heard, time) {
+  const all = alarmsOf(heard, time), old = since, unknown = unknownWords();
+  since = new Map(all.map((it) => [it.key, old && old.has(it.key) ? old.get(it.key) : it.at]));
+  all.forEach((it) => { it.at = since.get(it.key); });
+  const off = shelved(), alarms = all.filter((it) => !isShelved(it.key)), isHiding = alarms.length < all.length;
+  announce(alarms, old ? alarms.filter((it) => !old.has(it.key)) : [], unknown);
+  const groups = grouped(alarms), hidden = isAll ? 0 : Math.max(0, alarms.length - MOST_LISTED);
+  const keys = groups.map(([, list]) => list.map((it) => [it.key, it.isSilence ? \"\" : it.text, it.follows]));
+  const shown = JSON.stringify([keys, hidden, unknown, off, isLoud, isHiding]);
+  if (shown !== listed) {
+    listed = shown;
+    const calm = isHiding ? \"no alarms but shelved ones\" : unknown ? \"no alarm is known\" : \"no alarms\";
+    draw(alarms.length ? countWords(alarms) : calm, groups, hidden, unknown, off);
+    showCount(alarms.length);
+  }
+  alarms.forEach((it) => { if (it.isSilence && texts.has(it.key)) set(texts.get(it.key), it.text); });
+}
+function countWords(alarms) {
+  const silent = alarms.filter((it) => it.isSilence).length;
+  return alarms.length - silent + \" in alarm, \" + silent + \" silent\";
+}
+function button(name, text, deed) {
+  const b = make(\"button\", name, text);
+  b.type = \"button\";
+  b.addEventListener(\"click\", deed);
+  return b;
+}
+function rowOf(it) {
+  const li = make(\"li\", it.isSilence ? \"alarm warn\" : \"alarm\"), lead = button(\"\", \"\", () => open(it.domain));
+  const text = make(\"b\", \"\", it.text), names = it.follows.join(\" \");
+  const words = it.isSilence ? it.follows.length > 1 ? \"keeps \" + names : \"\" : names ? \"so \" + names : \"\";
+  lead.dataset.alarm = it.domain;
+  lead.dataset.key = it.key;
+  lead.title = words;
+  lead.append(make(\"time\", \"\", clock(it.at)), \" \", text, ...(words ? [\" \", make(\"small\", \"\", words)] : []));
+  texts.set(it.key, text);
+  const off = button(\"small\", \"shelve\", () => { shelve(it.key, Number(by(\"shelf-time\").value)); });
+  off.setAttribute(\"aria-label\", \"shelve \" + it.name);
+  li.append(lead, off);
+  return li;
+}
+function listOf(groups, most) {
+  const ul = make(\"ul\");
+  let left = most;
+  groups.forEach(([name, alarms]) => {
+    const list = make(\"ul\"), head = make(\"h3\", \"\", name), group = make(\"li\");
+    if (left <= 0) return;
+    head.append(make(\"span\", \"\", String(alarms.length)));
+    list.append(...alarms.slice(0, left).map(rowOf));
+    left -= alarms.length;
+    group.append(head, list);
+    ul.append(group);
+  });
+  return ul;
+}
+function shelfTimes(chosen) {
+  const select = make(\"select\");
+  select.id = \"shelf-time\";
+  select.setAttribute(\"aria-label\", \"for how long an alarm is shelved\");
+  select.append(...[[\"10\", \"10 min\"], [\"60\", \"1 h\"], [\"480\", \"8 h\"]].map(([value, text]) => {
+    const option = make(\"option\", \"\", text);
+    option.value = value;
+    option.selected = value === chosen;
+    return option;
+  }));
+  return select;
+}
+function shelfOf(off) {
+  const box = make(\"details\", \"shelved\"), list = make(\"ul\"), old = by(\"shelved\");
+  box.id = \"shelved\";
+  box.open = !!old && old.open;
+  box.append(make(\"summary\", \"\", off.length + \" shelved\"), list);
+  list.append(...off.map(([key, until]) => {
+    const li = make(\"li\", \"alarm\"), name = key.slice(key.indexOf(\" \") + 1);
+    const back = button(\"small\", \"list\", () => unshelve(key));
+    back.setAttribute(\"aria-label\", \"list \" + name + \" again\");
+    li.append(make(\"span\", \"\", name + \" until \" + new Date(until).toLocaleTimeString(\"en-GB\")), back);
+    return li;
+  }));
+  return box;
+}
+function draw(heading, groups, hidden, unknown, off) {
+  const focus = document.activeElement && (document.activeElement).dataset.key;
+  const head = make(\"div\", \"alarm-head\"), sound = button(\"tool\", \"sound\", () => beLoud(!isLoud));
+  const count = groups.reduce((sum, [, list]) => sum + list.length, 0), old = by(\"shelf-time\");
+  sound.id = \"sound\";
+  sound.title = \"a tone for each new alarm, once somebody has clicked on this page\";
+  mark(sound, \"aria-pressed\", String(isLoud));
+  texts = new Map();
+  head.append(make(\"h2\", \"\", heading),
+    ...(count ? [make(\"span\", \"\", \"shelve for\"), shelfTimes(old ? old.value : \"10\")] : []), sound);
+  by(\"alarms\").replaceChildren(head, listOf(groups, hidden ? MOST_LISTED : count),
+    ...(hidden ? [button(\"tool\", \"and \" + hidden + \" more\", () => { isAll = true; })] : []),
+    ...(isAll && count > MOST_LISTED ? [button(\"tool\", \"the newest alone\", () => { isAll = false; })] : []),
+    ...(unknown ? [make(\"p\", \"unknown\", unknown)] : []), ...(off.length ? [shelfOf(off)] : []));
+  const again = focus && [...by(\"alarms\").querySelectorAll(\"[data-key]\")].find((b) => b.dataset.key === focus);
+  if (again) again.focus();
+}
+const CLASSES = [\"root\", \"card\", \"part\", \"group\"];
+function placeInTree(top, deep, beside, d) {
+  const place = { role: \"treeitem\", \"aria-level\": deep + 1, \"aria-setsize\": beside.length,
+    \"aria-posinset\": beside.indexOf(d) + 1, tabindex: -1 };
+  Object.entries(place).forEach(([key, value]) => top.setAttribute(key, String(value)));
+}
+function boxOf(d, deep, beside) {
+  const box = make(\"section\", CLASSES[Math.min(deep, 3)]), top = make(\"button\", \"top\"), dots = make(\"span\", \"devices\");
+  top.type = \"button\";
+  top.dataset.domain = d.name;
+  placeInTree(top, deep, beside, d);
+  box.setAttribute(\"role\", \"none\");
+  const at = { box, top, name: make(\"span\", \"name\", d.name), state: make(\"span\", \"state\", \"\"),
+    who: make(\"span\", \"who\"), mode: make(\"span\", \"mode\"), note: make(\"span\", \"note\"), fold: make(\"span\", \"fold\") };
+  d.devices.forEach((device) => { device.dot = make(\"i\"); dots.append(device.dot); });
+  dots.setAttribute(\"aria-hidden\", \"true\");
+  at.fold.setAttribute(\"aria-hidden\", \"true\");
+  top.append(...(d.children.length ? [at.fold] : []), at.name, ...(d.devices.length ? [dots] : []),
+    ...(deep < 2 ? [at.state, at.who] : [at.who, at.state]), at.mode, at.note);
+  top.addEventListener(\"click\", (click) => {
+    if (at.fold.contains(click.target)) fold(d); else open(d.name);
+  });
+  box.append(top);
+  d.at = at;
+  if (d.children.length) {
+    const inside = make(\"div\", deep === 0 ? \"kids cards\" : \"kids\");
+    inside.setAttribute(\"role\", \"none\");
+    inside.append(...d.children.map((child) => boxOf(child, deep + 1, d.children)));
+    box.append(inside);
+  }
+  flag(box, \"own\", !!d.parent && domains.get(d.parent).station !== d.station);
+  flag(box, \"small\", deep === 0 && d.children.every((child) => child.children.length === 0));
+  return box;
+}
+function legendOf(items, place) {
+  place.replaceChildren(...items.map(([text, colour]) => {
+    const b = make(\"b\"), i = make(\"i\");
+    if (colour) i.style.setProperty(\"--c\", colour);
+    b.append(i, text);
+    return b;
+  }));
+}
+function describe(d, silence) {
+  const boss = commander(d), words = [d.name, stateOf(d) || \"not seen\"];
+  words.push(boss === null ? \"commander not told\" : boss === \"\" ? \"free\" : \"commanded by \" + boss);
+  if (silence !== null) words.push(silence < 0 ? \"not heard yet\" : \"silent for \" + age(silence));
+  if (d.told && d.told.busy) words.push(\"at work\");
+  return words.join(\", \");
+}
+const knownMode = (d) => modeSayers.map((say) => say(d)).find((mode) => mode) || \"\";
+function usualState() {
+  const counts = new Map();
+  domains.forEach((d) => { if (d.silence === null) counts.set(stateOf(d), (counts.get(stateOf(d)) || 0) + 1); });
+  return [...counts].reduce((most, it) => it[1] > most[1] ? it : most, [\"\", 0])[0];
+}
+function showDomain(d, heard, time, usual) {
+  const at = d.at, state = stateOf(d), boss = commander(d), silence = silenceOf(d, heard, time);
+  const byDomain = d.told && d.told.holder && d.told.holder.domain;
+  paint(at.state, state);
+  set(at.state, state || \"NOT SEEN\");
+  const colour = boss ? personColour(boss) : \"\";
+  style(at.box, \"--edge\", colour || \"var(--line)\");
+  style(at.who, \"--who\", colour);
+  style(at.who, \"--whot\", colour ? inkOn(colour) : \"\");
+  set(at.who, byDomain ? \"\" : boss === null ? \"\" : boss || \"free\");
+  set(at.mode, knownMode(d));
+  flag(at.box, \"apart\", boss !== null && !byDomain && !!d.parent);
+  flag(at.box, \"silent\", silence !== null);
+  flag(at.top, \"busy\", !!(d.told && d.told.busy) && silence === null);
+  set(at.note, silence === null ? \"\" : silence < 0 ? \"not heard yet\" : \"silent \" + age(silence));
+  label(at.top, describe(d, silence));
+  d.silence = silence;
+  showFold(d);
+  const up = d.parent && domains.get(d.parent);
+  const isCalm = silence === null && !d.devices.some(isAlarm);
+  flag(at.box, \"same\", !!up && isCalm && state === stateOf(up));
+  flag(at.box, \"usual\", isCalm && state === usual && !isAlarm(d) && !isUnknown(d));
+}
+function showDevice(d) {
+  const state = stateOf(d);
+  paint(d.dot, state);
+  const title = d.name + \" \" + (state || \"not seen\");
+  if (d.dot.title !== title) d.dot.title = title;
+  set(d.dot, isAlarm(d) ? \"!\" : state === \"\" || state === \"UNKNOWN\" ? \"?\" : \"\");
+}
+const MOST_LOGGED = 2000;
+let log = [];
+let isLogOld = true;
+let before = [];
+const AGAIN = 3000;
+function note(text, ms) {
+  const at = Date.now() - Math.max(0, now() - ms);
+  if (before.some((it) => it.text === text && Math.abs(it.at - at) < AGAIN)) return;
+  log.push({ text, at });
+  if (log.length > 2 * MOST_LOGGED) log = log.slice(-MOST_LOGGED);
+  isLogOld = true;
+}
+function beginLog() {
+  before = keptLog();
+  log = [...before];
+  isLogOld = true;
+  setTimeout(() => { before = []; }, AGAIN);
+}
+function keptLog() {
+  try {
+    const old = JSON.parse(sessionStorage.getItem(\"log\") || \"{}\");
+    return old.tree === tree.tree ? old.log : [];
+  } catch (faulty) { return []; }
+}
+addEventListener(\"pagehide\", () => {
+  try {
+    if (tree) sessionStorage.setItem(\"log\", JSON.stringify({ tree: tree.tree, log: log.slice(-MOST_LOGGED) }));
+  } catch (refused) { }
+});
+function noteChanges(old, d) {
+  const shown = d.shown, told = d.told;
+  if (shown && (!old.shown || old.shown.state !== shown.state)) note(d.name + \" \" + shown.state, shown.at);
+  if (!told) return;
+  const holder = (t) =>
+    t.holder === null ? \"free\" : t.holder.operator || \"domain \" + t.holder.domain;
+  if (!old.told || holder(old.told) !== holder(told)) note(d.name + \" held by \" + holder(told), told.since);
+  if (old.told && !told.busy && told.outcome && told.last !== old.told.last) {
+    note(d.name + \" command \" + told.last + \" ended with \" + told.outcome, told.since);
+  }
+}
+function noteSilence() {
+  const seen = new Set();
+  domains.forEach((d) => {
+    if (seen.has(d.station)) return;
+    seen.add(d.station);
+    const is = d.silence !== null && d.silence >= 0, text = \"station \" + d.station + \", which keeps \" + d.name;
+    if (d.wasSilent !== undefined && d.wasSilent !== is) note(text + (is ? \": silent\" : \": heard again\"), now());
+    d.wasSilent = is;
+  });
+}
+function showLog() {
+  const first = Date.now() - HOUR;
+  if (!by(\"hour\").open || !isLogOld) return;
+  isLogOld = false;
+  log = log.filter((entry) => entry.at >= first).slice(-MOST_LOGGED);
+  const sorted = [...log].sort((a, b) => b.at - a.at);
+  by(\"log\").replaceChildren(...sorted.map((entry) => {
+    const li = make(\"li\"), when = new Date(entry.at);
+    const time = make(\"time\", \"\", when.toLocaleTimeString(\"en-GB\"));
+    time.dateTime = when.toISOString();
+    li.append(time, entry.text);
+    return li;
+  }));
+}
+by(\"hour\").addEventListener(\"toggle\", () => { isLogOld = true; showLog(); });
+const MOST_SPANNED = 3;
+function build(next = tree) {
+  plant(next);
+  const roots = [...domains.values()].filter((d) => !d.parent);
+  by(\"main\").replaceChildren(...roots.map((d) => boxOf(d, 0, roots)));
+  stopAt(roots.length ? roots[0].at.top : null);
+  flag(document.body, \"many\", roots.length > MOST_SPANNED);
+  const states = tree.states.map((s) => [s, stateColour(s)]);
+  const people = tree.operators.map((o) => [o.name, personColour(o.name)]);
+  legendOf([...states, [\"not seen or silent\", \"\"]], by(\"states\"));
+  peopleOf([...people, [\"free\", \"\"]], by(\"people\"));
+  document.title = \"tree \" + tree.tree;
+  set(by(\"title\"), document.title);
+  fitForm();
+  leaveOut();
+  beginLog();
+  forgetAlarms();
+  afterBuild.forEach((more) => more());
+}
+function show() {
+  if (!picture) return;
+  const time = now(), heard = heardStations(), usual = usualState();
+  domains.forEach((d) => showDomain(d, heard, time, usual));
+  set(by(\"usual\"), usual ? \"A part without a state is in that of what is above it, or \" + usual + \" as most are.\" : \"\");
+  tellAlarms(heard, time);
+  if (opened) fill();
+  leaveOutAgain();
+  afterShow.forEach((more) => more());
+}
+function take(next) {
+  hang(next);
+  next.domains.forEach((row) => {
+    const d = domains.get(row.name), old = { shown: d.shown, told: d.told };
+    d.shown = row.shown;
+    d.told = row.told;
+    noteChanges(old, d);
+  });
+  next.devices.forEach((row) => {
+    const d = devices.get(row.name), old = { shown: d.shown };
+    d.shown = row.shown;
+    noteChanges(old, d);
+    showDevice(d);
+  });
+  show();
+  noteSilence();
+  showLog();
+}
+const PAUSE = 250, LATE = 900, GONE = 1600;
+const PATIENCE = 1200;
+let shape = \"\";
 async function ask(path) {
   const gone = new AbortController(), bell = setTimeout(() => gone.abort(), PATIENCE);
   try {
@@ -555,126 +1030,36 @@ async function ask(path) {
     return undefined;
   } finally { clearTimeout(bell); }
 }
-
 async function askTree() {
   const text = await ask(\"/api/tree\");
   if (!text || text === shape) return;
   shape = text;
-  tree = JSON.parse(text);
-  build();
+  build(JSON.parse(text));
 }
-
-function take(next) {
-  picture = next;
-  cameAt = performance.now();
-  next.domains.forEach((told) => {
-    const d = domains.get(told.name), old = { shown: d.shown, told: d.told };
-    d.shown = told.shown;
-    d.told = told.told;
-    noteChanges(old, d);
-  });
-  next.devices.forEach((told) => {
-    const d = devices.get(told.name), old = { shown: d.shown };
-    d.shown = told.shown;
-    noteChanges(old, d);
-    showDevice(d);
-  });
-  show();
-  domains.forEach(noteSilence);
-  showLog();
-}
-
 async function askPicture() {
   const text = await ask(\"/api/picture\" + (picture ? \"?after=\" + picture.frame : \"\"));
   if (!text) return;
   const next = JSON.parse(text);
-  // A screen that has begun again counts from 0, and may have another tree.
   if (picture && next.frame < picture.frame) {
     await askTree();
     afterRestart.forEach((again) => again());
   }
   take(next);
 }
-
 async function follow() {
   try {
     if (!tree) await askTree();
     if (tree) await askPicture();
   } finally { setTimeout(follow, PAUSE); }
 }
-
-// What is said of the screen itself: a picture that does not come anew is not trusted, whoever still answers.
 function showLive() {
-  const late = picture ? performance.now() - cameAt : performance.now(), live = by(\"live\"), lost = late > GONE;
-  const kind = lost ? \"lost\" : late > 900 ? \"late\" : \"\";
+  const late = lateness(), live = by(\"live\"), lost = late > GONE, kind = lost ? \"lost\" : late > LATE ? \"late\" : \"\";
   if (live.className !== kind) live.className = kind;
   set(live, lost ? \"NO CONTACT\" : picture ? \"live\" : \"joining\");
   flag(document.body, \"lost\", lost);
+  showLost(lost);
   if (lost) set(by(\"lost-words\"), \"NO CONTACT for \" + age(late) + \": nothing here is true any more\");
 }
-
-// What somebody has chosen on this page; null where nothing was, or where the page may keep nothing.
-function kept(what) {
-  try { return localStorage.getItem(what); } catch (refused) { return null; }
-}
-function keep(what, value) {
-  try { localStorage.setItem(what, value); } catch (refused) { /* A page that may keep nothing forgets it. */ }
-}
-
-function theme(next) {
-  document.documentElement.dataset.theme = next;
-  keep(\"theme\", next);
-}
-function turnTheme() {
-  const chosen = document.documentElement.dataset.theme;
-  const dark = chosen ? chosen === \"dark\" : matchMedia(\"(prefers-color-scheme: dark)\").matches;
-  theme(dark ? \"light\" : \"dark\");
-}
-by(\"theme\").addEventListener(\"click\", turnTheme);
-if (kept(\"theme\") === \"light\" || kept(\"theme\") === \"dark\") document.documentElement.dataset.theme = kept(\"theme\");
-
-// The dense form shows a part that is in the state of what stands above by the dots of its devices alone.
-function thicken(is) {
-  document.body.classList.toggle(\"dense\", is);
-  by(\"dense\").setAttribute(\"aria-pressed\", String(is));
-}
-by(\"dense\").addEventListener(\"click\", () => {
-  thicken(!document.body.classList.contains(\"dense\"));
-  keep(\"dense\", String(document.body.classList.contains(\"dense\")));
-});
-
-// The size of all letters, which a browser's own zoom can't change because they follow the window.
-let size = Math.min(4, Math.max(.5, Number(kept(\"size\")) || 1));
-function resize(factor) {
-  size = Math.min(4, Math.max(.5, size * factor));
-  document.documentElement.style.setProperty(\"--size\", size);
-  keep(\"size\", size);
-}
-resize(1);
-
-by(\"more\").addEventListener(\"close\", () => {
-  const was = domains.get(opened);
-  opened = null;
-  if (was) was.at.top.focus();
-});
-by(\"hour\").addEventListener(\"toggle\", () => { isLogOld = true; showLog(); });
-document.addEventListener(\"keydown\", (key) => {
-  if (key.ctrlKey || key.metaKey || key.altKey || by(\"more\").open || key.target === by(\"find\")) return;
-  if (key.key === \"t\") { turnTheme(); return; }
-  if (key.key === \"/\") { by(\"find\").focus(); key.preventDefault(); return; }
-  if (key.key === \"+\" || key.key === \"-\") { resize(key.key === \"+\" ? 1.1 : 1 / 1.1); return; }
-  const step = { ArrowDown: 1, ArrowRight: 1, ArrowUp: -1, ArrowLeft: -1 }[key.key];
-  if (!step) return;
-  const all = [...document.querySelectorAll(\"#main section:not(.left-out) > button\")];
-  const at = all.indexOf(document.activeElement);
-  const next = all[at < 0 ? 0 : (at + step + all.length) % all.length];
-  if (next) { next.focus(); key.preventDefault(); }
-});
-by(\"find\").addEventListener(\"input\", leaveOut);
-by(\"find\").addEventListener(\"keydown\", (key) => {
-  if (key.key === \"Escape\") { by(\"find\").value = \"\"; by(\"find\").blur(); leaveOut(); }
-});
-addEventListener(\"hashchange\", leaveOut);
 const tick = () => { set(by(\"clock\"), new Date().toLocaleTimeString(\"en-GB\")); showLive(); show(); };
 setInterval(tick, 500);
 setInterval(showLive, 100);

@@ -1,0 +1,4 @@
+// The page of a screen.
+
+import "./keys.mjs";
+import "./contact.mjs";

@@ -1,0 +1,122 @@
+// The tree and the newest picture of it (docs/FORMATS.md, "The screen"), and what both say.
+
+/** @typedef {{state: string, boot: number, sequence: number, at: number}} Shown The newest state, and when it came. */
+/** @typedef {{operator?: string, domain?: string} | null} Holder Who holds a domain; null if nobody does. */
+/** @typedef {{holder: Holder, epoch: number, last: number, busy: boolean, outcome: number, since: number,
+ *   heard: number}} Told The furthest record of a domain, and when its keeper was last heard. */
+/** @typedef {{name: string, domain: string, shown: Shown | null, dot?: any}} Device */
+/** @typedef {{name: string, station: string, parent: string | null, accepts?: boolean[], children: Domain[],
+ *   devices: Device[], shown: Shown | null, told: Told | null, at?: any, silence?: number | null,
+ *   wasSilent?: boolean, counted?: any}} Domain `at` has its elements, and `silence` how long its station is silent. */
+/** @typedef {{name: string, station: string}} Operator */
+/** @typedef {{tree: number, states: string[], actions: string[], stations: string[], operators: Operator[],
+ *   domains: any[], devices: any[]}} Tree */
+/** @typedef {{frame: number, now: number, domains: any[], devices: any[]}} Picture */
+
+export const HOUR = 3600000;
+// A state of such a name is an alarm, because a tree does not say which are.
+export const ALARM = /ERROR|FAULT|ALARM|TRIP/;
+
+/** @type {any} */
+export let tree = null;
+/** @type {Map<string, Domain>} */
+export let domains = new Map();
+/** @type {Map<string, Device>} */
+export let devices = new Map();
+/** @type {any} */
+export let picture = null;
+// When the picture came, by the page's own clock.
+let cameAt = 0;
+
+// What a further part of this page adds to the details of a domain, knows of a child's mode, and does once a tree or a
+// picture is shown, and once the screen has begun again.
+/** @type {((d: Domain) => any)[]} */
+export const extras = [];
+/** @type {((d: Domain) => string)[]} */
+export const modeSayers = [];
+/** @type {(() => void)[]} */
+export const afterBuild = [];
+/** @type {(() => void)[]} */
+export const afterShow = [];
+/** @type {(() => void)[]} */
+export const afterRestart = [];
+
+/** Takes a tree as the one that is shown, of which nothing was seen yet.
+ * @param {Tree} next */
+export function plant(next) {
+  tree = next;
+  domains = new Map(next.domains.map((d) => [d.name, { ...d, children: [], devices: [], shown: null, told: null }]));
+  devices = new Map(next.devices.map((d) => [d.name, { ...d, shown: null }]));
+  domains.forEach((d) => { if (d.parent) domains.get(d.parent).children.push(d); });
+  devices.forEach((d) => domains.get(d.domain).devices.push(d));
+  picture = null;
+}
+
+/** Takes a picture as the newest one.
+ * @param {Picture} next */
+export function hang(next) {
+  picture = next;
+  cameAt = performance.now();
+}
+
+/** Returns for how many milliseconds no picture has come, by the page's own clock. */
+export const lateness = () => performance.now() - cameAt;
+/** Returns the time of the screen. */
+export const now = () => picture.now + lateness();
+
+/** Returns who commands a domain, through all levels: null if that was not told, and "" if nobody does.
+ * @param {Domain | undefined} d @returns {string | null} */
+export function commander(d) {
+  for (let level = 0; level <= 8 && d; level += 1) {
+    if (!d.told) return null;
+    if (d.told.holder === null) return "";
+    if (d.told.holder.operator) return d.told.holder.operator;
+    d = domains.get(d.told.holder.domain);
+  }
+  return null;
+}
+
+/** @param {Domain | Device} x */
+export const stateOf = (x) => x.shown === null ? "" : x.shown.state;
+/** @param {Domain | Device} x */
+export const versionOf = (x) => x.shown === null ? "" : x.shown.boot + "." + x.shown.sequence;
+/** Returns true if an object is in a state that somebody has to look after.
+ * @param {Domain | Device} x */
+export const isAlarm = (x) => ALARM.test(stateOf(x));
+/** Returns true if nothing is known of an object: no alarm, but no reason to be calm either.
+ * @param {Domain | Device} x */
+export const isUnknown = (x) => stateOf(x) === "" || stateOf(x) === "UNKNOWN";
+
+/** @param {Domain} d */
+export const holderOf = (d) => d.told && d.told.holder;
+/** Returns the domains that a domain holds.
+ * @param {Domain} d */
+export const held = (d) => d.children.filter((c) => { const h = holderOf(c); return h && h.domain === d.name; });
+
+/** Returns when each station was last heard, by its domains; those are left out that never were. */
+export function heardStations() {
+  const heard = new Map();
+  domains.forEach((d) => {
+    if (d.told) heard.set(d.station, Math.max(heard.get(d.station) ?? -1, d.told.heard));
+  });
+  return heard;
+}
+
+/** Returns how long a station may be silent: two seconds, or as long as it takes to ask about all domains and half as
+ * long again. */
+export const limit = () => Math.max(2000, 800 + 30 * domains.size);
+
+/** Returns how long the station of a domain has been silent: null if it is heard, and -1 if it never was.
+ * @param {Domain} d @param {Map<string, number>} heard @param {number} time @returns {number | null} */
+export function silenceOf(d, heard, time) {
+  const last = heard.get(d.station);
+  if (last === undefined) return -1;
+  return time - last > limit() ? time - last : null;
+}
+
+/** Returns a length of time in words.
+ * @param {number} ms */
+export function age(ms) {
+  if (ms < 60000) return Math.max(0, Math.round(ms / 1000)) + " s";
+  return ms < HOUR ? Math.round(ms / 60000) + " min" : Math.round(ms / HOUR) + " h";
+}

@@ -1,0 +1,99 @@
+// What became of the orders: those that wait with what they wait for, and those that have ended.
+
+import { ask } from "../contact.mjs";
+import { by, flag, make, set } from "../dom.mjs";
+import { note } from "../log.mjs";
+import { domains, held, now, picture, tree } from "../model.mjs";
+import { offerOperators } from "./choosing.mjs";
+import { asksChild, isManual, isOfMode, isSilent, parentOf } from "./counted.mjs";
+import { connect, firstBefore, found, given, hasConsole, learn, orderOf, wordsOf } from "./given.mjs";
+import { tellEnds } from "./giving.mjs";
+
+/** @typedef {import("../model.mjs").Domain} Domain */
+/** @typedef {import("./given.mjs").Order} Order */
+
+// How often it is asked what became of the orders, how many that have ended are shown, and for how long.
+const BETWEEN = 400, SHOWN = 4, SHOWN_FOR = 20000;
+/** When each was first seen to have ended.
+ * @type {Map<number, number>} */
+const ended = new Map();
+let drawn = "";
+
+/** Returns the station that a command waits for: that of the first silent domain on its way down, or of one that is at
+ * work. A child that is manual is not on its way.
+ * @param {Domain} d @returns {string} */
+function waitsFor(d) {
+  if (isSilent(d)) return d.station;
+  const below = held(d).filter((c) => !isManual(c));
+  const next = below.find(isSilent) || below.find((c) => c.told.busy);
+  return next ? waitsFor(next) : d.station;
+}
+
+/** Returns the domains from one down to another below it.
+ * @param {Domain} top @param {Domain} low */
+function pathOf(top, low) {
+  const path = [];
+  for (let at = low; at && at !== top; at = domains.get(at.parent)) path.unshift(at);
+  return [top, ...path];
+}
+
+/** Returns the station that an order waits for.
+ * @param {string[]} words */
+function stationOf([verb, name, target]) {
+  const d = domains.get(name);
+  if (!d) return "";
+  if (verb === "do") return waitsFor(d);
+  const parts = isOfMode(verb) && domains.has(target) ? [...pathOf(d, parentOf(target)),
+    ...(asksChild(verb) ? [domains.get(target)] : [])] : [d];
+  const silent = parts.find(isSilent);
+  return silent ? silent.station : d.told && d.told.busy ? waitsFor(d) : d.station;
+}
+
+/** Returns what became of an order, in words.
+ * @param {Order} it */
+function fateOf(it) {
+  if (it.waits) {
+    const first = firstBefore(it), station = stationOf(wordsOf(it).slice(1));
+    return "waits " + it.seconds + " s" + (first ? " until " + orderOf(first) + " has ended"
+      : station ? " for station " + station : "");
+  }
+  if (it.code !== null) return it.code + ": " + it.words;
+  return it.answer || "the connection with the console broke: not known how it ended";
+}
+
+function showGiven() {
+  const time = performance.now();
+  given.forEach((it) => {
+    if (it.waits || ended.has(it.number)) return;
+    ended.set(it.number, time);
+    if (picture) note(it.line + ": " + fateOf(it), now());
+  });
+  const old = given.filter((it) => !it.waits && time - ended.get(it.number) < SHOWN_FOR).slice(-SHOWN);
+  const colour = (/** @type {Order} */ it) => it.waits ? "#f0b429" : it.code === 0 ? "#15803d" : "#c81e1e";
+  const list = given.filter((it) => it.waits || old.includes(it)).map((it) => [it.line.slice(6), fateOf(it) +
+    (found.has(it.number) ? "" : ", not from this page"), colour(it)]);
+  const text = JSON.stringify(list);
+  if (text === drawn) return;
+  drawn = text;
+  by("given").replaceChildren(...list.map(([order, fate, edge]) => {
+    const li = make("li");
+    li.style.setProperty("--c", edge);
+    li.append(make("b", "", order), make("span", "", fate));
+    return li;
+  }));
+}
+
+/** Asks again and again what became of the orders. */
+export async function followOrders() {
+  try {
+    const text = await ask("/api/orders"), next = text ? JSON.parse(text) : null;
+    connect(!!next && next.console);
+    if (next) learn(next.orders);
+    tellEnds();
+  } finally {
+    flag(by("console"), "away", !hasConsole);
+    set(by("console"), hasConsole ? "orders: connected" : "orders: NO CONSOLE");
+    if (tree) { showGiven(); offerOperators(); }
+    setTimeout(followOrders, BETWEEN);
+  }
+}
