@@ -3,7 +3,7 @@
 usage: crate_device.py CONSOLE CRATE DEVICE..
 
 CONSOLE is that of the node whose station keeps the devices, CRATE the path of the crate's socket. All channels share
-one connection with the crate, and all devices two with the node.
+one connection with the crate, and all devices one with the node.
 """
 
 import os

@@ -6,7 +6,7 @@ WHERE is the console of the node whose station keeps the DEVICE, of a class like
 program reports what the supply is in, off at first, and whenever the node has been started again. With each action of
 an operator it does what the device's state then asks: RAMPING takes so many SECONDS, 2 where none are given, and ends
 with READY. A line `trip` on its standard input has the supply trip: ERROR. It prints each state that the supply comes
-into.
+into. If the program ends, the node reports the device UNKNOWN, which is its last will.
 """
 
 import os
@@ -48,7 +48,7 @@ class Supply:
             self.state = state
             try:
                 self.device.report(state)
-            except (lunskaf.Lost, lunskaf.TimeOut) as away:
+            except lunskaf.AWAY as away:
                 print(away, file=sys.stderr)
             self.come_to(state)
 

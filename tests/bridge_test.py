@@ -16,37 +16,11 @@ import lunskaf
 import nodes
 import running
 import screens
+import supplies
 from running import at_last
 
 BRIDGE, SUPPLIES = os.path.join(running.ROOT, "tools", "tango_bridge.py"), os.path.join(running.HERE, "bridge.py")
 
-TREE = """tree 5
-state UNKNOWN
-state OFF
-state RAMPING
-state READY
-state ERROR
-action CONFIGURE
-action STANDBY
-station A 127.0.0.1:%d
-station SCREEN 127.0.0.1:%d
-operator ANN A
-operator WATCHER SCREEN
-devclass SUPPLY UNKNOWN
-move SUPPLY OFF CONFIGURE RAMPING
-move SUPPLY READY STANDBY OFF
-unitclass UNIT UNKNOWN
-accept UNIT CONFIGURE
-accept UNIT STANDBY
-any UNIT ERROR ERROR
-any UNIT UNKNOWN UNKNOWN
-any UNIT RAMPING RAMPING
-all UNIT READY READY
-all UNIT OFF OFF
-domain TPC A UNIT -
-device HV TPC SUPPLY
-device LV TPC SUPPLY
-"""
 MAP = """# two supplies of one server
 kind SUPPLY
 period 0.1
@@ -78,7 +52,7 @@ class Place:
     def __init__(self, program, folder, subtests):
         self.program, self.folder, self.subtests = program, folder, subtests
         self.ports = nodes.free_ports(2)
-        self.tree = nodes.write_tree(folder, None, (TREE % tuple(self.ports)).splitlines())
+        self.tree = nodes.write_tree(folder, None, (supplies.SCREENED % tuple(self.ports)).splitlines())
         self.console = os.path.join(folder, "console")
         self.tango_port, self.domain_port = screens.tcp_port(), screens.tcp_port()
         self.map = os.path.join(folder, "map")

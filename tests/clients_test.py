@@ -267,7 +267,8 @@ def test_people(place, subtests):
 
     lines, status = ran(["--tree", place.tree, place.where], "order ANN take LEFT\n@x show L\nhelp\n")
     with subtests.test("a console for people"):
-        assert (sorted(lines[:2]), lines[-1], status) == (["@x board L none", "told ANN take LEFT 0"], "help 12", 0)
+        assert (sorted(lines[:2]), lines[-1], status) == (
+            ["@x board L none", "told ANN take LEFT 0"], "help %d" % (len(lines) - 3), 0)
     for line, told, status in [("order ANN ask LEFT", "told ANN ask LEFT ANN 1 0 settled 0", 0),
                                ("order BOB take LEFT", "told BOB take LEFT 5", 1),
                                ("order BOB grab LEFT", "line 1 fault 1: a word that no line has there", 1),
@@ -275,6 +276,17 @@ def test_people(place, subtests):
                                ("show L", "board L none", 0), ("@x report L OFF", "@x told report L OFF 0", 0)]:
         with subtests.test("one line: " + line):
             assert ran([place.where, *line.split()]) == ([told], status)
+    with subtests.test("a line that is answered by several"):
+        assert ran([place.where, "modes"]) == (["mode LEFT out", "mode RIGHT out", "mode FAR out", "modes 3"], 0)
+    waiting = begun([place.where, "order", "ANN", "ask", "FAR"])
+    with lunskaf.Node(place.where) as node:
+        assert at_last(lambda: len(node.under_way()), 1, DEADLINE) == 1
+    with subtests.test("a question in the place of one that waits"):
+        assert ran([place.where, "order", "ANN", "ask", "LEFT"]) == (["told ANN ask LEFT ANN 1 0 settled 0"], 0)
+    with subtests.test("which is told so"):
+        assert ended(waiting) == (["replaced ANN ask FAR"], [], 1)
+    with subtests.test("what is reported when the console ends"):
+        assert ran([place.where, "will", "L", "READY"]) == (["will L READY"], 0)
 
 
 def begun(words, **how):

@@ -18,6 +18,7 @@ import lunskaf
 import nodes
 import running
 import screens
+import supplies
 from running import at_last, is_so
 
 BRIDGE = os.path.join(running.ROOT, "tools", "mqtt_bridge.py")
@@ -27,30 +28,8 @@ pytestmark = pytest.mark.skipif(
     not BROKER or not importlib.util.find_spec("paho"),
     reason="there is no MQTT (Debian's mosquitto and python3-paho-mqtt)")
 
-TREE = """tree 5
-state UNKNOWN
-state OFF
-state RAMPING
-state READY
-state ERROR
-action CONFIGURE
-action STANDBY
-station A 127.0.0.1:%d
-operator ANN A
-devclass SUPPLY UNKNOWN
-move SUPPLY OFF CONFIGURE RAMPING
-move SUPPLY READY STANDBY OFF
-unitclass UNIT UNKNOWN
-accept UNIT CONFIGURE
-accept UNIT STANDBY
-any UNIT ERROR ERROR
-any UNIT UNKNOWN UNKNOWN
-any UNIT RAMPING RAMPING
-any UNIT OFF OFF
-any UNIT READY READY
-domain TPC A UNIT -
-device HV TPC SUPPLY
-"""
+# One of the two supplies is there.
+TREE = supplies.TREE.replace("device LV TPC SUPPLY\n", "")
 MAP = """kind SUPPLY
 period 0.1
 state off OFF

@@ -1,5 +1,7 @@
 """Tree files and what `smi check` says of them, written down from docs/FORMATS.md, "The tree file"."""
 
+import re
+
 import doubts
 
 WORKED = """tree 17
@@ -33,9 +35,13 @@ HEAD = ["tree 17", "state S1", "action A1", "station W 1.2.3.4:5", "operator O1 
         "unitclass UNIT S1"]
 ROOT = "domain D1 W UNIT -"
 
-# How two kinds of doubts end.
+# How doubts end, and what is told of the worked file's device, which is moved from the state in which it begins.
 BY_WHICH = ", by which no device moves below a domain of its class"
+SO_CODE_1 = ", which its parent accepts, so each such order from above ends with code 1"
+IF_ALL = " keeps its old state if all its members are in "
+IN_TWO = " keeps its old state if its members are in two or more of "
 AND_NO_RULE = ", and no rule or move leads to it"
+OBEYS = "device HV is moved by %s though nobody has reported it"
 
 
 def numbered(form, first, last):
@@ -172,8 +178,35 @@ def doubtful():
     above = "unitclass TOP OFF\naccept TOP STOP\naccept TOP CONFIGURE\ndomain DCS A TOP -"
     apart = "unitclass TOP OFF\naccept TOP START\ndomain MUON B TOP DCS\ndevice HV"
     no_device = WORKED.replace("unitclass UNIT", "devclass OTHER PURPLE\nmove OTHER OFF STOP PURPLE\nunitclass UNIT")
+    ruled = "".join("any TOP %s OFF\n" % it for it in ("OFF", "READY", "RUNNING", "ERROR"))
+    below = WORKED.replace("domain DCS A UNIT -",
+                           "unitclass TOP OFF\naccept TOP START\naccept TOP STOP\n" + ruled + "domain DCS A TOP -")
+    moved = below.replace("unitclass UNIT", "move DEV ERROR STOP OFF\nunitclass UNIT")
+    paused = WORKED.replace("state ERROR", "state ERROR\nstate PAUSED").replace(
+        "unitclass", "move DEV PAUSED START RUNNING\nunitclass")
+    reported = paused.replace("state PAUSED", "state PAUSED\nstate UNKNOWN").replace("DEV OFF\n", "DEV UNKNOWN\n")
+    two = WORKED + "device GAS TPC DEV\n"
     for name, text, told in [
             ("nothing", WORKED, []),
+            ("an action that a domain below does not accept", moved,
+             ["domain TPC does not accept STOP" + SO_CODE_1]),
+            ("such an action, and a domain below accepts another", below.replace("accept TOP STOP\n", ""), []),
+            ("such an action, a second time", moved + "domain MUON B UNIT DCS\n",
+             ["domain TPC does not accept STOP" + SO_CODE_1]),
+            ("such an action, in a class of its own", moved + "unitclass SUB OFF\ndomain MUON B SUB TPC\n",
+             ["domain TPC does not accept STOP" + SO_CODE_1, "domain MUON does not accept CONFIGURE" + SO_CODE_1,
+              "domain MUON does not accept START" + SO_CODE_1, "domain TPC" + IN_TWO + "OFF READY RUNNING"]),
+            ("two members", two, ["domain DCS" + IN_TWO + "OFF READY RUNNING"]),
+            ("two members of two domains", WORKED + "device GAS DCS DEV\n",
+             ["domain DCS" + IN_TWO + "OFF READY RUNNING"]),
+            ("two members, and a rule for each state but one",
+             two.replace("all UNIT OFF OFF", "any UNIT OFF OFF\nany UNIT READY READY"), []),
+            ("a state for which there is no rule", paused + "any UNIT OFF PAUSED\n",
+             ["domain DCS" + IF_ALL + "PAUSED"]),
+            ("the same, where nothing moves at first",
+             reported.replace("any UNIT ERROR ERROR", "any UNIT UNKNOWN ERROR"),
+             ["domain DCS" + IF_ALL + "ERROR", "domain DCS" + IF_ALL + "PAUSED",
+              "nothing begins in state PAUSED" + AND_NO_RULE]),
             ("a station with the address of another", same, ["station B has the address of station A"]),
             ("an address with zeros", same.replace("127.0.0.1:9001\nop", "127.000.00.01:09001\nop"),
              ["station B has the address of station A"]),
@@ -183,23 +216,28 @@ def doubtful():
              ["domain DCS accepts STOP" + BY_WHICH]),
             ("an action that moves something", idle.replace("unitclass", "move DEV ERROR STOP OFF\nunitclass"), []),
             ("a class of its own above", WORKED.replace("domain DCS A UNIT -", above),
-             ["domain DCS accepts STOP" + BY_WHICH]),
+             ["domain DCS accepts STOP" + BY_WHICH, "domain TPC does not accept STOP" + SO_CODE_1,
+              *("domain DCS" + IF_ALL + it for it in ("OFF", "READY", "RUNNING", "ERROR"))]),
             ("a class whose domain has no device", WORKED.replace("device HV", apart),
-             ["domain MUON accepts START" + BY_WHICH]),
+             ["domain MUON does not accept CONFIGURE" + SO_CODE_1, "domain MUON accepts START" + BY_WHICH,
+              "domain DCS" + IN_TWO + "OFF READY RUNNING"]),
             ("a state that nothing leads to", unreached, ["nothing begins in state PURPLE" + AND_NO_RULE]),
             ("a state to which a rule leads that never wins", unreached + "any UNIT ERROR PURPLE\n",
              ["nothing begins in state PURPLE" + AND_NO_RULE]),
-            ("a state to which a rule leads that wins over two", unreached + "any UNIT OFF PURPLE\n", []),
+            ("a state to which a rule leads that wins over two", unreached + "any UNIT OFF PURPLE\n",
+             ["domain DCS" + IF_ALL + "PURPLE"]),
             ("a state to which a move leads",
-             unreached.replace("unitclass", "move DEV OFF STOP PURPLE\nunitclass"), []),
+             unreached.replace("unitclass", "move DEV OFF STOP PURPLE\nunitclass"), ["domain DCS" + IF_ALL + "PURPLE"]),
             ("a state of a class that nothing has", no_device.replace("state ERROR", "state ERROR\nstate PURPLE"),
              ["nothing begins in state PURPLE" + AND_NO_RULE]),
             ("three doubts",
              same.replace("accept UNIT START", "accept UNIT STOP").replace("state ERROR", "state ERROR\nstate X"),
              ["station B has the address of station A", "domain DCS accepts STOP" + BY_WHICH,
               "nothing begins in state X" + AND_NO_RULE])]:
-        domains = text.count("\ndomain ")
-        words = "tree 17 stations 2 operators 2 domains %d devices 1\n" % domains
+        domains, devices = text.count("\ndomain "), text.count("\ndevice ")
+        words = "tree 17 stations 2 operators 2 domains %d devices %d\n" % (domains, devices)
+        moving = re.findall("move DEV OFF (CONFIGURE|STOP) [PR]", text) if "devclass DEV OFF" in text else []
+        told = told + [OBEYS % it for it in moving]
         yield "doubts: " + name, text.encode(), words, "".join("doubt: %s\n" % it for it in told), 0
 
 

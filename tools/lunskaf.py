@@ -16,14 +16,20 @@ or, for the program of a device:
     device.on("GO_STANDBY", lambda acted: device.report("STANDBY"))
     device.run()
 
-Each call gives one line to the node behind a tag of its own, and waits for its answer: several threads may share a
-Node. An order that does not end with 0 raises Refused, with its code and a sentence. A line that the node does not
-take raises Fault. A connection that is lost while a call waits raises Lost: what became of its order is not known.
-The next call connects anew. A call that waits longer than its patience raises TimeOut, and its order may still end.
+Each call gives one line to the node with a tag of its own, and waits for its answer: several threads may share a Node.
+An order that does not end with 0 raises Refused, with its code and a sentence. A line that the node does not take
+raises Fault. A connection that is lost while a call waits raises Lost: what became of its order is not known. The next
+call connects again. A node that has no place for another connection raises Full, and nothing of the call was done. A
+call that waits longer than its patience raises TimeOut, and its order may still end.
 
-`follow` has a connection of its own, and connects anew where that is lost, so that it goes on when a node is started
+`follow` has a connection of its own, and connects again if that is lost, so that it goes on when a node is started
 again. What is read while it was away is the newest state alone. `actions` has one too: what was done while it was away
-is not told.
+is not told. Both go on in silence, and call `on_lost` each time that they can't be told anything more. Neither tries
+again in silence if the node is full: that raises Full.
+
+A Device has one connection with its node, for its calls and for its actions. It gives the node its last will there: if
+the connection ends, however it ends, the node reports the device in that state. The will is UNKNOWN if the tree has
+that state, and else none. `Device(node, name, will="ERROR")` names another state, and `will=None` wants none.
 
 The lines are those of docs/FORMATS.md, "A node's lines".
 """
@@ -33,13 +39,24 @@ import itertools
 import queue
 import re
 import socket
+import sys
 import threading
 import time
+import traceback
 
 # How long a call waits for its answer, and how long `follow` waits before it connects again, in seconds.
 PATIENCE, PAUSE = 30.0, 0.5
 # The most bytes of a line.
 LONGEST = 200
+# How long a device program leaves a node alone that is full, and how long what was told is read to its end once a
+# connection is lost, in seconds.
+FULL_PAUSE, SOON = 1.0, 1.0
+# The state that a device is in if its program is gone, unless it names another one.
+WILL = "UNKNOWN"
+# Faults of a line that an older node has for one that it does not know.
+UNKNOWN_LINE = (1, 2, 3)
+# A name of the tree that a line needs is not there.
+UNKNOWN_NAME = 5
 
 ADDRESS = re.compile(r"(\d+\.\d+\.\d+\.\d+):(\d+)")
 
@@ -68,8 +85,9 @@ CODES = {
 
 # What a node shows of an object: its state, and the version of that by the boot of its station and a sequence in it.
 Shown = collections.namedtuple("Shown", "object boot sequence state")
-# An action that was done at a device, and the device's version and state then, whether it moved or not.
-Acted = collections.namedtuple("Acted", "device action boot sequence state")
+# An action that was done at a device, and the device's version and state then, whether it moved or not. Then the domain
+# at which the command ran, the epoch of its grant and its number there: None if the node is older, and does not say.
+Acted = collections.namedtuple("Acted", "device action boot sequence state domain epoch number", defaults=[None] * 3)
 # The record of a domain: who holds it since which epoch, the last command, and whether it is busy or settled,
 # with what.
 Record = collections.namedtuple("Record", "domain holder epoch last phase outcome")
@@ -105,8 +123,25 @@ class Lost(Exception):
     """The connection was lost, or could not be had."""
 
 
+class Full(Exception):
+    """The node has no place for another connection. Nothing that was asked on this one was done."""
+
+    def __init__(self, where):
+        super().__init__("full: the node at %s has no place for another connection" % where)
+
+
 class TimeOut(Exception):
     """No answer came in time."""
+
+
+class Replaced(Exception):
+    """A newer question of the same operator took the place of this one, which is never answered."""
+
+
+# All that a call of a node raises.
+FAILURES = (Refused, Fault, Lost, Full, TimeOut, Replaced)
+# What it raises if the node does not answer.
+AWAY = (Lost, Full, TimeOut)
 
 
 def connected(where, patience):
@@ -135,17 +170,18 @@ def shown_in(words):
 
 
 def acted_in(words):
-    """What a line `acted DEVICE ACTION B.Q STATE` tells."""
+    """What a line `acted DEVICE ACTION B.Q STATE` tells, or one with `DOMAIN EPOCH NUMBER` too."""
     boot, sequence = words[3].split(".")
-    return Acted(words[1], words[2], int(boot), int(sequence), words[4])
+    numbers = (words[5], int(words[6]), int(words[7])) if len(words) > 7 else ()
+    return Acted(words[1], words[2], int(boot), int(sequence), words[4], *numbers)
 
 
 class Connection:
     """Lines there and back, whose answers are known by their tags."""
 
     def __init__(self, where, patience):
-        self.socket = connected(where, patience)
-        self.answers, self.lock, self.is_lost = {}, threading.Lock(), False
+        self.where, self.socket = where, connected(where, patience)
+        self.answers, self.lock, self.is_lost, self.is_full = {}, threading.Lock(), False, False
         self.reader = threading.Thread(target=self.read, daemon=True)
         self.reader.start()
 
@@ -155,6 +191,8 @@ class Connection:
             with self.socket.makefile("r", encoding="ascii", newline="\n") as lines:
                 for line in lines:
                     tag, _, text = line.rstrip("\n").partition(" ")
+                    # all other lines have a tag, because all that is asked here has one
+                    self.is_full = self.is_full or (tag, text) == ("full", "")
                     with self.lock:
                         asked = self.answers.get(tag)
                     if asked is not None:
@@ -166,18 +204,24 @@ class Connection:
             for asked in self.answers.values():
                 asked.put(None)
 
+    def loss(self, said):
+        """Returns what is raised if the connection is lost: what was said, or that the node is full."""
+        # a line can fail before it is read that the node is full
+        self.reader.join(SOON)
+        return Full(self.where) if self.is_full else Lost(said)
+
     def begin(self, tag, line):
         """Gives a line, and answers the queue into which its answers come; the last is None where it was lost."""
         asked = queue.Queue()
         with self.lock:
-            if self.is_lost:
-                raise Lost("the connection was lost")
             self.answers[tag] = asked
+        if self.is_lost:
+            raise self.loss("the connection was lost")
         try:
             self.socket.sendall(("%s %s\n" % (tag, line)).encode("ascii"))
         except OSError as error:
             self.end(tag)
-            raise Lost(str(error)) from error
+            raise self.loss(str(error)) from error
         return asked
 
     def end(self, tag):
@@ -232,7 +276,7 @@ class Node:
                 except queue.Empty:
                     raise TimeOut("no answer to %s within %g s" % (line, patience)) from None
                 if text is None:
-                    raise Lost("the connection was lost while %s was not answered" % line)
+                    raise connection.loss("the connection was lost while %s was not answered" % line)
                 words = text.split()
                 if words[:1] == ["fault"]:
                     raise Fault(int(words[1].rstrip(":")), line, text.split(" ", 1)[1])
@@ -284,8 +328,13 @@ class Node:
         self.order(operator, "unwatch", name, patience=patience)
 
     def ask(self, operator, domain, patience=None):
-        """How a domain stands, by its station."""
+        """How a domain stands, by its station.
+
+        An operator has one question at a time: a newer one, of whatever program, has the one before raise Replaced.
+        """
         told = self.answer("order %s ask %s" % (operator, domain), patience)
+        if told[0] == "replaced":
+            raise Replaced("%s ask %s" % (operator, domain))
         if len(told) < 9:
             raise Refused(int(told[-1]), "%s ask %s" % (operator, domain))
         _, _, _, domain, holder, epoch, last, phase, outcome = told
@@ -315,34 +364,75 @@ class Node:
         lines = self.listed("under way", ["under", "way"])
         return [Waiting(words[1], " ".join(words[2:-1]), int(words[-1])) for words in lines]
 
-    def connections(self):
-        """Connections of their own, each anew once the one before is lost."""
+    def will(self, device, state, patience=None):
+        """Gives the last will of a device: if the connection ends, the node reports the device in that state.
+
+        It holds for this connection alone, and is replaced by a later one of the same device.
+        """
+        told = self.answer("will %s %s" % (device, state), patience)
+        if told[0] != "will":
+            raise Refused(int(told[-1]), "will %s %s" % (device, state))
+
+    def remark(self, text):
+        """Leaves a remark in the node's journal, if it has one. Nothing answers it, and it is lost if the node is away."""
+        try:
+            connection, tag = self.now_connected(), "@%d" % next(self.numbers)
+            connection.begin(tag, ("# " + text)[:LONGEST - len(tag) - 1])
+            connection.end(tag)
+        except AWAY:
+            pass
+
+    def modes(self):
+        """Returns in which mode each child of a domain of the station is: included, manual, ignored or out."""
+        return {words[1]: words[2] for words in self.listed("modes", ["modes"])}
+
+    def own_connection(self):
+        """Returns a connection that is used for one purpose alone."""
+        return Connection(self.where, self.patience)
+
+    def connections(self, connect, on_lost):
+        """Yields connections, each after the one before is lost, and tells each loss once."""
+        was_there = True
         while True:
             try:
-                connection = Connection(self.where, self.patience)
+                connection = connect()
             except Lost:
+                if was_there:
+                    on_lost()
+                was_there = False
                 time.sleep(PAUSE)
                 continue
+            was_there = True
             try:
                 yield connection
             finally:
-                connection.close()
+                # that of the calls is theirs to close
+                if connection is not self.connection:
+                    connection.close()
+            on_lost()
+            was_there = False
             time.sleep(PAUSE)
 
-    def follow(self, *names):
-        """The newest state of these objects, or of all that the station keeps or watches, and then each later one."""
+    def follow(self, *names, on_lost=lambda: None):
+        """The newest state of these objects, or of all that the station keeps or watches, and then each later one.
+
+        `on_lost` is called each time the connection is lost, and once if there is none at first. What was shown before
+        may be old from then on, and the next state comes when the node answers again.
+        """
         seen = {}
-        for connection in self.connections():
+        for connection in self.connections(self.own_connection, on_lost):
             yield from new_states(connection, names, seen)
 
-    def actions(self, *devices, on_start=lambda: None):
+    def actions(self, *devices, on_start=lambda: None, on_lost=lambda: None, own=True):
         """Each action that is done at these devices of the station, or at all of them, from now on, as Acted.
 
-        `on_start` is called each time the node begins to tell, before the first action. Where the node has no room for
-        what it has to tell, Missed is raised with how many actions it left out.
+        `on_start` is called each time the node begins to tell, before the first action, and `on_lost` each time the
+        connection is lost, and once if there is none at first. If the node has no room for what it has to tell, Missed
+        is raised with how many actions it left out. If `own` is false they come over the connection of the calls, which
+        tells one such list of devices alone.
         """
-        for connection in self.connections():
-            for words in told_without_end(connection, "actions", devices):
+        for connection in self.connections(self.own_connection if own else self.now_connected, on_lost):
+            for words in told_actions(connection, "@a%d" % next(self.numbers), devices):
                 if words[0] == "actions":
                     on_start()
                 elif words[0] == "missed":
@@ -354,12 +444,15 @@ class Node:
 class Device:
     """A device of a node's station, for the program that runs it: what each action of operators has it do."""
 
-    def __init__(self, node, name):
-        self.node, self.name = node, name
-        self.deeds, self.start, self.any = {}, lambda: None, None
+    def __init__(self, node, name, will=WILL):
+        self.node, self.name, self.will, self.is_default = node, name, will, will == WILL
+        self.deeds, self.start, self.lost, self.any = {}, lambda: None, lambda: None, None
 
     def on(self, action, deed):
-        """From now on a deed is done with each such action: it is called with what was Acted. None is for any other."""
+        """From now on a deed is done with each such action: it is called with what was Acted. None is for any other.
+
+        If a deed raises something, that is told on standard error, and the device is reported in the state of its will.
+        """
         if action is None:
             self.any = deed
         else:
@@ -369,44 +462,113 @@ class Device:
         """A deed is done each time the node begins to tell: it is to report what the device is in."""
         self.start = deed
 
+    def on_lost(self, deed):
+        """A deed is done each time the connection is lost: actions are not told until the node begins again."""
+        self.lost = deed
+
     def report(self, state):
         """The device has come into a state."""
         self.node.report(self.name, state)
 
+    def tell(self, text):
+        print("%s: %s" % (self.name, text), file=sys.stderr, flush=True)
+
+    def do(self, what, deed, *words):
+        """Does a deed. If it raises something, nobody knows what the device is in: the state of the will is reported."""
+        try:
+            deed(*words)
+        # whatever is raised: a program that ended would do no later action either
+        except Exception as error:  # pylint: disable=broad-except
+            said = error if isinstance(error, FAILURES) else traceback.format_exc().rstrip()
+            self.tell("%s: %s" % (what, said))
+            self.report_will()
+
+    def report_will(self):
+        """Reports the device in the state of its will."""
+        try:
+            if self.will is not None:
+                self.report(self.will)
+        except FAILURES as error:
+            self.tell(error)
+
+    def begin(self):
+        """Gives the node the will, and reports what the device is in."""
+        if self.will is not None:
+            self.give_will()
+        self.do("start", self.start)
+
+    def give_will(self):
+        """Gives the node the will. An older node takes none, and a tree may lack the state that nobody has named."""
+        try:
+            self.node.will(self.name, self.will)
+        except Fault as fault:
+            if fault.code == UNKNOWN_NAME and self.is_default:
+                self.tell("no will, because the tree has no state %s" % self.will)
+                self.will = None
+            elif fault.code not in UNKNOWN_LINE:
+                raise
+        except AWAY as away:
+            # the next connection gives it
+            self.tell(away)
+
     def run(self):
-        """Does what actions ask, one after the other, without end. Where the node left some out, it begins anew."""
+        """Does what actions ask, one after the other, without end. Where the node left some out, it begins again.
+
+        A node that is full is told once on standard error, and tried again each second.
+        """
+        is_full = False
         while True:
             try:
-                for acted in self.node.actions(self.name, on_start=self.start):
+                for acted in self.node.actions(self.name, on_start=self.begin, on_lost=self.lost, own=False):
+                    is_full = False
                     deed = self.deeds.get(acted.action, self.any)
                     if deed is not None:
-                        deed(acted)
+                        self.do(acted.action, deed, acted)
             except Missed:
                 pass
+            except Full as full:
+                if not is_full:
+                    self.tell(full)
+                is_full = True
+                time.sleep(FULL_PAUSE)
 
 
-def told_without_end(connection, question, names):
+def told_without_end(connection, tag, question, names):
     """The lines that a connection is told from then on, as words, until it is lost."""
     line = " ".join((question,) + names)
     # more names than a line may have: all are asked for, and the caller leaves out those that it did not name
-    line = line if len(line) + len("@f ") <= LONGEST else question
+    line = line if len(tag) + 1 + len(line) <= LONGEST else question
     try:
-        asked = connection.begin("@f", line)
+        asked = connection.begin(tag, line)
     except Lost:
         return
-    while True:
-        text = asked.get()
-        if text is None:
-            return
-        words = text.split()
-        if words[0] == "fault":
-            raise Fault(int(words[1].rstrip(":")), line, text.split(" ", 1)[1])
-        yield words
+    try:
+        while True:
+            text = asked.get()
+            if text is None:
+                if connection.is_full:
+                    raise Full(connection.where)
+                return
+            words = text.split()
+            if words[0] == "fault":
+                raise Fault(int(words[1].rstrip(":")), line, text.split(" ", 1)[1])
+            yield words
+    finally:
+        connection.end(tag)
+
+
+def told_actions(connection, tag, devices):
+    """The actions that a connection is told from then on, with their numbers if the node has them."""
+    try:
+        yield from told_without_end(connection, tag, "actions --with numbers", devices)
+    except Fault:
+        # an older node takes `--with` for a device; what else is wrong is a fault of this line too
+        yield from told_without_end(connection, tag, "actions", devices)
 
 
 def new_states(connection, names, seen):
     """The states that a connection tells and that were not seen, until it is lost."""
-    for words in told_without_end(connection, "follow", names):
+    for words in told_without_end(connection, "@f", "follow", names):
         shown = shown_in(words)
         if shown is not None and shown.object in (names or (shown.object,)) and seen.get(shown.object) != shown:
             seen[shown.object] = shown

@@ -105,7 +105,7 @@ def publish_online(client, node, topic):
         try:
             node.counts()
             word = "1"
-        except (lunskaf.Lost, lunskaf.TimeOut):
+        except lunskaf.AWAY:
             word = "0"
         if client.is_connected():
             client.publish(topic, word, qos=1, retain=True)
@@ -152,5 +152,5 @@ if __name__ == "__main__":
         main()
     except KeyboardInterrupt:
         pass
-    except devices.Wrong as wrong:
+    except (devices.Wrong, lunskaf.Full) as wrong:
         sys.exit(str(wrong))
