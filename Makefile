@@ -10,7 +10,7 @@ LANES := $(shell awk -v most=$$(nproc) '/^MemAvailable/ { fit = int($$2 / 400000
 PYTHON := /usr/bin/python3
 tests = $(PYTHON) -m pytest -n auto $(if $(ONLY),-k '$(ONLY)') $(1:%=tests/%_test.py)
 
-.PHONY: smi run try test gate record check needs cases nodes marks full consoles soak crowd shift screen browser bridge demo tools documents pictures edits edits-test tools-test bench
+.PHONY: smi run try test gate record check needs cases nodes marks full consoles soak crowd forest shift screen browser bridge demo tools documents pictures edits edits-test tools-test bench
 .PHONY: install deb package
 
 # The program, proved and built, at bin/smi.
@@ -30,7 +30,7 @@ SHARE := $(PREFIX)/share/smi
 DOC := $(PREFIX)/share/doc/lunskaf
 ZSH := $(PREFIX)/share/zsh/site-functions
 # What a crew and whoever runs the machines may want beside the program.
-TOOLS := console demo devices draw firewall hierarchy history lines lunskaf mqtt_bridge play record rows show status tango_bridge tree tree_check tree_diff
+TOOLS := console demo devices draw firewall gateway hierarchy history lines lunskaf modbus_bridge mqtt_bridge play record rows show status tango_bridge tree tree_check tree_diff
 
 # The program, its page, completion, the unit and its user, the tools, examples and documents.
 install: bin/smi
@@ -108,9 +108,9 @@ marks: needs bin/smi
 full: needs bin/smi
 	@$(call tests,full)
 
-# Many consoles at one node, and their clients, or some tests: make consoles ONLY=rude.
+# Many consoles at one node, their clients and what a crew asks of it, or some tests: make consoles ONLY=rude.
 consoles: needs bin/smi
-	@$(call tests,consoles actions clients)
+	@$(call tests,consoles actions clients crew)
 
 # Three nodes behind a proxy that loses, repeats, delays and reorders, with kills: make soak WORDS='--seconds 3600 --seed 7'.
 soak: bin/smi
@@ -119,6 +119,10 @@ soak: bin/smi
 # A crowd of nodes, 16 or as many as are asked for: what they cost and how soon they answer: make crowd WORDS='--stations 128'.
 crowd: bin/smi
 	@$(PYTHON) tests/crowd.py bin/smi $(WORDS)
+
+# A tree of trees on this machine, 16 or as many as are asked for, with a gateway for each: make forest WORDS='--trees 2'.
+forest: bin/smi
+	@$(PYTHON) tests/forest.py bin/smi $(WORDS)
 
 # The shift of examples/shift.schedule over the whole detector: what must hold at each place, or at some of them.
 shift: needs bin/smi
@@ -130,11 +134,12 @@ screen: needs bin/smi
 
 # The page of the screen in headless Chromium, while the crew's shift is played: skipped if there is none.
 browser: needs bin/smi
-	@$(call tests,browser)
+	@$(call tests,browser warnings display page_parts)
 
-# The bridges to TANGO and MQTT between a node and real servers, each skipped if it is not there, and device programs.
+# The bridges to TANGO, MQTT and Modbus between a node and real servers, each skipped if it is not there, device
+# programs, and gateways between two trees.
 bridge: needs bin/smi
-	@$(call tests,bridge mqtt devices)
+	@$(call tests,bridge mqtt modbus devices gateway)
 
 # The example detector on this machine, with a screen and the crew's shift: it prints the address to open, and Ctrl-C
 # ends all.

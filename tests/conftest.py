@@ -23,6 +23,7 @@ LONG = 300
 
 def pytest_addoption(parser):
     parser.addoption("--program", default=os.path.join(running.ROOT, "bin", "smi"), help="the program to test")
+    parser.addoption("--page-files", action="store_true", help="serve the page as its files are, not the program's")
 
 
 def pytest_collection_modifyitems(items):

@@ -20,9 +20,11 @@ from consoles import LATEST, SOON, TREE, Console, Flood, Place, is_soon, other_a
 from running import DEADLINE
 
 # The most connections at once, how many orders each gives, and how many connections come one after the other.
-GUESTS, ORDERS, COMERS = 64, 100, 10_000
+GUESTS, ORDERS, COMERS = 128, 50, 10_000
 # How long a client may take nothing, in seconds, by docs/FORMATS.md; and how much more a test waits for its end.
 STUCK, SLACK = 2, 20
+# After how many seconds of silence a connection makes room for a new one.
+SILENCE = 30
 
 
 @pytest.fixture
@@ -93,8 +95,9 @@ def test_partitions(place, subtests):
 def judged(place, number, failures):
     """Gives one connection's hundred orders, half of them with tags. Each is answered once."""
     console = Console(place.where)
-    plain = ["show L", "order ANN ask LEFT", "report R OFF", "order BOB watch R"]
-    answers = ["board L none", "told ANN ask LEFT free 0 0 settled 0", "told report R OFF 0", "told BOB watch R 0"]
+    # (a question of one operator would take the place of an earlier one, whatever connection that came from)
+    plain = ["show L", "order ANN watch R", "report R OFF", "order BOB watch R"]
+    answers = ["board L none", "told ANN watch R 0", "told report R OFF 0", "told BOB watch R 0"]
     lines, wanted, tagged = [], [], {}
     for order in range(ORDERS):
         which = (order + number) % len(plain)
@@ -115,7 +118,7 @@ def judged(place, number, failures):
 
 
 def test_many(place, subtests):
-    """As many connections as there may be, with a hundred orders each, and one more."""
+    """As many connections as there may be, with fifty orders each, and one more."""
     failures = []
     threads = [threading.Thread(target=judged, args=[place, number, failures]) for number in range(GUESTS)]
     for thread in threads:
@@ -143,13 +146,42 @@ def test_many(place, subtests):
         assert told == "board L none"
 
 
+def test_silent(place, subtests):
+    """Connections that nobody uses make room for new ones, the one that was silent for longest first."""
+    follower, willing, waiting = kept = [Console(place.where) for _ in range(3)]
+    follower.say("follow\n")
+    willing.ask("will L READY")
+    waiting.say("order ANN take FAR\n")
+    idle = [Console(place.where) for _ in range(GUESTS - len(kept))]
+    with subtests.test("so many are there at once"):
+        assert [it.ask("show L") for it in idle] == ["board L none"] * len(idle)
+    busy = idle[1:]
+    with subtests.test("at first one more is told that it is full"):
+        assert Console(place.where).rest() == ["full"]
+    time.sleep(SILENCE + 1)
+    with subtests.test("those that ask again are used"):
+        assert [it.ask("show L") for it in busy] == ["board L none"] * len(busy)
+    new = Console(place.where)
+    with subtests.test("the one that is not used makes room"):
+        assert (new.ask("show L"), idle[0].rest()) == ("board L none", ["full"])
+    with subtests.test("and then there is none that makes room"):
+        assert Console(place.where).rest() == ["full"]
+    with subtests.test("one that follows stays, one with a will, and one that waits"):
+        assert new.ask("order BOB take LEFT") == "told BOB take LEFT 0"
+        assert willing.ask("show L") == "board L none"
+        place.start_away()
+        assert waiting.line() == "told ANN take FAR 0"
+        assert new.ask("report L READY") == "told report L READY 0"
+        assert follower.line().startswith("board ")
+
+
 @pytest.mark.alone
 def test_rude(place, subtests):
     """Clients that leave in the middle, that never read, and that send no line."""
     steady, asked = Console(place.where), ["order ANN ask LEFT"] * 50
     answers = ["told ANN ask LEFT free 0 0 settled 0"] * len(asked)
     usual = timed(steady.ask, asked)[1]
-    for text in ["order ANN ta", "order ANN ask LEFT\nord", "states\n" * 300, "@x follow\n", "x" * 100_000,
+    for text in ["order ANN ta", "order EVE ask LEFT\nord", "states\n" * 300, "@x follow\n", "x" * 100_000,
                  "\0\n" * 50]:
         rude = Console(place.where)
         rude.say(text)
@@ -322,13 +354,21 @@ def test_faults(place, subtests):
             assert console.ask(line) == wanted
 
 
+def helped_by(console):
+    """Returns the lines of `help`, which ends with how many there are."""
+    found = [console.line()]
+    while found[-1] and found[-1].split()[1:] != [str(len(found) - 1)]:
+        found.append(console.line())
+    return found
+
+
 def test_lines(place, subtests):
     """What only connections have: questions of the whole node without a tag."""
     console = Console(place.where)
     console.say("\n# nothing\nhelp\n")
-    helped = [console.line() for _ in range(13)]
+    helped = helped_by(console)
     with subtests.test("help"):
-        assert [helped[-1], all(line.startswith("help ") for line in helped)] == ["help 12", True]
+        assert [helped[-1], all(line.startswith("help ") for line in helped)] == ["help %d" % (len(helped) - 1), True]
     console.say("counts\n")
     with subtests.test("counts"):
         assert console.line().startswith("counts received ")

@@ -48,7 +48,8 @@ def test_rule(subtests):
     with subtests.test("rules of the protocol are told"):
         assert len(rows) >= 70
     with subtests.test("every section of the protocol has its rules, but for the words and what no code does alone"):
-        assert {it for it in parts if text.count("\n## %s\n" % it)} - {row[0] for row in rows} <= {RULES, "Audits"}
+        assert {it for it in parts if text.count("\n## %s\n" % it)} - {row[0] for row in rows} <= {
+            RULES, "Audits", "Trees of trees"}
 
 
 def test_local(subtests):

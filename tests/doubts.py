@@ -5,6 +5,11 @@ It goes by classes and rules, where the program goes by look-ups of domains and 
 
 SAME = "doubt: station %s has the address of station %s\n"
 IDLE = "doubt: domain %s accepts %s, by which no device moves below a domain of its class\n"
+REFUSED = ("doubt: domain %s does not accept %s, which its parent accepts, so each such order from above ends with "
+           "code 1\n")
+UNRULED = "doubt: domain %s keeps its old state if all its members are in %s\n"
+MIXED = "doubt: domain %s keeps its old state if its members are in two or more of %s\n"
+OBEDIENT = "doubt: device %s is moved by %s though nobody has reported it\n"
 UNREACHED = "doubt: nothing begins in state %s, and no rule or move leads to it\n"
 
 
@@ -45,6 +50,29 @@ def with_all_above(tree):
     return found
 
 
+def actions(tree):
+    """What is told of actions, by domain and then by action."""
+    found = {}
+    for pairs in (idle(tree), refused(tree)):
+        for (domain, action), line in pairs:
+            found.setdefault((domain, action), []).append(line)
+    for domain in tree.names("domain"):
+        for action in tree.names("action"):
+            yield from found.get((domain, action), [])
+
+
+def refused(tree):
+    """Actions that a class of units does not accept, and one above it does."""
+    class_of, seen = {line[0]: line[2] for line in tree.of("domain")}, set()
+    accepted = {(class_, action) for class_, action in tree.of("accept")}
+    for name, _, class_, parent in tree.of("domain"):
+        above = class_of.get(parent)
+        for action in tree.names("action") if above and (class_, above) not in seen else []:
+            if (above, action) in accepted and (class_, action) not in accepted:
+                yield (name, action), REFUSED % (name, action)
+        seen.add((class_, above))
+
+
 def idle(tree):
     """Actions that a class of units accepts, and that no device below moves by."""
     above = with_all_above(tree)
@@ -57,7 +85,55 @@ def idle(tree):
         seen.add(class_)
         for action in tree.names("action"):
             if action in accepted and (class_, action) not in moved:
-                yield IDLE % (name, action)
+                yield (name, action), IDLE % (name, action)
+
+
+def rules_of(tree, class_):
+    """Returns the rules of a class of units, in their order."""
+    return [[line[0], *line[2:]] for line in tree.lines if line[0] in ("any", "all") and line[1] == class_]
+
+
+def member_states(tree):
+    """Returns by class of units in which states members of its domains can be, and the classes with two members."""
+    class_of = {line[0]: line[2] for line in tree.of("domain")}
+    first = {line[0]: line[1] for word in ("devclass", "unitclass") for line in tree.of(word)}
+    states, members = {}, {}
+    for name, _, class_, parent in tree.of("domain"):
+        if parent != "-":
+            states.setdefault(class_of[parent], set()).update([first[class_], *led_to(rules_of(tree, class_))])
+            members.setdefault(parent, []).append(name)
+    for name, domain, kind in tree.of("device"):
+        ends = {end for line in tree.of("move", kind) if line[1] != line[3] for end in (line[1], line[3])}
+        states.setdefault(class_of[domain], set()).update([first[kind], *ends])
+        members.setdefault(domain, []).append(name)
+    return states, {class_of[domain] for domain, names in members.items() if len(names) > 1}
+
+
+def unruled(tree):
+    """Sets of states of members over which no rule of a class holds."""
+    states, shared = member_states(tree)
+    seen = set()
+    for name, _, class_, _ in tree.of("domain"):
+        ruled = {(how, state) for how, state, _ in rules_of(tree, class_)}
+        can_be = [] if class_ in seen else [it for it in tree.names("state") if it in states.get(class_, ())]
+        seen.add(class_)
+        loose = [state for state in can_be if ("any", state) not in ruled]
+        for state in loose:
+            if ("all", state) not in ruled:
+                yield UNRULED % (name, state)
+        if len(loose) > 1 and class_ in shared:
+            yield MIXED % (name, " ".join(loose))
+
+
+def obedient(tree):
+    """Actions that move a device out of the state in which it begins."""
+    first, seen = dict(line[:2] for line in tree.of("devclass")), set()
+    for name, _, kind in tree.of("device"):
+        moved = {action for _, start, action, end in tree.of("move", kind) if start == first[kind] and end != start}
+        for action in tree.names("action") if kind not in seen else []:
+            if action in moved:
+                yield OBEDIENT % (name, action)
+        seen.add(kind)
 
 
 def led_to(rules):
@@ -77,8 +153,7 @@ def reached(tree):
              for class_, first in tree.of(word) if class_ in used}
     found |= {end for class_, start, _, end in tree.of("move") if class_ in kinds and start != end}
     for class_ in units:
-        rules = [[line[0], *line[2:]] for line in tree.lines if line[0] in ("any", "all") and line[1] == class_]
-        found |= set(led_to(rules))
+        found |= set(led_to(rules_of(tree, class_)))
     return found
 
 
@@ -87,4 +162,4 @@ def told(text):
     tree = Declared(text)
     there = reached(tree)
     unreached = [UNREACHED % state for state in tree.names("state") if state not in there]
-    return "".join([*same(tree), *idle(tree), *unreached])
+    return "".join([*same(tree), *actions(tree), *unruled(tree), *unreached, *obedient(tree)])

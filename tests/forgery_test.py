@@ -189,3 +189,44 @@ def test_a_tree_with_another_rule_is_told(both):
     os.mkdir(other)
     status, said = both.audit(nodes.write_tree(other, both.ports, lines))
     assert status == 1 and said.endswith("line 1 fault 15\n"), said
+
+
+def answers(node, *lines):
+    """Returns the answers to lines with tags, without these, or None for one that is not answered in time."""
+    told = []
+    for place, line in enumerate(lines):
+        node.say("@%d %s" % (place, line))
+        told.append((node.next(3) or "").removeprefix("@%d told " % place) or None)
+    return told
+
+
+def test_what_heals_a_forged_drop(both):
+    """What docs/NETWORK.md says that a forged datagram does, and what heals it."""
+    ann, bob = both.running["A"], both.running["B"]
+    assert ann.ask("order ANN take DCS") == "told ANN take DCS 0"
+    drop = datagram(layout.DROP, **{"from": A}, to=A, subject=DCS, holder_kind=OPERATOR, holder=1, epoch=1)
+    both.forge(A, drop)
+    assert both.says("A", "freed DCS 2")
+    healing = ["order ANN take DCS", "order ANN drop DCS", "order ANN take DCS", "order ANN do DCS CONFIGURE"]
+    assert answers(ann, *healing) == ["ANN take DCS 23", "ANN drop DCS 0", "ANN take DCS 0", "ANN do DCS CONFIGURE 0"]
+    both.forge(A, datagram(layout.DROP, **{"from": A}, to=A, subject=DCS, holder_kind=OPERATOR, holder=1, epoch=3))
+    assert both.says("A", "freed DCS 4")
+    assert answers(bob, "order BOB take DCS", "order BOB drop DCS") == ["BOB take DCS 0", "BOB drop DCS 0"]
+    assert answers(ann, "order ANN do DCS CONFIGURE", "order ANN drop DCS", "order ANN ask DCS") == [
+        None, None, "ANN ask DCS free 6 0 settled 0"]
+
+
+def test_what_heals_a_forged_tell(night):
+    ann, told = night.start("A"), None
+    ann.say("@9 order ANN take TPC")
+    while told is None:
+        # (it does nothing before the take is under way)
+        night.forge(A, datagram(layout.TELL, **{"from": B}, to=A, subject=TPC, holder_kind=OPERATOR, holder=1, epoch=1))
+        told = ann.next(0.5)
+    assert told == "@9 told ANN take TPC 0"
+    bob = night.start("B")
+    assert answers(ann, "order ANN ask TPC", "order ANN drop TPC") == ["ANN ask TPC free 0 0 settled 0", None]
+    assert answers(bob, "order BOB take TPC", "order BOB drop TPC") == ["BOB take TPC 0", "BOB drop TPC 0"]
+    assert ann.next() == "@1 told ANN drop TPC 0"
+    assert answers(ann, "order ANN take TPC", "order ANN do TPC CONFIGURE") == [
+        "ANN take TPC 0", "ANN do TPC CONFIGURE 0"]

@@ -375,18 +375,20 @@ def test_tag(folder, tree, start_node, subtests):
     node = start_node(tree, "A", os.path.join(folder, "A"), "--endless")
     node.say("order ANN take TPC")
     node.say("show TPC")
-    # While the first order waits, DCS may not join it: orders of one operator join each other on one domain alone.
     answers = [(line, node.ask(line)) for line, _ in TAGGED]
     with subtests.test("lines with tags"):
         assert answers == TAGGED
-    node.say("@w order ANN take DCS")
+    with subtests.test("an order about another domain"):
+        assert node.ask("@v order ANN take DCS") == "@v told ANN take DCS 0"
+    # One about the same domain waits for the first.
+    node.say("@w order ANN drop TPC")
     told = [node.ask("@u under way")]
     time.sleep(2)
     node.say("@u under  way")
     told += [node.next() for _ in range(5)]
     # The seconds of each order are looked at apart from the rest of its line.
     seconds = [int(line.rsplit(" ", 1)[1]) for line in told if " way ANN " in line]
-    wanted = ["@u way ANN take TPC", "@u way ANN take DCS", "@u under way"] * 2
+    wanted = ["@u way ANN take TPC", "@u way ANN drop TPC", "@u under way"] * 2
     with subtests.test("orders under way"):
         assert [[line.rsplit(" ", 1)[0] for line in told], told[2] == told[5] == "@u under way 2",
             all(0 <= first < later for first, later in zip(seconds[:2], seconds[2:]))] == [wanted, True, True]
@@ -396,7 +398,7 @@ def test_tag(folder, tree, start_node, subtests):
     boards = ["board TPC none", "board TPC 1.0 OFF"]
     with subtests.test("the order that waited, and the lines that waited for it"):
         assert [ends[0], sorted("board" if it in boards else it for it in ends[1:])] == [
-            "told ANN take TPC 0", ["@w told ANN take DCS 0", "board"]]
+            "told ANN take TPC 0", ["@w told ANN drop TPC 0", "board"]]
 
 
 def test_many_tags(folder, tree, start_node, subtests):

@@ -44,6 +44,8 @@ share/smi/tools/lunskaf.py
 share/smi/examples/supply.py
 share/smi/tools/devices.py
 share/smi/tools/mqtt_bridge.py
+share/smi/tools/gateway.py
+share/smi/tools/modbus_bridge.py
 share/smi/examples/channel.py
 share/smi/examples/crate_device.py
 share/smi/examples/smi-device@.service

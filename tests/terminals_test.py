@@ -62,3 +62,42 @@ def test_another_fault_has_no_help(at_terminal):
 
 def test_success_has_no_help(at_terminal):
     assert at_terminal("check", TREE) == (b"", 0)
+
+
+# What a terminal is shown of a faulty tree file, by the text of the line in the place of the worked file's one.
+FAULTS = [
+    ("state RUNNING", "state A_NAME_OF_SEVENTEE", "tree line 4 fault 3\n    state A_NAME_OF_SEVENTEE\n"
+     "    a name or a number is not well formed: A_NAME_OF_SEVENTEE is longer than 16\n"),
+    ("state RUNNING", "state running", "tree line 4 fault 3\n    state running\n"
+     "    a name or a number is not well formed\n"),
+    ("state RUNNING", "stat RUNNING", "tree line 4 fault 1\n    stat RUNNING\n    no line begins with this word\n"),
+    ("state RUNNING", "state \x1b[2J", "tree line 4 fault 3\n    state ?[2J\n"
+     "    a name or a number is not well formed\n"),
+    ("domain DCS", "domain ANN", "tree line 23 fault 4\n    domain ANN A UNIT -\n    declared twice\n"),
+]
+
+
+@pytest.mark.parametrize("words", [("check",), ("check", "--lint"), ("sim", "schedule"), ("audit", "journal")],
+                         ids=" ".join)
+@pytest.mark.parametrize("old, new, shown", FAULTS, ids=[new.replace("\x1b", "ESC") for _, new, _ in FAULTS])
+def test_a_faulty_tree_file_at_a_terminal(smi, at_terminal, tmp_path, words, old, new, shown):
+    with open(TREE, encoding="utf-8") as file:
+        text = file.read()
+    tree = tmp_path / "faulty.tree"
+    tree.write_text(text.replace(old, new, 1), encoding="utf-8")
+    line = [words[0], str(tree), *words[1:]]
+    assert at_terminal(*line) == (shown.encode(), 1)
+    assert smi(*line)[1:] == (shown.encode().split(b"\n")[0] + b"\n", 1)
+
+
+def test_a_tree_file_without_domains_at_a_terminal(at_terminal, tmp_path):
+    tree = tmp_path / "faulty.tree"
+    tree.write_text("tree 1\n", encoding="utf-8")
+    assert at_terminal("check", str(tree)) == (
+        b"tree line 0 fault 12\n    a station, an operator, a state, an action or a domain is missing\n", 1)
+
+
+def test_what_is_refused_for_another_reason_has_no_words(at_terminal, tmp_path):
+    schedule = tmp_path / "faulty.schedule"
+    schedule.write_text("nonsense\n", encoding="utf-8")
+    assert at_terminal("sim", TREE, str(schedule)) == (b"schedule line 1 fault 1\n", 1)
