@@ -1,4 +1,5 @@
 pub mod Link
 pub mod Memory
 pub mod Patience
+pub mod Sources
 pub mod Udp

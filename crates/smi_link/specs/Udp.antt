@@ -1,6 +1,9 @@
 -- A link over a socket: where each station is reached, where its datagrams went, and how often it failed.
-use Rattle.std.specs.Prelude.{ℕ, ◌≤◌, ◌+◌, ◌-◌, ◌==◌, if◌then◌else◌, List, length, Option, Some, None, slice_get}
+use Rattle.std.specs.Prelude.{ℕ, ◌≤◌, ◌+◌, ◌-◌, ◌==◌, if◌then◌else◌, List, length, Option, Some, None}
+use Rattle.std.specs.Prelude.{option_and_then, slice_get}
 use Rattle.std.specs.declared.net.socket_addr.SocketAddr.{SocketAddr}
+use Rattle.smi_link.specs.Sources.{sender_of}
+use Rattle.smi_link.specs.declared.sources.Sources.{Sources}
 
 -- how often a socket was asked to send, and to which address at last
 pub record Went : Type 0 where
@@ -18,6 +21,7 @@ went_to (Some address) w = record { sends = w.sends + 1; last = Some address }
 -- what contracts see of it; of the socket itself they see where datagrams went, and nothing else
 pub record Peered : Type 0 where
   pub peers : List SocketAddr
+  pub sources : Sources
   pub went : Went
   pub failures : ℕ
   pub receives : ℕ
@@ -29,3 +33,7 @@ pub record HasAddress (peers : List SocketAddr) (station : ℕ) : Type 0 where
 
 abbrev pub address_of : List SocketAddr → ℕ → Option SocketAddr
 address_of peers station = if station == 0 then None else slice_get peers (station - 1)
+
+-- the address of the station that a datagram names as its sender
+abbrev pub sender_address : List SocketAddr → List ℕ → Option SocketAddr
+sender_address peers datagram = option_and_then (address_of peers) (sender_of datagram)

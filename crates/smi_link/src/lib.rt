@@ -39,6 +39,8 @@
 //!   it sent, as contracts see them. What it remembers rests on one short body, `PeerSocket::send_to`.
 //! - How many milliseconds a call may still wait is `left_at` (`specs/Patience`), of when the link's patience began
 //!   and of the moment that its clock gave.
+//! - A datagram of a foreign source is received as no bytes (`admitted`, `specs/Sources`): the link receives what its
+//!   socket gives through `admitted` alone, in one short line. Contracts see no datagram of a socket.
 //! - Not claimed: any byte, that a datagram arrives, what the clock says, that `receive` returns.
 #![tactic(auto)]
 
@@ -48,8 +50,10 @@ mod link;
 mod memory;
 mod patience;
 mod peer_socket;
+mod sources;
 mod udp;
 
 pub use link::{DATAGRAM_BYTES, DatagramLink, LinkFault, MOST_BYTES, Reception};
 pub use memory::MemoryLink;
+pub use sources::Sources;
 pub use udp::UdpLink;

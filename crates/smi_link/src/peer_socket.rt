@@ -50,14 +50,12 @@ impl PeerSocket {
         self.socket.send_to(datagram, address).is_ok()
     }
 
-    /// Receives the next datagram, or as many of its bytes as the buffer has room for, and returns how many they are.
-    pub(crate) fn receive(&self, buffer: &mut [u8; 45]) -> io::Result<usize>
-        ensures { IfOk result (λ count. count ≤ 45) }
+    /// Receives the next datagram, or as many of its bytes as the buffer has room for, and returns how many they are
+    /// and what address they are from.
+    pub(crate) fn receive(&self, buffer: &mut [u8; 45]) -> io::Result<(usize, SocketAddr)>
+        ensures { IfOk result (λ r. r.0 ≤ 45) }
     {
-        match self.socket.recv_from(buffer) {
-            Ok((count, _)) => Ok(count),
-            Err(error) => Err(error),
-        }
+        self.socket.recv_from(buffer)
     }
 
     /// Lets the socket wait no longer than this many milliseconds for a datagram.

@@ -1,6 +1,7 @@
 use crate::link::{DatagramLink, LinkFault, Reception};
 use crate::patience::{MOST_PATIENCE, Patience};
 use crate::peer_socket::PeerSocket;
+use crate::sources::{Sources, is_source, sender_of};
 use smi_base::Tally;
 use std::io;
 use std::io::ErrorKind;
@@ -14,14 +15,16 @@ use std::time::{Clock, Instant};
 /// milliseconds have passed by the clock since the first call after the last `Nothing`, however many datagrams wait
 /// in the socket: they are given by later calls. So a caller that receives again and again is told `Nothing` close to a
 /// hundred times a second under load. If the clock can't be read, a call waits as if it were the first. A datagram
-/// over 44 bytes is received as its first 45. A send to a station without an address is a fault.
+/// over 44 bytes is received as its first 45. One of a foreign source ([`Sources`]) is received as one without bytes,
+/// which every station refuses; at first no source is foreign. A send to a station without an address is a fault.
 ///
-/// Contracts see the addresses, by station from 1, where the last datagram went, and how often the link was asked to
-/// receive and failed.
+/// Contracts see the addresses, by station from 1, from where datagrams have to come, where the last one went, and how
+/// often the link was asked to receive and failed.
 #[derive(Drop)]
 pub struct UdpLink<C: Clock + Drop> {
     socket: PeerSocket,
     peers: Vec<SocketAddr>,
+    sources: Sources,
     faults: Tally,
     receives: Tally,
     clock: C,
@@ -37,6 +40,7 @@ impl<C: Clock + Drop> Model for UdpLink<C> {
 
     ghost view = { λ l. record {
       peers = l.peers.items;
+      sources = l.sources;
       went = l.socket;
       failures = l.faults.count;
       receives = l.receives.count;
@@ -44,14 +48,17 @@ impl<C: Clock + Drop> Model for UdpLink<C> {
 }
 
 impl<C: Clock + Drop> UdpLink<C> {
-    ghost use Rattle.std.specs.Prelude.{◌≡◌, OnOk, IfOk, IfSome, slice_get};
-    ghost use Rattle.smi_link.specs.Udp.{HasAddress, address_of, unsent};
+    ghost use Rattle.std.specs.Prelude.{◌≡◌, OnOk, IfOk, IfSome, length, slice_get};
+    ghost use Rattle.smi_link.specs.Sources.{IsSource};
+    ghost use Rattle.smi_link.specs.Udp.{HasAddress, address_of, sender_address, unsent};
+    ghost use Rattle.smi_link.specs.declared.sources.Sources.TheVariants as sources;
 
     /// Makes a link over a socket, whose stations, by number from 1, are reached at these addresses.
     ///
     /// Its error is that of the socket, which then is closed.
     pub fn over(socket: UdpSocket, clock: C, peers: Vec<SocketAddr>) -> io::Result<UdpLink<C>>
         ensures peers { IfOk result (λ link. link.peers ≡ peers.items) }
+        ensures sources { IfOk result (λ link. link.sources ≡ sources.Any) }
         ensures went { IfOk result (λ link. link.went ≡ unsent) }
         ensures failures { IfOk result (λ link. link.failures ≡ 0) }
         ensures receives { IfOk result (λ link. link.receives ≡ 0) }
@@ -61,6 +68,7 @@ impl<C: Clock + Drop> UdpLink<C> {
         Ok(UdpLink {
             socket,
             peers,
+            sources: Sources::Any,
             faults: Tally::zero(),
             receives: Tally::zero(),
             clock,
@@ -80,6 +88,7 @@ impl<C: Clock + Drop> UdpLink<C> {
     ) -> io::Result<UdpLink<C>>
         ensures own { OnOk result (HasAddress peers.items station) }
         ensures peers { IfOk result (λ link. link.peers ≡ peers.items) }
+        ensures sources { IfOk result (λ link. link.sources ≡ sources.Any) }
         ensures went { IfOk result (λ link. link.went ≡ unsent) }
         ensures failures { IfOk result (λ link. link.failures ≡ 0) }
         ensures receives { IfOk result (λ link. link.receives ≡ 0) }
@@ -97,6 +106,31 @@ impl<C: Clock + Drop> UdpLink<C> {
     {
         let place = usize::from(station).checked_sub(1)?;
         self.peers.get(place).copied()
+    }
+
+    /// Receives from now on only what comes from there, whatever it names as its sender.
+    pub fn accept_from(&mut self, sources: Sources)
+        ensures { self.new ≡ record self.old { sources = sources } }
+    {
+        self.sources = sources;
+    }
+
+    /// Returns how many bytes of a datagram from there are received: all, or none.
+    fn admitted(&self, datagram: &[u8], from: SocketAddr) -> usize
+        ensures own { IsSource self.now.sources (sender_address self.now.peers datagram.now) from
+            → result ≡ length datagram.now }
+        ensures foreign { ¬ (IsSource self.now.sources (sender_address self.now.peers datagram.now) from)
+            → result ≡ 0 }
+    {
+        let address = match sender_of(datagram) {
+            Some(sender) => self.address_of(sender),
+            None => None,
+        };
+        if is_source(self.sources, address, from) {
+            datagram.len()
+        } else {
+            0
+        }
     }
 
     /// Returns how long this call may wait, in milliseconds.
@@ -146,6 +180,7 @@ impl<C: Clock + Drop> DatagramLink for UdpLink<C> {
         ensures failures { CountsReception result self.old.failures self.new.failures }
         ensures receives { self.new.receives ≡ self.old.receives + 1 }
         ensures peers { self.new.peers ≡ self.old.peers }
+        ensures sources { self.new.sources ≡ self.old.sources }
         ensures went { self.new.went ≡ self.old.went }
     {
         self.receives.raise();
@@ -155,7 +190,7 @@ impl<C: Clock + Drop> DatagramLink for UdpLink<C> {
         }
         self.wait_at_most(patience);
         match self.socket.receive(buffer) {
-            Ok(count) => Reception::Received(count),
+            Ok((count, from)) => Reception::Received(self.admitted(&buffer[..count], from)),
             Err(error) if error.kind() == ErrorKind::WouldBlock => self.nothing(),
             Err(_) => {
                 self.faults.raise();
@@ -170,6 +205,7 @@ impl<C: Clock + Drop> DatagramLink for UdpLink<C> {
         // A datagram goes to the address of the station that it is for, and nowhere else.
         ensures went { self.new.went ≡ went_to (address_of self.old.peers station) self.old.went }
         ensures peers { self.new.peers ≡ self.old.peers }
+        ensures sources { self.new.sources ≡ self.old.sources }
         ensures known { OnOk result (HasAddress self.old.peers station) }
     {
         let sent = match self.address_of(station) {
