@@ -37,7 +37,8 @@ place_route path query version has_orders =
     else (if bytes_eq path (codes "/api/tree") then route_to.Tree
     else (if bytes_eq path (codes "/api/picture") then (if is_text query version then route_to.Unchanged else route_to.Picture)
     else (if bytes_eq path (codes "/metrics") then route_to.Metrics
-    else (if has_orders && bytes_eq path (codes "/api/orders") then route_to.Orders else route_to.NotFound))))
+    else (if bytes_eq path (codes "/healthz") then route_to.Health
+    else (if has_orders && bytes_eq path (codes "/api/orders") then route_to.Orders else route_to.NotFound)))))
 
 -- the request comes from a page of this very host
 abbrev pub is_own_page : Option (List ℕ) → Option (List ℕ) → Bool
@@ -46,9 +47,14 @@ is_own_page (Some host) (Some origin) = starts_with (λ a b. a == b) origin (cod
 is_own_page (Some host) None = false
 is_own_page None origin = false
 
--- it is the page that was served with this key, at its address
-abbrev pub is_trusted : List ℕ → PartsState → Bool
-is_trusted key q = is_text q.key key && is_own_page q.host q.origin
+-- the request comes from the page as a proxy serves it, under this origin, if one does
+abbrev pub is_proxied_page : Option (List ℕ) → Option (List ℕ) → Bool
+is_proxied_page (Some ours) origin = is_text origin ours
+is_proxied_page None origin = false
+
+-- it is the page that was served with this key, at its address or under the origin of the proxy before it
+abbrev pub is_trusted : List ℕ → Option (List ℕ) → PartsState → Bool
+is_trusted key proxy q = is_text q.key key && (is_own_page q.host q.origin || is_proxied_page proxy q.origin)
 
 abbrev pub route_by : Admission → Route
 route_by admission.Accepted = route_to.Given
@@ -60,7 +66,7 @@ route_by admission.QueueFull = route_to.QueueFull
 abbrev pub order_route : PageOrders → PartsState → Route
 order_route o q =
     if bytes_eq q.method (codes "POST") && bytes_eq q.path (codes "/api/orders")
-    then (if is_trusted o.key q then route_by (admission_of o.tree o.relay q.body) else route_to.ForeignOrigin)
+    then (if is_trusted o.key o.origin q then route_by (admission_of o.tree o.relay q.body) else route_to.ForeignOrigin)
     else route_to.Change
 
 abbrev pub change_route : Option PageOrders → PartsState → Route
@@ -84,6 +90,7 @@ status_of route_to.Page = 200
 status_of route_to.Tree = 200
 status_of route_to.Picture = 200
 status_of route_to.Metrics = 200
+status_of route_to.Health = 200
 status_of route_to.Unchanged = 204
 status_of route_to.Orders = 200
 status_of route_to.NotFound = 404
@@ -101,6 +108,7 @@ body_of snapshot route_to.Page = snapshot.page
 body_of snapshot route_to.Tree = snapshot.tree
 body_of snapshot route_to.Picture = snapshot.picture
 body_of snapshot route_to.Metrics = snapshot.metrics
+body_of snapshot route_to.Health = codes "ok"
 body_of snapshot route_to.Unchanged = []
 body_of snapshot route_to.Orders = snapshot.orders
 body_of snapshot route_to.NotFound = codes "there is no such page"
@@ -117,12 +125,19 @@ abbrev pub policy : List ℕ
 policy = codes "default-src 'none'; script-src 'unsafe-inline'; style-src 'unsafe-inline'; connect-src 'self'; "
     ++ codes "img-src data:; base-uri 'none'; form-action 'none'; frame-ancestors 'none'"
 
--- what every answer carries: nobody keeps it, takes it for another kind of text or shows it in a frame, and a page
--- runs what is in it and asks its own host
-abbrev pub security_headers : List (List ℕ × List ℕ)
-security_headers = (codes "cache-control", codes "no-store") ∷ (codes "x-content-type-options", codes "nosniff")
+-- what every answer carries: nobody keeps it, takes it for another kind of text or shows it in a frame, no page from
+-- elsewhere loads it or has its window at hand, and a page runs what is in it and asks its own host
+abbrev pub page_headers : List (List ℕ × List ℕ)
+page_headers = (codes "cache-control", codes "no-store") ∷ (codes "x-content-type-options", codes "nosniff")
     ∷ (codes "x-frame-options", codes "DENY") ∷ (codes "referrer-policy", codes "no-referrer")
     ∷ (codes "content-security-policy", policy) ∷ []
+
+abbrev pub origin_headers : List (List ℕ × List ℕ)
+origin_headers = (codes "cross-origin-opener-policy", codes "same-origin")
+    ∷ (codes "cross-origin-resource-policy", codes "same-origin") ∷ []
+
+abbrev pub security_headers : List (List ℕ × List ℕ)
+security_headers = page_headers ++ origin_headers
 
 abbrev pub of_type : List ℕ → List (List ℕ × List ℕ)
 of_type kind = (codes "content-type", kind) ∷ []
@@ -142,6 +157,7 @@ own_headers route_to.Page = html
 own_headers route_to.Tree = json
 own_headers route_to.Picture = json
 own_headers route_to.Metrics = of_type (codes "text/plain; version=0.0.4; charset=utf-8")
+own_headers route_to.Health = plain
 own_headers route_to.Unchanged = []
 own_headers route_to.Orders = json
 own_headers route_to.NotFound = plain

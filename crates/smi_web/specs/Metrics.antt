@@ -1,13 +1,14 @@
 -- How a picture reads to a monitor: Prometheus' text format, each metric with what it is and all its samples below.
-use Rattle.std.specs.Prelude.{ℕ, ◌+◌, ◌-◌, ◌/◌, ◌%◌, ◌++◌, List, [], Option, Some, None, codes}
+use Rattle.std.specs.Prelude.{ℕ, ◌+◌, ◌-◌, ◌/◌, ◌%◌, nat_le, ◌++◌, List, [], Option, Some, None, codes, if◌then◌else◌}
+use Rattle.std.specs.Option.{option_map_or}
 use Rattle.std.specs.Fmt.{decimal}
 use Rattle.smi_grant.specs.declared.Holder.{Holder}
 use Rattle.smi_grant.specs.declared.Holder.TheVariants as holder
 use Rattle.smi_grant.specs.declared.Phase.{Phase}
 use Rattle.smi_grant.specs.declared.Phase.TheVariants as phase
 use Rattle.smi_tree.specs.Hierarchy.{Hierarchy}
-use Rattle.smi_tree.specs.Lookups.{device_count, domain_count}
-use Rattle.smi_schedule.specs.TraceWords.{domain_word, object_word, state_word}
+use Rattle.smi_tree.specs.Lookups.{device_count, domain_count, station_of}
+use Rattle.smi_schedule.specs.TraceWords.{domain_word, object_word, state_word, station_word}
 use Rattle.smi_view.specs.Pictured.{Pictured, domain_of, object_of}
 use Rattle.smi_view.specs.declared.Hearing.{Hearing}
 use Rattle.smi_view.specs.declared.Sight.{Sight}
@@ -56,12 +57,30 @@ unfoldable pub head_text : List ℕ → List ℕ → List ℕ → List ℕ
 head_text name help kind =
     codes "# HELP " ++ name ++ codes " " ++ help ++ codes "\n# TYPE " ++ name ++ codes " " ++ kind ++ codes "\n"
 
--- 1 for the state in which an object is; nothing if none was shown
+-- what an object is: numbers of domains come before those of devices
+unfoldable pub kind_word : Hierarchy → ℕ → List ℕ
+kind_word h x = if nat_le x (domain_count h) then codes "domain" else codes "device"
+
+unfoldable pub kind_label : Hierarchy → ℕ → List ℕ
+kind_label h x = codes ",kind=" ++ quoted (kind_word h x)
+
+-- the station that keeps a domain
+abbrev pub station_label : Hierarchy → ℕ → List ℕ
+station_label h d = option_map_or (λ s. codes ",station=" ++ quoted (station_word h s)) (station_of h d) []
+
+-- the name of the states' metric, and what an object is called and is
+unfoldable pub object_labels : Hierarchy → ℕ → List ℕ
+object_labels h x = codes "smi_object_state{object=" ++ quoted (object_word h x) ++ kind_label h x
+
+-- 1 for a state in which an object is
+abbrev pub in_state_sample : Hierarchy → (object state : ℕ) → List ℕ
+in_state_sample h x s =
+    object_labels h x ++ codes ",state=" ++ quoted (state_word h s) ++ codes "} 1\n"
+
+-- the sample of the state that was seen; nothing if none was shown
 abbrev pub seen_sample : Hierarchy → ℕ → Option Sight → List ℕ
 seen_sample h x None = []
-seen_sample h x (Some seen) =
-    codes "smi_object_state{object=" ++ quoted (object_word h x)
-    ++ codes ",state=" ++ quoted (state_word h seen.shown.state) ++ codes "} 1\n"
+seen_sample h x (Some seen) = in_state_sample h x seen.shown.state
 
 abbrev pub state_sample : Hierarchy → Pictured → ℕ → List ℕ
 state_sample h p x = seen_sample h x (object_of p x)
@@ -70,8 +89,8 @@ state_sample h p x = seen_sample h x (object_of p x)
 abbrev pub heard_sample : Hierarchy → Metric → ℕ → ℕ → Option Hearing → List ℕ
 heard_sample h metric now d None = []
 heard_sample h metric now d (Some had) =
-    name_text metric ++ codes "{domain=" ++ quoted (domain_word h d) ++ codes "} " ++ value_text metric now had
-    ++ codes "\n"
+    name_text metric ++ codes "{domain=" ++ quoted (domain_word h d) ++ station_label h d ++ codes "} "
+    ++ value_text metric now had ++ codes "\n"
 
 abbrev pub metric_sample : Hierarchy → Pictured → Metric → ℕ → ℕ → List ℕ
 metric_sample h p metric now d = heard_sample h metric now d (domain_of p d)

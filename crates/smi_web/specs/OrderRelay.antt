@@ -1,6 +1,6 @@
 -- The orders that were given from a page, and what becomes of them.
 use Rattle.std.specs.Prelude.{ℕ, nat_lt, nat_le, ◌+◌, ◌-◌, ◌^◌, ◌==◌, ◌&&◌, ◌||◌, not, ◌++◌, Bool, true, false}
-use Rattle.std.specs.Prelude.{List, [], ◌∷◌, drop, length, remove, set, slice_get, position, Option, Some, None}
+use Rattle.std.specs.Prelude.{List, [], ◌∷◌, drop, length, remove, set, slice_get, position, Option}
 use Rattle.std.specs.Prelude.{is_some, if◌then◌else◌}
 use Rattle.std.specs.Option.{option_map_or}
 use Rattle.smi_tree.specs.Hierarchy.{Hierarchy}

@@ -1,5 +1,5 @@
 -- An order that was given from a page, and what became of it.
-use Rattle.std.specs.Prelude.{ℕ, nat_le, ◌==◌, ◌&&◌, not, ◌++◌, Bool, List, [], ◌∷◌, drop, length, codes, Some, None}
+use Rattle.std.specs.Prelude.{ℕ, nat_le, ◌==◌, ◌&&◌, not, ◌++◌, Bool, List, drop, length, codes, Some, None}
 use Rattle.std.specs.Prelude.{is_some, if◌then◌else◌}
 use Rattle.std.specs.Fmt.{decimal}
 use Rattle.std.specs.List.{list_all, starts_with}

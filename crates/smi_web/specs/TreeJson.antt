@@ -1,6 +1,5 @@
 -- How a tree reads: what does not change while a program runs.
 use Rattle.std.specs.Prelude.{ℕ, ◌++◌, List, Option, Some, None, option_map, codes}
-use Rattle.std.specs.Option.{option_map_or}
 use Rattle.std.specs.Fmt.{decimal}
 use Rattle.smi_tree.specs.Hierarchy.{Hierarchy, entry}
 use Rattle.smi_tree.specs.Lookups.{accepts, action_count, device_count, domain_count, operator_count, parent_of}

@@ -6,21 +6,27 @@ ghost use Rattle.smi_web.specs.Metrics.{
   domains_text,
   metric_text,
   metrics_text,
+  object_labels,
   head_text,
   heard_sample,
   held_number,
+  in_state_sample,
+  kind_label,
+  kind_word,
   help_text,
   name_text,
   screen_text,
   seconds_text,
   seen_sample,
+  station_label,
   states_text,
   value_text,
   whole_text,
 };
 
-use crate::json::{put, put_number, put_quoted};
+use crate::json::{put, put_number, put_quoted, put_text};
 use crate::json_list::{Listing, put_listed};
+use crate::tree_json::station_of;
 use smi_grant::{Holder, Phase};
 use smi_schedule::names;
 use smi_tree::Tree;
@@ -141,6 +147,59 @@ fn put_whole(
     put(text, b"\n")
 }
 
+/// Returns what an object is.
+#[tactic(auto, unfolding(crate::specs::Metrics::kind_word))]
+fn kind_of(tree: &Tree, object: u16) -> &'static [u8]
+    ensures { result.now ≡ kind_word tree.now object }
+{
+    if object <= tree.domain_count() {
+        b"domain"
+    } else {
+        b"device"
+    }
+}
+
+/// Writes what an object is as a label.
+#[tactic(auto, unfolding(crate::specs::Metrics::kind_label))]
+fn put_kind(text: &mut Vec<u8>, tree: &Tree, object: u16) -> Result<(), AllocError>
+    ensures { OnOk result (text.new.items ≡ text.old.items ++ kind_label tree.now object) }
+{
+    put_text(text, b",kind=", kind_of(tree, object))
+}
+
+/// Writes the station of a domain as a label.
+fn put_station(text: &mut Vec<u8>, tree: &Tree, domain: u16) -> Result<(), AllocError>
+    ensures { OnOk result (text.new.items ≡ text.old.items ++ station_label tree.now domain) }
+{
+    match station_of(tree, domain) {
+        Some(station) => put_quoted(text, b",station=", names::station(tree, station), station),
+        None => Ok(()),
+    }
+}
+
+/// Writes the name of the states' metric, and what an object is and is called as labels.
+#[tactic(auto, unfolding(crate::specs::Metrics::object_labels))]
+fn put_object(text: &mut Vec<u8>, tree: &Tree, object: u16) -> Result<(), AllocError>
+    ensures { OnOk result (text.new.items ≡ text.old.items ++ object_labels tree.now object) }
+{
+    put_quoted(
+        text,
+        b"smi_object_state{object=",
+        names::object(tree, object),
+        object,
+    )?;
+    put_kind(text, tree, object)
+}
+
+/// Writes the sample of a state in which an object is.
+fn put_state(text: &mut Vec<u8>, tree: &Tree, object: u16, state: u16) -> Result<(), AllocError>
+    ensures { OnOk result (text.new.items ≡ text.old.items ++ in_state_sample tree.now object state) }
+{
+    put_object(text, tree, object)?;
+    put_quoted(text, b",state=", names::state(tree, state), state)?;
+    put(text, b"} 1\n")
+}
+
 fn put_seen(
     text: &mut Vec<u8>,
     tree: &Tree,
@@ -149,18 +208,10 @@ fn put_seen(
 ) -> Result<(), AllocError>
     ensures { OnOk result (text.new.items ≡ text.old.items ++ seen_sample tree.now object sight) }
 {
-    let Some(seen) = sight else {
-        return Ok(());
-    };
-    let state = seen.shown.state;
-    put_quoted(
-        text,
-        b"smi_object_state{object=",
-        names::object(tree, object),
-        object,
-    )?;
-    put_quoted(text, b",state=", names::state(tree, state), state)?;
-    put(text, b"} 1\n")
+    match sight {
+        Some(seen) => put_state(text, tree, object, seen.shown.state),
+        None => Ok(()),
+    }
 }
 
 fn put_heard(
@@ -178,6 +229,7 @@ fn put_heard(
     };
     put(text, metric.name())?;
     put_quoted(text, b"{domain=", names::domain(tree, domain), domain)?;
+    put_station(text, tree, domain)?;
     put(text, b"} ")?;
     put_value(text, metric, now, had)?;
     put(text, b"\n")

@@ -14,6 +14,8 @@ pub struct PageOrders {
     pub tree: Tree,
     /// What the page has to show as its `Authorization`. It is in the page, and in no other.
     pub key: Bytes,
+    /// The origin of the page at a proxy, as `https://NAME`, if there is one.
+    pub origin: Option<Bytes>,
     pub relay: OrderRelay,
     /// What time it is, in milliseconds.
     pub time: u64,

@@ -6,6 +6,7 @@ ghost use Rattle.smi_web.specs.Answers as spec;
 
 use crate::order_relay::Admission;
 use crate::page_orders::PageOrders;
+use bytes::Bytes;
 use std::marker::Model;
 
 /// The parts of a request that its route depends on.
@@ -50,6 +51,8 @@ pub enum Route {
     Tree,
     Picture,
     Metrics,
+    /// The screen runs.
+    Health,
     /// Nothing, because the client has the newest picture.
     Unchanged,
     /// What became of the orders that were given.
@@ -127,6 +130,9 @@ fn place_route(path: &[u8], query: Option<&[u8]>, version: &[u8], has_orders: bo
     if path == b"/metrics".as_slice() {
         return Route::Metrics;
     }
+    if path == b"/healthz".as_slice() {
+        return Route::Health;
+    }
     if has_orders && path == b"/api/orders".as_slice() {
         return Route::Orders;
     }
@@ -145,11 +151,22 @@ fn is_own_page(host: Option<&[u8]>, origin: Option<&[u8]>) -> bool
     }
 }
 
-/// Returns true if the page asks that was served with this key, from its own address.
-fn is_trusted(key: &[u8], parts: &RequestParts<'_>) -> bool
-    ensures { result ≡ spec.is_trusted key.now parts.now }
+/// Returns true if the page asks as a proxy serves it, under this origin, if one does.
+fn is_proxied_page(proxy: &Option<Bytes>, origin: Option<&[u8]>) -> bool
+    ensures { result ≡ spec.is_proxied_page proxy.now (option_map (λ o. o.now) origin.entry) }
 {
-    is_text(parts.key, key) && is_own_page(parts.host, parts.origin)
+    match proxy {
+        Some(ours) => is_text(origin, ours.as_slice()),
+        None => false,
+    }
+}
+
+/// Returns true if the page asks that was served with this key, from its own address or under the origin of a proxy.
+fn is_trusted(key: &[u8], proxy: &Option<Bytes>, parts: &RequestParts<'_>) -> bool
+    ensures { result ≡ spec.is_trusted key.now proxy.now parts.now }
+{
+    is_text(parts.key, key)
+        && (is_own_page(parts.host, parts.origin) || is_proxied_page(proxy, parts.origin))
 }
 
 /// Returns the answer to an order of which the relay says so.
@@ -171,7 +188,7 @@ fn order_route(orders: &PageOrders, parts: &RequestParts<'_>) -> Route
     if parts.method != b"POST".as_slice() || parts.path != b"/api/orders".as_slice() {
         return Route::Change;
     }
-    if !is_trusted(orders.key.as_slice(), parts) {
+    if !is_trusted(orders.key.as_slice(), &orders.origin, parts) {
         return Route::ForeignOrigin;
     }
     route_by(orders.relay.admission(&orders.tree, parts.body))

@@ -2,9 +2,10 @@
 
 ghost use Rattle.std.specs.Prelude.{◌≡◌, ◌++◌, ◌∷◌, [], codes, option_map, IsTrue, OnErr, OnOk};
 ghost use Rattle.http_header.specs.FieldValue.{is_visible_text};
+ghost use Rattle.http_header.specs.FieldName.{is_header_name};
 ghost use Rattle.http_server.specs.Response.{IsBlank, fields_of};
-ghost use Rattle.smi_web.specs.Answers.{Answers, left_by, of_type, orders_told, own_headers, plain};
-ghost use Rattle.smi_web.specs.Answers.{security_headers, with_headers};
+ghost use Rattle.smi_web.specs.Answers.{Answers, left_by, of_type, orders_told, origin_headers, own_headers};
+ghost use Rattle.smi_web.specs.Answers.{page_headers, plain, security_headers, with_headers};
 ghost use Rattle.smi_web.specs.declared.routing.Route.TheVariants as route_to;
 ghost use Rattle.smi_web.specs.Parts.{parts_of, field_of};
 
@@ -79,10 +80,25 @@ fn add(response: &mut Response, name: HeaderName, value: &'static str) -> Result
     response.add_header(name, HeaderValue::from_static(value))
 }
 
-/// Adds the headers that every answer has.
-fn add_security_headers(response: &mut Response) -> Result<(), AllocError>
+/// Adds a header whose name is not among those that `http` has.
+fn add_named(
+    response: &mut Response,
+    name: &'static str,
+    value: &'static str,
+) -> Result<(), AllocError>
+    requires name { IsTrue (is_header_name name.now) }
+    requires value { IsTrue (is_visible_text value.now) }
     ensures status { response.new.status ≡ response.old.status }
-    ensures headers { OnOk result (fields_of response.new ≡ with_headers (fields_of response.old) security_headers) }
+    ensures headers { OnOk result (fields_of response.new ≡ fields_of response.old ++ (name.now, value.now) ∷ []) }
+    ensures body { response.new.body ≡ response.old.body }
+{
+    add(response, HeaderName::from_static(name), value)
+}
+
+/// Adds the headers that say what becomes of an answer, and what a page may do.
+fn add_page_headers(response: &mut Response) -> Result<(), AllocError>
+    ensures status { response.new.status ≡ response.old.status }
+    ensures headers { OnOk result (fields_of response.new ≡ with_headers (fields_of response.old) page_headers) }
     ensures body { response.new.body ≡ response.old.body }
 {
     add(response, header::CACHE_CONTROL, "no-store")?;
@@ -90,6 +106,27 @@ fn add_security_headers(response: &mut Response) -> Result<(), AllocError>
     add(response, header::X_FRAME_OPTIONS, "DENY")?;
     add(response, header::REFERRER_POLICY, "no-referrer")?;
     add(response, header::CONTENT_SECURITY_POLICY, CSP)
+}
+
+/// Adds the headers that keep pages from elsewhere away: none of them loads an answer, or has the window of the page at
+/// hand.
+fn add_origin_headers(response: &mut Response) -> Result<(), AllocError>
+    ensures status { response.new.status ≡ response.old.status }
+    ensures headers { OnOk result (fields_of response.new ≡ with_headers (fields_of response.old) origin_headers) }
+    ensures body { response.new.body ≡ response.old.body }
+{
+    add_named(response, "cross-origin-opener-policy", "same-origin")?;
+    add_named(response, "cross-origin-resource-policy", "same-origin")
+}
+
+/// Adds the headers that every answer has.
+fn add_security_headers(response: &mut Response) -> Result<(), AllocError>
+    ensures status { response.new.status ≡ response.old.status }
+    ensures headers { OnOk result (fields_of response.new ≡ with_headers (fields_of response.old) security_headers) }
+    ensures body { response.new.body ≡ response.old.body }
+{
+    add_page_headers(response)?;
+    add_origin_headers(response)
 }
 
 /// Fills in a text of this type.
@@ -174,6 +211,7 @@ impl WebService {
             Route::Tree => fill(response, StatusCode::OK, JSON, &snapshot.tree),
             Route::Picture => fill(response, StatusCode::OK, JSON, &snapshot.picture),
             Route::Metrics => fill(response, StatusCode::OK, METRICS, &snapshot.metrics),
+            Route::Health => fill_plain(response, StatusCode::OK, "ok"),
             Route::Orders => fill(response, StatusCode::OK, JSON, &snapshot.orders),
             Route::Unchanged => {
                 response.status = StatusCode::NO_CONTENT;

@@ -37,7 +37,7 @@ fn home_of(tree: &Tree, operator: u16) -> Option<u16>
 }
 
 /// Returns the station of a domain, if there is such a domain.
-fn station_of(tree: &Tree, domain: u16) -> Option<u16>
+pub(crate) fn station_of(tree: &Tree, domain: u16) -> Option<u16>
     ensures { result ≡ station_of tree.now domain }
 {
     if 1 <= domain && domain <= tree.domain_count() {

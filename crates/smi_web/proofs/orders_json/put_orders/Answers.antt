@@ -1,4 +1,4 @@
-use Rattle.std.proofs.Common.{◌≡◌, ◌++◌, List, ℕ, codes, length, ap, subst, ◌∙◌, append_assoc}
+use Rattle.std.proofs.Common.{◌≡◌, ◌++◌, codes, length, ap, subst, ◌∙◌, append_assoc}
 use Rattle.smi_web.specs.OrdersJson.{errand_text_at}
 use Rattle.smi_web.specs.Json.{listed}
 use Rattle.smi_web.proofs.orders_json.put_orders.Goals as goal

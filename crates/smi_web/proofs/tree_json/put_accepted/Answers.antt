@@ -1,4 +1,4 @@
-use Rattle.std.proofs.Common.{◌≡◌, ◌++◌, List, ℕ, codes, subst, ◌∙◌, append_assoc}
+use Rattle.std.proofs.Common.{◌≡◌, ◌++◌, codes, subst, ◌∙◌, append_assoc}
 use Rattle.smi_web.specs.TreeJson.{accept_text}
 use Rattle.smi_web.specs.Json.{listed}
 use Rattle.smi_web.proofs.tree_json.put_accepted.Goals as goal
