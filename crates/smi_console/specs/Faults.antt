@@ -6,8 +6,8 @@ use Rattle.smi_node.specs.declared.turns.ServeFault.{ServeFault}
 use Rattle.smi_node.specs.declared.turns.ServeFault.TheVariants as serve
 use Rattle.smi_protocol.specs.declared.fault.OpenFault.{OpenFault}
 use Rattle.smi_protocol.specs.declared.fault.OpenFault.TheVariants as fault
-use Rattle.smi_console.specs.declared.ending.Halt.{Halt}
-use Rattle.smi_console.specs.declared.ending.Halt.TheVariants as halt
+use Rattle.smi_console.specs.declared.exit.StartError.{StartError}
+use Rattle.smi_console.specs.declared.exit.StartError.TheVariants as error
 
 -- a row or a store at fault is told as such; a station that the tree does not have is a wrong line
 abbrev pub status_of : OpenFault → Status
@@ -25,13 +25,13 @@ status_by (Err serve.Memory) = status.NoMemory
 status_by (Err serve.Link) = status.Fault
 
 -- an open station is not served
-abbrev pub status_at : Halt → Status
-status_at halt.Memory = status.NoMemory
-status_at halt.Link = status.Fault
-status_at halt.Console = status.Fault
-status_at halt.Journal = status.Fault
+abbrev pub status_at : StartError → Status
+status_at error.Memory = status.NoMemory
+status_at error.Link = status.Fault
+status_at error.Console = status.Fault
+status_at error.Journal = status.Fault
 
 -- an open station was served, or not
-abbrev pub status_in : Result (Result (Unit {0}) ServeFault) Halt → Status
+abbrev pub status_in : Result (Result (Unit {0}) ServeFault) StartError → Status
 status_in (Ok served) = status_by served
 status_in (Err why) = status_at why

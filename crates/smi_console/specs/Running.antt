@@ -13,10 +13,10 @@ use Rattle.smi_station.specs.Core.{IsOf, IsStoredIn, begun}
 use Rattle.smi_operator.specs.Lanes.{by_seat}
 use Rattle.smi_station.specs.Readers.{Whole, core_in, operators_in, store_in}
 use Rattle.smi_node.specs.declared.turns.ServeFault.{ServeFault}
-use Rattle.smi_console.specs.declared.ending.Halt.{Halt}
-use Rattle.smi_console.specs.declared.service.Turns.{Turns}
+use Rattle.smi_console.specs.declared.exit.StartError.{StartError}
+use Rattle.smi_console.specs.declared.station_loop.Turns.{Turns}
 use Rattle.smi_console.specs.Faults.{status_in, status_of}
-use Rattle.smi_console.specs.Serving.{IsCrewed, Serving, serving}
+use Rattle.smi_console.specs.Serving.{IsServedIfStarted, Serving, serving}
 
 -- The rows of a station are brought into their newest schema, or not: all that is said of `migrate`.
 pub record MigratesOn {S : Type 0} (is_honest is_open : S → Type 0) (rows : S → Rows) (may_find : S → Rows → Type 0)
@@ -71,8 +71,8 @@ pub record OpensOn {S : Type 0} (is_honest is_open : S → Type 0) (rows : S →
 abbrev pub EndsWith : {S : Type 0} → (List ℕ → Serving (Whole S)) → Turns → Result (Whole S) (OpenFault × S)
     → Status × S → Type 0
 EndsWith {S} V turns (Ok station) r =
-    (last : Whole S) × (how : Result (Result (Unit {0}) ServeFault) Halt)
-    × IsCrewed (V (by_seat (operators_in station.core))) turns station last how
+    (last : Whole S) × (how : Result (Result (Unit {0}) ServeFault) StartError)
+    × IsServedIfStarted (V (by_seat (operators_in station.core))) turns station last how
     × (r.0 ≡ status_in how) × (r.1 ≡ last.store)
 EndsWith V turns (Err e) r = (r.0 ≡ status_of e.0) × (r.1 ≡ e.1)
 

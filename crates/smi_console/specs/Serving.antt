@@ -7,10 +7,10 @@ use Rattle.smi_node.specs.Carried.{Edges, Node, StepsTo, node}
 use Rattle.smi_node.specs.Observed.{Stepped}
 use Rattle.smi_node.specs.Served.{Serves, carrying}
 use Rattle.smi_node.specs.declared.turns.ServeFault.{ServeFault}
-use Rattle.smi_console.specs.declared.ending.Halt.{Halt}
-use Rattle.smi_console.specs.declared.service.TheConstants.{TURNS_AT_ONCE}
-use Rattle.smi_console.specs.declared.service.Turns.{Turns}
-use Rattle.smi_console.specs.declared.service.Turns.TheVariants.{Count, Endless}
+use Rattle.smi_console.specs.declared.exit.StartError.{StartError}
+use Rattle.smi_console.specs.declared.station_loop.TheConstants.{TURNS_AT_ONCE}
+use Rattle.smi_console.specs.declared.station_loop.Turns.{Turns}
+use Rattle.smi_console.specs.declared.station_loop.Turns.TheVariants.{Count, Endless}
 
 -- The log of a store was copied into its file, or the store was shut by that: all that is said of `copy_log`.
 pub record CopiesLog {S : Type 0} (is_honest is_open : S → Type 0) (rows : S → Rows) (may_find : S → Rows → Type 0)
@@ -76,6 +76,7 @@ IsServed V turns before after r =
     × ServesFor V turns (node before first told) (node after last tells) r
 
 -- a station is served, or left as it is
-abbrev pub IsCrewed : {T : Type 0} → Serving T → Turns → T → T → Result (Result (Unit {0}) ServeFault) Halt → Type 0
-IsCrewed V turns before after (Ok r) = IsServed V turns before after r
-IsCrewed V turns before after (Err halt) = after ≡ before
+abbrev pub IsServedIfStarted : {T : Type 0} → Serving T → Turns → T → T
+    → Result (Result (Unit {0}) ServeFault) StartError → Type 0
+IsServedIfStarted V turns before after (Ok r) = IsServed V turns before after r
+IsServedIfStarted V turns before after (Err error) = after ≡ before

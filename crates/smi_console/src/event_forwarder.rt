@@ -1,4 +1,4 @@
-//! What forwards the answers, the states and the actions of a node's steps to its front desk.
+//! Forwards the answers, the states and the actions of a node's steps to the thread of its sessions.
 
 ghost use Rattle.std.specs.Prelude.{None};
 
@@ -19,7 +19,7 @@ use std::sync::{Arc, Wait};
 use std::time::Clock;
 
 /// Forwards the states that the objects of its station pass through, those that the station takes, and the actions that
-/// it does, and wakes the front at the end of a turn that brought it an answer or news. Before that it notes the step
+/// it does, and wakes that thread at the end of a turn that brought it an answer or news. Before that it notes the step
 /// in the journal of the node, if there is one.
 ///
 /// A state for which there is no room is told at a later step, as the newest of its object by then. So is the mode of a

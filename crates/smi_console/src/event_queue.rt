@@ -60,12 +60,13 @@ impl<H: Wait + Drop> EventQueue<H> {
         Ok(EventQueue { parts })
     }
 
-    /// Lets the front be woken once the turn is over.
+    /// Lets the thread of the sessions be woken once the turn is over.
     pub(crate) fn wake(&mut self) {
         self.parts.is_due = true;
     }
 
-    /// Wakes the front, if it is to be woken: what a turn brought about is on the board and in the seats by now.
+    /// Wakes the thread of the sessions, if it is to be woken: what a turn brought about is on the board and in the
+    /// seats by now.
     pub(crate) fn end_turn(&mut self) {
         if self.parts.is_due {
             self.parts.is_due = false;

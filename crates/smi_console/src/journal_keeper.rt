@@ -1,6 +1,6 @@
 //! The journal of a node, and who is told what becomes of it.
 
-use crate::starting::JournalWays;
+use crate::threads::JournalWays;
 use crossbeam_channel::{Receiver, Sender, TryRecvError, bounded};
 use smi_journal::{Journal, JournalSetup, Noted, StationState, TypedLine};
 use smi_session::boxed;
@@ -19,7 +19,7 @@ const NEWS: usize = 16;
 /// How many lines that were typed may wait, and how many are taken at a step.
 const TYPED: usize = 256;
 
-/// The ways between a journal and the thread at the front, on the journal's side.
+/// The ways between a journal and the thread of the sessions, on the journal's side.
 #[derive(Drop)]
 pub(crate) struct KeeperWays {
     /// Where it tells what becomes of the journal.
@@ -28,7 +28,7 @@ pub(crate) struct KeeperWays {
     typed: Receiver<TypedLine>,
 }
 
-/// A journal, its ways to the thread at the front, and the way of the files that it begins.
+/// A journal, its ways to the thread of the sessions, and the way of the files that it begins.
 #[derive(Drop)]
 struct JournalKeeperParts<H: Files + Drop> {
     rt: H,
@@ -37,8 +37,8 @@ struct JournalKeeperParts<H: Files + Drop> {
     begun: Sender<String>,
 }
 
-/// Keeps the journal of a node: tells the thread at the front when it fails and when it goes on, and another one which
-/// file to sync.
+/// Keeps the journal of a node: tells the thread of the sessions when it fails and when it goes on, and another one
+/// which file to sync.
 #[derive(Drop)]
 pub(crate) struct JournalKeeper<H: Files + Drop> {
     // Behind a box, so that a place that drops it is not expensive to prove.
@@ -65,7 +65,7 @@ impl<H: Files + Wait + Clock + Drop> JournalKeeper<H> {
         }
     }
 
-    /// Notes a step in the journal. Returns whether that brought news for the thread at the front.
+    /// Notes a step in the journal. Returns whether that brought news for the thread of the sessions.
     pub(crate) fn note<T: StationState>(&mut self, station: &T, out: &Out) -> bool {
         self.take_typed();
         let noted = self.parts.journal.note(station, out);
@@ -145,7 +145,7 @@ pub(crate) fn begin_journal<
     Ok(keeper)
 }
 
-/// Makes the ways between the journal of a node, if it is to have one, and the thread at the front.
+/// Makes the ways between the journal of a node, if it is to have one, and the thread of the sessions.
 pub(crate) fn journal_ways(
     alloc: Global,
     is_kept: bool,
@@ -156,9 +156,9 @@ pub(crate) fn journal_ways(
         news: news_sender,
         typed,
     };
-    let front = JournalWays {
+    let sessions = JournalWays {
         news,
         typed: if is_kept { Some(typed_sender) } else { None },
     };
-    Ok((keeper, front))
+    Ok((keeper, sessions))
 }

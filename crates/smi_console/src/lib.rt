@@ -1,20 +1,20 @@
 //! A node as a crew runs it: a station on its store, served over UDP, and the lines that are read beside it.
 //!
 //! [`run`] begins it. It brings the store's rows into their newest schema, opens the station, makes a seat for each
-//! of its operators and one for reports, a board with one glance, and its socket, in this order (`fitting`), so that
-//! the first fault is told (`faults`, `ending`). Its link reaches the stations at their addresses (`peers`); until the
-//! threads have begun it is on the station's side, with the desk (`side`). Then the node serves the station in its
-//! own thread (`service`), as a `Node` of `smi_node`, which counts what it does, before an observer. What that does to
-//! the store is the contract of [`run`].
+//! of its operators and one for reports, a board with one glance, and its socket, in this order (`setup`), so that
+//! the first fault is told (`faults`, `exit`). Its link reaches the stations at their addresses (`peers`); until the
+//! threads have begun it is on the station's side, with the desk (`node_io`). Then the node serves the station in its
+//! own thread (`station_loop`), as a `Node` of `smi_node`, which counts what it does, before an observer. What that
+//! does to the store is the contract of [`run`].
 //!
-//! Three threads, which nobody joins, have the consoles (`starting`). One reads the lines of the standard input and
-//! hands them on (`reading`); one writes what the standard input is told (`outlet`). The third is at the front
-//! (`attending`): it has the front desk of `smi_session`, hears the standard input and the connections (`hall`,
-//! `guest`) that come in at the doors (`doors`), and tells each what it asked for. It waits for all of them at
-//! once, for none of them alone, and is woken by the thread that serves (`console_waker`) once a turn has brought an
-//! answer, a state or an action: the node's observer forwards them (`event_forwarder`, `event_queue`). Orders that
+//! Three threads, which nobody joins, have the consoles (`threads`). One reads the lines of the standard input and
+//! hands them on (`stdin`); one writes what the standard input is told (`stdout`). The third has the sessions
+//! (`console_loop`, over `smi_session`): it hears the standard input and the connections (`connection_set`,
+//! `connection`) that come in at the listeners (`listener`), and tells each what it asked for. It waits for all of them
+//! at once, for none of them alone, and is woken by the thread that serves (`console_waker`) once a turn has brought
+//! an answer, a state or an action: the node's observer forwards them (`event_forwarder`, `event_queue`). Orders that
 //! were given are followed by a datagram to the node's own socket, an empty one that every station refuses, so that a
-//! station at rest looks at its seats at once (`bell`).
+//! station at rest looks at its seats at once (`station_waker`).
 //!
 //! A node that has a journal notes each step in it, before anything of the step is sent (`journal_keeper`); a fourth
 //! thread syncs its files once a second.
@@ -38,32 +38,33 @@
 //! which is read is heard once and in its turn (`tests/consoles_test.py`).
 #![tactic(auto)]
 
-mod attending;
-mod bell;
+mod connection;
+mod connection_set;
+mod console_loop;
 mod console_waker;
-mod doors;
-mod ending;
 mod event_forwarder;
 mod event_queue;
+mod exit;
 mod faults;
-mod fitting;
-mod guest;
-mod hall;
 mod journal_keeper;
+mod listener;
 mod log_timer;
-mod outlet;
+mod node;
+mod node_io;
 mod peers;
-mod reading;
-mod running;
-mod service;
-mod side;
+mod setup;
 mod socket_drops;
-mod starting;
+mod station_loop;
+mod station_waker;
+mod stdin;
+mod stdout;
+mod threads;
 mod typed_lines;
 
-pub use doors::ListenAddress;
 pub use faults::{link_fault, opening_fault, print_fault, stopped};
+pub use listener::ListenAddress;
+pub use node::{NodeSetup, run};
 pub use peers::addresses;
-pub use running::{NodeSetup, run};
-pub use service::Turns;
-pub use starting::Console;
+pub use smi_link::Sources;
+pub use station_loop::Turns;
+pub use threads::Console;

@@ -4,9 +4,9 @@ ghost use Rattle.std.specs.Prelude.{◌≡◌, Some, IfOk, length, map};
 ghost use Rattle.smi_tree.specs.Lookups.{station_count};
 ghost use Rattle.smi_console.specs.Peers.{address_in};
 
-use crate::bell::Bell;
-use crate::ending::Halt;
-use smi_link::{DatagramLink, UdpLink};
+use crate::exit::StartError;
+use crate::station_waker::StationWaker;
+use smi_link::{DatagramLink, Sources, UdpLink};
 use smi_tree::{Address, Tree};
 use std::alloc::{AllocError, Global};
 use std::net::{Ipv4Addr, Net, SocketAddr, SocketAddrV4};
@@ -33,40 +33,49 @@ pub fn addresses(alloc: Global, tree: &Tree) -> Result<Vec<SocketAddr>, AllocErr
     Ok(peers)
 }
 
-/// Opens a station's link at its own address, and a bell to it. The link reaches each station at its address of the
-/// tree.
+/// Opens a station's link at its own address, and a waker to it. The link reaches each station at its address of the
+/// tree, and receives what comes from there.
 fn linked<'a, H: Net + Clock + AllocGlobal>(
     rt: &'a H,
     tree: &Tree,
     station: u16,
-) -> Result<(UdpLink<&'a H>, Bell), Halt>
-    ensures { IfOk result (λ r. map address_in r.0.peers ≡ map Some tree.now.addresses) }
+    sources: Sources,
+) -> Result<(UdpLink<&'a H>, StationWaker), StartError>
+    ensures peers { IfOk result (λ r. map address_in r.0.peers ≡ map Some tree.now.addresses) }
+    ensures sources { IfOk result (λ r. r.0.sources ≡ sources) }
 {
     let peers = addresses(rt.alloc(), tree)?;
     let place = usize::from(station).saturating_sub(1);
-    let own = peers.get(place).copied().ok_or(Halt::Link)?;
-    let bell = Bell::hung(rt, own)?;
-    let link = UdpLink::open(rt, rt, station, peers)?;
-    Ok((link, bell))
+    let own = peers.get(place).copied().ok_or(StartError::Link)?;
+    let station_waker = StationWaker::new(rt, own)?;
+    let mut link = UdpLink::open(rt, rt, station, peers)?;
+    link.accept_from(sources);
+    Ok((link, station_waker))
 }
 
 /// Opens the link of a station, and a waker to it.
 pub(crate) trait Linking {
     type Link: DatagramLink + Drop;
 
-    fn linked(&self, tree: &Tree, station: u16) -> Result<(Self::Link, Bell), Halt>;
+    fn linked(&self, tree: &Tree, station: u16) -> Result<(Self::Link, StationWaker), StartError>;
 }
 
 /// A link over UDP.
 #[derive(Drop)]
 pub(crate) struct UdpLinking<'a, H> {
     pub(crate) rt: &'a H,
+    /// From where its datagrams have to come.
+    pub(crate) sources: Sources,
 }
 
 impl<'a, H: Net + Clock + AllocGlobal> Linking for UdpLinking<'a, H> {
     type Link = UdpLink<&'a H>;
 
-    fn linked(&self, tree: &Tree, station: u16) -> Result<(UdpLink<&'a H>, Bell), Halt> {
-        linked(self.rt, tree, station)
+    fn linked(
+        &self,
+        tree: &Tree,
+        station: u16,
+    ) -> Result<(UdpLink<&'a H>, StationWaker), StartError> {
+        linked(self.rt, tree, station, self.sources)
     }
 }

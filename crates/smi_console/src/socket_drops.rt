@@ -1,7 +1,7 @@
 //! How many datagrams to a node the system has dropped.
 
+use crate::node::NodeSetup;
 use crate::peers::addresses;
-use crate::running::NodeSetup;
 use std::alloc::{AllocError, Global};
 use std::net::SocketAddr;
 use std::time::Instant;

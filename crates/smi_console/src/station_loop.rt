@@ -158,7 +158,7 @@ fn serve_parts<
 
 /// What a station is served with.
 #[derive(Drop)]
-struct ServiceParts<L: Drop, V: Drop> {
+struct StationLoopParts<L: Drop, V: Drop> {
     link: L,
     desk: Desk,
     stats: Arc<NodeStats, Global>,
@@ -168,12 +168,12 @@ struct ServiceParts<L: Drop, V: Drop> {
 /// What a station is served with, beside its board: its link, the desk of its seats, its statistics, and who observes
 /// its steps.
 #[derive(Drop)]
-pub(crate) struct Service<L: Drop, V: Drop> {
+pub(crate) struct StationLoop<L: Drop, V: Drop> {
     // Behind a box, so that a place that drops a service is not expensive to prove.
-    parts: Box<ServiceParts<L, V>>,
+    parts: Box<StationLoopParts<L, V>>,
 }
 
-impl<L: DatagramLink + Drop, V: StepObserver + Drop> Service<L, V> {
+impl<L: DatagramLink + Drop, V: StepObserver + Drop> StationLoop<L, V> {
     /// Makes a service with this link, at this desk, with these statistics, and before this observer.
     pub(crate) fn new(
         alloc: Global,
@@ -181,15 +181,15 @@ impl<L: DatagramLink + Drop, V: StepObserver + Drop> Service<L, V> {
         desk: Box<Desk>,
         stats: Arc<NodeStats, Global>,
         observer: V,
-    ) -> Result<Service<L, V>, AllocError> {
-        let parts = ServiceParts {
+    ) -> Result<StationLoop<L, V>, AllocError> {
+        let parts = StationLoopParts {
             link,
             desk: Box::into_inner(desk),
             stats,
             observer,
         };
         let parts = boxed(alloc, parts)?;
-        Ok(Service { parts })
+        Ok(StationLoop { parts })
     }
 
     /// Serves a station whose desk has the seats of these operators by seat, so long or until a fault ends it.
@@ -204,7 +204,7 @@ impl<L: DatagramLink + Drop, V: StepObserver + Drop> Service<L, V> {
         ensures { IsServed (serving S.is_honest S.is_open S.rows S.may_find S.saves S.failures S.doubts
             operators.now) turns station.old station.new result }
     {
-        let ServiceParts {
+        let StationLoopParts {
             link,
             desk,
             stats,

@@ -2,7 +2,7 @@ use Rattle.std.proofs.Common.{◌≡◌, ℕ}
 use Rattle.smi_node.specs.Carried.{edges, node}
 use Rattle.smi_node.specs.Linked.{shown_by}
 use Rattle.smi_console.specs.Serving.{ServesOn, serving}
-use Rattle.smi_console.proofs.service.served.Given as goal
+use Rattle.smi_console.proofs.station_loop.served.Given as goal
 
 -- so far it was served so often, and each time for all of its turns, and the node has what it had
 abbrev pub invariant-loop : goal.invariant-loop

@@ -1,4 +1,4 @@
-use Rattle.smi_console.proofs.service.Service.serve.Goals as goal
+use Rattle.smi_console.proofs.station_loop.StationLoop.serve.Goals as goal
 
 -- the plan has the turns and the operators that it was made of
 pub returns : goal.returns

@@ -1,7 +1,7 @@
 use Rattle.std.proofs.Common.{refl}
 use Rattle.std.specs.Arc.{arc_value}
 use Rattle.smi_console.specs.Running.{OpensOn}
-use Rattle.smi_console.proofs.running.opened.Goals as goal
+use Rattle.smi_console.proofs.node.open_and_serve.Goals as goal
 
 pub returns-in-Ok : goal.returns-in-Ok
 returns-in-Ok g c =
@@ -30,10 +30,10 @@ returns-in-Ok g c =
       c.open.result,
       opens,
       rw c.in-Ok.is (
-        c.over_board-crewed.new.station,
-        c.over_board-crewed.result,
-        c.over_board-crewed.ensures,
-        c.told_end-status.ensures,
+        c.serve_with_board-served.new.station,
+        c.serve_with_board-served.result,
+        c.serve_with_board-served.ensures,
+        c.report_exit-status.ensures,
         c.into_stable.ensures,
       ),
     )

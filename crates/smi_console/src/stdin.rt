@@ -29,23 +29,26 @@ pub(crate) enum Input {
 }
 
 /// The outcome of one read.
-enum Come {
+enum ReadOutcome {
     More,
     End,
     Fault,
 }
 
 /// Reads once, and has what came cut.
-fn read_once<I: Read>(reader: &mut I, splitter: &mut LineSplitter) -> Result<Come, AllocError> {
+fn read_once<I: Read>(
+    reader: &mut I,
+    splitter: &mut LineSplitter,
+) -> Result<ReadOutcome, AllocError> {
     let mut block = [0u8; AT_ONCE];
     match reader.read(&mut block) {
-        Ok(0) => Ok(Come::End),
+        Ok(0) => Ok(ReadOutcome::End),
         Ok(count) => {
             splitter.push(block.get(..count).unwrap_or(&[]))?;
-            Ok(Come::More)
+            Ok(ReadOutcome::More)
         }
-        Err(e) if e.kind() == ErrorKind::Interrupted => Ok(Come::More),
-        Err(_) => Ok(Come::Fault),
+        Err(e) if e.kind() == ErrorKind::Interrupted => Ok(ReadOutcome::More),
+        Err(_) => Ok(ReadOutcome::Fault),
     }
 }
 
@@ -56,14 +59,14 @@ fn next_line<I: Read>(reader: &mut I, splitter: &mut LineSplitter) -> Result<Inp
             return Ok(Input::Line(line));
         }
         match read_once(reader, splitter)? {
-            Come::More => {}
-            Come::End => {
+            ReadOutcome::More => {}
+            ReadOutcome::End => {
                 return Ok(match splitter.last_line()? {
                     Some(line) => Input::Line(line),
                     None => Input::Ended(InputEnd::End),
                 });
             }
-            Come::Fault => break,
+            ReadOutcome::Fault => break,
         }
     }
     Ok(Input::Ended(InputEnd::ReadFault))
@@ -77,7 +80,7 @@ fn next_input<I: Read>(reader: &mut I, splitter: &mut LineSplitter) -> Input {
     }
 }
 
-/// Hands on what the input gives, and wakes the thread at the front. Whether that takes it.
+/// Hands on what the input gives, and wakes the thread of the sessions. Whether that takes it.
 pub(crate) fn hand_on<R: Wait>(
     rt: &R,
     input: Input,

@@ -1,12 +1,12 @@
-//! The thread at the front: it hears all who talk to the node, and tells them what they asked for.
+//! The loop of the thread of the sessions: it hears all who talk to the node, and tells them what they asked for.
 
-use crate::bell::Bell;
+use crate::connection_set::ConnectionSet;
 use crate::event_queue::StationNews;
 use crate::faults::journal_fault;
-use crate::hall::Hall;
-use crate::outlet::Outlet;
-use crate::reading::{Input, InputEnd};
 use crate::socket_drops::SocketDrops;
+use crate::station_waker::StationWaker;
+use crate::stdin::{Input, InputEnd};
+use crate::stdout::StdoutSender;
 use crossbeam_channel::Receiver;
 use smi_base::write_whole;
 use smi_commands::status::{no_memory, read_fault, write_fault};
@@ -20,43 +20,43 @@ use std::thread::sleep;
 use std::time::{Clock, Duration, Instant};
 
 /// How many lines of the standard input, and how much news, are taken in one round. The texts of all that news are
-/// fewer bytes than a caller may have unsent.
+/// fewer bytes than a session may have unsent.
 const LINES: usize = 64;
 
 const NEWS: usize = 512;
 
 /// What the thread has beside its outputs.
 #[derive(Drop)]
-pub(crate) struct Attendant<G: StateReader + Drop> {
-    pub(crate) front: Box<SessionService<G>>,
-    pub(crate) hall: Box<Hall>,
-    pub(crate) bell: Bell,
+pub(crate) struct ConsoleLoop<G: StateReader + Drop> {
+    pub(crate) sessions: Box<SessionService<G>>,
+    pub(crate) connections: Box<ConnectionSet>,
+    pub(crate) station_waker: StationWaker,
     /// Where what the standard input is told goes.
-    pub(crate) outlet: Outlet,
+    pub(crate) stdout: StdoutSender,
     /// What is typed at the standard input, and what the station tells.
     pub(crate) lines: Receiver<Input>,
     pub(crate) news: Receiver<StationNews>,
     /// What becomes of the journal of the node.
     pub(crate) journal: Receiver<Noted>,
     /// Whether the standard input is heard no more.
-    pub(crate) is_plain_over: bool,
+    pub(crate) is_stdin_over: bool,
     /// What the system drops of the datagrams to the node.
     pub(crate) drops: SocketDrops,
 }
 
-impl<G: StateReader + Drop> Attendant<G> {
+impl<G: StateReader + Drop> ConsoleLoop<G> {
     /// What the station has told is noted. Whether there may be more.
     fn note_news<R: Wait>(&mut self, rt: &R) -> bool {
         for _ in 0..NEWS {
             match self.news.try_recv(rt) {
                 Ok(StationNews::Event(event)) => {
-                    if self.front.record(event).is_err() {
-                        self.hall.lose_followers();
+                    if self.sessions.record(event).is_err() {
+                        self.connections.lose_followers();
                     }
                 }
                 // Without memory the mode that was known of the child stays.
                 Ok(StationNews::Mode(state)) => {
-                    let _ = self.front.set_mode(state);
+                    let _ = self.sessions.set_mode(state);
                 }
                 Err(_) => return false,
             }
@@ -64,12 +64,14 @@ impl<G: StateReader + Drop> Attendant<G> {
         true
     }
 
-    /// Each answer that is there goes to its caller.
+    /// Each answer that is there goes to its session.
     fn tell_answers(&mut self, tree: &Tree) {
-        for place in 0..self.front.seat_count() {
+        for place in 0..self.sessions.seat_count() {
             for _ in 0..MOST_PENDING {
-                match self.front.next_answer(place) {
-                    Some(answered) => self.hall.tell_answer(&mut self.front, tree, &answered),
+                match self.sessions.next_answer(place) {
+                    Some(answered) => self
+                        .connections
+                        .tell_answer(&mut self.sessions, tree, &answered),
                     None => break,
                 }
             }
@@ -96,19 +98,19 @@ impl<G: StateReader + Drop> Attendant<G> {
     fn note_drops(&mut self, now: Option<Instant>) {
         if self.drops.is_due(now) {
             let drops = self.drops.read(now);
-            self.front.set_drops(drops);
+            self.sessions.set_drops(drops);
         }
     }
 
     /// The next line of the standard input, where one is there and may be taken.
     fn next_line<R: Wait>(&mut self, rt: &R) -> Option<Vec<u8>> {
-        if self.hall.ending.is_some() || !self.hall.plain.has_room() {
+        if self.connections.ending.is_some() || !self.connections.stdin.has_room() {
             return None;
         }
         match self.lines.try_recv(rt) {
             Ok(Input::Line(line)) => Some(line),
             Ok(Input::Ended(ending)) => {
-                self.hall.ending = Some(ending);
+                self.connections.ending = Some(ending);
                 None
             }
             Err(_) => None,
@@ -117,10 +119,10 @@ impl<G: StateReader + Drop> Attendant<G> {
 
     /// How the standard input has ended, once all that it gave is answered, and the answers are written.
     fn ended(&self) -> Option<InputEnd> {
-        let plain = &self.hall.plain;
-        let is_told = plain.output().is_empty() && self.outlet.is_written();
-        if is_told && plain.is_idle() && !self.front.has_pending(plain.number()) {
-            self.hall.ending
+        let stdin = &self.connections.stdin;
+        let is_told = stdin.output().is_empty() && self.stdout.is_written();
+        if is_told && stdin.is_idle() && !self.sessions.has_pending(stdin.number()) {
+            self.connections.ending
         } else {
             None
         }
@@ -143,46 +145,46 @@ fn tell_ending<F: Write>(ending: Result<InputEnd, Unwritten>, faults: &mut F) {
     }
 }
 
-/// Hands on what the caller at the standard input is to be told, and tells its faults.
+/// Hands on what the session of the standard input is to be told, and tells its faults.
 fn print<G: StateReader + Drop, R: Wait, F: Write>(
     rt: &R,
-    attendant: &mut Attendant<G>,
+    console_loop: &mut ConsoleLoop<G>,
     faults: &mut F,
 ) -> Result<(), Unwritten> {
-    let plain = attendant.hall.plain();
-    if !plain.errors().is_empty() {
-        let _ = write_whole(faults, plain.errors());
-        plain.clear_errors();
+    let stdin = console_loop.connections.stdin();
+    if !stdin.errors().is_empty() {
+        let _ = write_whole(faults, stdin.errors());
+        stdin.clear_errors();
     }
-    attendant.outlet.say(rt, plain)
+    console_loop.stdout.send(rt, stdin)
 }
 
 /// The standard input is heard, line by line, and told. Whether it has more.
-fn serve_plain<G: StateReader + Drop, R: Wait, F: Write>(
+fn serve_stdin<G: StateReader + Drop, R: Wait, F: Write>(
     rt: &R,
     tree: &Tree,
     now: Option<Instant>,
-    attendant: &mut Attendant<G>,
+    console_loop: &mut ConsoleLoop<G>,
     faults: &mut F,
 ) -> Result<bool, Unwritten> {
-    if attendant.hall.is_plain_lost() {
+    if console_loop.connections.is_stdin_lost() {
         return Err(Unwritten::Memory);
     }
-    attendant
-        .front
-        .deliver_events(tree, &mut attendant.hall.plain)?;
-    attendant
-        .front
-        .resume(tree, now, &mut attendant.hall.plain)?;
-    print(rt, attendant, faults)?;
+    console_loop
+        .sessions
+        .deliver_events(tree, &mut console_loop.connections.stdin)?;
+    console_loop
+        .sessions
+        .resume(tree, now, &mut console_loop.connections.stdin)?;
+    print(rt, console_loop, faults)?;
     for _ in 0..LINES {
-        match attendant.next_line(rt) {
+        match console_loop.next_line(rt) {
             Some(line) => {
-                attendant.hall.tell_plain(rt, line.as_slice());
-                attendant
-                    .front
-                    .receive_line(tree, now, &mut attendant.hall.plain, line)?;
-                print(rt, attendant, faults)?;
+                console_loop.connections.tell_stdin(rt, line.as_slice());
+                console_loop
+                    .sessions
+                    .receive_line(tree, now, &mut console_loop.connections.stdin, line)?;
+                print(rt, console_loop, faults)?;
             }
             None => return Ok(false),
         }
@@ -191,67 +193,75 @@ fn serve_plain<G: StateReader + Drop, R: Wait, F: Write>(
 }
 
 /// The standard input is heard and told, and where it ends, that is told too. Whether it has more.
-fn attend_plain<G: StateReader + Drop, R: Wait, F: Write>(
+fn poll_stdin<G: StateReader + Drop, R: Wait, F: Write>(
     rt: &R,
     tree: &Tree,
     now: Option<Instant>,
-    attendant: &mut Attendant<G>,
+    console_loop: &mut ConsoleLoop<G>,
     faults: &mut F,
 ) -> bool {
-    if attendant.is_plain_over {
+    if console_loop.is_stdin_over {
         return false;
     }
-    let ending = match serve_plain(rt, tree, now, attendant, faults) {
+    let ending = match serve_stdin(rt, tree, now, console_loop, faults) {
         Ok(true) => return true,
-        Ok(false) => attendant.ended().map(Ok),
+        Ok(false) => console_loop.ended().map(Ok),
         Err(unwritten) => Some(Err(unwritten)),
     };
     if let Some(ending) = ending {
-        attendant.is_plain_over = true;
+        console_loop.is_stdin_over = true;
         // Without memory nobody is left who could be told.
-        let _ = attendant.front.execute_wills(now, &attendant.hall.plain);
+        let _ = console_loop
+            .sessions
+            .execute_wills(now, &console_loop.connections.stdin);
         tell_ending(ending, faults);
     }
     false
 }
 
 /// Everybody is heard and told once, as far as nothing waits. Whether the standard input, or the station, has more.
-fn round<G: StateReader + Drop, R: Wait + Clock, F: Write>(
+fn poll_once<G: StateReader + Drop, R: Wait + Clock, F: Write>(
     rt: &R,
     tree: &Tree,
-    attendant: &mut Attendant<G>,
+    console_loop: &mut ConsoleLoop<G>,
     faults: &mut F,
 ) -> bool {
     let now = Instant::now(rt).ok();
-    attendant.note_drops(now);
-    attendant.tell_journal(rt, faults);
-    let has_more_news = attendant.note_news(rt);
-    attendant.tell_answers(tree);
-    let has_more_lines = attend_plain(rt, tree, now, attendant, faults);
-    attendant.hall.welcome_all(&attendant.front, now);
-    attendant
-        .hall
-        .serve_guests(rt, &mut attendant.front, tree, now);
-    attendant.front.clear_events();
-    if attendant.front.has_given() {
-        attendant.bell.ring();
+    console_loop.note_drops(now);
+    console_loop.tell_journal(rt, faults);
+    let has_more_news = console_loop.note_news(rt);
+    console_loop.tell_answers(tree);
+    let has_more_lines = poll_stdin(rt, tree, now, console_loop, faults);
+    console_loop
+        .connections
+        .serve_all(rt, &mut console_loop.sessions, tree, now);
+    // After that, because connections that have ended have left their places by then.
+    console_loop
+        .connections
+        .accept_all(&console_loop.sessions, now);
+    console_loop.sessions.clear_events();
+    if console_loop.sessions.has_given() {
+        console_loop.station_waker.wake();
     }
     has_more_lines || has_more_news
 }
 
 /// Hears and tells, round after round, until the standard input has ended where nobody else can talk to the node.
-pub(crate) fn attend<G: StateReader + Drop, R: Wait + Clock, F: Write>(
+pub(crate) fn run_console_loop<G: StateReader + Drop, R: Wait + Clock, F: Write>(
     rt: &R,
     tree: &Tree,
-    attendant: &mut Attendant<G>,
+    console_loop: &mut ConsoleLoop<G>,
     faults: &mut F,
 ) {
     for _ in rt.forever() {
-        let has_more = round(rt, tree, attendant, faults);
-        if attendant.is_plain_over && attendant.hall.has_no_door() {
+        let has_more = poll_once(rt, tree, console_loop, faults);
+        if console_loop.is_stdin_over && console_loop.connections.has_no_listener() {
             return;
         }
-        if !attendant.hall.wait(&attendant.front, has_more) {
+        if !console_loop
+            .connections
+            .wait(&console_loop.sessions, has_more)
+        {
             sleep(rt, Duration::from_millis(1));
         }
     }

@@ -1,14 +1,14 @@
 //! The threads of a node's consoles begin.
 
-use crate::attending::{Attendant, attend};
-use crate::bell::Bell;
+use crate::connection_set::ConnectionSet;
+use crate::console_loop::{ConsoleLoop, run_console_loop};
 use crate::console_waker::ConsoleWaker;
 use crate::event_queue::StationNews;
-use crate::hall::Hall;
-use crate::outlet::{Outlet, open_outlet, write_all};
-use crate::reading::{Input, read_all};
-use crate::running::NodeSetup;
+use crate::node::NodeSetup;
 use crate::socket_drops::SocketDrops;
+use crate::station_waker::StationWaker;
+use crate::stdin::{Input, read_all};
+use crate::stdout::{StdoutSender, open_stdout, write_all};
 use crate::typed_lines::TypedLines;
 use crossbeam_channel::{Receiver, Sender, bounded};
 use smi_journal::{Noted, TypedLine};
@@ -27,13 +27,13 @@ pub struct Console<I, O, E> {
     pub faults: E,
 }
 
-/// How many lines that were read, and how much news, may wait for the thread at the front.
+/// How many lines that were read, and how much news, may wait for the thread of the sessions.
 const LINES: usize = 16;
 
 const NEWS: usize = 4_096;
 
-/// Starts the thread that reads lines. Nobody joins it: it ends with the input, with the thread at the front, or with
-/// the program.
+/// Starts the thread that reads lines. Nobody joins it: it ends with the input, with the thread of the sessions, or
+/// with the program.
 fn begin_reading<
     H: Wait + Threads + AllocGlobal + Clone + Drop + Send + 'static,
     I: Read + Drop + Send + 'static,
@@ -56,36 +56,41 @@ fn begin_reading<
     }
 }
 
-/// Starts the thread that writes the standard output. Nobody joins it: it ends with the thread at the front, with a
+/// Starts the thread that writes the standard output. Nobody joins it: it ends with the thread of the sessions, with a
 /// write that fails, or with the program.
 fn begin_writing<
     H: Wait + Threads + AllocGlobal + Clone + Drop + Send + 'static,
     O: Write + Drop + Send + 'static,
->(rt: &H, output: O, waker: &Arc<ConsoleWaker, Global>) -> Result<Outlet, AllocError> {
+>(rt: &H, output: O, waker: &Arc<ConsoleWaker, Global>) -> Result<StdoutSender, AllocError> {
     let there = rt.clone()?;
     let waker = Arc::try_clone(waker)?;
-    let (outlet, inflow) = open_outlet(rt.alloc())?;
+    let (stdout, receiver) = open_stdout(rt.alloc())?;
     let begun = spawn(rt, move || {
         let mut output = output;
-        write_all(&there, &inflow, &waker, &mut output)
+        write_all(&there, &receiver, &waker, &mut output)
     });
     match begun {
-        Ok(_thread) => Ok(outlet),
+        Ok(_thread) => Ok(stdout),
         Err(_refused) => Err(AllocError),
     }
 }
 
-/// Starts the thread at the front. Nobody joins it: it ends with the program, or before.
-fn begin_attending<
+/// Starts the thread of the sessions. Nobody joins it: it ends with the program, or before.
+fn begin_console_loop<
     G: StateReader + Drop + Send + 'static,
     H: Wait + Threads + Clock + AllocGlobal + Clone + Drop + Send + 'static,
     E: Write + Drop + Send + 'static,
->(rt: &H, setup: &NodeSetup, attendant: Box<Attendant<G>>, faults: E) -> Result<(), AllocError> {
+>(
+    rt: &H,
+    setup: &NodeSetup,
+    console_loop: Box<ConsoleLoop<G>>,
+    faults: E,
+) -> Result<(), AllocError> {
     let there = rt.clone()?;
     let tree = Arc::try_clone(&setup.tree)?;
     let begun = spawn(rt, move || {
-        let (mut attendant, mut faults) = (attendant, faults);
-        attend(&there, &tree, &mut attendant, &mut faults)
+        let (mut console_loop, mut faults) = (console_loop, faults);
+        run_console_loop(&there, &tree, &mut console_loop, &mut faults)
     });
     match begun {
         Ok(_thread) => Ok(()),
@@ -93,16 +98,16 @@ fn begin_attending<
     }
 }
 
-/// What stands at the front beside its threads.
+/// What the thread of the sessions has, before it begins.
 #[derive(Drop)]
-pub(crate) struct Lobby<G: StateReader + Drop> {
-    pub(crate) front: Box<SessionService<G>>,
-    pub(crate) hall: Box<Hall>,
-    pub(crate) bell: Bell,
+pub(crate) struct ConsoleParts<G: StateReader + Drop> {
+    pub(crate) sessions: Box<SessionService<G>>,
+    pub(crate) connections: Box<ConnectionSet>,
+    pub(crate) station_waker: StationWaker,
     pub(crate) journal: JournalWays,
 }
 
-/// The ways between a journal and the thread at the front.
+/// The ways between a journal and the thread of the sessions.
 #[derive(Drop)]
 pub(crate) struct JournalWays {
     /// What becomes of the journal.
@@ -111,54 +116,54 @@ pub(crate) struct JournalWays {
     pub(crate) typed: Option<Sender<TypedLine>>,
 }
 
-/// What the thread at the front has of this lobby.
-fn attendant_of<G: StateReader + Drop>(
+/// Returns what the thread of the sessions loops over, made of these parts.
+fn console_loop_of<G: StateReader + Drop>(
     alloc: Global,
-    lobby: Lobby<G>,
-    outlet: Outlet,
+    parts: ConsoleParts<G>,
+    stdout: StdoutSender,
     lines: Receiver<Input>,
     news: Receiver<StationNews>,
     drops: SocketDrops,
-) -> Result<Box<Attendant<G>>, AllocError> {
-    let Lobby {
-        front,
-        hall,
-        bell,
+) -> Result<Box<ConsoleLoop<G>>, AllocError> {
+    let ConsoleParts {
+        sessions,
+        connections,
+        station_waker,
         journal,
-    } = lobby;
-    let mut hall = hall;
-    hall.typed = TypedLines::new(journal.typed);
-    let attendant = Attendant {
-        front,
-        hall,
-        bell,
-        outlet,
+    } = parts;
+    let mut connections = connections;
+    connections.typed = TypedLines::new(journal.typed);
+    let console_loop = ConsoleLoop {
+        sessions,
+        connections,
+        station_waker,
+        stdout,
         lines,
         news,
         journal: journal.news,
-        is_plain_over: false,
+        is_stdin_over: false,
         drops,
     };
-    boxed(alloc, attendant)
+    boxed(alloc, console_loop)
 }
 
-/// Starts the thread at the front of this lobby, and answers the way by which it is told news.
-fn begin_front<
+/// Starts the thread of the sessions with these parts, and answers the way by which it is told news.
+fn begin_sessions<
     G: StateReader + Drop + Send + 'static,
     H: Wait + Threads + Clock + AllocGlobal + Clone + Drop + Send + 'static,
     E: Write + Drop + Send + 'static,
 >(
     rt: &H,
     setup: &NodeSetup,
-    lobby: Lobby<G>,
-    outlet: Outlet,
+    parts: ConsoleParts<G>,
+    stdout: StdoutSender,
     lines: Receiver<Input>,
     faults: E,
 ) -> Result<Sender<StationNews>, AllocError> {
     let (sender, news) = bounded(rt.alloc(), NEWS)?;
     let drops = SocketDrops::of(rt.alloc(), setup)?;
-    let attendant = attendant_of(rt.alloc(), lobby, outlet, lines, news, drops)?;
-    begin_attending(rt, setup, attendant, faults)?;
+    let console_loop = console_loop_of(rt.alloc(), parts, stdout, lines, news, drops)?;
+    begin_console_loop(rt, setup, console_loop, faults)?;
     Ok(sender)
 }
 
@@ -172,7 +177,7 @@ pub(crate) fn begin_console<
 >(
     rt: &H,
     setup: &NodeSetup,
-    lobby: Lobby<G>,
+    parts: ConsoleParts<G>,
     waker: &Arc<ConsoleWaker, Global>,
     console: Console<I, O, E>,
 ) -> Result<Sender<StationNews>, AllocError> {
@@ -181,9 +186,9 @@ pub(crate) fn begin_console<
         output,
         faults,
     } = console;
-    let outlet = begin_writing(rt, output, waker)?;
+    let stdout = begin_writing(rt, output, waker)?;
     let (line_sender, lines) = bounded(rt.alloc(), LINES)?;
-    let news = begin_front(rt, setup, lobby, outlet, lines, faults)?;
+    let news = begin_sessions(rt, setup, parts, stdout, lines, faults)?;
     begin_reading(rt, input, line_sender, waker)?;
     Ok(news)
 }

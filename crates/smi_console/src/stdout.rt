@@ -39,78 +39,78 @@ impl WriterStatus {
 
 /// The sender of blocks to the thread that writes the standard output. It never waits.
 #[derive(Drop)]
-pub(crate) struct Outlet {
+pub(crate) struct StdoutSender {
     alloc: Global,
     blocks: Sender<Vec<u8>>,
-    progress: Arc<WriterStatus, Global>,
+    status: Arc<WriterStatus, Global>,
 }
 
 /// The receiver of these blocks, for the thread that writes.
 #[derive(Drop)]
-pub(crate) struct Inflow {
+pub(crate) struct StdoutReceiver {
     blocks: Receiver<Vec<u8>>,
-    progress: Arc<WriterStatus, Global>,
+    status: Arc<WriterStatus, Global>,
 }
 
-/// Returns what both ends of an outlet know.
-fn progress_of_none(alloc: Global) -> Result<Arc<WriterStatus, Global>, AllocError> {
+/// Returns what both ends know.
+fn new_status(alloc: Global) -> Result<Arc<WriterStatus, Global>, AllocError> {
     match Arc::new(alloc, WriterStatus::new()) {
-        Ok(progress) => Ok(progress),
+        Ok(status) => Ok(status),
         Err(_refused) => Err(AllocError),
     }
 }
 
-/// Opens an outlet through which nothing was handed on, and what comes out of it.
-pub(crate) fn open_outlet(alloc: Global) -> Result<(Outlet, Inflow), AllocError> {
-    let progress = progress_of_none(alloc)?;
-    let own = Arc::try_clone(&progress)?;
+/// Opens both ends of a way to the standard output, on which nothing was handed on.
+pub(crate) fn open_stdout(alloc: Global) -> Result<(StdoutSender, StdoutReceiver), AllocError> {
+    let status = new_status(alloc)?;
+    let own = Arc::try_clone(&status)?;
     let (sender, blocks) = bounded(alloc, HANDED)?;
-    let outlet = Outlet {
+    let stdout = StdoutSender {
         alloc,
         blocks: sender,
-        progress: own,
+        status: own,
     };
-    Ok((outlet, Inflow { blocks, progress }))
+    Ok((stdout, StdoutReceiver { blocks, status }))
 }
 
-impl Outlet {
+impl StdoutSender {
     /// Returns true if all that was handed on is written.
     pub(crate) fn is_written(&self) -> bool {
-        self.progress.unwritten.load(Ordering::SeqCst) == 0
+        self.status.unwritten.load(Ordering::SeqCst) == 0
     }
 
-    /// Hands on a block of what a caller is to be told. Whether there was room.
-    fn hand_on<R: Wait>(&self, rt: &R, caller: &mut Session) -> Result<bool, Unwritten> {
-        let said = caller.output();
+    /// Hands on a block of what a session is to be told. Whether there was room.
+    fn hand_on<R: Wait>(&self, rt: &R, session: &mut Session) -> Result<bool, Unwritten> {
+        let said = session.output();
         let count = said.len().min(AT_ONCE);
         let block = Vec::from_slice(self.alloc, said.get(..count).unwrap_or(said))?;
-        self.progress.unwritten.fetch_add(1, Ordering::SeqCst);
+        self.status.unwritten.fetch_add(1, Ordering::SeqCst);
         match self.blocks.try_send(rt, block) {
             Ok(()) => {
-                caller.consume(count);
+                session.consume(count);
                 return Ok(true);
             }
             Err(TrySendError::Full(_)) => {}
             Err(TrySendError::Disconnected(_)) => return Err(Unwritten::Writer),
             Err(TrySendError::OutOfMemory(_)) => return Err(Unwritten::Memory),
         }
-        self.progress.unwritten.fetch_sub(1, Ordering::SeqCst);
+        self.status.unwritten.fetch_sub(1, Ordering::SeqCst);
         Ok(false)
     }
 
-    /// Hands on what a caller is to be told, as far as there is room; the rest stays with the caller.
+    /// Hands on what a session is to be told, as far as there is room; the rest stays with the session.
     ///
-    /// `Writer` is answered if a write has failed, or if more stays than a caller may have untold.
-    pub(crate) fn say<R: Wait>(&self, rt: &R, caller: &mut Session) -> Result<(), Unwritten> {
-        if self.progress.has_failed.load(Ordering::SeqCst) {
+    /// `Writer` is answered if a write has failed, or if more stays than a session may have unsent.
+    pub(crate) fn send<R: Wait>(&self, rt: &R, session: &mut Session) -> Result<(), Unwritten> {
+        if self.status.has_failed.load(Ordering::SeqCst) {
             return Err(Unwritten::Writer);
         }
         for _ in 0..HANDED {
-            if caller.output().is_empty() || !self.hand_on(rt, caller)? {
+            if session.output().is_empty() || !self.hand_on(rt, session)? {
                 break;
             }
         }
-        if caller.output().len() > MOST_UNSENT {
+        if session.output().len() > MOST_UNSENT {
             return Err(Unwritten::Writer);
         }
         Ok(())
@@ -122,23 +122,24 @@ fn write_block<W: Write>(writer: &mut W, block: &[u8]) -> bool {
     write_whole(writer, block).is_ok() && writer.flush().is_ok()
 }
 
-/// Writes block after block, until nobody hands on more, or a write fails; after each the front is woken.
+/// Writes block after block, until nobody hands on more, or a write fails; after each it wakes the thread of the
+/// sessions.
 pub(crate) fn write_all<W: Write, R: Wait>(
     rt: &R,
-    inflow: &Inflow,
+    receiver: &StdoutReceiver,
     waker: &ConsoleWaker,
     writer: &mut W,
 ) {
     for _ in 0..MOST {
-        let Ok(block) = inflow.blocks.recv(rt) else {
+        let Ok(block) = receiver.blocks.recv(rt) else {
             return;
         };
         if !write_block(writer, block.as_slice()) {
             break;
         }
-        inflow.progress.unwritten.fetch_sub(1, Ordering::SeqCst);
+        receiver.status.unwritten.fetch_sub(1, Ordering::SeqCst);
         waker.wake();
     }
-    inflow.progress.has_failed.store(true, Ordering::SeqCst);
+    receiver.status.has_failed.store(true, Ordering::SeqCst);
     waker.wake();
 }

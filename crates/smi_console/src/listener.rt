@@ -18,7 +18,7 @@ pub enum ListenAddress {
 
 /// A listener.
 #[derive(Drop)]
-pub(crate) enum Door {
+pub(crate) enum ListenSocket {
     Unix(UnixListener),
     Tcp(TcpListener),
 }
@@ -44,21 +44,21 @@ fn is_left_behind<R: Files + Net>(rt: &R, path: &str) -> bool {
 }
 
 /// Binds a Unix socket at a path. Replaces a socket that is left over there; any other file stays, and is an error.
-fn unix_door<R: Files + Net>(rt: &R, path: &str) -> io::Result<UnixListener> {
+fn unix_listener<R: Files + Net>(rt: &R, path: &str) -> io::Result<UnixListener> {
     if is_left_behind(rt, path) {
         fs::remove_file(rt, path)?;
     }
     UnixListener::bind(rt, path)
 }
 
-impl Door {
-    /// Opens a door at this place.
-    pub(crate) fn open<R: Files + Net>(rt: &R, place: &ListenAddress) -> io::Result<Door> {
+impl ListenSocket {
+    /// Opens a listener at this place.
+    pub(crate) fn open<R: Files + Net>(rt: &R, place: &ListenAddress) -> io::Result<ListenSocket> {
         match place {
-            ListenAddress::Path(path) => Ok(Door::Unix(unix_door(rt, path.as_str())?)),
+            ListenAddress::Path(path) => Ok(ListenSocket::Unix(unix_listener(rt, path.as_str())?)),
             ListenAddress::Address(address) => {
                 let listener = TcpListener::bind(rt, *address)?;
-                Ok(Door::Tcp(listener))
+                Ok(ListenSocket::Tcp(listener))
             }
         }
     }
@@ -66,8 +66,8 @@ impl Door {
     /// Accepts the next connection. Fails with `WouldBlock` if none waits.
     pub(crate) fn accept(&self) -> io::Result<Stream> {
         match self {
-            Door::Unix(listener) => Ok(Stream::Unix(listener.accept()?.0)),
-            Door::Tcp(listener) => {
+            ListenSocket::Unix(listener) => Ok(Stream::Unix(listener.accept()?.0)),
+            ListenSocket::Tcp(listener) => {
                 let (stream, _) = listener.accept()?;
                 let _ = stream.set_nodelay(true);
                 Ok(Stream::Tcp(stream))
@@ -79,8 +79,8 @@ impl Door {
     pub(crate) fn register(&mut self, registry: &Registry, number: usize) -> io::Result<()> {
         let (token, interest) = (Token(number), Interest::READABLE);
         match self {
-            Door::Unix(listener) => registry.register(listener, token, interest),
-            Door::Tcp(listener) => registry.register(listener, token, interest),
+            ListenSocket::Unix(listener) => registry.register(listener, token, interest),
+            ListenSocket::Tcp(listener) => registry.register(listener, token, interest),
         }
     }
 }

@@ -1,6 +1,6 @@
 //! The station's part of a node, before its consoles begin.
 
-use crate::service::Service;
+use crate::station_loop::StationLoop;
 use smi_link::DatagramLink;
 use smi_node::{NodeStats, StepObserver};
 use smi_operator::Desk;
@@ -9,7 +9,7 @@ use std::alloc::{AllocError, Global};
 use std::sync::Arc;
 
 #[derive(Drop)]
-struct StationSideParts<L: Drop> {
+struct NodeIoParts<L: Drop> {
     link: L,
     desk: Box<Desk>,
     stats: Arc<NodeStats, Global>,
@@ -17,22 +17,22 @@ struct StationSideParts<L: Drop> {
 
 /// The link of a station, the desk of its seats, and the statistics that both sides share.
 #[derive(Drop)]
-pub(crate) struct StationSide<L: Drop> {
+pub(crate) struct NodeIo<L: Drop> {
     // In a box, because each place that drops it is expensive to prove.
-    parts: Box<StationSideParts<L>>,
+    parts: Box<NodeIoParts<L>>,
 }
 
-impl<L: DatagramLink + Drop> StationSide<L> {
+impl<L: DatagramLink + Drop> NodeIo<L> {
     /// Makes a side with this link, at this desk, and with these statistics.
     pub(crate) fn new(
         alloc: Global,
         link: L,
         desk: Box<Desk>,
         stats: Arc<NodeStats, Global>,
-    ) -> Result<StationSide<L>, AllocError> {
-        let parts = StationSideParts { link, desk, stats };
+    ) -> Result<NodeIo<L>, AllocError> {
+        let parts = NodeIoParts { link, desk, stats };
         let parts = boxed(alloc, parts)?;
-        Ok(StationSide { parts })
+        Ok(NodeIo { parts })
     }
 
     /// Makes what a station is served with here: its link, its desk, its statistics, and this observer.
@@ -40,8 +40,8 @@ impl<L: DatagramLink + Drop> StationSide<L> {
         self,
         alloc: Global,
         observer: V,
-    ) -> Result<Service<L, V>, AllocError> {
-        let StationSideParts { link, desk, stats } = Box::into_inner(self.parts);
-        Service::new(alloc, link, desk, stats, observer)
+    ) -> Result<StationLoop<L, V>, AllocError> {
+        let NodeIoParts { link, desk, stats } = Box::into_inner(self.parts);
+        StationLoop::new(alloc, link, desk, stats, observer)
     }
 }

@@ -11,31 +11,31 @@ use std::io::{self, ErrorKind, Write};
 
 /// Why a node that has opened its station does not serve.
 #[derive(Clone, Copy)]
-pub(crate) enum Halt {
+pub(crate) enum StartError {
     Memory,
     Link,
     Console,
     Journal,
 }
 
-impl From<AllocError> for Halt {
-    fn from(_refused: AllocError) -> Halt {
-        Halt::Memory
+impl From<AllocError> for StartError {
+    fn from(_refused: AllocError) -> StartError {
+        StartError::Memory
     }
 }
 
-impl From<io::Error> for Halt {
-    fn from(error: io::Error) -> Halt {
+impl From<io::Error> for StartError {
+    fn from(error: io::Error) -> StartError {
         if error.kind() == ErrorKind::OutOfMemory {
-            Halt::Memory
+            StartError::Memory
         } else {
-            Halt::Link
+            StartError::Link
         }
     }
 }
 
 /// Tells how a service ended: well after its turns, and else by its fault.
-fn ended<F: Write>(served: Result<(), ServeFault>, faults: &mut F) -> Status
+fn report_served<F: Write>(served: Result<(), ServeFault>, faults: &mut F) -> Status
     ensures { result ≡ status_by served }
 {
     match served {
@@ -47,26 +47,26 @@ fn ended<F: Write>(served: Result<(), ServeFault>, faults: &mut F) -> Status
 }
 
 /// Tells why a node does not serve.
-fn halted<F: Write>(halt: Halt, faults: &mut F) -> Status
-    ensures { result ≡ status_at halt }
+fn report_start_error<F: Write>(error: StartError, faults: &mut F) -> Status
+    ensures { result ≡ status_at error }
 {
-    match halt {
-        Halt::Memory => no_memory(faults),
-        Halt::Link => link_fault(faults),
-        Halt::Console => console_fault(faults),
-        Halt::Journal => journal_fault(faults),
+    match error {
+        StartError::Memory => no_memory(faults),
+        StartError::Link => link_fault(faults),
+        StartError::Console => console_fault(faults),
+        StartError::Journal => journal_fault(faults),
     }
 }
 
 /// Tells how a node with an open station ended.
-pub(crate) fn told_end<F: Write>(
-    crewed: Result<Result<(), ServeFault>, Halt>,
+pub(crate) fn report_exit<F: Write>(
+    outcome: Result<Result<(), ServeFault>, StartError>,
     faults: &mut F,
 ) -> Status
-    ensures { result ≡ status_in crewed }
+    ensures { result ≡ status_in outcome }
 {
-    match crewed {
-        Ok(served) => ended(served, faults),
-        Err(halt) => halted(halt, faults),
+    match outcome {
+        Ok(served) => report_served(served, faults),
+        Err(error) => report_start_error(error, faults),
     }
 }

@@ -5,17 +5,17 @@ ghost use Rattle.std.specs.Arc.{arc_value};
 ghost use Rattle.smi_operator.specs.Lanes.{by_seat};
 ghost use Rattle.smi_station.specs.Readers.{operators_in};
 ghost use Rattle.smi_console.specs.Running.{Begins, Runs};
-ghost use Rattle.smi_console.specs.Serving.{IsCrewed, serving};
+ghost use Rattle.smi_console.specs.Serving.{IsServedIfStarted, serving};
 
-use crate::doors::ListenAddress;
-use crate::ending::{Halt, told_end};
+use crate::exit::{StartError, report_exit};
 use crate::faults::opening_fault;
-use crate::fitting::fitted;
-use crate::service::{Service, Turns};
-use crate::starting::Console;
+use crate::listener::ListenAddress;
+use crate::setup::build_service;
+use crate::station_loop::{StationLoop, Turns};
+use crate::threads::Console;
 use smi_commands::status::Status;
 use smi_journal::JournalSetup;
-use smi_link::DatagramLink;
+use smi_link::{DatagramLink, Sources};
 use smi_node::{ServeFault, StepObserver};
 use smi_operator::operators_by_seat;
 use smi_stable::LoggedStable;
@@ -39,6 +39,8 @@ pub struct NodeSetup {
     pub station: u16,
     /// How long it serves.
     pub turns: Turns,
+    /// From where its datagrams have to come.
+    pub sources: Sources,
     /// Where it listens for consoles, beside the standard input.
     pub consoles: Vec<ListenAddress>,
     /// Where its journal is written, if it has one.
@@ -46,7 +48,7 @@ pub struct NodeSetup {
 }
 
 /// Serves a station that is open, with a board that is, where all is there that it is served with.
-fn crewed<
+fn serve_if_started<
     S: LoggedStable,
     L: DatagramLink + Drop,
     V: StepObserver + Drop,
@@ -57,29 +59,29 @@ fn crewed<
     setup: &NodeSetup,
     station: &mut Station<'_, S>,
     board: &mut Board<J>,
-    fitted: Result<Service<L, V>, Halt>,
-) -> Result<Result<(), ServeFault>, Halt>
-    ensures { IsCrewed (serving S.is_honest S.is_open S.rows S.may_find S.saves S.failures S.doubts
+    service: Result<StationLoop<L, V>, StartError>,
+) -> Result<Result<(), ServeFault>, StartError>
+    ensures { IsServedIfStarted (serving S.is_honest S.is_open S.rows S.may_find S.saves S.failures S.doubts
         (by_seat (operators_in station.old.core))) setup.now.turns station.old station.new result }
 {
-    match fitted {
+    match service {
         Ok(service) => {
             let mut service = service;
             let seats = operators_by_seat(rt.alloc(), station.operators())?;
             Ok(service.serve(rt, setup.turns, seats.as_slice(), station, board))
         }
-        Err(halt) => Err(halt),
+        Err(error) => Err(error),
     }
 }
 
 /// Serves a station that is open.
-fn over_board<J, S, H, I, O, E>(
+fn serve_with_board<J, S, H, I, O, E>(
     rt: &H,
     blank: NewBoard,
     setup: &NodeSetup,
     station: &mut Station<'_, S>,
     console: Console<I, O, E>,
-) -> Result<Result<(), ServeFault>, Halt>
+) -> Result<Result<(), ServeFault>, StartError>
 where
     J: BoardId + Send + Sync + 'static,
     S: LoggedStable,
@@ -88,18 +90,18 @@ where
     O: Write + Drop + Send + 'static,
     E: Write + Drop + Send + 'static,
     requires { blank.seen.book ≡ J.book }
-    ensures { IsCrewed (serving S.is_honest S.is_open S.rows S.may_find S.saves S.failures S.doubts
+    ensures { IsServedIfStarted (serving S.is_honest S.is_open S.rows S.may_find S.saves S.failures S.doubts
         (by_seat (operators_in station.old.core))) setup.now.turns station.old station.new result }
 {
     let (mut board, glances) = open_board::<J, H>(rt, rt.alloc(), blank, 1)?;
-    let fitted = fitted(rt, setup, station, glances, console);
-    let served = crewed(rt, setup, station, &mut board, fitted);
+    let service = build_service(rt, setup, station, glances, console);
+    let served = serve_if_started(rt, setup, station, &mut board, service);
     let _ = board.close(rt);
     served
 }
 
 /// The station is opened on its store, and served.
-fn opened<S, H, I, O, E, F>(
+fn open_and_serve<S, H, I, O, E, F>(
     rt: &H,
     setup: &NodeSetup,
     store: S,
@@ -119,14 +121,14 @@ where
     match Station::open(rt.alloc(), &setup.tree, setup.station, store) {
         Ok(station) => {
             let mut station = station;
-            let crewed = over_board::<Brand, _, _, _, _, _>(
+            let served = serve_with_board::<Brand, _, _, _, _, _>(
                 rt,
                 NewBoard::new(),
                 setup,
                 &mut station,
                 console,
             );
-            let status = told_end(crewed, faults);
+            let status = report_exit(served, faults);
             (status, station.into_stable())
         }
         Err((fault, store)) => (opening_fault(fault, faults), store),
@@ -162,7 +164,7 @@ where
 {
     let mut store = store;
     match migrate(rt.alloc(), &setup.tree, setup.station, &mut store) {
-        Ok(_) => opened(rt, setup, store, console, faults),
+        Ok(_) => open_and_serve(rt, setup, store, console, faults),
         Err(fault) => (opening_fault(fault, faults), store),
     }
 }

@@ -3,8 +3,8 @@ use Rattle.smi_station.specs.Readers.{Whole}
 use Rattle.smi_node.specs.Carried.{Node, StepsTo, edges, node}
 use Rattle.smi_node.specs.Linked.{shown_by}
 use Rattle.smi_console.specs.Serving.{serving}
-use Rattle.smi_console.specs.declared.service.TheConstants.{TURNS_AT_ONCE}
-use Rattle.smi_console.proofs.service.served.Goals as goal
+use Rattle.smi_console.specs.declared.station_loop.TheConstants.{TURNS_AT_ONCE}
+use Rattle.smi_console.proofs.station_loop.served.Goals as goal
 
 pub loop-init : goal.loop-init
 loop-init g c = record { serves = (0, refl); station = refl; desk = refl; board = refl; out = refl; operators = refl }

@@ -1,4 +1,4 @@
-use Rattle.smi_console.proofs.running.crewed.Goals as goal
+use Rattle.smi_console.proofs.node.serve_if_started.Goals as goal
 
 -- the seats are those of the station's operators
 pub returns-in_ok-seats-in-Ok : goal.returns-in_ok-seats-in-Ok

@@ -3,18 +3,18 @@
 ghost use Rattle.std.specs.Prelude.{◌≡◌, ◌*◌, ◌++◌, ◌∷◌, [], IfOk, length, min};
 ghost use Rattle.smi_operator.specs.Sides.{IsDeskOf};
 
-use crate::bell::Bell;
+use crate::connection_set::ConnectionSet;
 use crate::console_waker::ConsoleWaker;
-use crate::ending::Halt;
 use crate::event_forwarder::EventForwarder;
 use crate::event_queue::{EventQueue, StationNews};
-use crate::hall::Hall;
+use crate::exit::StartError;
 use crate::journal_keeper::{KeeperWays, begin_journal, journal_ways};
+use crate::node::NodeSetup;
+use crate::node_io::NodeIo;
 use crate::peers::{Linking, UdpLinking};
-use crate::running::NodeSetup;
-use crate::service::Service;
-use crate::side::StationSide;
-use crate::starting::{Console, Lobby, begin_console};
+use crate::station_loop::StationLoop;
+use crate::station_waker::StationWaker;
+use crate::threads::{Console, ConsoleParts, begin_console};
 use crossbeam_channel::Sender;
 use smi_base::MOST_OPERATORS_OF_A_STATION;
 use smi_journal::StationState;
@@ -42,7 +42,7 @@ struct Seats {
 }
 
 /// Opens the seats of each operator of a station, one more for reports, and their desk.
-fn seated(alloc: Global, operators: &[u16]) -> Result<Seats, AllocError>
+fn build_seats(alloc: Global, operators: &[u16]) -> Result<Seats, AllocError>
     ensures count { IfOk result (λ r. length r.own.items
         ≡ min (length operators.now) MOST_OPERATORS_OF_A_STATION * 7) }
     ensures desk { IfOk result (λ r. IsDeskOf r.desk.value (r.own.items ++ r.reports ∷ [])) }
@@ -60,32 +60,32 @@ fn seated(alloc: Global, operators: &[u16]) -> Result<Seats, AllocError>
     })
 }
 
-/// Makes the front desk of a node, over the seats in its office.
-fn front_of<G: StateReader + Drop>(
+/// Opens the sessions of a node, over its seats.
+fn sessions_over<G: StateReader + Drop>(
     alloc: Global,
     setup: &NodeSetup,
-    office: SeatTable,
+    seats: SeatTable,
     glance: G,
     stats: &Arc<NodeStats, Global>,
 ) -> Result<Box<SessionService<G>>, AllocError> {
     let picture = Picture::new(alloc, setup.tree.object_count(), 0)?;
     let stats = Arc::try_clone(stats)?;
-    SessionService::open(alloc, office, glance, stats, picture)
+    SessionService::open(alloc, seats, glance, stats, picture)
 }
 
-/// Builds the seats of a station's operators and one for reports, at the front, and their desk.
-fn seated_front<G: StateReader + Drop>(
+/// Builds the seats of a station's operators and one for reports, the sessions over them, and their desk.
+fn build_sessions<G: StateReader + Drop>(
     alloc: Global,
     setup: &NodeSetup,
     operators: &[u16],
     glance: G,
     stats: &Arc<NodeStats, Global>,
 ) -> Result<(Box<SessionService<G>>, Box<Desk>), AllocError> {
-    let Seats { own, reports, desk } = seated(alloc, operators)?;
+    let Seats { own, reports, desk } = build_seats(alloc, operators)?;
     let by_seat = operators_by_seat(alloc, operators)?;
-    let office = SeatTable::open(alloc, by_seat.as_slice(), own, reports)?;
-    match front_of(alloc, setup, office, glance, stats) {
-        Ok(front) => Ok((front, desk)),
+    let seats = SeatTable::open(alloc, by_seat.as_slice(), own, reports)?;
+    match sessions_over(alloc, setup, seats, glance, stats) {
+        Ok(sessions) => Ok((sessions, desk)),
         Err(refused) => Err(refused),
     }
 }
@@ -93,88 +93,96 @@ fn seated_front<G: StateReader + Drop>(
 /// What a node has before its consoles begin: the station's side, the service of its sessions, and a waker to the
 /// station.
 #[derive(Drop)]
-struct Ends<L: Drop, G: StateReader + Drop> {
-    side: StationSide<L>,
-    front: Box<SessionService<G>>,
-    bell: Bell,
+struct StationParts<L: Drop, G: StateReader + Drop> {
+    node_io: NodeIo<L>,
+    sessions: Box<SessionService<G>>,
+    station_waker: StationWaker,
 }
 
-/// Builds the seats of a station's operators and one for reports, at the front, their desk, and last the station's
-/// link.
-fn posted<K: Linking, G: StateReader + Drop>(
+/// Builds the seats of a station's operators and one for reports, the sessions over them, their desk, and last the
+/// station's link.
+fn build_station<K: Linking, G: StateReader + Drop>(
     alloc: Global,
     setup: &NodeSetup,
     operators: &[u16],
     glance: G,
     linking: &K,
-) -> Result<Ends<K::Link, G>, Halt> {
+) -> Result<StationParts<K::Link, G>, StartError> {
     let stats = new_stats(alloc)?;
-    let (front, desk) = seated_front(alloc, setup, operators, glance, &stats)?;
-    let (link, bell) = linking.linked(&setup.tree, setup.station)?;
-    let side = StationSide::new(alloc, link, desk, stats)?;
-    Ok(Ends { side, front, bell })
+    let (sessions, desk) = build_sessions(alloc, setup, operators, glance, &stats)?;
+    let (link, station_waker) = linking.linked(&setup.tree, setup.station)?;
+    let node_io = NodeIo::new(alloc, link, desk, stats)?;
+    Ok(StationParts {
+        node_io,
+        sessions,
+        station_waker,
+    })
 }
 
-/// Opens the hall of a node, with its doors, and a waker to it.
-fn hall_of<H: Files + Net + AllocGlobal>(
+/// Opens the listeners of a node, and a waker to the thread of its sessions.
+fn open_connections<H: Files + Net + AllocGlobal>(
     rt: &H,
     setup: &NodeSetup,
-) -> Result<(Box<Hall>, Arc<ConsoleWaker, Global>), Halt> {
-    match Hall::open(rt, rt.alloc(), setup.consoles.as_slice()) {
-        Ok((hall, waker)) => match Arc::new(rt.alloc(), ConsoleWaker::new(waker)) {
-            Ok(waker) => Ok((hall, waker)),
-            Err(_) => Err(Halt::Memory),
+) -> Result<(Box<ConnectionSet>, Arc<ConsoleWaker, Global>), StartError> {
+    match ConnectionSet::open(rt, rt.alloc(), setup.consoles.as_slice()) {
+        Ok((connections, waker)) => match Arc::new(rt.alloc(), ConsoleWaker::new(waker)) {
+            Ok(waker) => Ok((connections, waker)),
+            Err(_) => Err(StartError::Memory),
         },
-        Err(e) if e.kind() == ErrorKind::OutOfMemory => Err(Halt::Memory),
-        Err(_) => Err(Halt::Console),
+        Err(e) if e.kind() == ErrorKind::OutOfMemory => Err(StartError::Memory),
+        Err(_) => Err(StartError::Console),
     }
 }
 
 /// What a node has before its threads begin: the station's side, the console's side, and its waker.
 #[derive(Drop)]
-struct BothSides<L: Drop, G: StateReader + Drop> {
-    side: StationSide<L>,
-    lobby: Lobby<G>,
+struct NodeParts<L: Drop, G: StateReader + Drop> {
+    node_io: NodeIo<L>,
+    parts: ConsoleParts<G>,
     waker: Arc<ConsoleWaker, Global>,
     /// The channels of the journal to the sessions.
     journal_ways: KeeperWays,
 }
 
-/// Builds the seats of a station and its link, and then the hall of its node.
-fn both_sides<K: Linking, G: StateReader + Drop, H: Files + Net + AllocGlobal>(
+/// Builds the seats of a station and its link, and then opens the listeners of its node.
+fn build_node<K: Linking, G: StateReader + Drop, H: Files + Net + AllocGlobal>(
     rt: &H,
     setup: &NodeSetup,
     operators: &[u16],
     glance: G,
     linking: &K,
-) -> Result<BothSides<K::Link, G>, Halt> {
-    let ends = posted(rt.alloc(), setup, operators, glance, linking)?;
-    let (hall, waker) = hall_of(rt, setup)?;
+) -> Result<NodeParts<K::Link, G>, StartError> {
+    let station_parts = build_station(rt.alloc(), setup, operators, glance, linking)?;
+    let (connections, waker) = open_connections(rt, setup)?;
     let (journal_ways, journal) = journal_ways(rt.alloc(), setup.journal.is_some())?;
-    let Ends { side, front, bell } = ends;
-    let lobby = Lobby {
-        front,
-        hall,
-        bell,
+    let StationParts {
+        node_io,
+        sessions,
+        station_waker,
+    } = station_parts;
+    let parts = ConsoleParts {
+        sessions,
+        connections,
+        station_waker,
         journal,
     };
-    Ok(BothSides {
-        side,
-        lobby,
+    Ok(NodeParts {
+        node_io,
+        parts,
         waker,
         journal_ways,
     })
 }
 
 /// Makes the statistics that both sides share.
-fn new_stats(alloc: Global) -> Result<Arc<NodeStats, Global>, Halt> {
+fn new_stats(alloc: Global) -> Result<Arc<NodeStats, Global>, StartError> {
     match Arc::new(alloc, NodeStats::new()) {
         Ok(stats) => Ok(stats),
-        Err(_refused) => Err(Halt::Memory),
+        Err(_refused) => Err(StartError::Memory),
     }
 }
 
-/// Makes the queue that hands on news to the thread at the front, by this way, and wakes it.
+/// Makes the queue that hands on news to the thread of the sessions, by this way, and wakes it.
 fn queue_of<H: Wait + AllocGlobal + Clone + Drop>(
     rt: &H,
     waker: &Arc<ConsoleWaker, Global>,
@@ -185,7 +193,7 @@ fn queue_of<H: Wait + AllocGlobal + Clone + Drop>(
     EventQueue::new(rt.alloc(), there, waker, news)
 }
 
-/// Makes what forwards the events of a station to the thread at the front.
+/// Makes what forwards the events of a station to the thread of the sessions.
 fn forwarder_of<T: StationState, H: Files + Wait + Clock + AllocGlobal + Clone + Drop>(
     rt: &H,
     setup: &NodeSetup,
@@ -208,7 +216,7 @@ fn keep_journal<
     station: &T,
     ways: KeeperWays,
     forwarder: &mut EventForwarder<H>,
-) -> Result<(), Halt> {
+) -> Result<(), StartError> {
     let Some(journal) = &setup.journal else {
         return Ok(());
     };
@@ -217,13 +225,13 @@ fn keep_journal<
             forwarder.keep_journal(keeper);
             Ok(())
         }
-        Err(e) if e.kind() == ErrorKind::OutOfMemory => Err(Halt::Memory),
-        Err(_) => Err(Halt::Journal),
+        Err(e) if e.kind() == ErrorKind::OutOfMemory => Err(StartError::Memory),
+        Err(_) => Err(StartError::Journal),
     }
 }
 
 /// Makes the station's seats and its link, and begins the threads of its consoles, in this order.
-fn manned<
+fn start_node<
     K: Linking,
     G: StateReader + Drop + Send + 'static,
     T: StationState,
@@ -238,32 +246,32 @@ fn manned<
     glance: G,
     linking: &K,
     console: Console<I, O, E>,
-) -> Result<Service<K::Link, EventForwarder<H>>, Halt> {
-    let sides = both_sides(rt, setup, station.operators(), glance, linking)?;
-    let BothSides {
-        side,
-        lobby,
+) -> Result<StationLoop<K::Link, EventForwarder<H>>, StartError> {
+    let node_parts = build_node(rt, setup, station.operators(), glance, linking)?;
+    let NodeParts {
+        node_io,
+        parts,
         waker,
         journal_ways,
-    } = sides;
-    let news = begin_console(rt, setup, lobby, &waker, console)?;
+    } = node_parts;
+    let news = begin_console(rt, setup, parts, &waker, console)?;
     let mut forwarder = forwarder_of(rt, setup, station, &waker, news)?;
     keep_journal(rt, setup, station, journal_ways, &mut forwarder)?;
-    Ok(side.into_service(rt.alloc(), forwarder)?)
+    Ok(node_io.into_service(rt.alloc(), forwarder)?)
 }
 
 /// Returns the only one of these glances.
-fn only<G: Drop>(glances: Vec<G>) -> Result<G, Halt> {
+fn only<G: Drop>(glances: Vec<G>) -> Result<G, StartError> {
     let mut glances = glances;
-    glances.pop().ok_or(Halt::Memory)
+    glances.pop().ok_or(StartError::Memory)
 }
 
 /// What a station is served with by a node.
-pub(crate) type Fitted<'a, H> = Service<UdpLink<&'a H>, EventForwarder<H>>;
+pub(crate) type NodeService<'a, H> = StationLoop<UdpLink<&'a H>, EventForwarder<H>>;
 
-/// Returns what an open station is served with by a node whose front has the only one of these glances: its seats,
+/// Returns what an open station is served with by a node whose sessions have the only one of these glances: its seats,
 /// its link, and the threads of its consoles, in this order.
-pub(crate) fn fitted<
+pub(crate) fn build_service<
     'a,
     G: StateReader + Drop + Send + 'static,
     T: StationState,
@@ -277,7 +285,11 @@ pub(crate) fn fitted<
     station: &T,
     glances: Vec<G>,
     console: Console<I, O, E>,
-) -> Result<Fitted<'a, H>, Halt> {
+) -> Result<NodeService<'a, H>, StartError> {
     let glance = only(glances)?;
-    manned(rt, setup, station, glance, &UdpLinking { rt }, console)
+    let linking = UdpLinking {
+        rt,
+        sources: setup.sources,
+    };
+    start_node(rt, setup, station, glance, &linking, console)
 }
