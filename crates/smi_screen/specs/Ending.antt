@@ -1,7 +1,7 @@
 -- How a screen ends.
 use Rattle.std.specs.Prelude.{Bool, true, false, Result, Ok, Err}
-use Rattle.smi_screen.specs.declared.running.Ended.{Ended}
-use Rattle.smi_screen.specs.declared.running.Ended.TheVariants as ended
+use Rattle.smi_screen.specs.declared.screen.Ended.{Ended}
+use Rattle.smi_screen.specs.declared.screen.Ended.TheVariants as ended
 
 -- its station has stopped
 abbrev pub is_stopped : Ended → Bool

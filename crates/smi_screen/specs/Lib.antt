@@ -1,5 +1,5 @@
 pub mod Carrying
 pub mod Ending
-pub mod Gate
+pub mod HttpListener
 pub mod Looking
 pub mod Noting

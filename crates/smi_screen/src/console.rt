@@ -76,7 +76,7 @@ impl ConsoleStream {
 
 /// The state of a connection after a turn.
 #[derive(Clone, Copy, PartialEq, Eq)]
-enum Standing {
+enum Health {
     Sound,
     Broken,
 }
@@ -101,16 +101,16 @@ pub struct NodeConsole {
 }
 
 /// Returns true if a stream that never waits has nothing to read, or no room to write, as yet.
-fn is_to_be_tried_again(kind: ErrorKind) -> bool {
+fn should_retry(kind: ErrorKind) -> bool {
     matches!(kind, ErrorKind::WouldBlock | ErrorKind::Interrupted)
 }
 
 /// Returns what a fault of a stream makes of its connection.
-fn after_fault(error: io::Error) -> Standing {
-    if is_to_be_tried_again(error.kind()) {
-        Standing::Sound
+fn after_fault(error: io::Error) -> Health {
+    if should_retry(error.kind()) {
+        Health::Sound
     } else {
-        Standing::Broken
+        Health::Broken
     }
 }
 
@@ -127,51 +127,51 @@ impl Connected {
     }
 
     /// Reads what has come, as far as nothing waits, and hears it.
-    fn read(&mut self, relay: &mut OrderRelay, now: u64) -> Standing {
+    fn read(&mut self, relay: &mut OrderRelay, now: u64) -> Health {
         let mut block = [0u8; AT_ONCE];
         for _ in 0..READS {
             let count = match self.stream.read(&mut block) {
-                Ok(0) => return Standing::Broken,
+                Ok(0) => return Health::Broken,
                 Ok(count) => count,
                 Err(error) => return after_fault(error),
             };
             let came = block.get(..count).unwrap_or(&[]);
             if self.splitter.push(came).is_err() || self.hear(relay, now).is_err() {
-                return Standing::Broken;
+                return Health::Broken;
             }
         }
-        Standing::Sound
+        Health::Sound
     }
 
     /// Writes what is to be sent, as far as there is room.
-    fn write(&mut self, relay: &mut OrderRelay) -> Standing {
+    fn write(&mut self, relay: &mut OrderRelay) -> Health {
         if relay.unsent().is_empty() {
-            return Standing::Sound;
+            return Health::Sound;
         }
         match self.stream.write(relay.unsent()) {
             Ok(count) => {
                 relay.consume(count);
-                Standing::Sound
+                Health::Sound
             }
             Err(error) => after_fault(error),
         }
     }
 
     /// Makes the turn of a connection that may only be on its way.
-    fn turn(&mut self, relay: &mut OrderRelay, now: u64) -> Standing {
+    fn turn(&mut self, relay: &mut OrderRelay, now: u64) -> Health {
         if !relay.is_open() {
             if !self.stream.is_made() {
                 return if now.saturating_sub(self.since) < PATIENCE {
-                    Standing::Sound
+                    Health::Sound
                 } else {
-                    Standing::Broken
+                    Health::Broken
                 };
             }
             relay.open();
         }
         match self.read(relay, now) {
-            Standing::Sound => self.write(relay),
-            Standing::Broken => Standing::Broken,
+            Health::Sound => self.write(relay),
+            Health::Broken => Health::Broken,
         }
     }
 }
@@ -205,11 +205,11 @@ impl NodeConsole {
     /// Makes one turn: makes a connection if there is none, hears what was said over it, and sends what is to be
     /// sent, as far as nothing waits. With a connection that breaks, what was given on it is lost.
     pub fn turn<R: Net>(&mut self, rt: &R, relay: &mut OrderRelay, now: u64) {
-        let standing = match &mut self.line {
+        let health = match &mut self.line {
             Some(line) => line.turn(relay, now),
             None => return self.connect(rt, now),
         };
-        if standing == Standing::Broken {
+        if health == Health::Broken {
             self.line = None;
             self.next_try = now.saturating_add(BETWEEN_TRIES);
             relay.close();

@@ -8,11 +8,13 @@ fn bytes_of(alloc: Global, text: String) -> Result<Vec<u8>, AllocError> {
 }
 
 /// Returns the values of `Host` that a screen at this address answers to: the address itself; this machine's own
-/// name, if the address is its own; and a name, if one is given. Each has the port.
+/// name, if the address is its own; and a name, if one is given. Each has the port. If a proxy serves the page under an
+/// origin, its host is another, as the origin has it.
 pub fn hosts_of(
     alloc: Global,
     http: SocketAddr,
     name: Option<&str>,
+    origin: Option<&str>,
 ) -> Result<Vec<Vec<u8>>, AllocError> {
     let mut hosts = Vec::new(alloc);
     hosts.push(bytes_of(alloc, format!(in alloc; "{http}")?)?)?;
@@ -22,6 +24,9 @@ pub fn hosts_of(
     }
     if let Some(name) = name {
         hosts.push(bytes_of(alloc, format!(in alloc; "{name}:{port}")?)?)?;
+    }
+    if let Some((_, host)) = origin.and_then(|origin| origin.split_once("://")) {
+        hosts.push(Vec::from_slice(alloc, host.as_bytes())?)?;
     }
     Ok(hosts)
 }

@@ -1,20 +1,20 @@
-//! A screen: an observer of a detector, and a window on what it has seen.
+//! A screen: an observer of a detector, and a web server of what it has seen.
 //!
 //! [`run`] is the whole of it, on one thread. Its station is opened on its store as any other; then it looks, turn
-//! after turn ([`Observer::poll`]), a new frame is made of the picture five times a second (`smi_web`), and the
-//! guests at the gate have their turn, none of whom is waited for (`gate`). So a guest can hold up nothing but itself,
-//! and there is neither a lock nor a second thread. What a page elsewhere could ask is nothing: [`hosts_of`] says
-//! which names of hosts are answered.
+//! after turn ([`Observer::poll`]), a new snapshot is made of the picture five times a second (`smi_web`), and
+//! the connections have their turn, none of which is waited for (`http_listener`). So a client can hold up nothing but
+//! itself, and there is neither a lock nor a second thread. What a page elsewhere could ask is nothing: [`hosts_of`]
+//! says which names of hosts are answered.
 //!
-//! If a [`NodeConsole`] is named, orders may be given from the page: they wait in the window's relay (`smi_web`),
+//! If a [`NodeConsole`] is named, orders may be given from the page: they wait in the service's relay (`smi_web`),
 //! and each turn sends what is to be sent of them over one connection, and hears what is said there, without waiting.
 //! The station of the screen orders nothing: the orders are those of operators of the node whose console it is.
 //!
-//! The gate has a listener and its guests, at most `MOST_GUESTS` of them. At each turn of it the connections that
-//! wait are let in, and each guest reads once, is answered, and writes once, over sockets that never wait. A guest
-//! has a time by which it has to go unless it has been answered, and a head and a body of bounded length; where one
-//! comes too many, the one whose time is up first goes. What goes out over a connection is said by the theorem of
-//! `http_server` from what the service answers.
+//! The web server has a listener and its connections, at most `MOST_CONNECTIONS` of them. At each turn of it the
+//! connections that wait are accepted, and each one reads once, is answered, and writes once, over sockets that never
+//! wait. A connection has a time by which it has to go unless it has been answered, and a head and a body of bounded
+//! length; if one comes too many, the one whose time is up first goes. What goes out over a connection is said by the
+//! theorem of `http_server` from what the service answers.
 //!
 //! Its station is an observer: its operator watches every object and asks about every domain, again and again, and
 //! orders nothing. [`Observer::poll`] is a turn of it. What comes over the link is carried to the station as a node
@@ -37,21 +37,21 @@
 #![tactic(auto)]
 
 mod console;
-mod gate;
-mod guest;
 mod hosts;
-mod house;
-mod noting;
+mod http_connection;
+mod http_listener;
 mod observer;
-mod pace;
-mod running;
+mod picture_update;
+mod poll_schedule;
+mod screen;
+mod screen_parts;
 mod server;
-mod stage;
+mod web_server;
 
 pub use console::{ConsoleAddress, NodeConsole};
-pub use gate::{Gate, MOST_GUESTS};
-pub use guest::Guest;
 pub use hosts::hosts_of;
+pub use http_connection::HttpConnection;
+pub use http_listener::{HttpListener, MOST_CONNECTIONS};
 pub use observer::{Observer, ReceiveOutcome, Stopped};
-pub use pace::Pace;
-pub use running::{Ended, Giving, ScreenSetup, run};
+pub use poll_schedule::PollSchedule;
+pub use screen::{Ended, OrderSetup, ScreenSetup, run};

@@ -5,8 +5,8 @@ ghost use Rattle.smi_screen.specs.Carrying.{NotesSo};
 ghost use Rattle.smi_screen.specs.Looking.{has_stopped};
 ghost use Rattle.smi_screen.specs.Noting.{is_taken};
 
-use crate::noting::{note_datagram, note_handed};
-use crate::pace::Pace;
+use crate::picture_update::{record_datagram, record_handed};
+use crate::poll_schedule::PollSchedule;
 use smi_link::{DatagramLink, Reception};
 use smi_node::{is_stopped_by, step_and_send};
 use smi_protocol::{Event, Heard, Order, StepFault};
@@ -62,11 +62,11 @@ fn is_taken(made: &Result<Heard, StepFault>) -> bool
 }
 
 /// Notes the record in a datagram, if the station took it.
-fn note_taken(picture: &mut Picture, bytes: &[u8], is_taken: bool, now: u64)
+fn record_taken(picture: &mut Picture, bytes: &[u8], is_taken: bool, now: u64)
     ensures { NotesSo is_taken bytes.now now picture.old picture.new }
 {
     if is_taken {
-        note_datagram(picture, bytes, now);
+        record_datagram(picture, bytes, now);
     }
 }
 
@@ -120,7 +120,7 @@ impl Observer {
         if is_stopped_by(&made) {
             return Err(Stopped);
         }
-        note_handed(&mut self.picture, &self.out, self.now);
+        record_handed(&mut self.picture, &self.out, self.now);
         Ok(made)
     }
 
@@ -140,7 +140,7 @@ impl Observer {
         let now = self.now;
         match self.carry(station, Event::Datagram(bytes), link) {
             Ok(made) => {
-                note_taken(&mut self.picture, bytes, is_taken(&made), now);
+                record_taken(&mut self.picture, bytes, is_taken(&made), now);
                 Ok(())
             }
             Err(stopped) => Err(stopped),
@@ -279,7 +279,7 @@ impl Observer {
         &mut self,
         station: &mut Station<'_, S>,
         operator: u16,
-        pace: &mut Pace,
+        schedule: &mut PollSchedule,
         link: &mut L,
     ) -> Result<(), Stopped>
         ensures { Looks (StepsTo S.is_honest S.is_open S.rows S.may_find S.saves S.failures S.doubts) operator
@@ -288,7 +288,7 @@ impl Observer {
             (has_stopped result) }
     {
         for _ in 0..MOST_WATCHED {
-            match self.watch(station, operator, pace.next_watch(), link) {
+            match self.watch(station, operator, schedule.next_watch(), link) {
                 Ok(()) => {}
                 Err(stopped) => return Err(stopped),
             }
@@ -301,7 +301,7 @@ impl Observer {
         &mut self,
         station: &mut Station<'_, S>,
         operator: u16,
-        pace: &mut Pace,
+        schedule: &mut PollSchedule,
         link: &mut L,
     ) -> Result<(), Stopped>
         ensures { Looks (StepsTo S.is_honest S.is_open S.rows S.may_find S.saves S.failures S.doubts) operator
@@ -310,7 +310,7 @@ impl Observer {
             (has_stopped result) }
     {
         for _ in 0..MOST_ASKED {
-            let domain = pace.next_question(self.now);
+            let domain = schedule.next_question(self.now);
             match self.ask(station, operator, domain, link) {
                 Ok(()) => {}
                 Err(stopped) => return Err(stopped),
@@ -324,7 +324,7 @@ impl Observer {
         &mut self,
         station: &mut Station<'_, S>,
         operator: u16,
-        pace: &mut Pace,
+        schedule: &mut PollSchedule,
         link: &mut L,
     ) -> Result<(), Stopped>
         ensures { Looks (StepsTo S.is_honest S.is_open S.rows S.may_find S.saves S.failures S.doubts) operator
@@ -332,10 +332,10 @@ impl Observer {
             (view station.new (shown_by L.received L.handed L.failures L.receives link.new) self.new.picture)
             (has_stopped result) }
     {
-        match self.watch_next(station, operator, pace, link) {
-            Ok(()) => match self.ask_next(station, operator, pace, link) {
+        match self.watch_next(station, operator, schedule, link) {
+            Ok(()) => match self.ask_next(station, operator, schedule, link) {
                 Ok(()) => {
-                    let is_time = pace.is_tick(self.now);
+                    let is_time = schedule.is_tick(self.now);
                     self.tick(station, operator, is_time, link)
                 }
                 Err(stopped) => Err(stopped),
@@ -349,7 +349,7 @@ impl Observer {
         &mut self,
         station: &mut Station<'_, S>,
         operator: u16,
-        pace: &mut Pace,
+        schedule: &mut PollSchedule,
         link: &mut L,
     ) -> Result<ReceiveOutcome, Stopped>
         ensures { Looks (StepsTo S.is_honest S.is_open S.rows S.may_find S.saves S.failures S.doubts) operator
@@ -358,7 +358,7 @@ impl Observer {
             (has_stopped result) }
     {
         match self.hear_all(station, operator, link) {
-            Ok(came) => match self.act(station, operator, pace, link) {
+            Ok(came) => match self.act(station, operator, schedule, link) {
                 Ok(()) => Ok(came),
                 Err(stopped) => Err(stopped),
             },
@@ -375,7 +375,7 @@ impl Observer {
         &mut self,
         station: &mut Station<'_, S>,
         operator: u16,
-        pace: &mut Pace,
+        schedule: &mut PollSchedule,
         link: &mut L,
     ) -> Result<ReceiveOutcome, Stopped>
         ensures looks { Looks (StepsTo S.is_honest S.is_open S.rows S.may_find S.saves S.failures S.doubts) operator
@@ -384,6 +384,6 @@ impl Observer {
             (has_stopped result) }
         ensures keeps { KeepsUp self.old.picture self.new.picture }
     {
-        self.hear_and_act(station, operator, pace, link)
+        self.hear_and_act(station, operator, schedule, link)
     }
 }

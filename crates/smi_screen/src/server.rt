@@ -6,10 +6,10 @@ ghost use Rattle.smi_node.specs.Linked.{shown_by};
 ghost use Rattle.smi_screen.specs.Looking.{Looks, view};
 ghost use Rattle.smi_screen.specs.Ending.{has_stopped};
 
-use crate::house::House;
 use crate::observer::{Observer, ReceiveOutcome};
-use crate::pace::Pace;
-use crate::running::Ended;
+use crate::poll_schedule::PollSchedule;
+use crate::screen::Ended;
+use crate::web_server::WebServer;
 use smi_link::DatagramLink;
 use smi_rows::Stable;
 use smi_station::Station;
@@ -32,29 +32,29 @@ pub(crate) struct ScreenServer {
     operator: u16,
     start: Instant,
     faults: u32,
-    pace: Pace,
+    schedule: PollSchedule,
     /// Its time is how many milliseconds have passed since the start.
     observer: Observer,
     // In a box, so that an owner of a server is not expensive to prove.
-    house: Box<House>,
+    web_server: Box<WebServer>,
 }
 
 impl ScreenServer {
-    /// Returns a server whose time begins at a moment, with its picture and its house.
+    /// Returns a server whose time begins at a moment, with its picture and its web server.
     pub(crate) fn new(
         operator: u16,
         start: Instant,
-        pace: Pace,
+        schedule: PollSchedule,
         picture: Picture,
-        house: Box<House>,
+        web_server: Box<WebServer>,
     ) -> ScreenServer {
         ScreenServer {
             operator,
             start,
             faults: 0,
-            pace,
+            schedule,
             observer: Observer::new(picture),
-            house,
+            web_server,
         }
     }
 
@@ -100,14 +100,17 @@ impl ScreenServer {
         ensures operator { self.new.operator ≡ self.old.operator }
     {
         let operator = self.operator;
-        match self.observer.poll(station, operator, &mut self.pace, link) {
+        match self
+            .observer
+            .poll(station, operator, &mut self.schedule, link)
+        {
             Ok(came) => Ok(came),
             Err(_) => Err(Ended::Stopped),
         }
     }
 
-    /// Does what follows a look that went well: orders go on, a frame is made, the guests have their turn, and faults
-    /// are counted.
+    /// Does what follows a look that went well: orders go on, a snapshot is made, the connections have their turn, and
+    /// faults are counted.
     fn go_on<R: Net + Clock>(
         &mut self,
         rt: &R,
@@ -118,7 +121,7 @@ impl ScreenServer {
         ensures operator { self.new.operator ≡ self.old.operator }
         ensures goes_on { has_stopped result ≡ false }
     {
-        self.house
+        self.web_server
             .turn(rt, tree, &self.observer.picture, self.observer.now);
         self.count(came)
     }
@@ -140,8 +143,8 @@ impl ScreenServer {
         }
     }
 
-    /// Makes one turn: the station looks, orders go on, a frame is made, and the guests have their turn. Of all that,
-    /// the station is told nothing but what the look tells it.
+    /// Makes one turn: the station looks, orders go on, a snapshot is made, and the connections have their turn. Of all
+    /// that, the station is told nothing but what the look tells it.
     fn turn<S: Stable, L: DatagramLink, R: Net + Clock>(
         &mut self,
         rt: &R,

@@ -23,6 +23,6 @@ returns g c =
     g.L.DatagramLink.receives in
     let made = c.step_and_send-made in
     carried_on steps c.args.event c.args.self.now.now made.new.out c.args.station.now made.new.station
-    (shows c.args.link.now) (shows made.new.link) c.args.self.now.picture c.note_handed.new.picture made.result
+    (shows c.args.link.now) (shows made.new.link) c.args.self.now.picture c.record_handed.new.picture made.result
     made.ensures.steps made.ensures.sends (sym c.is_stopped_by.ensures ∙ c.if-is_stopped_by.false)
-    c.note_handed.ensures
+    c.record_handed.ensures

@@ -14,7 +14,7 @@ returns-in-Ok g c =
     let between : View (Whole g.row.S.Denot)
     = view c.carry.new.station (shows c.carry.new.link) c.carry.new.self.picture in
     let after : View (Whole g.row.S.Denot)
-    = view c.carry.new.station (shows c.carry.new.link) c.note_taken.new.picture in (
+    = view c.carry.new.station (shows c.carry.new.link) c.record_taken.new.picture in (
       _,
       refl,
       c.in-Ok.made,
@@ -22,7 +22,7 @@ returns-in-Ok g c =
       c.in-Ok.ensures,
       subst (λ (is : Bool). NotesTaken is c.args.bytes.now c.args.self.now.now between after) c.is_taken.ensures
           (taken_so c.is_taken.result c.args.bytes.now c.args.self.now.now c.carry.new.station (shows c.carry.new.link)
-          c.carry.new.self.picture c.note_taken.new.picture c.note_taken.ensures),
+          c.carry.new.self.picture c.record_taken.new.picture c.record_taken.ensures),
     )
 
 pub returns-in-Err : goal.returns-in-Err

@@ -20,7 +20,7 @@ use smi_view::Picture;
 
 /// Notes a state that a step showed.
 #[tactic(auto, using(smi_view::proofs::Notes::takes_none))]
-fn note_shown(picture: &mut Picture, shown: Option<Shown>, now: u64)
+fn record_shown(picture: &mut Picture, shown: Option<Shown>, now: u64)
     ensures { TakesIn (shown_notes shown now) picture.old picture.new }
 {
     match shown {
@@ -31,7 +31,7 @@ fn note_shown(picture: &mut Picture, shown: Option<Shown>, now: u64)
 
 /// Notes the record that an order was answered with, if it is a question.
 #[tactic(auto, using(smi_view::proofs::Notes::takes_none))]
-fn note_asked(picture: &mut Picture, order: Order, told: &Option<Record>, now: u64)
+fn record_asked(picture: &mut Picture, order: Order, told: &Option<Record>, now: u64)
     ensures { TakesIn (asked_notes order told.now now) picture.old picture.new }
 {
     match (order, told) {
@@ -40,33 +40,33 @@ fn note_asked(picture: &mut Picture, order: Order, told: &Option<Record>, now: u
     }
 }
 
-fn note_answer(picture: &mut Picture, answer: &Answer, now: u64)
+fn record_answer(picture: &mut Picture, answer: &Answer, now: u64)
     ensures { TakesIn (answer_notes now answer.now) picture.old picture.new }
 {
-    note_asked(picture, answer.told.order, &answer.told.asked, now);
+    record_asked(picture, answer.told.order, &answer.told.asked, now);
 }
 
 /// Notes all answers of a step.
-fn note_answers(picture: &mut Picture, answers: &[Answer], now: u64)
+fn record_answers(picture: &mut Picture, answers: &[Answer], now: u64)
     ensures { TakesIn (flat_map (answer_notes now) answers.now) picture.old picture.new }
 {
     for answer in answers {
-        note_answer(picture, answer, now);
+        record_answer(picture, answer, now);
     }
 }
 
 /// Notes all that a step showed and answered.
 #[tactic(auto, using(smi_view::proofs::Notes::takes_both))]
-pub(crate) fn note_handed(picture: &mut Picture, out: &Out, now: u64)
+pub(crate) fn record_handed(picture: &mut Picture, out: &Out, now: u64)
     ensures { TakesIn (handed_notes out.now now) picture.old picture.new }
 {
-    note_shown(picture, out.shown(), now);
-    note_answers(picture, out.answers(), now);
+    record_shown(picture, out.shown(), now);
+    record_answers(picture, out.answers(), now);
 }
 
 /// Notes the record that a datagram tells.
 #[tactic(auto, using(smi_view::proofs::Notes::takes_none))]
-fn note_body(picture: &mut Picture, body: &Body, now: u64)
+fn record_body(picture: &mut Picture, body: &Body, now: u64)
     ensures { TakesIn (body_notes body.now now) picture.old picture.new }
 {
     match body {
@@ -83,11 +83,11 @@ fn note_body(picture: &mut Picture, body: &Body, now: u64)
 
 /// Notes the record in the bytes of a datagram, if they are one and it tells one.
 #[tactic(auto, using(smi_view::proofs::Notes::takes_none))]
-pub(crate) fn note_datagram(picture: &mut Picture, bytes: &[u8], now: u64)
+pub(crate) fn record_datagram(picture: &mut Picture, bytes: &[u8], now: u64)
     ensures { TakesIn (datagram_notes bytes.now now) picture.old picture.new }
 {
     match decode(bytes) {
-        Ok(datagram) => note_body(picture, &datagram.body, now),
+        Ok(datagram) => record_body(picture, &datagram.body, now),
         Err(_) => {}
     }
 }

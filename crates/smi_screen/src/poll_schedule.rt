@@ -13,7 +13,7 @@ const BETWEEN_TICKS: u64 = 300;
 
 /// The schedule of an observer: which objects and domains come next, and when.
 #[derive(Clone, Copy, PartialEq, Eq)]
-pub struct Pace {
+pub struct PollSchedule {
     objects: u16,
     domains: u16,
     /// How many objects are watched.
@@ -24,10 +24,10 @@ pub struct Pace {
     ticked_at: u64,
 }
 
-impl Pace {
+impl PollSchedule {
     /// Returns the schedule of an observer of this many objects and domains that has done nothing yet.
-    pub fn new(objects: u16, domains: u16) -> Pace {
-        Pace {
+    pub fn new(objects: u16, domains: u16) -> PollSchedule {
+        PollSchedule {
             objects,
             domains,
             watched: 0,

@@ -3,7 +3,7 @@ use Rattle.std.specs.List.{flat_map}
 use Rattle.smi_view.specs.Noted.{TakesIn}
 use Rattle.smi_view.specs.Pictured.{Pictured}
 use Rattle.smi_screen.specs.Noting.{answer_notes}
-use Rattle.smi_screen.proofs.noting.note_answers.Given as goal
+use Rattle.smi_screen.proofs.picture_update.record_answers.Given as goal
 
 -- whatever the others leave, all leave
 abbrev pub invariant-loop-answer : goal.invariant-loop-answer

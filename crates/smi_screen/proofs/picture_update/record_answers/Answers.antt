@@ -5,7 +5,7 @@ use Rattle.smi_node.proofs.Sends.{drop_next}
 use Rattle.smi_view.specs.Noted.{TakesIn}
 use Rattle.smi_view.proofs.Notes.{takes_both, takes_none}
 use Rattle.smi_screen.specs.Noting.{answer_notes}
-use Rattle.smi_screen.proofs.noting.note_answers.Goals as goal
+use Rattle.smi_screen.proofs.picture_update.record_answers.Goals as goal
 
 pub loop-answer-preserved : goal.loop-answer-preserved
 loop-answer-preserved c =
@@ -18,8 +18,8 @@ loop-answer-preserved c =
     ∙ ap (λ (x : Answer). x ∷ drop (i + 1) xs) (sym c.answer-item.is) in
     c.loop-answer.invariant after
     (subst (λ (rest : List Answer). TakesIn (flat_map notes rest) c.loop-answer.picture after) (sym next)
-    (takes_both (notes a) (flat_map notes (drop (i + 1) xs)) c.loop-answer.picture c.note_answer.new.picture after
-    c.note_answer.ensures more))
+    (takes_both (notes a) (flat_map notes (drop (i + 1) xs)) c.loop-answer.picture c.record_answer.new.picture after
+    c.record_answer.ensures more))
 
 pub returns : goal.returns
 returns c =

@@ -6,30 +6,30 @@ use std::io::{ErrorKind, Read, Write};
 /// How many milliseconds a connection has for its first request and the answer to it, and between two answers.
 const PATIENCE: u64 = 5_000;
 
-const REST: u64 = 15_000;
+const IDLE_TIMEOUT: u64 = 15_000;
 
 /// A connection over its stream, and its deadline.
 #[derive(Drop)]
-pub struct Guest<T> {
+pub struct HttpConnection<T> {
     stream: T,
-    connection: Connection,
+    protocol: Connection,
     until: u64,
-    is_leaving: bool,
+    should_close: bool,
 }
 
 /// Returns true if a stream that never waits has nothing to read, or no room to write, as yet.
-fn is_to_be_tried_again(kind: ErrorKind) -> bool {
+fn should_retry(kind: ErrorKind) -> bool {
     matches!(kind, ErrorKind::WouldBlock | ErrorKind::Interrupted)
 }
 
-impl<T: Read + Write> Guest<T> {
-    /// Returns a guest who comes now.
-    pub fn new(stream: T, connection: Connection, now: u64) -> Guest<T> {
-        Guest {
+impl<T: Read + Write> HttpConnection<T> {
+    /// Returns a connection that comes now.
+    pub fn new(stream: T, protocol: Connection, now: u64) -> HttpConnection<T> {
+        HttpConnection {
             stream,
-            connection,
+            protocol,
             until: now.saturating_add(PATIENCE),
-            is_leaving: false,
+            should_close: false,
         }
     }
 
@@ -39,46 +39,46 @@ impl<T: Read + Write> Guest<T> {
     }
 
     /// Returns true if it is done, or its time is up, or its stream has failed.
-    pub fn is_leaving(&self) -> bool {
-        self.is_leaving
+    pub fn should_close(&self) -> bool {
+        self.should_close
     }
 
     fn read(&mut self) {
-        match self.connection.read_from(&mut self.stream) {
+        match self.protocol.read_from(&mut self.stream) {
             Ok(_) => {}
-            Err(e) if is_to_be_tried_again(e.kind()) => {}
-            Err(_) => self.is_leaving = true,
+            Err(e) if should_retry(e.kind()) => {}
+            Err(_) => self.should_close = true,
         }
     }
 
     fn write(&mut self, now: u64) {
-        match self.connection.write_to(&mut self.stream) {
-            Ok(0) => self.is_leaving = true,
+        match self.protocol.write_to(&mut self.stream) {
+            Ok(0) => self.should_close = true,
             Ok(_) => {
-                if !self.connection.wants_write() {
-                    self.until = now.saturating_add(REST);
+                if !self.protocol.wants_write() {
+                    self.until = now.saturating_add(IDLE_TIMEOUT);
                 }
             }
-            Err(e) if is_to_be_tried_again(e.kind()) => {}
-            Err(_) => self.is_leaving = true,
+            Err(e) if should_retry(e.kind()) => {}
+            Err(_) => self.should_close = true,
         }
     }
 
     /// Makes one turn: at most one read, answers to what has been read, and at most one write.
     pub fn turn<S: Service>(&mut self, service: &mut S, now: u64) {
         if now >= self.until {
-            self.is_leaving = true;
+            self.should_close = true;
             return;
         }
-        if self.connection.wants_read() {
+        if self.protocol.wants_read() {
             self.read();
         }
-        self.connection.advance(service);
-        if self.connection.wants_write() {
+        self.protocol.advance(service);
+        if self.protocol.wants_write() {
             self.write(now);
         }
-        if self.connection.is_done() {
-            self.is_leaving = true;
+        if self.protocol.is_done() {
+            self.should_close = true;
         }
     }
 }

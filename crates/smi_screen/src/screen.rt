@@ -1,13 +1,15 @@
 //! Runs a screen.
 
+ghost use Rattle.std.specs.Prelude.{◌≡◌, IfOk};
+
 use crate::console::ConsoleAddress;
-use crate::gate::Gate;
-use crate::house::House;
-use crate::pace::Pace;
+use crate::http_listener::HttpListener;
+use crate::poll_schedule::PollSchedule;
+use crate::screen_parts::{ScreenParts, build_parts};
 use crate::server::ScreenServer;
-use crate::stage::{Stage, staged};
+use crate::web_server::WebServer;
 use bytes::Bytes;
-use smi_link::UdpLink;
+use smi_link::{Sources, UdpLink};
 use smi_protocol::OpenFault;
 use smi_rows::Stable;
 use smi_station::{Station, migrate};
@@ -30,8 +32,8 @@ pub enum Ended {
     Stopped,
     /// There was no socket for its station, or it failed a hundred times in a row.
     Link,
-    /// There was no socket for its guests, or no clock.
-    Gate,
+    /// There was no socket for its web server, or no clock.
+    Listener,
     /// Out of memory.
     Memory,
     /// The tree has no operator at its station.
@@ -48,11 +50,13 @@ impl From<AllocError> for Ended {
 
 /// What a page needs to give orders.
 #[derive(Drop)]
-pub struct Giving {
+pub struct OrderSetup {
     /// The console of the node of the operators who order.
     pub console: ConsoleAddress,
     /// What the page has to show with each order.
     pub key: Bytes,
+    /// The origin of the page at a proxy, if there is one.
+    pub origin: Option<Bytes>,
     /// The tree, a second time, because the service owns it.
     pub tree: Tree,
 }
@@ -64,19 +68,21 @@ pub struct ScreenSetup {
     pub station: u16,
     /// The address of each station, by number.
     pub peers: Vec<SocketAddr>,
+    /// From where datagrams have to come.
+    pub sources: Sources,
     /// The address of the screen.
     pub http: SocketAddr,
     /// The values of `Host` that are answered.
     pub hosts: Vec<Vec<u8>>,
     pub page: Bytes,
     /// The orders that its page may give, if it may.
-    pub giving: Option<Giving>,
+    pub orders: Option<OrderSetup>,
     /// How many turns it looks, none if it looks without end.
     pub turns: Option<u32>,
 }
 
 /// Returns why there is no socket: out of memory, or this.
-fn refused(error: io::Error, other: Ended) -> Ended {
+fn error_of(error: io::Error, other: Ended) -> Ended {
     if error.kind() == ErrorKind::OutOfMemory {
         Ended::Memory
     } else {
@@ -84,42 +90,42 @@ fn refused(error: io::Error, other: Ended) -> Ended {
     }
 }
 
-/// Opens a gate at an address.
-fn gate_at<R: Net<Listener = TcpListener, Stream = TcpStream>>(
+/// Opens the listener of a screen at an address.
+fn listen<R: Net<Listener = TcpListener, Stream = TcpStream>>(
     rt: &R,
     alloc: Global,
     keys: RandomState,
     http: SocketAddr,
-) -> Result<Gate, Ended> {
-    match Gate::open(rt, alloc, keys, http) {
-        Ok(gate) => Ok(gate),
-        Err(error) => Err(refused(error, Ended::Gate)),
+) -> Result<HttpListener, Ended> {
+    match HttpListener::open(rt, alloc, keys, http) {
+        Ok(listener) => Ok(listener),
+        Err(error) => Err(error_of(error, Ended::Listener)),
     }
 }
 
-/// Makes the picture of a screen, and its house once its gate is open.
-fn housed<R: Net<Listener = TcpListener, Stream = TcpStream> + AllocGlobal>(
+/// Makes the picture of a screen, and its web server once its listener is open.
+fn build_web_server<R: Net<Listener = TcpListener, Stream = TcpStream> + AllocGlobal>(
     rt: &R,
     tree: &Tree,
     keys: RandomState,
     setup: &mut ScreenSetup,
-) -> Result<(Picture, Box<House>), Ended> {
+) -> Result<(Picture, Box<WebServer>), Ended> {
     let alloc = rt.alloc();
-    let stage = staged(alloc, tree, setup)?;
-    let gate = gate_at(rt, alloc, keys, setup.http)?;
-    let Stage {
+    let parts = build_parts(alloc, tree, setup)?;
+    let listener = listen(rt, alloc, keys, setup.http)?;
+    let ScreenParts {
         picture,
-        window,
+        service,
         console,
-    } = Box::into_inner(stage);
-    match Box::new(alloc, House::new(alloc, window, gate, console)) {
-        Ok(house) => Ok((picture, house)),
+    } = Box::into_inner(parts);
+    match Box::new(alloc, WebServer::new(alloc, service, listener, console)) {
+        Ok(web_server) => Ok((picture, web_server)),
         Err(_) => Err(Ended::Memory),
     }
 }
 
 /// Returns what a screen works with, in a box, because each place that drops one is expensive to prove.
-fn server_of<R: Net<Listener = TcpListener, Stream = TcpStream> + Wait + Clock + AllocGlobal>(
+fn build_server<R: Net<Listener = TcpListener, Stream = TcpStream> + Wait + Clock + AllocGlobal>(
     rt: &R,
     tree: &Tree,
     operator: u16,
@@ -127,11 +133,11 @@ fn server_of<R: Net<Listener = TcpListener, Stream = TcpStream> + Wait + Clock +
     setup: &mut ScreenSetup,
 ) -> Result<Box<ScreenServer>, Ended> {
     let Ok(start) = Instant::now(rt) else {
-        return Err(Ended::Gate);
+        return Err(Ended::Listener);
     };
-    let (picture, house) = housed(rt, tree, keys, setup)?;
-    let pace = Pace::new(tree.object_count(), tree.domain_count());
-    let server = ScreenServer::new(operator, start, pace, picture, house);
+    let (picture, web_server) = build_web_server(rt, tree, keys, setup)?;
+    let schedule = PollSchedule::new(tree.object_count(), tree.domain_count());
+    let server = ScreenServer::new(operator, start, schedule, picture, web_server);
     match Box::new(rt.alloc(), server) {
         Ok(server) => Ok(server),
         Err(_) => Err(Ended::Memory),
@@ -139,19 +145,25 @@ fn server_of<R: Net<Listener = TcpListener, Stream = TcpStream> + Wait + Clock +
 }
 
 /// Opens the link of a station, which takes its peers out of the setup.
-fn linked<'a, R: Net + Clock + AllocGlobal>(
+fn open_link<'a, R: Net + Clock + AllocGlobal>(
     rt: &'a R,
     setup: &mut ScreenSetup,
-) -> Result<UdpLink<&'a R>, Ended> {
+) -> Result<UdpLink<&'a R>, Ended>
+    ensures { IfOk result (λ link. link.sources ≡ setup.old.sources) }
+{
     let peers = replace(&mut setup.peers, Vec::new(rt.alloc()));
     match UdpLink::open(rt, rt, setup.station, peers) {
-        Ok(link) => Ok(link),
-        Err(error) => Err(refused(error, Ended::Link)),
+        Ok(link) => {
+            let mut link = link;
+            link.accept_from(setup.sources);
+            Ok(link)
+        }
+        Err(error) => Err(error_of(error, Ended::Link)),
     }
 }
 
 /// Looks with a station that is open.
-fn looked<
+fn look_with_station<
     S: Stable,
     R: Net<Listener = TcpListener, Stream = TcpStream> + Wait + Clock + AllocGlobal,
 >(
@@ -164,12 +176,13 @@ fn looked<
     let Some(operator) = station.operators().first().copied() else {
         return Err(Ended::NoOperator);
     };
-    let mut link = linked(rt, setup)?;
-    let mut server = server_of(rt, tree, operator, keys, setup)?;
+    let mut link = open_link(rt, setup)?;
+    let mut server = build_server(rt, tree, operator, keys, setup)?;
     server.serve(rt, tree, station, &mut link, setup.turns)
 }
 
-fn how_it_ended(looked: Result<(), Ended>) -> Ended {
+/// Returns how a screen ended.
+fn end_of(looked: Result<(), Ended>) -> Ended {
     match looked {
         Ok(()) => Ended::Turns,
         Err(ended) => ended,
@@ -177,14 +190,14 @@ fn how_it_ended(looked: Result<(), Ended>) -> Ended {
 }
 
 /// Opens the station on its store, and has it look.
-fn opened<
+fn open_and_look<
     S: Stable,
     R: Net<Listener = TcpListener, Stream = TcpStream> + Wait + Clock + AllocGlobal,
 >(rt: &R, tree: &Tree, keys: RandomState, setup: &mut ScreenSetup, store: S) -> (Ended, S) {
     match Station::open(rt.alloc(), tree, setup.station, store) {
         Ok(station) => {
             let mut station = station;
-            let how = how_it_ended(looked(rt, tree, keys, setup, &mut station));
+            let how = end_of(look_with_station(rt, tree, keys, setup, &mut station));
             (how, station.into_stable())
         }
         Err((fault, store)) => (Ended::Opening(fault), store),
@@ -194,15 +207,15 @@ fn opened<
 /// Runs a screen, and gives its store back.
 ///
 /// The rows of its station are brought into their newest schema, the station is opened, its own socket is, and last
-/// that for its guests; then it looks, for this many turns or until a fault. The keys are those of its guests' headers.
-/// What the setup has is taken out of it as it is needed.
+/// that of its web server; then it looks, for this many turns or until a fault. Headers of requests are kept under
+/// these keys. What the setup has is taken out of it as it is needed.
 pub fn run<
     S: Stable,
     R: Net<Listener = TcpListener, Stream = TcpStream> + Wait + Clock + AllocGlobal,
 >(rt: &R, tree: &Tree, keys: RandomState, setup: &mut ScreenSetup, store: S) -> (Ended, S) {
     let mut store = store;
     match migrate(rt.alloc(), tree, setup.station, &mut store) {
-        Ok(_) => opened(rt, tree, keys, setup, store),
+        Ok(_) => open_and_look(rt, tree, keys, setup, store),
         Err(fault) => (Ended::Opening(fault), store),
     }
 }

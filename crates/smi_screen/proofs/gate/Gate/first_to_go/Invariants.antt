@@ -1,6 +1,0 @@
-use Rattle.std.proofs.Common.{◌<◌}
-use Rattle.smi_screen.proofs.gate.Gate.first_to_go.Given as goal
-
--- it is among them
-abbrev pub invariant-loop-place : goal.invariant-loop-place
-invariant-loop-place l = l.first < l.self.guests
