@@ -4,7 +4,7 @@
 #![tactic(auto)]
 
 use smi_commands::status::no_memory;
-use smi_program::{program, tell_help, tell_tree_fault, words_of};
+use smi_program::{program, tell_help, tell_path_fault, tell_tree_fault, words_of};
 use std::io::IsTerminal;
 use std::process::ExitCode;
 
@@ -16,6 +16,7 @@ fn main(rt: HostRuntime) -> ExitCode {
             let (reader, writer, aside) = (rt.reader(), rt.stdout(), rt.stderr());
             let status = program(&rt, &words, reader, writer, &mut faults, aside);
             tell_tree_fault(&rt, &words, status, is_terminal, &mut faults);
+            tell_path_fault(&rt, &words, status, is_terminal, &mut faults);
             status
         }
         Err(_) => no_memory(&mut faults).code(),

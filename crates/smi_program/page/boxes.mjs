@@ -119,5 +119,5 @@ export function showDevice(d) {
   paint(d.dot, state);
   const title = d.name + " " + (state || "not seen");
   if (d.dot.title !== title) d.dot.title = title;
-  set(d.dot, isAlarm(d) ? "!" : state === "" || state === "UNKNOWN" ? "?" : "");
+  set(d.dot, isAlarm(d) ? "!" : isUnknown(d) ? "?" : "");
 }

@@ -1,7 +1,7 @@
 // The colours of states and of people.
 
 import { flag, style } from "./dom.mjs";
-import { ALARM, tree } from "./model.mjs";
+import { ALARM, styleOf, tree } from "./model.mjs";
 
 /** @type {Record<string, string>} */
 const KNOWN = { OFF: "#5f6b7a", UNKNOWN: "#b9a7c9", STANDBY: "#7cc4ee", RAMPING: "#f0b429", READY: "#1f6fd6",
@@ -13,6 +13,9 @@ const NAMED = [[ALARM, KNOWN.ERROR], [/UNKNOWN|UNDEF|DEAD|LOST/, KNOWN.UNKNOWN],
   [/RAMP|SWITCHING|STARTING|STOPPING|CONFIGURING|MOVING|WAIT|BUSY/, KNOWN.RAMPING],
   [/STANDBY|IDLE|INIT/, KNOWN.STANDBY],
   [/RUN|TAKING|PHYSICS/, KNOWN.RUNNING], [/READY|^ON$|_ON$|CONFIGURED/, KNOWN.READY]];
+// The colour of each kind that a style file knows.
+/** @type {Record<string, string>} */
+const KINDS = { ok: KNOWN.RUNNING, busy: KNOWN.RAMPING, off: KNOWN.OFF, alarm: KNOWN.ERROR, unknown: KNOWN.UNKNOWN };
 const SPARE = ["#6b8e23", "#008b8b", "#b565a7", "#a0522d", "#4682b4", "#556b2f", "#5f6fd0"];
 // None of these is near a colour of a state, and each can be told from white and from the dark background.
 const PEOPLE = ["#5555aa", "#ff7700", "#339977", "#bb77ff", "#994422", "#ff66aa", "#aa8822", "#8888bb", "#aa4499"];
@@ -37,6 +40,8 @@ export function inkOn(colour) {
 /** Returns the colour of a state.
  * @param {string} state @returns {string} */
 export function stateColour(state) {
+  const own = styleOf(state);
+  if (own) return own[1] || KINDS[own[0]];
   const named = NAMED.find(([pattern]) => pattern.test(state));
   return KNOWN[state] || (named ? named[1] : SPARE[Math.max(0, tree.states.indexOf(state)) % SPARE.length]);
 }

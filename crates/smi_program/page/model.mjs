@@ -14,8 +14,11 @@
 /** @typedef {{frame: number, now: number, domains: any[], devices: any[]}} Picture */
 
 export const HOUR = 3600000;
-// A state of such a name is an alarm, because a tree does not say which are.
+// A state of such a name is an alarm if no style says what it is, because a tree does not say which are.
 export const ALARM = /ERROR|FAULT|ALARM|TRIP/;
+// What the style file of the screen says of states: the kind of each, and its colour or "".
+/** @type {Map<string, [string, string]>} */
+let styles = new Map();
 
 /** @type {any} */
 export let tree = null;
@@ -80,12 +83,24 @@ export function commander(d) {
 export const stateOf = (x) => x.shown === null ? "" : x.shown.state;
 /** @param {Domain | Device} x */
 export const versionOf = (x) => x.shown === null ? "" : x.shown.boot + "." + x.shown.sequence;
+/** Takes what a style file says of states. The screen calls it below this page, if it has one.
+ * @param {Record<string, [string, string]>} said */
+export function setStyle(said) { styles = new Map(Object.entries(said)); }
+/** @param {string} state */
+export const styleOf = (state) => styles.get(state);
+/** Returns what a state says of an object: ok, busy, off, alarm or unknown, and "" if that is not known.
+ * @param {string} state */
+export function kindOf(state) {
+  const own = styles.get(state);
+  if (own) return own[0];
+  return ALARM.test(state) ? "alarm" : state === "UNKNOWN" ? "unknown" : "";
+}
 /** Returns true if an object is in a state that somebody has to look after.
  * @param {Domain | Device} x */
-export const isAlarm = (x) => ALARM.test(stateOf(x));
+export const isAlarm = (x) => kindOf(stateOf(x)) === "alarm";
 /** Returns true if nothing is known of an object: no alarm, but no reason to be calm either.
  * @param {Domain | Device} x */
-export const isUnknown = (x) => stateOf(x) === "" || stateOf(x) === "UNKNOWN";
+export const isUnknown = (x) => stateOf(x) === "" || kindOf(stateOf(x)) === "unknown";
 
 /** @param {Domain} d */
 export const holderOf = (d) => d.told && d.told.holder;

@@ -11,6 +11,10 @@ script_of key = codes "<script>const KEY = \"" ++ key ++ codes "\";</script>\n"
 abbrev pub with_orders : (page key orders : List ℕ) → List ℕ
 with_orders page key orders = page ++ script_of key ++ orders
 
--- the page of the screen with which orders may be given by this key
-abbrev pub page_with_orders : List ℕ → List ℕ
-page_with_orders key = with_orders PAGE.now key ORDERS.now
+-- the page of the screen, and after it the script by which it is told a style
+abbrev pub page_with_style : List ℕ → List ℕ
+page_with_style style = PAGE.now ++ style
+
+-- a page of the screen with which orders may be given by this key
+abbrev pub page_with_orders : (page key : List ℕ) → List ℕ
+page_with_orders page key = with_orders page key ORDERS.now

@@ -2,7 +2,8 @@
 //!
 //! [`words_of`] takes the words of a command line as the system has them, which need not be text, and [`line_of`]
 //! says what they ask for. [`program`] does that. At a terminal [`tell_help`] says after a wrong line where help is,
-//! and [`tell_tree_fault`] after a tree file that was refused what is wrong with it. A path is found again by the bytes
+//! [`tell_tree_fault`] after a tree file that was refused what is wrong with it, and [`tell_path_fault`] which path
+//! could not be read. A path is found again by the bytes
 //! of its word ([`bytes_of`]). What a command without stations does is proved in `smi_commands`; a node is run by
 //! `smi_console`, and a screen by `smi_screen`.
 //!
@@ -12,8 +13,9 @@
 //!
 //! The page of a screen is one file, with its style and its script, which fetches nothing from elsewhere. It is
 //! written in parts, in the folder `page` beside this crate's sources, and served as the constant [`PAGE`], which
-//! tools/page.py puts together. If orders may be given the page goes on ([`page_with_orders`]): after it come the key
-//! that a page has to show with each order, and the parts that give orders ([`ORDERS`]).
+//! tools/page.py puts together. After it comes what a style file says of states ([`page_with_style`]), if the screen
+//! has one. If orders may be given the page goes on ([`page_with_orders`]): after it come the key that a page has to
+//! show with each order, and the parts that give orders ([`ORDERS`]).
 #![tactic(auto)]
 
 mod audit;
@@ -23,10 +25,12 @@ mod line;
 mod node;
 mod orders;
 mod page;
+mod path_words;
 mod reopened_file;
 mod screen;
 mod sim;
 pub mod simulating;
+mod style;
 mod tree;
 mod tree_words;
 mod with_orders;
@@ -39,6 +43,7 @@ pub use line::{
 };
 pub use orders::ORDERS;
 pub use page::PAGE;
+pub use path_words::tell_path_fault;
 pub use tree_words::tell_tree_fault;
-pub use with_orders::{page_bytes, page_with_orders};
+pub use with_orders::{page_bytes, page_with_orders, page_with_style};
 pub use words::{Words, bytes_after, bytes_of, words_of};

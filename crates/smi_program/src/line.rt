@@ -2,6 +2,7 @@
 
 use clap::error::ErrorKind;
 use clap::{Arg, ArgAction, ArgMatches, Command, Error};
+use smi_console::Sources;
 use smi_tree::number_within;
 use std::alloc::Global;
 use std::net::{SocketAddr, SocketAddrV4};
@@ -94,10 +95,12 @@ pub struct NodeLine<'a> {
     pub accepts_older: bool,
     /// The folder of its journal, if it has one.
     pub journal: Option<JournalOptions<'a>>,
+    /// From where its datagrams have to come.
+    pub sources: Sources,
 }
 
-/// A screen: the path of its tree, the name of its station, the path of its store, where its guests come, by what name
-/// they know it beside its address, where the orders go that are given from its page, and how long it looks.
+/// A screen: the path of its tree, the name of its station, the path of its store, where browsers reach it, by what
+/// name they know it beside its address, where the orders go that are given from its page, and how long it looks.
 #[derive(Clone, Copy)]
 pub struct ScreenLine<'a> {
     pub tree: &'a str,
@@ -105,6 +108,12 @@ pub struct ScreenLine<'a> {
     pub store: &'a str,
     pub http: SocketAddr,
     pub name: Option<&'a str>,
+    /// The origin under which a proxy serves the page, if one does.
+    pub origin: Option<&'a str>,
+    /// The path of the file that says how its page shows states, if there is one.
+    pub style: Option<&'a str>,
+    /// From where its datagrams have to come.
+    pub sources: Sources,
     /// The console of the node whose operators may order from its page.
     pub orders: Option<ConsolePlace<'a>>,
     /// How many turns it looks, none if it looks without end.
@@ -259,6 +268,7 @@ fn station_command<'a>(alloc: Global, name: &'a str) -> Result<Command<'a>, Erro
     let form = form.arg(flag(alloc, "endless"))?;
     let form = form.arg(flag(alloc, "accept-older"))?;
     let form = form.arg(flag(alloc, "open"))?;
+    let form = form.arg(Arg::new(alloc, "SOURCES").long("sources"))?;
     let console = Arg::new(alloc, "C").long("console");
     Ok(form.arg(console.action(ArgAction::Append))?)
 }
@@ -273,6 +283,8 @@ fn screen_command<'a>(alloc: Global) -> Result<Command<'a>, Error> {
     let form = station_command(alloc, "screen")?;
     let form = form.arg(Arg::new(alloc, "ADDRESS").long("http").required(true))?;
     let form = form.arg(Arg::new(alloc, "NAME").long("host"))?;
+    let form = form.arg(Arg::new(alloc, "ORIGIN").long("origin"))?;
+    let form = form.arg(Arg::new(alloc, "STYLE").long("style"))?;
     Ok(form.arg(Arg::new(alloc, "PLACE").long("orders"))?)
 }
 
@@ -314,7 +326,7 @@ fn place_of<'a>(
     name: Option<&'a str>,
     is_open: bool,
 ) -> Option<(SocketAddr, Option<&'a str>)> {
-    let http = SocketAddr::parse_ascii(address.as_bytes()).ok()?;
+    let http = SocketAddr::V4(address.parse::<SocketAddrV4>().ok()?);
     if name.is_some() == is_open && (is_open || http.ip().is_loopback()) {
         Some((http, name))
     } else {
@@ -322,9 +334,28 @@ fn place_of<'a>(
     }
 }
 
+/// Returns true if this is a byte of a host, or of the port after it, as browsers write both.
+fn is_of_host(byte: u8) -> bool {
+    byte.is_ascii_lowercase() || byte.is_ascii_digit() || matches!(byte, b'.' | b'-' | b':')
+}
+
+/// Returns the origin that a word is: a scheme of the web and a host, as browsers write them. None for any other word,
+/// since no browser would ever say it.
+fn origin_of(word: &str) -> Option<&str> {
+    let (scheme, host) = word.split_once("://")?;
+    let is_one = matches!(scheme, "http" | "https")
+        && !host.is_empty()
+        && host.as_bytes().iter().all(|byte| is_of_host(*byte));
+    if is_one { Some(word) } else { None }
+}
+
 fn screen_line<'a>(given: &ArgMatches<'a>) -> Option<ScreenLine<'a>> {
     let address = given.get_str("ADDRESS")?;
     let (http, name) = place_of(address, given.get_str("NAME"), given.get_flag("open"))?;
+    let origin = match given.get_str("ORIGIN") {
+        Some(word) => Some(origin_of(word)?),
+        None => None,
+    };
     let orders = match given.get_str("PLACE") {
         Some(word) => Some(console_place(word)?),
         None => None,
@@ -335,6 +366,9 @@ fn screen_line<'a>(given: &ArgMatches<'a>) -> Option<ScreenLine<'a>> {
         store: given.get_str("STORE")?,
         http,
         name,
+        origin,
+        style: given.get_str("STYLE"),
+        sources: sources_of(given.get_str("SOURCES"))?,
         orders,
         turns: turns_of(given.get_str("T"), given.get_flag("endless"))?,
         accepts_older: given.get_flag("accept-older"),
@@ -353,7 +387,18 @@ fn node_line<'a>(given: &ArgMatches<'a>) -> Option<NodeLine<'a>> {
         second_console,
         accepts_older: given.get_flag("accept-older"),
         journal: journal_line(given.get_str("FOLDER"), given.get_flag("journal-sync"))?,
+        sources: sources_of(given.get_str("SOURCES"))?,
     })
+}
+
+/// Returns from where the datagrams of a station have to come: if no word says so, from the host of their sender.
+fn sources_of(word: Option<&str>) -> Option<Sources> {
+    match word {
+        None | Some("host") => Some(Sources::Host),
+        Some("exact") => Some(Sources::Exact),
+        Some("any") => Some(Sources::Any),
+        Some(_) => None,
+    }
 }
 
 /// Returns where a journal is written, if one is asked for. To sync none is no form.

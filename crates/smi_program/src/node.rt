@@ -107,6 +107,7 @@ fn setup_of<H: Files + AllocGlobal, F: Write>(
                 tree,
                 station,
                 turns: turns_of(line.turns),
+                sources: line.sources,
                 consoles,
                 journal,
             };

@@ -281,6 +281,7 @@ function keep(what, value) {
 }
 const HOUR = 3600000;
 const ALARM = /ERROR|FAULT|ALARM|TRIP/;
+let styles = new Map();
 let tree = null;
 let domains = new Map();
 let devices = new Map();
@@ -316,8 +317,15 @@ function commander(d) {
 }
 const stateOf = (x) => x.shown === null ? \"\" : x.shown.state;
 const versionOf = (x) => x.shown === null ? \"\" : x.shown.boot + \".\" + x.shown.sequence;
-const isAlarm = (x) => ALARM.test(stateOf(x));
-const isUnknown = (x) => stateOf(x) === \"\" || stateOf(x) === \"UNKNOWN\";
+function setStyle(said) { styles = new Map(Object.entries(said)); }
+const styleOf = (state) => styles.get(state);
+function kindOf(state) {
+  const own = styles.get(state);
+  if (own) return own[0];
+  return ALARM.test(state) ? \"alarm\" : state === \"UNKNOWN\" ? \"unknown\" : \"\";
+}
+const isAlarm = (x) => kindOf(stateOf(x)) === \"alarm\";
+const isUnknown = (x) => stateOf(x) === \"\" || kindOf(stateOf(x)) === \"unknown\";
 const holderOf = (d) => d.told && d.told.holder;
 const held = (d) => d.children.filter((c) => { const h = holderOf(c); return h && h.domain === d.name; });
 function heardStations() {
@@ -391,6 +399,7 @@ const NAMED = [[ALARM, KNOWN.ERROR], [/UNKNOWN|UNDEF|DEAD|LOST/, KNOWN.UNKNOWN],
   [/RAMP|SWITCHING|STARTING|STOPPING|CONFIGURING|MOVING|WAIT|BUSY/, KNOWN.RAMPING],
   [/STANDBY|IDLE|INIT/, KNOWN.STANDBY],
   [/RUN|TAKING|PHYSICS/, KNOWN.RUNNING], [/READY|^ON$|_ON$|CONFIGURED/, KNOWN.READY]];
+const KINDS = { ok: KNOWN.RUNNING, busy: KNOWN.RAMPING, off: KNOWN.OFF, alarm: KNOWN.ERROR, unknown: KNOWN.UNKNOWN };
 const SPARE = [\"#6b8e23\", \"#008b8b\", \"#b565a7\", \"#a0522d\", \"#4682b4\", \"#556b2f\", \"#5f6fd0\"];
 const PEOPLE = [\"#5555aa\", \"#ff7700\", \"#339977\", \"#bb77ff\", \"#994422\", \"#ff66aa\", \"#aa8822\", \"#8888bb\", \"#aa4499\"];
 const inks = new Map();
@@ -406,6 +415,8 @@ function inkOn(colour) {
   return inks.get(colour);
 }
 function stateColour(state) {
+  const own = styleOf(state);
+  if (own) return own[1] || KINDS[own[0]];
   const named = NAMED.find(([pattern]) => pattern.test(state));
   return KNOWN[state] || (named ? named[1] : SPARE[Math.max(0, tree.states.indexOf(state)) % SPARE.length]);
 }
@@ -903,7 +914,7 @@ function showDevice(d) {
   paint(d.dot, state);
   const title = d.name + \" \" + (state || \"not seen\");
   if (d.dot.title !== title) d.dot.title = title;
-  set(d.dot, isAlarm(d) ? \"!\" : state === \"\" || state === \"UNKNOWN\" ? \"?\" : \"\");
+  set(d.dot, isAlarm(d) ? \"!\" : isUnknown(d) ? \"?\" : \"\");
 }
 const MOST_LOGGED = 2000;
 let log = [];

@@ -4,14 +4,15 @@ ghost use Rattle.std.specs.Prelude.{◌≡◌, IfOk};
 
 use crate::line::{ConsolePlace, ScreenLine};
 use crate::node::{Opening, opened};
-use crate::tree::{read_marked, read_tree};
-use crate::with_orders::{page_bytes, page_with_orders};
+use crate::style::style_script;
+use crate::tree::{read_bytes, read_marked, read_tree};
+use crate::with_orders::{page_bytes, page_with_orders, page_with_style};
 use crate::words::{Words, bytes_of};
 use bytes::Bytes;
 use smi_commands::status::{Status, no_memory, read_fault, wrong_line};
 use smi_console::{addresses, link_fault, opening_fault, print_fault, stopped};
 use smi_disks::{Stores, TreeMark};
-use smi_screen::{ConsoleAddress, Ended, Giving, ScreenSetup, hosts_of, run};
+use smi_screen::{ConsoleAddress, Ended, OrderSetup, ScreenSetup, hosts_of, run};
 use smi_tree::Tree;
 use std::alloc::{AllocError, Global};
 use std::hash::RandomState;
@@ -28,7 +29,7 @@ fn told_end<F: Write>(ended: Ended, faults: &mut F) -> Status {
         Ended::Turns => Status::Done,
         Ended::Stopped => stopped(faults),
         Ended::Link => link_fault(faults),
-        Ended::Gate => print_fault("screen fault", faults),
+        Ended::Listener => print_fault("screen fault", faults),
         Ended::Memory => no_memory(faults),
         Ended::NoOperator => wrong_line(faults),
         Ended::Opening(fault) => opening_fault(fault, faults),
@@ -66,34 +67,53 @@ fn console_address_of(
     }
 }
 
-/// A page that may give orders, the key that it has for that, and the console that they go to.
+/// A page that may give orders, the key that it has for that, its origin at a proxy, and the console that they go
+/// to.
 #[derive(Drop)]
 struct Keyed {
     page: Bytes,
     key: Bytes,
+    origin: Option<Bytes>,
     console: ConsoleAddress,
 }
 
-/// Returns a page that may give orders by a key of these bytes, to the console at this place.
+/// Returns this page as one that may give orders by a key of these bytes, under this origin too if there is one, to the
+/// console at this place.
 fn page_with_key(
     alloc: Global,
+    page: &[u8],
     bytes: [u8; KEY],
+    origin: Option<&str>,
     place: ConsolePlace<'_>,
 ) -> Result<Keyed, AllocError> {
     let key = key_in(alloc, bytes)?;
-    let page = page_with_orders(alloc, key.as_slice())?;
+    let page = page_with_orders(alloc, page, key.as_slice())?;
     Ok(Keyed {
         page: kept(page)?,
         key: kept(key)?,
+        origin: match origin {
+            Some(origin) => Some(kept(Vec::from_slice(alloc, origin.as_bytes())?)?),
+            None => None,
+        },
         console: console_address_of(alloc, place)?,
     })
 }
 
 /// Has the page of a screen give orders from now on, of operators of this tree.
 fn give(setup: &mut ScreenSetup, keyed: Keyed, tree: Tree) {
-    let Keyed { page, key, console } = keyed;
+    let Keyed {
+        page,
+        key,
+        origin,
+        console,
+    } = keyed;
     setup.page = page;
-    setup.giving = Some(Giving { console, key, tree });
+    setup.orders = Some(OrderSetup {
+        console,
+        key,
+        origin,
+        tree,
+    });
 }
 
 /// Returns random bytes, which nobody can guess.
@@ -116,11 +136,31 @@ fn with_orders<H: Files + RandomSource + AllocGlobal, F: Write>(
 ) -> Result<(), Status> {
     let bytes = random(host, faults)?;
     let tree = read_tree(host, bytes_of(words, line.tree), faults)?;
-    match page_with_key(host.alloc(), bytes, place) {
+    let page = setup.page.as_slice();
+    match page_with_key(host.alloc(), page, bytes, line.origin, place) {
         Ok(keyed) => {
             give(setup, keyed, tree);
             Ok(())
         }
+        Err(_) => Err(no_memory(faults)),
+    }
+}
+
+/// Returns the page of a screen, after which comes what its style file says of states, if it has one.
+fn page_of<H: Files + AllocGlobal, F: Write>(
+    host: &H,
+    words: &Words,
+    tree: &Tree,
+    line: ScreenLine<'_>,
+    faults: &mut F,
+) -> Result<Bytes, Status> {
+    let Some(path) = line.style else {
+        return Ok(Bytes::from_static(page_bytes()));
+    };
+    let bytes = read_bytes(host, bytes_of(words, path), faults)?;
+    let style = style_script(host.alloc(), tree, bytes.as_slice(), faults)?;
+    match page_with_style(host.alloc(), style.as_slice()) {
+        Ok(page) => kept(page).map_err(|_| no_memory(faults)),
         Err(_) => Err(no_memory(faults)),
     }
 }
@@ -130,6 +170,7 @@ fn setup_of(
     alloc: Global,
     tree: &Tree,
     station: u16,
+    page: Bytes,
     line: ScreenLine<'_>,
 ) -> Result<ScreenSetup, AllocError>
     ensures { IfOk result (λ s. s.station ≡ station) }
@@ -138,10 +179,11 @@ fn setup_of(
     Ok(ScreenSetup {
         station,
         peers,
+        sources: line.sources,
         http: line.http,
-        hosts: hosts_of(alloc, line.http, line.name)?,
-        page: Bytes::from_static(page_bytes()),
-        giving: None,
+        hosts: hosts_of(alloc, line.http, line.name, line.origin)?,
+        page,
+        orders: None,
         turns: line.turns,
     })
 }
@@ -209,7 +251,11 @@ fn set_up<
     let Ok(keys) = RandomState::new(host) else {
         return read_fault(faults);
     };
-    match setup_of(host.alloc(), tree, station, line) {
+    let page = match page_of(host, words, tree, line, faults) {
+        Ok(page) => page,
+        Err(status) => return status,
+    };
+    match setup_of(host.alloc(), tree, station, page, line) {
         Ok(setup) => {
             let mut setup = setup;
             looked(host, words, tree, mark, keys, &mut setup, line, faults)

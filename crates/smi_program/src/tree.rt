@@ -20,8 +20,8 @@ pub fn tree_bytes<H: Files + AllocGlobal>(host: &H, path: &[u8]) -> io::Result<V
     Ok(bytes)
 }
 
-/// Returns the bytes of a tree file, or what is told if they can't be had.
-fn read_bytes<H: Files + AllocGlobal, F: Write>(
+/// Returns the bytes of a tree file or a style file, or what is told if they can't be had.
+pub fn read_bytes<H: Files + AllocGlobal, F: Write>(
     host: &H,
     path: &[u8],
     faults: &mut F,

@@ -1,8 +1,8 @@
-//! The page with which orders may be given.
+//! The page, and what follows it: a style, and what gives orders.
 
 ghost use Rattle.smi_program.specs.declared.page.TheConstants.{PAGE};
-ghost use Rattle.std.specs.Prelude.{◌≡◌, IfOk};
-ghost use Rattle.smi_program.specs.Page.{page_with_orders, script_of, with_orders};
+ghost use Rattle.std.specs.Prelude.{◌≡◌, ◌++◌, IfOk};
+ghost use Rattle.smi_program.specs.Page.{page_with_orders, page_with_style, script_of, with_orders};
 
 use crate::orders::ORDERS;
 use crate::page::PAGE;
@@ -29,13 +29,31 @@ fn with_orders(alloc: Global, page: &[u8], key: &[u8], orders: &[u8]) -> Result<
     Ok(text)
 }
 
-/// Returns the page that may give orders, by this key.
+/// Returns a page of the screen as one that may give orders, by this key.
 ///
 /// It fails only if memory ran out, which tests alone see.
-pub fn page_with_orders(alloc: Global, key: &[u8]) -> Result<Vec<u8>, AllocError>
-    ensures { IfOk result (λ page. page.items ≡ page_with_orders key.now) }
+pub fn page_with_orders(alloc: Global, page: &[u8], key: &[u8]) -> Result<Vec<u8>, AllocError>
+    ensures { IfOk result (λ r. r.items ≡ page_with_orders page.now key.now) }
 {
-    with_orders(alloc, PAGE.as_bytes(), key, ORDERS.as_bytes())
+    with_orders(alloc, page, key, ORDERS.as_bytes())
+}
+
+/// Returns a text with another one after it.
+fn joined(alloc: Global, text: &[u8], more: &[u8]) -> Result<Vec<u8>, AllocError>
+    ensures { IfOk result (λ r. r.items ≡ text.now ++ more.now) }
+{
+    let mut whole = Vec::from_slice(alloc, text)?;
+    whole.extend_from_slice(more)?;
+    Ok(whole)
+}
+
+/// Returns the page, and after it the script by which it is told a style.
+///
+/// It fails only if memory ran out, which tests alone see.
+pub fn page_with_style(alloc: Global, style: &[u8]) -> Result<Vec<u8>, AllocError>
+    ensures { IfOk result (λ r. r.items ≡ page_with_style style.now) }
+{
+    joined(alloc, PAGE.as_bytes(), style)
 }
 
 /// Returns the bytes of the page.
