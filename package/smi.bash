@@ -8,7 +8,7 @@ _smi_words()
     for ((place = 2; place < COMP_CWORD; place++)); do
         word=${COMP_WORDS[place]}
         case $word in
-            --console | --host | --http | --journal | --orders | --seed | --steps | --turns) ((place++)) ;;
+            --console | --host | --http | --journal | --orders | --origin | --seed | --sources | --steps | --style | --turns) ((place++)) ;;
             -*) ;;
             *) words+=("$word") ;;
         esac
@@ -24,8 +24,12 @@ _smi()
         return
     fi
     case $before in
-        --host | --http | --seed | --steps | --turns) return ;;
-        --console | --journal | --orders)
+        --sources)
+            mapfile -t COMPREPLY < <(compgen -W 'any exact host' -- "$word")
+            return
+            ;;
+        --host | --http | --origin | --seed | --steps | --turns) return ;;
+        --console | --journal | --orders | --style)
             compopt -o filenames 2> /dev/null
             mapfile -t COMPREPLY < <(compgen -f -- "$word")
             return
@@ -35,8 +39,8 @@ _smi()
         sim) options='--seed --settle --steps' ;;
         audit) options='--trace' ;;
         check) options='--lint' ;;
-        node) options='--accept-older --console --endless --journal --journal-sync --open --turns' ;;
-        screen) options='--accept-older --endless --host --http --open --orders --turns' ;;
+        node) options='--accept-older --console --endless --journal --journal-sync --open --sources --turns' ;;
+        screen) options='--accept-older --endless --host --http --open --orders --origin --sources --style --turns' ;;
     esac
     if [[ $word == -* ]]; then
         mapfile -t COMPREPLY < <(compgen -W "$options" -- "$word")

@@ -4,6 +4,7 @@ Stations that are away are those that were never started. Nodes, device programs
 """
 
 import os
+import selectors
 import signal
 import subprocess
 import sys
@@ -25,6 +26,8 @@ SOON, SEEN = 0.1, 1.0
 WAITS = 0.7
 # How many device programs and how many people are at one station, and how many places each console has.
 PROGRAMS, PEOPLE, PLACES = 52, 4, 128
+# How many programs flood a node at once, for how many seconds, and how many lines of each are under way.
+FLOODS, FLOOD, UNDER_WAY = 48, 2.0, 32
 
 # A run of a crew over two stations, and domains of three stations that may be away.
 TREE = """tree 5
@@ -374,6 +377,31 @@ def test_full_station(place, programs, subtests):
     with subtests.test("the program gets its place"):
         assert at_last(lambda: {it.object: it.state for it in here.states()}["N1"], "OFF") == "OFF"
     here.close()
+
+
+def flooded(where, line):
+    """Floods a node with a line from many connections at once. Returns how often each of them was answered."""
+    answers, ready = [0] * FLOODS, selectors.DefaultSelector()
+    for number in range(FLOODS):
+        one = lunskaf.connected(where, DEADLINE)
+        one.sendall(line * UNDER_WAY)
+        ready.register(one, selectors.EVENT_READ, number)
+    end = time.monotonic() + FLOOD
+    while time.monotonic() < end:
+        for key, _ in ready.select(0.1):
+            count = key.fileobj.recv(65_536).count(b"\n")
+            answers[key.data] += count
+            key.fileobj.sendall(line * count)
+    for key in list(ready.get_map().values()):
+        key.fileobj.close()
+    return answers
+
+
+@pytest.mark.alone
+def test_floods_share(place):
+    """Programs that flood a node with reports, more than it can take, are each answered their share."""
+    answers = flooded(place.where("HERE", "devices"), b"@r report N1 READY\n")
+    assert min(answers) > sum(answers) / FLOODS / 4, answers
 
 
 def test_numbers(place, subtests):

@@ -57,9 +57,10 @@ class Night:
         return running.is_so(lambda: any(line.endswith(" " + words) for path in self.files(station)
                                          for line in running.read(path).decode().splitlines()))
 
-    def forge(self, station, data):
-        """Sends a datagram to a station."""
+    def forge(self, station, data, host="127.0.0.1"):
+        """Sends a datagram to a station, from a port of this host."""
         with socket.socket(socket.AF_INET, socket.SOCK_DGRAM) as out:
+            out.bind((host, 0))
             out.sendto(data, ("127.0.0.1", self.ports[station - 1]))
 
     def include(self):
@@ -140,6 +141,32 @@ def test_a_forged_take_gives_a_grant_that_nobody_learns_of(both):
     assert both.says("B", "granted TPC 1 ANN")
     status, said = both.audit()
     assert (status, said.split(":")[0]) == (0, "safe")
+
+
+def unread(node):
+    """Returns how many datagrams the node has refused for their length."""
+    words = node.ask("@c counts").split()
+    return int(words[words.index("refused1") + 1])
+
+
+@pytest.mark.parametrize("words, host, is_heard", [
+    ((), "127.0.0.1", True), ((), "127.0.0.2", False), (("--sources", "host"), "127.0.0.2", False),
+    (("--sources", "exact"), "127.0.0.1", False), (("--sources", "exact"), "127.0.0.2", False),
+    (("--sources", "any"), "127.0.0.2", True)])
+def test_where_a_datagram_has_to_come_from(night, words, host, is_heard):
+    """A forged take from a host is granted, or refused as one without bytes. Those of the stations are always heard."""
+    other, node = night.start("A", *words), night.start("B", *words)
+    assert other.ask("order ANN ask TPC") == "told ANN ask TPC free 0 0 settled 0"
+    before = unread(node)
+    for _ in range(3):
+        night.forge(B, datagram(layout.TAKE, **{"from": A}, to=B, subject=TPC, holder_kind=OPERATOR, holder=1, epoch=0),
+                    host)
+    if is_heard:
+        assert night.says("B", "granted TPC 1 ANN")
+    else:
+        assert running.is_so(lambda: unread(node) >= before + 3)
+        assert other.ask("order ANN ask TPC") == "told ANN ask TPC free 0 0 settled 0"
+        assert other.ask("order ANN take TPC") == "told ANN take TPC 0"
 
 
 def copied(night, station):

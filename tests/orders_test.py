@@ -149,6 +149,38 @@ def test_orders(folder, tree, console, start_screen, subtests):
     check_answered(console, screen, subtests)
 
 
+PROXY = "https://daq.example"
+
+
+def test_behind_a_proxy(folder, tree, console, start_screen, subtests):
+    """A page that a proxy serves: requests for its host are answered, and orders taken under its origin alone."""
+    more = ("--endless", "--orders", console.place, "--origin", PROXY)
+    screen = start_screen(tree, screens.store_of(folder, "screen"), more=more)
+    with subtests.test("it is up"):
+        assert screen.is_up()
+    console.meet()
+    with subtests.test("the console is there"):
+        assert screen.has_console()
+    give, good, host = screen.give, "order ANN take DCS", "daq.example"
+    with subtests.test("its host is answered"):
+        assert screen.get("/healthz", host=host) == (200, b"ok")
+    for other in ("daq.example:%d" % screen.port, "example", "xdaq.example", "daq.example.evil", "daq"):
+        with subtests.test("%s is not" % other):
+            assert screen.get("/healthz", host=other) == (421, b"this is another host")
+    for origin in ("https://daq.example:443", "https://daq.example.evil", "https://evil.example", "https://daq", None,
+                   "http://evil.example", "null"):
+        with subtests.test("no order from %s" % origin):
+            assert give(good, host=host, origin=origin) == STRANGER
+    with subtests.test("nor without the key"):
+        assert give(good, host=host, origin=PROXY, key=None) == STRANGER
+    with subtests.test("nothing of all that was sent"):
+        assert console.hears_nothing()
+    with subtests.test("one from its page"):
+        assert [give(good, host=host, origin=PROXY), console.hear()] == [GIVEN, "@1 " + good]
+    with subtests.test("one from the screen's own address"):
+        assert [give("order BOB take TPC"), console.hear()] == [GIVEN, "@2 order BOB take TPC"]
+
+
 def fates(screen):
     """Returns of each order its line, whether it waits, its answer, its code and what that means."""
     return [(it["line"], it["waits"], it["answer"], it["code"], it["words"]) for it in screen.orders()]

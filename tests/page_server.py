@@ -24,10 +24,10 @@ import page
 KEY, DETECTOR = "Bearer " + "0" * 32, running.example("detector.tree")
 
 
-def whole(key=None):
-    """Returns the page, with what follows it if orders may be given by this key."""
+def whole(key=None, style=""):
+    """Returns the page, the script that tells a style, and what follows if orders may be given by this key."""
     more = "" if key is None else "<script>const KEY = \"%s\";</script>\n%s" % (key, page.text_of("orders"))
-    return page.text_of("page") + more
+    return page.text_of("page") + style + more
 
 
 def tree_of(path):
@@ -49,7 +49,7 @@ class MadeUp:
     """What a screen answers that a test makes up: a tree, pictures of it, and the orders that its page gives."""
 
     def __init__(self, tree, key=KEY):
-        self.tree, self.key, self.domains, self.devices = tree, key, {}, {}
+        self.tree, self.key, self.style, self.domains, self.devices = tree, key, "", {}, {}
         self.orders, self.has_console, self.frame, self.begun = [], True, 0, time.monotonic()
         self.is_heard = lambda station: True
         self.lock = threading.Lock()
@@ -114,7 +114,7 @@ class MadeUp:
             self.take_order(body.decode())
             return 202, "the order is on its way"
         if target == "/":
-            return 200, whole(self.key)
+            return 200, whole(self.key, self.style)
         made = {"/api/tree": lambda: self.tree, "/api/picture": self.picture, "/api/orders": self.told_orders}
         found = made.get(target.partition("?")[0])
         return (200, json.dumps(found())) if found else (404, "there is no such page")

@@ -75,7 +75,10 @@ def test_lines(smi, folder, worked, subtests):
             ("no address of this machine", [tree, "SCREEN", store, "--http", "0.0.0.0:80", "--turns", 1]),
             ("open without a name", [tree, "SCREEN", store, "--http", "0.0.0.0:80", "--open", "--turns", 1]),
             ("a name and not open", [tree, "SCREEN", store, "--http", http, "--host", "daq", "--turns", 1]),
+            ("an address of IPv6", [tree, "SCREEN", store, "--http", "[::1]:80", "--turns", 1]),
             ("a name for an address", [tree, "SCREEN", store, "--http", "localhost:80", "--turns", 1]),
+            *(("the origin %r" % origin, [tree, "SCREEN", store, "--http", http, "--origin", origin, "--turns", 1])
+              for origin in ["daq", "https://", "ftp://daq", "https://Daq", "https://daq/", "https://daq?", "//daq"]),
             ("turns and endless", [tree, "SCREEN", store, "--http", http, "--endless", "--turns", 1]),
             ("no turns", [tree, "SCREEN", store, "--http", http, "--turns", 0]),
             ("an unknown station", [tree, "SCREAM", store, "--http", http, "--turns", 1]),
@@ -109,6 +112,11 @@ def test_answers(world, subtests):
         assert screen.get("/", host=local) == (200, page)
     with subtests.test("a head alone"):
         assert screen.get("/", "HEAD")[0] == 200
+    with subtests.test("it runs"):
+        assert screen.get("/healthz") == (200, b"ok")
+    for place in ("/healthz/", "/healthzz", "/health"):
+        with subtests.test("%s is no place" % place):
+            assert screen.get(place) == (404, b"there is no such page")
     with subtests.test("nothing else is there"):
         assert screen.get("/index.html") == (404, b"there is no such page")
     with subtests.test("a query changes no place"):
@@ -138,7 +146,8 @@ def test_answers(world, subtests):
     with subtests.test("what a page may do"):
         assert all(text in head
             for text in [b"cache-control: no-store", b"x-content-type-options: nosniff", b"x-frame-options: deny",
-            b"referrer-policy: no-referrer", b"default-src 'none'", b"connect-src 'self'"])
+            b"referrer-policy: no-referrer", b"cross-origin-opener-policy: same-origin",
+            b"cross-origin-resource-policy: same-origin", b"default-src 'none'", b"connect-src 'self'"])
 
 
 # Which of its actions the class of the worked tree accepts.
@@ -221,9 +230,12 @@ def check_figures(screen, subtests):
     status, body = screen.get("/metrics")
     lines = body.decode().splitlines()
     samples = dict(line.rsplit(" ", 1) for line in lines if not line.startswith("#"))
-    wanted = {'smi_object_state{object="DCS",state="READY"}': "1", 'smi_object_state{object="HV",state="READY"}': "1",
-              'smi_domain_held{domain="DCS"}': "1", 'smi_domain_busy{domain="TPC"}': "0",
-              'smi_domain_epoch{domain="DCS"}': "1", 'smi_domain_outcome{domain="TPC"}': "0", "smi_screen_domains": "2"}
+    wanted = {'smi_object_state{object="DCS",kind="domain",state="READY"}': "1",
+              'smi_object_state{object="TPC",kind="domain",state="READY"}': "1",
+              'smi_object_state{object="HV",kind="device",state="READY"}': "1",
+              'smi_domain_held{domain="DCS",station="A"}': "1", 'smi_domain_busy{domain="TPC",station="B"}': "0",
+              'smi_domain_epoch{domain="DCS",station="A"}': "1",
+              'smi_domain_outcome{domain="TPC",station="B"}': "0", "smi_screen_domains": "2"}
     with subtests.test("what they say"):
         assert [status, wanted.items() <= samples.items()] == [200, True]
     ages = [float(value) for name, value in samples.items() if name.startswith("smi_domain_heard_age_seconds")]

@@ -53,15 +53,23 @@ def test_standing(folder, start_node, start_screen, subtests):
         assert told(screen.host, "--brief") == (lines[:1], 0)
     with subtests.test("another alarm"):
         assert at_last(lambda: told(screen.host, "--alarm", "^READY$")[1], 2) == 2
-    check_faults(begun, screen, status, subtests)
+    check_faults(folder, begun, screen, status, subtests)
 
 
-def check_faults(begun, screen, status, subtests):
+def check_faults(folder, begun, screen, status, subtests):
     """A trip is critical, and a station that is silent a warning."""
     with subtests.test("a report"):
         assert begun["B"].ask("report HV ERROR") == "told report HV ERROR 0"
     with subtests.test("a trip is critical"):
         assert at_last(status, 2) == 2
+    style = running.write(os.path.join(folder, "style"), "state ERROR busy\n")
+    with subtests.test("a style that says ERROR is none"):
+        assert told(screen.host, "--style", style)[1] == 0
+    running.write(style, "# all\nstate READY alarm #102030\nstate ERROR alarm\n")
+    with subtests.test("a style that says READY is one"):
+        assert told(screen.host, "--alarm", "NONE", "--style", style)[1] == 2
+    with subtests.test("no such style"):
+        assert told(screen.host, "--style", style + " is not there")[1] == 3
     lines, _ = told(screen.host)
     with subtests.test("it is told"):
         assert [lines[0].startswith("CRITICAL: in alarm: "), lines[-1]] == [True, "HV of TPC is ERROR"]

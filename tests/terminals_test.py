@@ -56,8 +56,36 @@ def test_a_terminal_at_the_standard_output_alone(smi):
     assert told == (WRONG, 2)
 
 
-def test_another_fault_has_no_help(at_terminal):
-    assert at_terminal("check", os.path.join(running.HERE, "no-such-file")) == (b"read fault\n", 3)
+def told_of(path, words, fault="read fault"):
+    """Returns what a terminal is shown of a path that could not be read."""
+    return ("%s\n    %s: %s\n" % (fault, path, words)).encode(), 3
+
+
+NOWHERE = "there is no such file or folder"
+
+
+@pytest.mark.parametrize("words", [("check",), ("rows",), ("sim", "--seed", "1", "--steps", "1"), ("audit", "journal")],
+                         ids=" ".join)
+def test_a_file_that_is_not_there_is_named(smi, at_terminal, words):
+    path = os.path.join(running.HERE, "no-such-file")
+    line = [words[0], path, *words[1:]]
+    assert at_terminal(*line) == told_of(path, NOWHERE)
+    assert smi(*line)[1:] == (b"read fault\n", 3)
+
+
+def test_the_second_file_that_is_not_there_is_named(at_terminal):
+    assert at_terminal("sim", TREE, "no-\x1bsuch") == told_of("no-?such", NOWHERE)
+
+
+def test_a_folder_is_named(at_terminal):
+    assert at_terminal("check", running.HERE) == told_of(running.HERE, "it is a folder")
+
+
+def test_the_folder_of_a_store_is_named(smi, at_terminal, tmp_path):
+    folder = os.path.join(str(tmp_path), "none")
+    line = ["node", TREE, "A", os.path.join(folder, "store"), "--turns", "1"]
+    assert at_terminal(*line) == told_of(folder, NOWHERE, "store fault")
+    assert smi(*line)[1:] == (b"store fault\n", 3)
 
 
 def test_success_has_no_help(at_terminal):

@@ -1,13 +1,14 @@
 """How the detector stands, in a table, by the JSON of a screen (docs/FORMATS.md, "The screen"); for terminals and monitors.
 
-usage: status.py A.B.C.D:PORT [--alarm PATTERN] [--silent SECONDS] [--brief] [--patience SECONDS]
+usage: status.py A.B.C.D:PORT [--alarm PATTERN] [--style FILE] [--silent SECONDS] [--brief] [--patience SECONDS]
 
 Prints a summary, and below it a line for each domain in the shape of the tree: its state, who commands it through all
 levels, whether it is at work and with what its last command ended, and when its station was last heard; then each
 device that is in alarm. --brief prints the summary alone.
 
 An object is in alarm whose state has the PATTERN, a regular expression: ERROR, FAULT, ALARM or TRIP where none is
-named. A station is silent that was not heard for so many SECONDS: two, or what a round of questions takes with half as
+named. With --style that holds for the states alone that the screen's style file says nothing of (docs/FORMATS.md, "The
+style of a screen"). A station is silent that was not heard for so many SECONDS: two, or what a round of questions takes with half as
 long again, where none are named.
 
 The exit status is that of a monitor's plugin: 0 where all is well, 1 where a station is silent or was never heard, 2
@@ -81,8 +82,8 @@ class Detector:
         stations = dict.fromkeys(it["station"] for it in self.tree.values())
         return [it for it in stations if self.age(it) is None or self.age(it) > self.limit]
 
-    def in_alarm(self, objects, pattern):
-        return [name for name, it in objects.items() if it["shown"] and pattern.search(it["shown"]["state"])]
+    def in_alarm(self, objects, is_alarm):
+        return [name for name, it in objects.items() if it["shown"] and is_alarm(it["shown"]["state"])]
 
     def depth(self, name):
         above = self.tree[name]["parent"]
@@ -127,9 +128,9 @@ def few(names):
     return " ".join(names[:FEW]) + (" and %d more" % (len(names) - FEW) if len(names) > FEW else "")
 
 
-def judged(detector, pattern):
+def judged(detector, is_alarm):
     """The status, and the summary."""
-    alarms = detector.in_alarm({**detector.domains, **detector.devices}, pattern)
+    alarms = detector.in_alarm({**detector.domains, **detector.devices}, is_alarm)
     silent = detector.silent_stations()
     told = ["in alarm: " + few(alarms)] * bool(alarms) + ["silent: " + few(silent)] * bool(silent)
     status = CRITICAL if alarms else WARNING if silent else WELL
@@ -143,6 +144,16 @@ def pattern_of(text):
         return re.compile(text)
     except re.error as error:
         raise argparse.ArgumentTypeError("%s is no pattern: %s" % (text, error)) from error
+
+
+def kinds_of(path):
+    """What a style file says of states: the kind of each."""
+    try:
+        with open(path, encoding="ascii", errors="replace") as file:
+            lines = [line.split() for line in file]
+    except OSError as error:
+        raise argparse.ArgumentTypeError(str(error)) from error
+    return {words[1]: words[2] for words in lines if len(words) > 2 and words[0] == "state"}
 
 
 def place_of(where):
@@ -162,17 +173,22 @@ def main():
     words = Words(usage=__doc__.split("usage: ")[1].split("\n")[0])
     words.add_argument("where")
     words.add_argument("--alarm", type=pattern_of, default=re.compile(ALARM))
+    words.add_argument("--style", type=kinds_of, default={})
     words.add_argument("--silent", type=float)
     words.add_argument("--brief", action="store_true")
     words.add_argument("--patience", type=float, default=5.0)
     said = words.parse_args()
+
+    def is_alarm(state):
+        return said.style[state] == "alarm" if state in said.style else bool(said.alarm.search(state))
+
     try:
         tree, picture = (fetched(place_of(said.where), it, said.patience) for it in ("/api/tree", "/api/picture"))
         detector = Detector(tree, picture, said.silent)
-        status, summary = judged(detector, said.alarm)
+        status, summary = judged(detector, is_alarm)
         lines = [] if said.brief else table([["DOMAIN", "STATE", "COMMANDED BY", "LAST COMMAND", "STATION, HEARD"],
                                              *(row_of(detector, name) for name in detector.in_shape())])
-        devices = detector.in_alarm(detector.devices, said.alarm)
+        devices = detector.in_alarm(detector.devices, is_alarm)
     except (Unread, KeyError, TypeError) as error:
         print("%s: %s" % (WORDS[UNKNOWN], error))
         sys.exit(UNKNOWN)
