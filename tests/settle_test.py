@@ -7,7 +7,8 @@ import pytest
 
 import layout
 import running
-from forgery_test import A, B, DCS, TPC, Night, datagram
+from forgery_test import A, B, TPC, Night, datagram
+from running import at_last
 
 TOOL = os.path.join(running.ROOT, "tools", "rows.py")
 # For how long it is watched that an order is not answered, in seconds, and the last epoch that there is.
@@ -49,7 +50,8 @@ def test_settle(night, subtests, holder, order):
             for station in "AB":
                 night.start(station)
         with subtests.test("it waits for ever, after %d further starts" % start):
-            assert night.running["A"].ask("order ANN " + order, WAITS) is None
+            # (a take is told that one is under way)
+            assert night.running["A"].ask("order ANN " + order, WAITS) in (None, "told ANN take TPC 23")
         with subtests.test("a store in use is left as it is"):
             assert settle(night, "--settle", holder, "TPC")[1:] == ("%s: database is locked\n" % night.store("A"), 1)
         for station in "AB":
@@ -72,7 +74,12 @@ def test_settle(night, subtests, holder, order):
     for station in "AB":
         night.start(station)
     node = night.running["A"]
-    with subtests.test("it is answered again"):
-        assert node.ask("order ANN " + order) == "told ANN %s 0" % order
+    if holder == "ANN":
+        with subtests.test("it is answered again"):
+            assert node.ask("order ANN " + order) == "told ANN %s 0" % order
+    # (the commands that had waited run by themselves)
+    held = "told ANN ask TPC %s 1 0 settled 0" % holder
+    with subtests.test("the domain is held"):
+        assert at_last(lambda: node.ask("order ANN ask TPC"), held) == held
     with subtests.test("nothing is at work"):
-        assert " settled 0" in node.ask("order ANN ask DCS")
+        assert " settled " in node.ask("order ANN ask DCS")

@@ -69,8 +69,9 @@ NOWHERE = "there is no such file or folder"
 def test_a_file_that_is_not_there_is_named(smi, at_terminal, words):
     path = os.path.join(running.HERE, "no-such-file")
     line = [words[0], path, *words[1:]]
-    assert at_terminal(*line) == told_of(path, NOWHERE)
-    assert smi(*line)[1:] == (b"read fault\n", 3)
+    fault = "store fault" if words == ("rows",) else "read fault"
+    assert at_terminal(*line) == told_of(path, NOWHERE, fault)
+    assert smi(*line)[1:] == (fault.encode() + b"\n", 3)
 
 
 def test_the_second_file_that_is_not_there_is_named(at_terminal):
