@@ -69,7 +69,7 @@ function showGiven() {
     if (picture) note(it.line + ": " + fateOf(it), now());
   });
   const old = given.filter((it) => !it.waits && time - ended.get(it.number) < SHOWN_FOR).slice(-SHOWN);
-  const colour = (/** @type {Order} */ it) => it.waits ? "#f0b429" : it.code === 0 ? "#15803d" : "#c81e1e";
+  const colour = (/** @type {Order} */ it) => it.waits ? "#f2c841" : it.code === 0 ? "#0ba860" : "#bb1c1c";
   const list = given.filter((it) => it.waits || old.includes(it)).map((it) => [it.line.slice(6), fateOf(it) +
     (found.has(it.number) ? "" : ", not from this page"), colour(it)]);
   const text = JSON.stringify(list);
