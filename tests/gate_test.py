@@ -115,6 +115,12 @@ class Gates(Patched):
         self.assertIn("make record CRATE='one two'", lines[0])
         self.assertEqual(self.gate([], ["--all"], changed=["one"])[1], 0)
 
+    def test_mutants_are_tried_as_long_as_the_gate_is_in_time(self):
+        self.patch(os, "cpu_count", lambda: 2)
+        self.patch(gate.time, "time", lambda: 1000 * 60)
+        minutes = [gate.budget((1000 - since) * 60) / 60 for since in (0, 60, 115, 120, 136, 138, 200)]
+        self.assertEqual(minutes, [50, 50, 50, 40, 8, 5, 5])
+
     def test_words_that_it_does_not_know(self):
         _, status, ran = self.gate([], words=["--everything"])
         self.assertEqual((status.split(" ")[0], ran), ("usage:", []))

@@ -4,8 +4,9 @@ usage: gate.py [--all | --recorded]
 
 If a crate's own files have changed since its mutants were recorded (tools/refusals.py), the gate ends at once and
 prints the command that records them. Mutants of crates over changed ones are tried here, those with the oldest lines
-first, for at most BUDGET processor seconds; the rest is counted as not tried again. --all reads no record, tries the
-mutants of every crate, and writes the record. --recorded only looks whether the gate would end at once.
+first, for at most BUDGET processor seconds, and fewer if the gate would else go on after END; the rest is counted as not
+tried again. --all reads no record, tries the mutants of every crate, and writes the record. --recorded only looks
+whether the gate would end at once.
 
 Tests that fail are run once more, and their line says so. The last line is 'N passed, M failed'.
 """
@@ -21,8 +22,10 @@ import edits
 import kit
 import refusals
 
-# How long mutants of crates over changed ones are tried at most, in processor seconds.
-BUDGET = 50 * 60
+# How long mutants of crates over changed ones are tried at most, and at least, in processor seconds.
+BUDGET, LEAST = 50 * 60, 5 * 60
+# How long after its begin a gate is to have ended, in seconds. Any machine that proves all in time ends in time so.
+END = 140 * 60
 PROGRAM = os.path.join("bin", "smi")
 # Debian's python3 is the one that has pytest.
 PYTHON = "/usr/bin/python3"
@@ -76,12 +79,18 @@ def unfit(crates):
     return [it.name for it in found if it.how == edits.BAD]
 
 
+def budget(since):
+    """Returns for how many processor seconds a gate that began then may try mutants."""
+    left = (END - (time.time() - since)) * os.cpu_count()
+    return min(BUDGET, max(LEAST, left))
+
+
 def try_mutants(is_whole, since):
     """Tries the mutants of all crates, or of those over changed ones as far as the budget goes."""
     trying = refusals.with_mutants() if is_whole else refusals.over_changed()
     rest = [it for it in refusals.with_mutants() if it.name not in {of.name for of in trying}]
     passed, failed = run([PYTHON, "tests/edits_test.py", str(since)]) if trying else (0, 0)
-    tried = edits.try_all(trying, since=since, seconds=None if is_whole else BUDGET)
+    tried = edits.try_all(trying, since=since, seconds=None if is_whole else budget(since))
     refused, others, untried = edits.summary(tried)
     lines = refusals.lines_of(tried)
     for name, of in lines.items():
