@@ -255,6 +255,13 @@ def test_withdraw(place, subtests):
     with subtests.test("wrong lines"):
         assert [console.ask("@w withdraw"), console.ask("@w withdraw 1 2")] == [
             "@w fault 2: too few words, or too many"] * 2
+    with subtests.test("a program's order for which it waits no longer"), place.client("HERE") as program:
+        ends = []
+        for domain in ("LEFT", "FIRST"):
+            with pytest.raises(lunskaf.TimeOut) as raised:
+                program.take("ANN", domain, patience=0.3)
+            ends.append(raised.value.is_withdrawn)
+        assert (ends, place.waiting()) == ([True, False], 3)
     place.start("EAST")
     with subtests.test("the others are given"):
         assert [console.line(), console.line()] == ["@1 told ANN take LEFT 0", "@3 told ANN take LEFT 21"]
