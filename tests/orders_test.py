@@ -280,15 +280,15 @@ def test_modes(folder, tree, console, start_screen, subtests):
         assert screen.has_console() and modes_of(screen) == []
     with subtests.test("it is asked, and again"):
         assert is_so(lambda: console.hears_nothing() and console.questions >= 2)
-    for text in ["mode TPC manual", "mode DCS ignored", "mode \"x\" manual", "mode " + "y" * 201, "fault 1", "modes"]:
-        console.say("@modes " + text)
+    told, odd = ["TPC manual", "DCS ignored"], ["mode \"x\" manual", "mode " + "y" * 201, "fault 1", "modes"]
+    answer = "\n".join("@modes " + text for text in ["mode " + it for it in told] + odd)
+    console.say(answer)
     time.sleep(0.6)
     with subtests.test("nor before an answer is whole"):
         assert modes_of(screen) == []
-    told = ["TPC manual", "DCS ignored"]
+    # the next question forgets what has come
     console.hears_nothing(2.5)
-    for text in ["mode " + it for it in told] + ["mode \"x\" manual", "mode " + "y" * 201, "fault 1", "modes 4"]:
-        console.say("@modes " + text)
+    console.say(answer + " 4")
     with subtests.test("a whole answer"):
         assert at_last(lambda: modes_of(screen), told) == told
     with subtests.test("no order is answered by it"):
@@ -297,8 +297,7 @@ def test_modes(folder, tree, console, start_screen, subtests):
     console.say("@modes modes 0")
     with subtests.test("a later one"):
         assert at_last(lambda: modes_of(screen), []) == []
-    console.say("@modes mode TPC out")
-    console.say("@modes modes 1")
+    console.say("@modes mode TPC out\n@modes modes 1")
     with subtests.test("and a third"):
         assert at_last(lambda: modes_of(screen), ["TPC out"]) == ["TPC out"]
     console.leave()

@@ -71,7 +71,7 @@ impl ModeList {
         ensures { self.new ≡ spec.nothing }
     {
         self.known.clear();
-        self.coming.clear();
+        self.begin();
     }
 
     /// Returns true if the mode of one more child can be kept.
