@@ -39,6 +39,7 @@ is_number text = nat_le 1 (length text) && (nat_le (length text) 16 && list_all 
 abbrev pub is_withdrawal : List ℕ → Bool
 is_withdrawal line = option_map_or is_number (rest_of (codes "withdraw ") line) false
 
--- one plain line, and an order of an operator of the tree as schedules and consoles have it, or one that withdraws such
+-- one plain line: an order of an operator of the tree as schedules and consoles have it, or a line that withdraws an
+-- order
 abbrev pub is_order_line : Hierarchy → List ℕ → Bool
 is_order_line h line = list_all is_plain line && (is_withdrawal line || is_order (item_in h line))

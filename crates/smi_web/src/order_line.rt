@@ -9,7 +9,7 @@ use smi_protocol::{Deed, Item};
 use smi_schedule::read_item;
 use smi_tree::{Fault, Tree};
 
-/// The most digits of an order's number: so many may a tag have at the console.
+/// The most digits of an order's number, because a tag has at most sixteen bytes at the console.
 const MOST_DIGITS: usize = 16;
 
 /// Returns true if a byte is a decimal digit.
