@@ -240,7 +240,8 @@ td, th { padding: .2rem .4rem; border-bottom: 1px solid var(--line); text-align:
     unfolds. <kbd>Enter</kbd>: more, <kbd>Esc</kbd>: back, <kbd>/</kbd>: find, <kbd>t</kbd>: light or dark,
     <kbd>+</kbd> and <kbd>-</kbd>: size, <kbd>f</kbd>: fit. A name above: what that person commands. A dashed edge:
     held by somebody else than what is above.
-    <i>mode unknown</i>: nobody tells an observer whether a child is included, manual or ignored.
+    <i>mode unknown</i>: only the node that keeps the domain above knows whether a child is included, manual or ignored,
+    and it tells only a screen that orders there.
     <span id=\"never\">This page shows and never orders.</span></p></details>
 </footer>
 </div>
@@ -613,6 +614,11 @@ function open(domain) {
   fill();
   if (!more.open) more.showModal();
 }
+function modeWords(d) {
+  const holder = holderOf(d), mode = modeSayers.map((say) => say(d)).find((said) => said);
+  if (!d.parent || d.told && !(holder && holder.domain)) return \"has none: it is not held by what is above\";
+  return mode || \"mode unknown\";
+}
 function rows(d) {
   const told = d.told, shown = d.shown, boss = commander(d), holder = told && told.holder;
   return [
@@ -620,8 +626,7 @@ function rows(d) {
       age(now() - shown.at) + \")\" : \"not seen\"],
     [\"held by\", !told ? \"not heard\" : !holder ? \"nobody\" : holder.operator || \"domain \" + holder.domain],
     [\"commanded by\", boss === null ? \"not told\" : boss || \"nobody\"],
-    [\"mode\", holder && holder.domain ? modeSayers.map((say) => say(d)).find((mode) => mode) || \"mode unknown\"
-      : \"has none: it is not held by what is above\"],
+    [\"mode\", modeWords(d)],
     [\"epoch\", told ? String(told.epoch) : \"\"],
     [\"last command\", !told || !told.last ? \"none\" : told.last +
       (told.busy ? \", at work\" : \", ended with \" + told.outcome)],
@@ -878,9 +883,10 @@ function describe(d, silence) {
   words.push(boss === null ? \"commander not told\" : boss === \"\" ? \"free\" : \"commanded by \" + boss);
   if (silence !== null) words.push(silence < 0 ? \"not heard yet\" : \"silent for \" + age(silence));
   if (d.told && d.told.busy) words.push(\"at work\");
+  if (markedMode(d)) words.push(markedMode(d));
   return words.join(\", \");
 }
-const knownMode = (d) => modeSayers.map((say) => say(d)).find((mode) => mode) || \"\";
+const markedMode = (d) => modeSayers.map((say) => say(d)).find((mode) => mode === \"manual\" || mode === \"ignored\") || \"\";
 function usualState() {
   const counts = new Map();
   domains.forEach((d) => { if (d.silence === null) counts.set(stateOf(d), (counts.get(stateOf(d)) || 0) + 1); });
@@ -896,7 +902,7 @@ function showDomain(d, heard, time, usual) {
   style(at.who, \"--who\", colour);
   style(at.who, \"--whot\", colour ? inkOn(colour) : \"\");
   set(at.who, byDomain ? \"\" : boss === null ? \"\" : boss || \"free\");
-  set(at.mode, knownMode(d));
+  set(at.mode, markedMode(d));
   flag(at.box, \"apart\", boss !== null && !byDomain && !!d.parent);
   flag(at.box, \"silent\", silence !== null);
   flag(at.top, \"busy\", !!(d.told && d.told.busy) && silence === null);
