@@ -5,7 +5,7 @@ pub const ORDERS: &str = "<style>
 #who { display: inline-flex; align-items: center; gap: .5rem; font-weight: 600; color: var(--soft) }
 #who select { font: inherit; font-weight: 700; color: var(--ink); background: var(--card); padding: .1rem .4rem }
 #console { font-weight: 700; border-radius: 8px; padding: .2rem .7rem; color: var(--soft) }
-#console.away { background: #c81e1e; color: #fff }
+#console.away { background: #bb1c1c; color: #fff }
 #given { list-style: none; margin: 0; padding: .4rem 0 0; display: grid; gap: .25rem }
 #given:empty { display: none }
 #given li { display: flex; flex-wrap: wrap; gap: 0 .6rem; background: var(--card); border: 2px solid var(--line);
@@ -395,8 +395,8 @@ function fateOf(it) {
   return it.answer || \"the connection with the console broke: not known how it ended\";
 }
 function edgeOf(it) {
-  if (it.waits) return \"#f0b429\";
-  return it.code === 0 ? \"#15803d\" : it.answer === \"withdrawn\" ? \"#5f6b7a\" : \"#c81e1e\";
+  if (it.waits) return \"#f2c841\";
+  return it.code === 0 ? \"#0ba860\" : it.answer === \"withdrawn\" ? \"#5a5f6d\" : \"#bb1c1c\";
 }
 function showGiven() {
   const time = performance.now();
