@@ -11,7 +11,7 @@ use Rattle.smi_protocol.specs.declared.item.Deed.TheVariants as deed
 use Rattle.smi_schedule.specs.Line.{item_in}
 use Rattle.smi_web.specs.Outcome.{rest_of}
 
--- printable ASCII without the quotation version and the backslash: no line ends there, and none is escaped
+-- printable ASCII without the quotation mark and the backslash: no line ends there, and none is escaped
 abbrev pub is_plain : ℕ → Bool
 is_plain byte = nat_le 32 byte && nat_le byte 126 && not (byte == 34) && not (byte == 92)
 
