@@ -4,8 +4,8 @@ usage: gate.py [--all | --recorded]
 
 If a crate's own files have changed since its mutants were recorded (tools/refusals.py), the gate ends at once and
 prints the command that records them. Mutants of crates over changed ones are tried here, those with the oldest lines
-first, for at most BUDGET processor seconds, and fewer if the gate would else go on after END; the rest is counted as not
-tried again. --all reads no record, tries the mutants of every crate, and writes the record. --recorded only looks
+first, for at most BUDGET processor seconds, and fewer if the gate would else go on after END; the rest is counted as
+not tried again. --all reads no record, tries the mutants of every crate, and writes the record. --recorded only looks
 whether the gate would end at once.
 
 Tests that fail are run once more, and their line says so. The last line is 'N passed, M failed'.

@@ -27,11 +27,11 @@ const MOST_HELD: usize = 256;
 /// The queues of a station's seats: seven for each of its operators, in their order, and last the one for reports,
 /// which is nobody's.
 ///
-/// An order goes to an idle seat of its operator, or as a further command to the seat at which commands on its domain are
-/// pending. Else it waits: so an order that is not answered for long holds up those about its own domain, and no other
-/// as long as fewer than four domains have one. No order overtakes another of its operator about the same domain: it
-/// waits while such a one does, and after each answer those that wait have their turn, the oldest first. An order that
-/// waits can be taken back.
+/// An order goes to an idle seat of its operator, or as a further command to the seat at which commands on its domain
+/// are pending. Else it waits: so an order that is not answered for long holds up those about its own domain, and no
+/// other as long as fewer than four domains have one. No order overtakes another of its operator about the same domain:
+/// it waits while such a one does, and after each answer those that wait have their turn, the oldest first. An order
+/// that waits can be taken back.
 ///
 /// Contracts see the operators by seat, the queues, the orders that wait for a seat, and whether an order was given
 /// since that was last asked.
