@@ -27,8 +27,8 @@
 //!   other, until one holds up the others or 64 were handled.
 //! - `Trust` (`specs/Trust`) is what the lines of a session have shown of it.
 //! - `Gives` (`specs/SeatTable`) says what becomes of an order. It is submitted once, after those before it, at a seat
-//!   of its operator, and is the newest of that queue. Or it waits for a seat, or its session keeps it as deferred: then
-//!   nothing is submitted. Each other queue stays as it is.
+//!   of its operator, and is the newest of that queue. Or it waits for a seat, or its session keeps it as deferred:
+//!   then nothing is submitted. Each other queue stays as it is.
 //! - `Withdraws` (`specs/Withdrawal`) says what becomes of an order that is taken back. One that waits is given no
 //!   more; one that was submitted stays as it is.
 //!
