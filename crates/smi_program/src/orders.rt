@@ -142,9 +142,10 @@ function whyNoCommand(d) {
 function whyNoMode(d, verb) {
   const parent = domains.get(d.parent), h = holderOf(d);
   if (!above(d)) return who + \" commands nothing above \" + d.name;
-  if (verb !== \"exclude\" && isSoAlready(d, verb)) return d.name + \" is \" + modeOf(d) + \" already\";
+  const isHeld = h && h.domain === parent.name;
+  if (isHeld && isSoAlready(d, verb)) return d.name + \" is \" + modeOf(d) + \" already\";
   if (verb === \"include\") return h && h.operator ? d.name + \" is held by \" + h.operator : \"\";
-  return h && h.domain === parent.name ? \"\" : d.name + \" is not held by \" + parent.name;
+  return isHeld ? \"\" : d.name + \" is not held by \" + parent.name;
 }
 const ASKED = { include: (d) => \"include \" + d.name + \" in \" + d.parent + \"?\", exclude: (d) => \"exclude \" + d.name +
   \" from \" + d.parent + \"?\", manual: (d) => \"make \" + d.name + \" manual in \" + d.parent + \"?\",
@@ -325,17 +326,17 @@ function offerOperators() {
   by(\"operator\").value = who;
 }
 function offerAnew() { offered = \"\"; offerOperators(); }
-const leaving = new Map();
+const withdrawing = new Map();
 async function withdraw(number, order) {
-  if (leaving.has(number)) return;
-  leaving.set(number, order);
-  if (!await send(\"withdraw \" + number, \"withdraw \" + order)) leaving.delete(number);
+  if (withdrawing.has(number)) return;
+  withdrawing.set(number, order);
+  if (!await send(\"withdraw \" + number, \"withdraw \" + order)) withdrawing.delete(number);
 }
 function tellBegun() {
-  leaving.forEach((order, number) => {
+  withdrawing.forEach((order, number) => {
     const it = withdrawals.find(({ line, waits }) => line === \"withdraw \" + number && !waits);
     if (!it) return;
-    leaving.delete(number);
+    withdrawing.delete(number);
     if (it.answer === \"begun \" + number) tellGiven(order + \" has begun and can't be withdrawn\");
   });
 }

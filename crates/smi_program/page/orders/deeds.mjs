@@ -67,9 +67,10 @@ function whyNoCommand(d) {
 function whyNoMode(d, verb) {
   const parent = domains.get(d.parent), h = holderOf(d);
   if (!above(d)) return who + " commands nothing above " + d.name;
-  if (verb !== "exclude" && isSoAlready(d, verb)) return d.name + " is " + modeOf(d) + " already";
+  const isHeld = h && h.domain === parent.name;
+  if (isHeld && isSoAlready(d, verb)) return d.name + " is " + modeOf(d) + " already";
   if (verb === "include") return h && h.operator ? d.name + " is held by " + h.operator : "";
-  return h && h.domain === parent.name ? "" : d.name + " is not held by " + parent.name;
+  return isHeld ? "" : d.name + " is not held by " + parent.name;
 }
 
 /** @type {Record<string, (d: Domain) => string>} */

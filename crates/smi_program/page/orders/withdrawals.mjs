@@ -5,22 +5,22 @@ import { send, tellGiven } from "./giving.mjs";
 
 /** The orders that this page withdraws, by their numbers, until it knows what became of that.
  * @type {Map<number, string>} */
-const leaving = new Map();
+const withdrawing = new Map();
 
 /** Withdraws an order that waits.
  * @param {number} number @param {string} order */
 export async function withdraw(number, order) {
-  if (leaving.has(number)) return;
-  leaving.set(number, order);
-  if (!await send("withdraw " + number, "withdraw " + order)) leaving.delete(number);
+  if (withdrawing.has(number)) return;
+  withdrawing.set(number, order);
+  if (!await send("withdraw " + number, "withdraw " + order)) withdrawing.delete(number);
 }
 
 /** Tells which orders have begun, so that they can't be withdrawn. */
 export function tellBegun() {
-  leaving.forEach((order, number) => {
+  withdrawing.forEach((order, number) => {
     const it = withdrawals.find(({ line, waits }) => line === "withdraw " + number && !waits);
     if (!it) return;
-    leaving.delete(number);
+    withdrawing.delete(number);
     if (it.answer === "begun " + number) tellGiven(order + " has begun and can't be withdrawn");
   });
 }
