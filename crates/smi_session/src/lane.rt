@@ -1,6 +1,7 @@
 //! The lanes of an operator: which of his orders wait side by side.
 
 ghost use Rattle.std.specs.Prelude.{◌≡◌};
+ghost use Rattle.std.specs.List.{list_all};
 ghost use Rattle.smi_operator.specs.Working.{commanded, is_on};
 ghost use Rattle.smi_session.specs.Lane as spec;
 
@@ -56,12 +57,19 @@ fn is_on(domain: u16, order: Order) -> bool
     }
 }
 
+/// Returns true if all these orders are commands on this domain.
+fn are_on(pending: &VecDeque<PendingOrder>, domain: u16) -> bool
+    ensures { result ≡ list_all (λ p. is_on domain p.order) pending.now.items }
+{
+    pending.iter().all(|it| is_on(domain, it.order))
+}
+
 /// Returns true if an order is a further command beside these, which are fewer than eight commands on its domain.
 pub(crate) fn is_further(order: Order, pending: &VecDeque<PendingOrder>) -> bool
     ensures { result ≡ spec.is_further (commanded order) pending.now.items }
 {
     match commanded(order) {
-        Some(domain) => pending.len() < MOST_WORK && pending.iter().all(|it| is_on(domain, it.order)),
+        Some(domain) => pending.len() < MOST_WORK && are_on(pending, domain),
         None => false,
     }
 }

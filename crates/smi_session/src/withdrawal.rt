@@ -13,7 +13,7 @@ use smi_tree::first_word;
 use std::alloc::AllocError;
 
 /// What becomes of an order that is to be taken back.
-#[derive(Clone, Copy, PartialEq, Eq)]
+#[derive(Clone, Copy)]
 pub enum Withdrawal {
     /// It waited for a seat, and is not given any more.
     Withdrawn,
@@ -71,6 +71,24 @@ fn write_withdrawal(
     Ok(())
 }
 
+/// Tells a session that its order of this tag was taken back, if it was.
+fn tell_order(
+    text: &mut Vec<u8>,
+    session: &mut Session,
+    withdrawal: Withdrawal,
+    tag: &[u8],
+) -> Result<(), AllocError>
+    ensures { OnOk result (session.new ≡ spec.told_of withdrawal tag.now session.old) }
+{
+    match withdrawal {
+        Withdrawal::Withdrawn => {
+            write_withdrawn(text, tag)?;
+            session.push_reply(None, text.as_slice())
+        }
+        Withdrawal::Begun | Withdrawal::Unknown => Ok(()),
+    }
+}
+
 impl<G: StateReader + Drop> SessionService<G> {
     ghost use Rattle.std.specs.Prelude.{◌≡◌, OnErr, OnOk};
     ghost use Rattle.smi_tree.specs.Text.{words};
@@ -92,10 +110,7 @@ impl<G: StateReader + Drop> SessionService<G> {
     {
         let named = named_tag(line.text);
         let withdrawal = self.seats.withdrawal_of(session, named);
-        if withdrawal == Withdrawal::Withdrawn {
-            write_withdrawn(&mut self.text, named)?;
-            session.push_reply(None, self.text.as_slice())?;
-        }
+        tell_order(&mut self.text, session, withdrawal, named)?;
         write_withdrawal(&mut self.text, withdrawal, named)?;
         session.push_reply(line.tag, self.text.as_slice())?;
         self.seats.take_back(session, named);
