@@ -172,7 +172,7 @@ fn has_earlier(held: &VecDeque<Deferred>, count: usize, order: Deferred) -> bool
 }
 
 impl SeatTable {
-    ghost use Rattle.std.specs.Prelude.{◌≡◌, ◌<◌, None, IfOk, IfSome, IfNone, OnOk, false, length};
+    ghost use Rattle.std.specs.Prelude.{◌≡◌, ◌<◌, None, IfOk, IfSome, IfNone, OnOk, false, length, remove, slice_get};
     ghost use Rattle.smi_session.specs.SeatQueue.{Keeps};
     ghost use Rattle.smi_session.specs.SeatTable.{Attempts, AttemptsAfter, ChangesAt, Gives, GivesDeferred, GivesHeld};
     ghost use Rattle.smi_session.specs.SeatTable.{GivesAtPlace};
@@ -267,9 +267,7 @@ impl SeatTable {
         ensures { TakesBack tag.now self.old session.old self.new session.new }
     {
         match place_of(&self.held, session.number(), tag) {
-            Some(waits) => {
-                let _ = self.held.remove(waits);
-            }
+            Some(place) => self.remove_held(place),
             None if session.has_deferred(tag) => {
                 let _ = session.take_deferred();
             }
@@ -336,8 +334,10 @@ impl SeatTable {
 
     /// Submits an order after the first ones that wait, so many: if none of these is about the same domain, and a seat
     /// takes it now. Returns false otherwise.
+    #[tactic(auto, using(crate::proofs::Changing::keeps_held))]
     fn attempt_after(&mut self, count: usize, order: Deferred) -> bool
-        ensures { AttemptsAfter (take count self.old.held) order self.old self.new result }
+        ensures attempts { AttemptsAfter (take count self.old.held) order self.old self.new result }
+        ensures held { self.new.held ≡ self.old.held }
     {
         !has_earlier(&self.held, count, order) && self.attempt(order)
     }
@@ -346,22 +346,39 @@ impl SeatTable {
     fn give(&mut self, session: &mut Session, order: Deferred)
         ensures { GivesIt order self.old session.old self.new session.new }
     {
-        if !self.attempt_after(self.held.len(), order) {
+        let count = self.held.len();
+        if !self.attempt_after(count, order) {
             self.hold(session, order);
         }
+    }
+
+    /// Returns the order at this place of those that wait, if there is one.
+    fn held_at(&self, place: usize) -> Option<Deferred>
+        ensures order { result ≡ slice_get self.now.held place }
+        ensures within { IfSome result (λ order. place < length self.now.held) }
+    {
+        self.held.get(place).copied()
+    }
+
+    /// Takes the order at this place out of those that wait.
+    fn remove_held(&mut self, place: usize)
+        requires { place < length self.old.held }
+        ensures { self.new ≡ record self.old { held = remove self.old.held place } }
+    {
+        let _ = self.held.remove(place);
     }
 
     /// Submits the order at this place of those that wait, if a seat takes it now. Returns true if it was submitted.
     fn give_at(&mut self, place: usize) -> bool
         ensures { GivesAtPlace place self.old self.new result }
     {
-        let Some(order) = self.held.get(place).copied() else {
+        let Some(order) = self.held_at(place) else {
             return false;
         };
         if !self.attempt_after(place, order) {
             return false;
         }
-        let _ = self.held.remove(place);
+        self.remove_held(place);
         true
     }
 
