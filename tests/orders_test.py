@@ -280,7 +280,7 @@ def test_modes(folder, tree, console, start_screen, subtests):
         assert screen.has_console() and modes_of(screen) == []
     with subtests.test("it is asked, and again"):
         assert is_so(lambda: console.hears_nothing() and console.questions >= 2)
-    told, odd = ["TPC manual", "DCS ignored"], ["mode \"x\" manual", "mode " + "y" * 201, "fault 1", "modes"]
+    told, odd = ["TPC manual", "DCS ignored"], ["mode \"x\" manual", "model", "fault 1", "modes"]
     answer = "\n".join("@modes " + text for text in ["mode " + it for it in told] + odd)
     console.say(answer)
     time.sleep(0.6)
