@@ -238,7 +238,7 @@ fn three_names(text: &[u8]) -> Result<(Name<'_>, Name<'_>, Name<'_>), Fault>
 
 #[inline(always)]
 #[tactic(auto, unfolding(crate::specs::Declaration::four_names))]
-pub(crate) fn four_names(text: &[u8]) -> Result<(Name<'_>, Name<'_>, Name<'_>, Name<'_>), Fault>
+fn four_names(text: &[u8]) -> Result<(Name<'_>, Name<'_>, Name<'_>, Name<'_>), Fault>
     ensures { result ≡ four_names (words text.now) }
 {
     let (first, second, third, fourth) = four(text)?;

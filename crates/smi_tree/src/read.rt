@@ -81,7 +81,7 @@ impl Tables {
             && let Some(text) = after_word(line, b"move")
         {
             // Most lines of a long file declare moves.
-            return self.read_move(text);
+            return self.read_move(alloc, text);
         }
         let Some((first, rest)) = first_word(line) else {
             return Ok(());
