@@ -92,3 +92,8 @@ abbrev pub Reads : Result Hierarchy TreeFault → Result Hierarchy TreeFault →
 Reads (Ok h) reading = reading ≡ Ok h
 Reads (Err Memory) reading = Unit {0}
 Reads (Err (Line number code)) reading = reading ≡ Err (Line number code)
+
+-- What reading left of a hierarchy is what it gives, unless memory ran out.
+abbrev pub Fills : {X : Type 0} → Hierarchy → Result X TreeFault → Result Hierarchy TreeFault → Type 0
+Fills new (Ok done) reading = Reads (Ok new) reading
+Fills new (Err fault) reading = Reads (Err fault) reading

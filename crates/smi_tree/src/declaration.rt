@@ -3,7 +3,7 @@
 use crate::fault::Fault;
 use crate::name::Name;
 use crate::number::{Address, number_within};
-use crate::text::{Word, first_word};
+use crate::text::{Word, first_word, is_same_text};
 
 /// The word that a line begins with.
 #[derive(Clone, Copy)]
@@ -162,21 +162,35 @@ impl Keyword {
     pub(crate) fn read(word: &[u8]) -> Option<Keyword>
         ensures { result ≡ keyword_of word.now }
     {
-        match word {
-            b"tree" => Some(Keyword::Tree),
-            b"state" => Some(Keyword::State),
-            b"action" => Some(Keyword::Action),
-            b"station" => Some(Keyword::Station),
-            b"operator" => Some(Keyword::Operator),
-            b"devclass" => Some(Keyword::DeviceClass),
-            b"move" => Some(Keyword::Move),
-            b"unitclass" => Some(Keyword::UnitClass),
-            b"accept" => Some(Keyword::Accept),
-            b"any" => Some(Keyword::Any),
-            b"all" => Some(Keyword::All),
-            b"domain" => Some(Keyword::Domain),
-            b"device" => Some(Keyword::Device),
-            _ => None,
+        // One test each, because a match of thirteen texts is expensive to prove.
+        if is_same_text(word, b"tree") {
+            Some(Keyword::Tree)
+        } else if is_same_text(word, b"state") {
+            Some(Keyword::State)
+        } else if is_same_text(word, b"action") {
+            Some(Keyword::Action)
+        } else if is_same_text(word, b"station") {
+            Some(Keyword::Station)
+        } else if is_same_text(word, b"operator") {
+            Some(Keyword::Operator)
+        } else if is_same_text(word, b"devclass") {
+            Some(Keyword::DeviceClass)
+        } else if is_same_text(word, b"move") {
+            Some(Keyword::Move)
+        } else if is_same_text(word, b"unitclass") {
+            Some(Keyword::UnitClass)
+        } else if is_same_text(word, b"accept") {
+            Some(Keyword::Accept)
+        } else if is_same_text(word, b"any") {
+            Some(Keyword::Any)
+        } else if is_same_text(word, b"all") {
+            Some(Keyword::All)
+        } else if is_same_text(word, b"domain") {
+            Some(Keyword::Domain)
+        } else if is_same_text(word, b"device") {
+            Some(Keyword::Device)
+        } else {
+            None
         }
     }
 }
@@ -224,7 +238,7 @@ fn three_names(text: &[u8]) -> Result<(Name<'_>, Name<'_>, Name<'_>), Fault>
 
 #[inline(always)]
 #[tactic(auto, unfolding(crate::specs::Declaration::four_names))]
-pub(crate) fn four_names(text: &[u8]) -> Result<(Name<'_>, Name<'_>, Name<'_>, Name<'_>), Fault>
+fn four_names(text: &[u8]) -> Result<(Name<'_>, Name<'_>, Name<'_>, Name<'_>), Fault>
     ensures { result ≡ four_names (words text.now) }
 {
     let (first, second, third, fourth) = four(text)?;

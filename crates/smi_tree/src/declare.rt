@@ -5,9 +5,7 @@ ghost use Rattle.std.specs.Prelude.{◌≡◌, ◌==◌, ◌+◌, ◌<◌, lengt
 ghost use Rattle.smi_tree.specs.Hierarchy.{is_child_of, move_in, parent_in, ancestors, depth_in};
 ghost use Rattle.smi_tree.specs.Additions.{known};
 
-use crate::declaration::{
-    ClassKind, Declaration, Keyword, Quantifier, four_names, one_name, two_names,
-};
+use crate::declaration::{ClassKind, Declaration, Keyword, Quantifier, one_name, two_names};
 use crate::fault::{Fault, LineRefusal};
 use crate::name::Name;
 use crate::names::Names;
@@ -128,15 +126,14 @@ impl Tables {
     }
 
     /// Adds the move that the words after `move` declare.
-    pub(crate) fn read_move(&mut self, text: &[u8]) -> Result<(), LineRefusal>
+    pub(crate) fn read_move(&mut self, alloc: Global, text: &[u8]) -> Result<(), LineRefusal>
         ensures { Becomes self.new result (with_words_of self.old keywords.Move (words text.now)) }
     {
         // The rows of a class are mostly together, by state and then by action.
         let last = self.moves.last().unwrap_or(NO_MOVE);
         let next = last.action.wrapping_add(1);
         let Some((kind, rest)) = self.after_class_and_state(last, text) else {
-            let (class, from, action, to) = four_names(text)?;
-            return self.add_move(&class, &from, &action, &to);
+            return self.read_words(alloc, Keyword::Move, text);
         };
         if let Some(rest) = self.action_names.after_name(next, rest) {
             let to = one_name(rest)?;

@@ -1,9 +1,7 @@
 //! From the bytes of a tree file to its tables, line by line.
 
-ghost use Rattle.std.specs.Prelude.{◌≡◌, ◌==◌, ◌<◌, ◌≤◌, ◌^◌, length, IfOk};
-ghost use Rattle.std.specs.Str.Lines.{lines};
-ghost use Rattle.smi_tree.specs.Hierarchy.{undeclared};
-ghost use Rattle.smi_tree.specs.File.{is_comment, is_tree, has_one, with_lines, Reads};
+ghost use Rattle.std.specs.Prelude.{◌≡◌};
+ghost use Rattle.smi_tree.specs.File.{is_comment, is_tree, has_one};
 
 use crate::declaration::Keyword;
 use crate::fault::{Fault, LineRefusal, TreeFault};
@@ -37,8 +35,10 @@ fn has_one(names: &Names) -> bool
 
 impl Tables {
     ghost use Rattle.std.specs.Prelude.{◌≡◌};
+    ghost use Rattle.std.specs.Str.Lines.{lines};
     ghost use Rattle.smi_tree.specs.Fault.{Becomes};
     ghost use Rattle.smi_tree.specs.File.{is_begun, is_out_of_place, is_complete, with_line, with_words};
+    ghost use Rattle.smi_tree.specs.File.{with_lines, Fills};
 
     /// Returns true if the `tree` line has come.
     fn is_begun(&self) -> bool
@@ -81,7 +81,7 @@ impl Tables {
             && let Some(text) = after_word(line, b"move")
         {
             // Most lines of a long file declare moves.
-            return self.read_move(text);
+            return self.read_move(alloc, text);
         }
         let Some((first, rest)) = first_word(line) else {
             return Ok(());
@@ -96,22 +96,22 @@ impl Tables {
         let keyword = Keyword::read(word).ok_or(Fault::UnknownWord)?;
         self.read_words(alloc, keyword, rest)
     }
-}
 
-/// Returns what the lines of a file declare.
-pub(crate) fn read_lines(alloc: Global, bytes: &[u8]) -> Result<Tables, TreeFault>
-    ensures { Reads result (with_lines 1 undeclared (lines bytes.now)) }
-{
-    let mut tables = Tables::new(alloc);
-    let mut rest = bytes;
-    let mut number = 0;
-    while let Some(cut) = first_line(rest) {
-        let (line, after) = cut;
-        number += 1;
-        if let Err(refusal) = tables.read_line(alloc, line) {
-            return Err(refusal.at_line(number));
+    /// Adds what the lines of a file declare.
+    // The caller has the tables, because each place that drops them is expensive to prove.
+    pub(crate) fn read_lines(&mut self, alloc: Global, bytes: &[u8]) -> Result<(), TreeFault>
+        ensures { Fills self.new result (with_lines 1 self.old (lines bytes.now)) }
+    {
+        let mut rest = bytes;
+        let mut number = 0;
+        while let Some(cut) = first_line(rest) {
+            let (line, after) = cut;
+            number += 1;
+            if let Err(refusal) = self.read_line(alloc, line) {
+                return Err(refusal.at_line(number));
+            }
+            rest = after;
         }
-        rest = after;
+        Ok(())
     }
-    Ok(tables)
 }

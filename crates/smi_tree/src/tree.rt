@@ -3,7 +3,6 @@
 use crate::fault::{Fault, TreeFault};
 use crate::groups::grouped;
 use crate::name::Sought;
-use crate::read::read_lines;
 use crate::tables::Tables;
 use smi_base::MOST_BYTES_OF_A_FILE;
 use std::alloc::{AllocError, Global};
@@ -46,27 +45,65 @@ impl Model for Tree {
         t.parts.value.operators.items };
 }
 
-/// Numbers, grouped by what they belong to.
-type NumberLists = Vec<Vec<u16>>;
+ghost use Rattle.std.specs.Prelude.{◌≡◌, IfOk};
 
-ghost use Rattle.std.specs.Prelude.{IfOk};
-ghost use Rattle.smi_tree.specs.Lawful.{IsTree};
-ghost use Rattle.smi_tree.specs.Indexed.{IsIndexed};
-
-/// Returns the children and the devices of each domain, and the operators of each station.
-fn lists_of(
-    alloc: Global,
-    tables: &Tables,
-) -> Result<(NumberLists, NumberLists, NumberLists), AllocError>
-    requires { IsTree tables.now }
-    ensures { IfOk result (λ lists. IsIndexed tables.now lists.0.items lists.1.items lists.2.items) }
+/// Puts a value into a box.
+// Generic, because a place that drops a large value of a known type is expensive to prove.
+fn boxed<T: Drop>(alloc: Global, value: T) -> Result<Box<T>, AllocError>
+    ensures { IfOk result (λ b. b.value ≡ value) }
 {
-    let domains = tables.domains.len() as u16;
-    let stations = tables.addresses.len() as u16;
-    let children = grouped(alloc, domains, &tables.domains)?;
-    let devices = grouped(alloc, domains, tables.devices.rows())?;
-    let operators = grouped(alloc, stations, &tables.homes)?;
-    Ok((children, devices, operators))
+    Ok(Box::new(alloc, value)?)
+}
+
+impl Parts {
+    ghost use Rattle.std.specs.Prelude.{◌≡◌, OnOk};
+    ghost use Rattle.std.specs.Str.Lines.{lines};
+    ghost use Rattle.smi_tree.specs.Hierarchy.{undeclared};
+    ghost use Rattle.smi_tree.specs.Lawful.{IsTree};
+    ghost use Rattle.smi_tree.specs.Indexed.{IsIndexed};
+    ghost use Rattle.smi_tree.specs.File.{ended, with_lines, Fills};
+
+    /// Returns the parts of a tree of which nothing is declared.
+    fn new(alloc: Global) -> Parts
+        ensures { result.tables ≡ undeclared }
+    {
+        Parts {
+            tables: Tables::new(alloc),
+            children: Vec::new(alloc),
+            devices: Vec::new(alloc),
+            operators: Vec::new(alloc),
+        }
+    }
+
+    /// Reads the lines of a file into parts of which nothing is declared.
+    fn fill(&mut self, alloc: Global, bytes: &[u8]) -> Result<(), TreeFault>
+        requires { self.old.tables ≡ undeclared }
+        ensures exact { Fills self.new.tables result (ended (with_lines 1 undeclared (lines bytes.now))) }
+        ensures indexed { OnOk result (IsIndexed self.new.tables self.new.children.items self.new.devices.items
+            self.new.operators.items) }
+    {
+        self.tables.read_lines(alloc, bytes)?;
+        if !self.tables.is_complete() {
+            return Err(TreeFault::Line(0, Fault::Incomplete.code()));
+        }
+        self.index(alloc)?;
+        Ok(())
+    }
+
+    /// Groups domains by parent, devices by domain and operators by station.
+    fn index(&mut self, alloc: Global) -> Result<(), AllocError>
+        requires { IsTree self.old.tables }
+        ensures tables { self.new.tables ≡ self.old.tables }
+        ensures indexed { OnOk result (IsIndexed self.new.tables self.new.children.items self.new.devices.items
+            self.new.operators.items) }
+    {
+        let domains = self.tables.domains.len() as u16;
+        let stations = self.tables.addresses.len() as u16;
+        self.children = grouped(alloc, domains, &self.tables.domains)?;
+        self.devices = grouped(alloc, domains, self.tables.devices.rows())?;
+        self.operators = grouped(alloc, stations, &self.tables.homes)?;
+        Ok(())
+    }
 }
 
 impl Tree {
@@ -98,28 +135,9 @@ impl Tree {
         if bytes.len() > MOST_BYTES_OF_A_FILE {
             return Err(TreeFault::Line(0, Fault::FileTooLong.code()));
         }
-        let tables = read_lines(alloc, bytes)?;
-        if !tables.is_complete() {
-            return Err(TreeFault::Line(0, Fault::Incomplete.code()));
-        }
-        Ok(Tree::new(alloc, tables)?)
-    }
-
-    // There is one place that drops tables, because each is expensive to prove.
-    fn new(alloc: Global, tables: Tables) -> Result<Tree, AllocError>
-        requires { IsTree tables }
-        ensures { IfOk result (λ tree. tree ≡ tables) }
-    {
-        let (children, devices, operators) = lists_of(alloc, &tables)?;
-        let parts = Parts {
-            tables,
-            children,
-            devices,
-            operators,
-        };
-        Ok(Tree {
-            parts: Box::new(alloc, parts)?,
-        })
+        let mut parts = boxed(alloc, Parts::new(alloc))?;
+        parts.fill(alloc, bytes)?;
+        Ok(Tree { parts })
     }
 
     /// Returns the number of the tree, 1 to 65,535.
