@@ -125,7 +125,9 @@ impl SeatQueue {
     pub(crate) fn has_order(&self, session: u64, tag: &[u8]) -> bool
         ensures { result ≡ list_any (is_of session tag.now) self.now.pending }
     {
-        self.pending.iter().any(|pending| pending.is_of(session, tag))
+        self.pending
+            .iter()
+            .any(|pending| pending.is_of(session, tag))
     }
 
     /// Returns true if an order about the same domain as this one, and of the same operator, is pending.

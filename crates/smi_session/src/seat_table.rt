@@ -101,9 +101,7 @@ fn place_joined(queues: &[SeatQueue], operator: Option<u16>, order: Order) -> Op
     ensures place { result ≡ position (joins operator order) queues.now }
     ensures within { IfSome result (λ place. place < length queues.now) }
 {
-    queues
-        .iter()
-        .position(|queue| queue.joins(operator, order))
+    queues.iter().position(|queue| queue.joins(operator, order))
 }
 
 /// Returns the place of the first queue that may take an order.

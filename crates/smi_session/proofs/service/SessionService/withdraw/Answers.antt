@@ -14,7 +14,7 @@ returns-clause-ok g c =
     let pushed = c.in_ok-push_reply.ensures.pushed in
     let tag = named_tag (words c.args.line.text.now) in
     let replied : c.push_reply.new.self ≡ with_reply c.args.line.tag
-        (withdrawal_text (withdrawal_of tag c.self.inside.seats c.args.session.now) tag)
-        (told_of (withdrawal_of tag c.self.inside.seats c.args.session.now) tag c.args.session.now) = cc in
+    (withdrawal_text (withdrawal_of tag c.self.inside.seats c.args.session.now) tag)
+    (told_of (withdrawal_of tag c.self.inside.seats c.args.session.now) tag c.args.session.now) = cc in
     rw (← c.self.view_is) (subst (λ (e : SessionState). TakesBack tag c.self.inside.seats e c.take_back.new.self
     c.take_back.new.session) replied (rw (← named) c.take_back.ensures))
