@@ -74,9 +74,9 @@ class FakeConsole:
         self.line.close()
 
     def end(self):
-        if self.line:
-            self.line.close()
-        self.door.close()
+        for it in (self.line, self.door):
+            if it:
+                it.close()
 
 
 @pytest.fixture
@@ -293,7 +293,8 @@ def test_modes(folder, tree, console, start_screen, subtests):
         assert at_last(lambda: modes_of(screen), told) == told
     with subtests.test("no order is answered by it"):
         assert [screen.give("order ANN take DCS"), console.hear()] == [GIVEN, "@1 order ANN take DCS"]
-        assert fates(screen)[-1][1:3] == (True, None)
+        waits = ("order ANN take DCS", True, None, None, None)
+        assert at_last(lambda: fates(screen), [waits]) == [waits]
     console.say("@modes modes 0")
     with subtests.test("a later one"):
         assert at_last(lambda: modes_of(screen), []) == []
