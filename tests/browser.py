@@ -30,9 +30,7 @@ CONTRASTS = """(() => {
   return out; })()"""
 LEADER, TOP = "SHIFT_LEADER", "EXPERIMENT"
 QUESTION = "document.getElementById('question')"
-# The orders that are listed with what became of them, without their buttons.
-GIVEN = "[...document.querySelectorAll('#given li')].map((li) => [...li.querySelectorAll('b, span')]" \
-    ".map((e) => e.textContent).join(''))"
+GIVEN = "[...document.querySelectorAll('#given li')].map((li) => li.textContent)"
 
 
 def traced(program, place):

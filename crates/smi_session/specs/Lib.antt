@@ -18,4 +18,3 @@ pub mod Tag
 pub mod Trust
 pub mod UnknownName
 pub mod Will
-pub mod Withdrawal
