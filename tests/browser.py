@@ -30,7 +30,9 @@ CONTRASTS = """(() => {
   return out; })()"""
 LEADER, TOP = "SHIFT_LEADER", "EXPERIMENT"
 QUESTION = "document.getElementById('question')"
-GIVEN = "[...document.querySelectorAll('#given li')].map((li) => li.textContent)"
+# The orders that are listed with what became of them, without their buttons.
+GIVEN = "[...document.querySelectorAll('#given li')].map((li) => [...li.querySelectorAll('b, span')]" \
+    ".map((e) => e.textContent).join(''))"
 
 
 def traced(program, place):

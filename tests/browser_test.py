@@ -267,8 +267,10 @@ def check_elsewhere(detector, browser, hand, subtests):
     hand.answer(0)
     with subtests.test("elsewhere: stopped"):
         assert hand.is_done_again(stop, before[2])
-    with subtests.test("elsewhere: a command from elsewhere is a doubt"):
-        assert [detector.order(stop), browser.waits_for(waits, 20) is not None] == ["told %s 0" % stop, True]
+    with subtests.test("elsewhere: a command from elsewhere is no doubt, because the console tells the mode"):
+        assert [detector.order(stop), browser.waits_for(waits, 4)] == ["told %s 0" % stop, None]
+    with subtests.test("elsewhere: the box says it"):
+        assert browser.run("domains.get('MUO').at.mode.textContent") == "manual"
     hand.shut()
 
 

@@ -234,6 +234,77 @@ def test_replaced(place, subtests):
     client.close()
 
 
+def test_withdraw(place, subtests):
+    """An order that waits for one before it is taken back by its own connection alone, and is never given."""
+    console, other = Console(place.where("HERE")), Console(place.where("HERE"))
+    console.say("@1 order ANN take LEFT\n@2 order ANN drop LEFT\n@3 order ANN take LEFT\n")
+    assert at_last(place.waiting, 3) == 3
+    with subtests.test("another connection has no such order"):
+        assert other.ask("withdraw 2") == "unknown 2"
+    with subtests.test("one that waits"):
+        console.say("@w withdraw 2\n")
+        assert [console.line(), console.line()] == ["@2 withdrawn", "@w withdrawn 2"]
+    with subtests.test("it is under way no more"):
+        assert place.waiting() == 2
+    with subtests.test("once"):
+        assert console.ask("@w withdraw 2") == "@w unknown 2"
+    with subtests.test("one that its station has taken"):
+        assert console.ask("@w withdraw 1") == "@w begun 1"
+    with subtests.test("a line without a tag"):
+        assert other.ask("withdraw 1") == "unknown 1"
+    with subtests.test("wrong lines"):
+        assert [console.ask("@w withdraw"), console.ask("@w withdraw 1 2")] == [
+            "@w fault 2: too few words, or too many"] * 2
+    with subtests.test("a program's order for which it waits no longer"), place.client("HERE") as program:
+        ends = []
+        for domain in ("LEFT", "FIRST"):
+            with pytest.raises(lunskaf.TimeOut) as raised:
+                program.take("ANN", domain, patience=0.3)
+            ends.append(raised.value.is_withdrawn)
+        assert (ends, place.waiting()) == ([True, False], 3)
+    place.start("EAST")
+    with subtests.test("the others are given"):
+        assert [console.line(), console.line()] == ["@1 told ANN take LEFT 0", "@3 told ANN take LEFT 23"]
+    with subtests.test("and the one taken back is not"):
+        assert console.ask("@4 order ANN ask LEFT") == "@4 told ANN ask LEFT ANN 1 0 settled 0"
+
+
+def test_many_withdrawn(place, subtests):
+    """Of three hundred orders about one domain all but the first are taken back, and further lines are taken then."""
+    console = Console(place.where("HERE"))
+    console.say("@1 order ANN take LEFT\n")
+    assert at_last(place.waiting, 1) == 1
+    console.say("".join("@%d order ANN take LEFT\n" % n for n in range(2, 252)))
+    assert at_last(place.waiting, 251) == 251
+    console.say("".join("@w withdraw %d\n" % n for n in range(2, 252)))
+    with subtests.test("each is told, in its order"):
+        assert [console.line() for _ in range(500)] == [
+            line for n in range(2, 252) for line in ("@%d withdrawn" % n, "@w withdrawn %d" % n)]
+    with subtests.test("the first goes on"):
+        assert place.waiting() == 1
+    place.start("EAST")
+    assert console.line() == "@1 told ANN take LEFT 0"
+
+
+def test_commands_join(place, subtests):
+    """Eight commands on a domain are under way together, and a ninth waits; an order that is none waits for all."""
+    place.begin_run()
+    place.nodes["SIDE"].kill()
+    console = Console(place.where("HERE"))
+    console.say("".join("@%d order ANN do RUN STOP\n" % n for n in range(1, 11)) + "@d order ANN drop RUN\n")
+    assert at_last(place.waiting, 11) == 11
+    with subtests.test("eight have begun"):
+        assert [console.ask("@w withdraw %d" % n) for n in range(1, 9)] == ["@w begun %d" % n for n in range(1, 9)]
+    with subtests.test("the others wait"):
+        console.say("@w withdraw 9\n@w withdraw d\n")
+        assert [console.line() for _ in range(4)] == ["@9 withdrawn", "@w withdrawn 9", "@d withdrawn", "@w withdrawn d"]
+    place.start("SIDE")
+    with subtests.test("all that are left end, in their order"):
+        # (8 says that the end of one was not seen, because a later one had begun)
+        assert [console.line().replace("STOP 8", "STOP 0") for _ in range(9)] == [
+            "@%d told ANN do RUN STOP 0" % n for n in (1, 2, 3, 4, 5, 6, 7, 8, 10)]
+
+
 # Asks for a domain whose station is away, and prints what that raises.
 ASKS = """
 import sys

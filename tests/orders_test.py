@@ -11,13 +11,21 @@ import screens
 from running import DEADLINE, at_last, is_so
 
 
+# The question that a screen asks every two seconds, which is no order.
+QUESTION = b"@modes modes\n"
+
+
 class FakeConsole:
-    """A console that the test plays: it says what the test says, and its lines are read one by one."""
+    """A console that the test plays: it says what the test says, and its lines are read one by one.
+
+    Questions for the modes are counted, and are not among its lines.
+    """
 
     def __init__(self):
         self.door = socket.create_server(("127.0.0.1", 0))
         self.door.settimeout(DEADLINE)
         self.place, self.line, self.rest = "127.0.0.1:%d" % self.door.getsockname()[1], None, b""
+        self.questions = 0
 
     def meet(self):
         if self.door is None:
@@ -27,21 +35,30 @@ class FakeConsole:
         self.line, self.rest = self.door.accept()[0], b""
         self.line.settimeout(DEADLINE)
 
+    def read(self):
+        """Reads what has come, without questions for the modes, and returns false if the connection has ended."""
+        got = self.line.recv(4096)
+        self.rest += got
+        self.questions += self.rest.count(QUESTION)
+        self.rest = self.rest.replace(QUESTION, b"")
+        return bool(got)
+
     def hear(self):
         """Returns the next line, or what has come of it if the connection ends."""
         while b"\n" not in self.rest:
-            got = self.line.recv(4096)
-            if not got:
+            if not self.read():
                 return self.rest.decode()
-            self.rest += got
         line, _, self.rest = self.rest.partition(b"\n")
         return line.decode()
 
     def hears_nothing(self, seconds=1.0):
         """Returns true if nothing comes for this many seconds."""
-        self.line.settimeout(seconds)
+        end = time.monotonic() + seconds
         try:
-            self.rest += self.line.recv(4096)
+            while not self.rest and time.monotonic() < end:
+                self.line.settimeout(max(0.01, end - time.monotonic()))
+                if not self.read():
+                    break
         except socket.timeout:
             pass
         self.line.settimeout(DEADLINE)
@@ -57,9 +74,9 @@ class FakeConsole:
         self.line.close()
 
     def end(self):
-        if self.line:
-            self.line.close()
-        self.door.close()
+        for it in (self.line, self.door):
+            if it:
+                it.close()
 
 
 @pytest.fixture
@@ -251,6 +268,69 @@ def check_broken(console, screen, before, subtests):
         assert screen.get("/api/tree")[0] == 200
 
 
+def modes_of(screen):
+    return screen.told_orders()["modes"]
+
+
+def test_modes(folder, tree, console, start_screen, subtests):
+    """The modes that the console tells are those of its last whole answer, until the connection ends."""
+    screen = start_screen(tree, screens.store_of(folder, "screen"), more=("--endless", "--orders", console.place))
+    console.meet()
+    with subtests.test("nothing is known before"):
+        assert screen.has_console() and modes_of(screen) == []
+    with subtests.test("it is asked, and again"):
+        assert is_so(lambda: console.hears_nothing() and console.questions >= 2)
+    told, odd = ["TPC manual", "DCS ignored"], ["mode \"x\" manual", "model", "fault 1", "modes"]
+    answer = "\n".join("@modes " + text for text in ["mode " + it for it in told] + odd)
+    console.say(answer)
+    time.sleep(0.6)
+    with subtests.test("nor before an answer is whole"):
+        assert modes_of(screen) == []
+    # the next question forgets what has come
+    console.hears_nothing(2.5)
+    console.say(answer + " 4")
+    with subtests.test("a whole answer"):
+        assert at_last(lambda: modes_of(screen), told) == told
+    with subtests.test("no order is answered by it"):
+        assert [screen.give("order ANN take DCS"), console.hear()] == [GIVEN, "@1 order ANN take DCS"]
+        waits = ("order ANN take DCS", True, None, None, None)
+        assert at_last(lambda: fates(screen), [waits]) == [waits]
+    console.say("@modes modes 0")
+    with subtests.test("a later one"):
+        assert at_last(lambda: modes_of(screen), []) == []
+    console.say("@modes mode TPC out\n@modes modes 1")
+    with subtests.test("and a third"):
+        assert at_last(lambda: modes_of(screen), ["TPC out"]) == ["TPC out"]
+    console.leave()
+    with subtests.test("none is known once the console has gone"):
+        assert at_last(lambda: modes_of(screen), []) == []
+
+
+def test_withdraw(folder, tree, console, start_screen, subtests):
+    """A line that withdraws an order is sent as orders are, and its answer is its own."""
+    screen = start_screen(tree, screens.store_of(folder, "screen"), more=("--endless", "--orders", console.place))
+    console.meet()
+    with subtests.test("the console is there"):
+        assert screen.has_console()
+    for line in ["withdraw", "withdraw ", "withdraw x", "withdraw 1x", "withdraw -1", "withdraw  1", "withdraw 1 ",
+                 "withdraw 12345678901234567", "withdraw @1", "Withdraw 1"]:
+        with subtests.test("%r, no" % line):
+            assert screen.give(line) == NO_ORDER
+    order = "order ANN take DCS"
+    with subtests.test("an order"):
+        assert [screen.give(order), console.hear()] == [GIVEN, "@1 " + order]
+    with subtests.test("is withdrawn"):
+        assert [screen.give("withdraw 1"), console.hear()] == [GIVEN, "@2 withdraw 1"]
+    with subtests.test("as is one of any number"):
+        assert [screen.give("withdraw 1234567890123456"), console.hear()] == [GIVEN, "@3 withdraw 1234567890123456"]
+    for text in ["@1 withdrawn", "@2 withdrawn 1", "@3 unknown 1234567890123456"]:
+        console.say(text)
+    wanted = [(order, False, "withdrawn", None, None), ("withdraw 1", False, "withdrawn 1", None, None),
+              ("withdraw 1234567890123456", False, "unknown 1234567890123456", None, None)]
+    with subtests.test("no answer has a code"):
+        assert at_last(lambda: fates(screen), wanted) == wanted
+
+
 def test_shut(folder, tree, start_node, start_screen, subtests):
     """Without a console none of this is there."""
     node = start_node(tree, "A", screens.store_of(folder, "A"), "--endless")
@@ -287,6 +367,10 @@ def test_a_real_console(folder, tree, start_node, start_screen, subtests):
             assert screen.order(order) == code
     with subtests.test("the picture has it"):
         assert screen.comes(screens.holders_of, {"DCS": "ANN", "TPC": "DCS"}) == {"DCS": "ANN", "TPC": "DCS"}
+    for order, mode in [("ignore DCS TPC", "ignored"), ("manual DCS TPC", "manual"), ("include DCS TPC", "included")]:
+        with subtests.test("the mode is told: " + mode):
+            assert screen.order("ANN " + order) == 0
+            assert at_last(lambda: modes_of(screen), ["TPC " + mode]) == ["TPC " + mode]
     screen.give("order BOB take TPC")
     fault = "fault 5: BOB is no operator of this station"
     with subtests.test("an operator of another"):

@@ -51,6 +51,7 @@ class MadeUp:
     def __init__(self, tree, key=KEY):
         self.tree, self.key, self.style, self.domains, self.devices = tree, key, "", {}, {}
         self.orders, self.has_console, self.frame, self.begun = [], True, 0, time.monotonic()
+        self.modes = []
         self.is_heard = lambda station: True
         self.lock = threading.Lock()
 
@@ -100,13 +101,18 @@ class MadeUp:
             it = self.orders[number - 1]
             it.update(waits=False, code=code, words=words, answer="told %s %d" % (it["line"][6:], code))
 
+    def answer_line(self, number, answer):
+        """Answers a line with a text that has no code."""
+        with self.lock:
+            self.orders[number - 1].update(waits=False, answer=answer)
+
     def told_orders(self):
         with self.lock:
             for it in self.orders:
                 if it["waits"]:
                     it["seconds"] = int(time.monotonic() - it["at"])
             rows = [{key: it[key] for key in it if key != "at"} for it in self.orders]
-            return {"console": self.has_console, "orders": rows}
+            return {"console": self.has_console, "orders": rows, "modes": self.modes if self.has_console else []}
 
     def answer(self, method, target, body, headers):
         """Returns the status and the text of an answer."""

@@ -106,7 +106,7 @@ def test_shown(subtests):
         with subtests.test("alarms"):
             told = at_last(lambda: json.loads(browser.run(listed)), sorted(alarms))
             assert [any(name in text for text in told) for name in alarms] + [len(told)] == [True] * 3 + [3]
-        for name, wanted in zip(names, ["#c81e1e", "#123456", "#5f6b7a", "#654321", "#b9a7c9", "#c81e1e"]):
+        for name, wanted in zip(names, ["#bb1c1c", "#123456", "#5a5f6d", "#654321", "#ddccdf", "#bb1c1c"]):
             with subtests.test("colour of " + name):
                 assert browser.run("devices.get(%r).dot.style.getPropertyValue('--c')" % name) == wanted
         for name, wanted in zip(names, ["!", "", "", "!", "?", "!"]):

@@ -1,9 +1,11 @@
-"""What the page says before an order: who is silent, what waits already, and what can be answered.
+"""What the page says before an order: who is silent, what waits already, and what can be answered; and what it says of
+modes, and of orders that are withdrawn.
 
 The page runs in headless Chromium over made-up answers (tests/page_server.py). The sentences that are expected follow
 from docs/HANDBOOK.md, "Orders from the screen".
 """
 
+import json
 import re
 
 import pytest
@@ -65,6 +67,20 @@ class Played:
         """Returns true once the page knows that an order has ended."""
         return self.browser.waits_for("given.some((it) => it.number === %d && !it.waits)" % number, 10) is not None
 
+    def tells(self, modes):
+        """Has the console tell these modes alone, and waits until the page knows them."""
+        self.screen.modes = ["%s %s" % it for it in modes.items()]
+        is_known = "[...domains.values()].every((d) => modeOf(d) === (%s[d.name] || ''))" % json.dumps(modes)
+        assert self.browser.waits_for(is_known, 10) is not None
+
+    def mode_in_box(self, domain):
+        return self.browser.run("domains.get('%s').at.mode.textContent" % domain)
+
+    def mode_in_details(self, domain):
+        self.hand.open(domain)
+        return self.browser.run("[...document.querySelectorAll('#more dt')].find((dt) => dt.textContent === 'mode')"
+                                ".nextSibling.textContent")
+
     def fates(self):
         return [re.sub(r"\b\d+ s\b", "N s", text) for text in self.browser.run(GIVEN)]
 
@@ -89,6 +105,7 @@ def calm(played):
             played.screen.end_order(it["number"], 0)
     played.screen.tell({TOP: LEADER})
     assert played.browser.waits_for("given.every((it) => !it.waits)", 10) is not None
+    played.tells({})
     played.silence()
     yield
     assert played.browser.errors == []
@@ -234,6 +251,86 @@ def test_manual(played, subtests):
     with subtests.test("until somebody else has ordered there"):
         assert played.browser.waits_for(mode % "MUO" + " === ''", 5) is not None
         assert played.asks(TOP, "STOP")[0] == HOLDS % ("MUON", "STOP", "TRK, CAL, TRG, DAQ")
+
+
+def test_told_modes(played, subtests):
+    """A mode that the console tells is in the details, and in the box if the child is manual or ignored."""
+    played.tells({"TRK": "manual", "CAL": "ignored", "MUO": "included", "TRG": "out"})
+    with subtests.test("boxes"):
+        wanted = ["manual", "ignored", "", "", ""]
+        assert at_last(lambda: [played.mode_in_box(name) for name in OTHERS], wanted) == wanted
+    with subtests.test("details"):
+        assert [played.mode_in_details(name) for name in OTHERS] == ["manual", "ignored", "included", "out",
+                                                                     "mode unknown"]
+    with subtests.test("details of what is held by nobody"):
+        assert played.mode_in_details("INFRA") == "has none: it is not held by what is above"
+    played.hand.open("TRK")
+    with subtests.test("greyed: it is so already"):
+        assert played.hand.button("manual") == ["true", "TRK is manual already"]
+    with subtests.test("not greyed: another mode"):
+        assert [played.hand.button(deed)[0] for deed in ("include", "ignore", "exclude")] == ["false"] * 3
+    played.screen.has_console = False
+    with subtests.test("without a console none is known"):
+        assert is_so(lambda: played.mode_in_details("TRK") == "mode unknown", 10)
+        assert is_so(lambda: played.mode_in_box("TRK") == "", 10)
+    played.screen.has_console = True
+
+
+def test_told_manual(played, subtests):
+    """The console says whether a silent child is manual, whoever has ordered there."""
+    played.tells({"MUO": "manual"})
+    played.silence("MUON")
+    played.screen.tell({TOP: LEADER}, last=played.screen.frame)
+    with subtests.test("manual"):
+        assert played.asks(TOP, "STOP")[0] == "STOP at EXPERIMENT?"
+    played.tells({"MUO": "included"})
+    with subtests.test("included"):
+        assert played.asks(TOP, "STOP")[0] == HOLDS % ("MUON", "STOP", "TRK, CAL, TRG, DAQ")
+    number, line = len(played.screen.orders) + 1, "order %s manual %s MUO" % (LEADER, TOP)
+    played.hand.answer(0)
+    assert is_so(lambda: [it["line"] for it in played.screen.orders[number - 1:]] == [line], 10)
+    played.screen.end_order(number, 0)
+    with subtests.test("made so by this page, before the console tells it"):
+        assert is_so(lambda: played.mode_in_box("MUO") == "manual", 2)
+    assert is_so(lambda: len(played.screen.orders) == number + 1, 10)
+    with subtests.test("but only for some seconds"):
+        assert is_so(lambda: played.mode_in_box("MUO") == "", 10)
+
+
+BUTTON = "[...document.querySelectorAll('#given button')].find((b) => b.getAttribute('aria-label') === 'withdraw %s')"
+
+
+def test_withdraw(played, subtests):
+    """An order that waits has a button that withdraws it, and one that has begun is told."""
+    order, withdrawn = LEADER + " do %s STOP" % TOP, len(played.screen.orders) + 2
+    number, button = played.gives(order), BUTTON % order
+    assert played.browser.waits_for("!!" + button, 10) is not None
+    played.browser.run(button + ".focus()")
+    waits = "given.find((it) => it.number === %d).seconds >= 2" % number
+    with subtests.test("the keyboard stays at it while the seconds go on"):
+        assert played.browser.waits_for(waits, 10) is not None
+        assert played.browser.run("document.activeElement === " + button)
+    played.browser.run("%s.click(); %s.click()" % (button, button))
+    with subtests.test("it is sent, once"):
+        assert is_so(lambda: [it["line"] for it in played.screen.orders[number:]] == ["withdraw %d" % number], 5)
+    played.screen.answer_line(number, "withdrawn")
+    played.screen.answer_line(withdrawn, "withdrawn %d" % number)
+    listed = order + "withdrawn, not from this page"
+    with subtests.test("what became of it"):
+        assert at_last(lambda: played.fates()[-1], listed) == listed
+    with subtests.test("it has no button any more"):
+        assert played.browser.run("!" + button)
+    begun = played.gives(order)
+    assert played.browser.waits_for("!!" + button, 10) is not None
+    played.browser.run(button + ".click()")
+    assert is_so(lambda: played.screen.orders[-1]["line"] == "withdraw %d" % begun, 5)
+    played.screen.answer_line(len(played.screen.orders), "begun %d" % begun)
+    with subtests.test("one that has begun"):
+        words = order + " has begun and can't be withdrawn"
+        assert is_so(lambda: played.browser.run("document.getElementById('told').textContent") == words, 10)
+    with subtests.test("lines that withdraw are no orders"):
+        assert not [text for text in played.fates() if text.startswith("withdraw")]
+        assert played.browser.run("given.every((it) => it.line.startsWith('order '))")
 
 
 def test_operators(played, subtests):

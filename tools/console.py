@@ -26,13 +26,13 @@ sys.path.insert(0, os.path.dirname(os.path.abspath(__file__)))
 
 import lunskaf
 
-WORDS = ["order", "report", "show", "states", "follow", "actions", "under", "way", "modes", "counts", "will", "help",
-         "take", "drop", "do", "include", "exclude", "manual", "ignore", "ask", "watch", "unwatch"]
+WORDS = ["order", "report", "show", "states", "follow", "actions", "under", "way", "modes", "counts", "will", "withdraw",
+         "help", "take", "drop", "do", "include", "exclude", "manual", "ignore", "ask", "watch", "unwatch"]
 DECLARED = ["operator", "domain", "device", "state", "action"]
 # How long a node that is not there is waited for, in seconds.
 PATIENCE = 5
 # With which word the last line of an answer begins. What follows or tells actions has no last line.
-LAST = {"order": ("told", "replaced"), "report": ("told",), "show": ("board",), "counts": ("counts",),
+LAST = {"order": ("told", "replaced", "withdrawn"), "withdraw": ("withdrawn", "begun", "unknown"), "report": ("told",), "show": ("board",), "counts": ("counts",),
         "states": ("states",), "modes": ("modes",), "under": ("under",), "will": ("will",), "help": ("help",)}
 # The exit status if there is no node, or no longer one.
 NOBODY = 3
@@ -135,7 +135,7 @@ def is_well(words):
     words = words[1:] if words[:1] and words[0].startswith("@") else words
     if words[:1] == ["told"]:
         return words[2] == "ask" and len(words) > 5 or words[-1] == "0"
-    return bool(words) and words[0] not in ("fault", "replaced") and words[2:3] != ["fault"] and words != ["full"]
+    return bool(words) and words[0] not in ("fault", "replaced", "begun", "unknown") and words[2:3] != ["fault"] and words != ["full"]
 
 
 def tell_loss():

@@ -20,7 +20,8 @@ Each call gives one line to the node with a tag of its own, and waits for its an
 An order that does not end with 0 raises Refused, with its code and a sentence. A line that the node does not take
 raises Fault. A connection that is lost while a call waits raises Lost: what became of its order is not known. The next
 call connects again. A node that has no place for another connection raises Full, and nothing of the call was done. A
-call that waits longer than its patience raises TimeOut, and its order may still end.
+call that waits longer than its patience raises TimeOut. An order that its station has not taken by then, because it
+waits for one before it, is taken back: `is_withdrawn` of TimeOut says so. Any other may still end.
 
 `follow` has a connection of its own, and connects again if that is lost, so that it goes on when a node is started
 again. What is read while it was away is the newest state alone. `actions` has one too: what was done while it was away
@@ -131,7 +132,11 @@ class Full(Exception):
 
 
 class TimeOut(Exception):
-    """No answer came in time."""
+    """No answer came in time. If `is_withdrawn` is true the order was taken back, and will not be done."""
+
+    def __init__(self, said, is_withdrawn=False):
+        self.is_withdrawn = is_withdrawn
+        super().__init__(said + (", and it was taken back" if is_withdrawn else ""))
 
 
 class Replaced(Exception):
@@ -274,7 +279,8 @@ class Node:
                 try:
                     text = asked.get(timeout=max(0, until - time.monotonic()))
                 except queue.Empty:
-                    raise TimeOut("no answer to %s within %g s" % (line, patience)) from None
+                    said = "no answer to %s within %g s" % (line, patience)
+                    raise TimeOut(said, line.startswith("order ") and self.withdraw(connection, tag)) from None
                 if text is None:
                     raise connection.loss("the connection was lost while %s was not answered" % line)
                 words = text.split()
@@ -283,6 +289,16 @@ class Node:
                 yield words
         finally:
             connection.end(tag)
+
+    def withdraw(self, connection, tag):
+        """Takes back the order of this tag, if its station has not taken it, and returns whether it did."""
+        own = "@%d" % next(self.numbers)
+        try:
+            return connection.begin(own, "withdraw " + tag[1:]).get(timeout=SOON) == "withdrawn " + tag[1:]
+        except (Lost, Full, queue.Empty):
+            return False
+        finally:
+            connection.end(own)
 
     def answer(self, line, patience=None):
         """The one line that a line is answered with, as its words."""

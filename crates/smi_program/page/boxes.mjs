@@ -70,12 +70,13 @@ function describe(d, silence) {
   words.push(boss === null ? "commander not told" : boss === "" ? "free" : "commanded by " + boss);
   if (silence !== null) words.push(silence < 0 ? "not heard yet" : "silent for " + age(silence));
   if (d.told && d.told.busy) words.push("at work");
+  if (markedMode(d)) words.push(markedMode(d));
   return words.join(", ");
 }
 
-/** Returns the mode of a child if somebody knows it.
+/** Returns the mode of a child if it is one that a box says. Most are included, and their boxes stay calm.
  * @param {Domain} d */
-const knownMode = (d) => modeSayers.map((say) => say(d)).find((mode) => mode) || "";
+const markedMode = (d) => modeSayers.map((say) => say(d)).find((mode) => mode === "manual" || mode === "ignored") || "";
 
 /** Returns the state in which most domains are, of those that are heard, or "" if none was seen. */
 export function usualState() {
@@ -98,7 +99,7 @@ export function showDomain(d, heard, time, usual) {
   style(at.who, "--whot", colour ? inkOn(colour) : "");
   // who commands is said where that is not the one who commands what is above
   set(at.who, byDomain ? "" : boss === null ? "" : boss || "free");
-  set(at.mode, knownMode(d));
+  set(at.mode, markedMode(d));
   flag(at.box, "apart", boss !== null && !byDomain && !!d.parent);
   flag(at.box, "silent", silence !== null);
   flag(at.top, "busy", !!(d.told && d.told.busy) && silence === null);

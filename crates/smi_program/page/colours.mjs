@@ -3,9 +3,10 @@
 import { flag, style } from "./dom.mjs";
 import { ALARM, styleOf, tree } from "./model.mjs";
 
+// Any two of these can be told apart, also by who sees no red or no green (tests/colours_test.py computes how well).
 /** @type {Record<string, string>} */
-const KNOWN = { OFF: "#5f6b7a", UNKNOWN: "#b9a7c9", STANDBY: "#7cc4ee", RAMPING: "#f0b429", READY: "#1f6fd6",
-  RUNNING: "#15803d", ERROR: "#c81e1e" };
+const KNOWN = { OFF: "#5a5f6d", UNKNOWN: "#ddccdf", STANDBY: "#4faff3", RAMPING: "#f2c841", READY: "#1f6fd6",
+  RUNNING: "#0ba860", ERROR: "#bb1c1c" };
 // States of other names have the colour of what their names say, the first that fits, or else one of their own.
 /** @type {[RegExp, string][]} */
 const NAMED = [[ALARM, KNOWN.ERROR], [/UNKNOWN|UNDEF|DEAD|LOST/, KNOWN.UNKNOWN],
@@ -18,7 +19,7 @@ const NAMED = [[ALARM, KNOWN.ERROR], [/UNKNOWN|UNDEF|DEAD|LOST/, KNOWN.UNKNOWN],
 const KINDS = { ok: KNOWN.RUNNING, busy: KNOWN.RAMPING, off: KNOWN.OFF, alarm: KNOWN.ERROR, unknown: KNOWN.UNKNOWN };
 const SPARE = ["#6b8e23", "#008b8b", "#b565a7", "#a0522d", "#4682b4", "#556b2f", "#5f6fd0"];
 // None of these is near a colour of a state, and each can be told from white and from the dark background.
-const PEOPLE = ["#5555aa", "#ff7700", "#339977", "#bb77ff", "#994422", "#ff66aa", "#aa8822", "#8888bb", "#aa4499"];
+const PEOPLE = ["#31703e", "#ff7700", "#955406", "#6f1afa", "#308b89", "#ff66aa", "#d5958a", "#98870b", "#aa4499"];
 
 /** @type {Map<string, string>} */
 const inks = new Map();

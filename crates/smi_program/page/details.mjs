@@ -3,7 +3,7 @@
 import { paint } from "./colours.mjs";
 import { by, enter, flag, make } from "./dom.mjs";
 import { isHidden } from "./folding.mjs";
-import { age, commander, domains, extras, modeSayers, now, picture, stateOf, versionOf } from "./model.mjs";
+import { age, commander, domains, extras, holderOf, modeSayers, now, picture, stateOf, versionOf } from "./model.mjs";
 
 /** @typedef {import("./model.mjs").Domain} Domain */
 /** @typedef {import("./model.mjs").Device} Device */
@@ -35,6 +35,14 @@ export function open(domain) {
   if (!more.open) more.showModal();
 }
 
+/** Returns in which mode a domain is.
+ * @param {Domain} d */
+function modeWords(d) {
+  const holder = holderOf(d), mode = modeSayers.map((say) => say(d)).find((said) => said);
+  if (!d.parent || d.told && !(holder && holder.domain)) return "has none: it is not held by what is above";
+  return mode || "mode unknown";
+}
+
 /** Returns what is known of a domain, a name and a text each.
  * @param {Domain} d @returns {[string, string][]} */
 function rows(d) {
@@ -44,8 +52,7 @@ function rows(d) {
       age(now() - shown.at) + ")" : "not seen"],
     ["held by", !told ? "not heard" : !holder ? "nobody" : holder.operator || "domain " + holder.domain],
     ["commanded by", boss === null ? "not told" : boss || "nobody"],
-    ["mode", holder && holder.domain ? modeSayers.map((say) => say(d)).find((mode) => mode) || "mode unknown"
-      : "has none: it is not held by what is above"],
+    ["mode", modeWords(d)],
     ["epoch", told ? String(told.epoch) : ""],
     ["last command", !told || !told.last ? "none" : told.last +
       (told.busy ? ", at work" : ", ended with " + told.outcome)],

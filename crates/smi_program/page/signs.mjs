@@ -25,7 +25,7 @@ export function showCount(count) {
   document.title = (count ? "(" + count + ") " : "") + "tree " + tree.tree;
   const text = count > 99 ? "99" : String(count);
   const icon = "<svg xmlns='http://www.w3.org/2000/svg' viewBox='0 0 16 16'>" +
-    "<rect width='16' height='16' rx='4' fill='" + (count ? "#c81e1e" : "#15803d") + "'/>" + (count ? "<text x='8' " +
+    "<rect width='16' height='16' rx='4' fill='" + (count ? "#bb1c1c" : "#0ba860") + "'/>" + (count ? "<text x='8' " +
     "y='12.5' font-size='12' font-family='sans-serif' font-weight='bold' text-anchor='middle' fill='#fff'>" + text +
     "</text>" : "") + "</svg>";
   by("icon").href = "data:image/svg+xml," + encodeURIComponent(icon);

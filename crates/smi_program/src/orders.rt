@@ -5,12 +5,14 @@ pub const ORDERS: &str = "<style>
 #who { display: inline-flex; align-items: center; gap: .5rem; font-weight: 600; color: var(--soft) }
 #who select { font: inherit; font-weight: 700; color: var(--ink); background: var(--card); padding: .1rem .4rem }
 #console { font-weight: 700; border-radius: 8px; padding: .2rem .7rem; color: var(--soft) }
-#console.away { background: #c81e1e; color: #fff }
+#console.away { background: #bb1c1c; color: #fff }
 #given { list-style: none; margin: 0; padding: .4rem 0 0; display: grid; gap: .25rem }
 #given:empty { display: none }
 #given li { display: flex; flex-wrap: wrap; gap: 0 .6rem; background: var(--card); border: 2px solid var(--line);
   border-left: 10px solid var(--c, var(--line)); border-radius: 8px; padding: .1rem .5rem }
 #given b { overflow-wrap: anywhere }
+#given button { margin-left: auto; border: 2px solid var(--line); border-radius: 8px; padding: 0 .5rem;
+  background: var(--part); color: var(--ink) }
 .orders { display: flex; flex-wrap: wrap; gap: .5rem; margin: 1rem 0; align-items: center }
 .orders h3 { flex: 100%; margin: 0; font-size: 1.2rem }
 .orders button, #question button { border: 2px solid var(--line); border-radius: 8px; padding: .4rem .8rem;
@@ -25,6 +27,19 @@ pub const ORDERS: &str = "<style>
 <dialog id=\"question\" aria-labelledby=\"question-words\"><p id=\"question-words\"></p><div id=\"choices\"></div></dialog>
 <script>
 \"use strict\";
+const MODE_BY = { include: \"included\", exclude: \"out\", manual: \"manual\", ignore: \"ignored\" };
+const OLD = 3000;
+let modes = new Map();
+const made = new Map();
+function learnModes(lines) {
+  modes = new Map(lines.map((line) => { const [child, mode] = line.split(\" \"); return [child, mode]; }));
+}
+function noteMode(verb, child) { made.set(child, [MODE_BY[verb], performance.now() + OLD]); }
+function modeOf(d) {
+  const told = modes.get(d.name), [mode, until] = made.get(d.name) || [\"\", 0];
+  return !told || !domains.has(d.parent) ? \"\" : performance.now() < until ? mode : told;
+}
+const isSoAlready = (d, verb) => modeOf(d) === MODE_BY[verb];
 const MODES = [\"include\", \"exclude\", \"manual\", \"ignore\"];
 const isOfMode = (verb) => MODES.includes(verb);
 const asksChild = (verb) => verb === \"include\" || verb === \"exclude\";
@@ -35,6 +50,8 @@ function countedAt(d) {
   return old && old.epoch === epoch && last <= old.last ? old : { epoch, last, open: 0, manual: new Set() };
 }
 function isManual(d) {
+  const mode = modeOf(d);
+  if (mode) return mode === \"manual\";
   const parent = domains.get(d.parent), old = parent.told && parent.counted;
   return !!old && !old.open && !isSilent(parent) && countedAt(parent) === old && old.manual.has(d.name);
 }
@@ -63,10 +80,15 @@ function endCounted([verb, name, target], counts, code) {
 const LANES = 4;
 let who = \"\";
 let given = [];
+let withdrawals = [];
 let hasConsole = false;
 const found = new Set();
 function choose(name) { who = name; }
-function learn(orders) { given = orders; }
+const isWithdrawal = (it) => it.line.startsWith(\"withdraw \");
+function learn(lines) {
+  given = lines.filter((it) => !isWithdrawal(it));
+  withdrawals = lines.filter(isWithdrawal);
+}
 function connect(is) { hasConsole = is; }
 const wordsOf = (it) => it.line.split(\" \").slice(1);
 const operatorOf = (it) => wordsOf(it)[0];
@@ -120,8 +142,10 @@ function whyNoCommand(d) {
 function whyNoMode(d, verb) {
   const parent = domains.get(d.parent), h = holderOf(d);
   if (!above(d)) return who + \" commands nothing above \" + d.name;
+  const isHeld = h && h.domain === parent.name;
+  if (isHeld && isSoAlready(d, verb)) return d.name + \" is \" + modeOf(d) + \" already\";
   if (verb === \"include\") return h && h.operator ? d.name + \" is held by \" + h.operator : \"\";
-  return h && h.domain === parent.name ? \"\" : d.name + \" is not held by \" + parent.name;
+  return isHeld ? \"\" : d.name + \" is not held by \" + parent.name;
 }
 const ASKED = { include: (d) => \"include \" + d.name + \" in \" + d.parent + \"?\", exclude: (d) => \"exclude \" + d.name +
   \" from \" + d.parent + \"?\", manual: (d) => \"make \" + d.name + \" manual in \" + d.parent + \"?\",
@@ -146,15 +170,15 @@ function deedsOf(d) {
 }
 let awaited = [];
 function tellGiven(text) { set(by(\"told\"), text); }
-async function send(line) {
+async function send(line, name) {
   const gone = new AbortController(), bell = setTimeout(() => gone.abort(), PATIENCE);
   try {
     const answer = await fetch(\"/api/orders\", { method: \"POST\", body: line, headers: { Authorization: KEY },
       signal: gone.signal, cache: \"no-store\", credentials: \"omit\" });
-    tellGiven(line + \": \" + await answer.text());
+    tellGiven(name + \": \" + await answer.text());
     return answer.status === 202;
   } catch (refused) {
-    tellGiven(line + \": not known whether the screen has it, look below\");
+    tellGiven(name + \": not known whether the screen has it, look below\");
     return false;
   } finally { clearTimeout(bell); }
 }
@@ -176,12 +200,13 @@ function tellEnds() {
 }
 async function give(order) {
   const line = \"order \" + who + \" \" + order, words = order.split(\" \"), counts = countedFor(words), one = expect(line);
-  if (!await send(line)) {
+  if (!await send(line, line)) {
     awaited = awaited.filter((it) => it !== one);
     one.tell(null);
   }
   const code = await one.end;
   endCounted(words, counts, code);
+  if (isOfMode(words[0]) && (code === 0 || code === 3)) noteMode(words[0], words[2]);
   return code;
 }
 async function giveAfterManual(deed, names) {
@@ -301,9 +326,46 @@ function offerOperators() {
   by(\"operator\").value = who;
 }
 function offerAnew() { offered = \"\"; offerOperators(); }
+const withdrawing = new Map();
+async function withdraw(number, order) {
+  if (withdrawing.has(number)) return;
+  withdrawing.set(number, order);
+  if (!await send(\"withdraw \" + number, \"withdraw \" + order)) withdrawing.delete(number);
+}
+function tellBegun() {
+  withdrawing.forEach((order, number) => {
+    const it = withdrawals.find(({ line, waits }) => line === \"withdraw \" + number && !waits);
+    if (!it) return;
+    withdrawing.delete(number);
+    if (it.answer === \"begun \" + number) tellGiven(order + \" has begun and can't be withdrawn\");
+  });
+}
+const inList = new Map();
+function enlist({ number, order }, place) {
+  const one = { li: make(\"li\"), fate: make(\"span\"), off: make(\"button\", \"\", \"withdraw\") };
+  one.off.type = \"button\";
+  label(one.off, \"withdraw \" + order);
+  one.off.addEventListener(\"click\", () => withdraw(number, order));
+  one.li.append(make(\"b\", \"\", order), one.fate, one.off);
+  by(\"given\").insertBefore(one.li, by(\"given\").children[place] || null);
+  inList.set(number, one);
+  return one;
+}
+function listOrders(rows) {
+  inList.forEach(({ li }, number) => {
+    if (rows.some((row) => row.number === number)) return;
+    li.remove();
+    inList.delete(number);
+  });
+  rows.forEach((row, place) => {
+    const { li, fate, off } = inList.get(row.number) || enlist(row, place);
+    set(fate, row.fate);
+    style(li, \"--c\", row.edge);
+    if (!row.waits) off.remove();
+  });
+}
 const BETWEEN = 400, SHOWN = 4, SHOWN_FOR = 20000;
 const ended = new Map();
-let drawn = \"\";
 function waitsFor(d) {
   if (isSilent(d)) return d.station;
   const below = held(d).filter((c) => !isManual(c));
@@ -333,6 +395,10 @@ function fateOf(it) {
   if (it.code !== null) return it.code + \": \" + it.words;
   return it.answer || \"the connection with the console broke: not known how it ended\";
 }
+function edgeOf(it) {
+  if (it.waits) return \"#f2c841\";
+  return it.code === 0 ? \"#0ba860\" : it.answer === \"withdrawn\" ? \"#5a5f6d\" : \"#bb1c1c\";
+}
 function showGiven() {
   const time = performance.now();
   given.forEach((it) => {
@@ -341,25 +407,18 @@ function showGiven() {
     if (picture) note(it.line + \": \" + fateOf(it), now());
   });
   const old = given.filter((it) => !it.waits && time - ended.get(it.number) < SHOWN_FOR).slice(-SHOWN);
-  const colour = (it) => it.waits ? \"#f0b429\" : it.code === 0 ? \"#15803d\" : \"#c81e1e\";
-  const list = given.filter((it) => it.waits || old.includes(it)).map((it) => [it.line.slice(6), fateOf(it) +
-    (found.has(it.number) ? \"\" : \", not from this page\"), colour(it)]);
-  const text = JSON.stringify(list);
-  if (text === drawn) return;
-  drawn = text;
-  by(\"given\").replaceChildren(...list.map(([order, fate, edge]) => {
-    const li = make(\"li\");
-    li.style.setProperty(\"--c\", edge);
-    li.append(make(\"b\", \"\", order), make(\"span\", \"\", fate));
-    return li;
-  }));
+  listOrders(given.filter((it) => it.waits || old.includes(it)).map((it) => ({ number: it.number,
+    order: it.line.slice(6), fate: fateOf(it) + (found.has(it.number) ? \"\" : \", not from this page\"),
+    edge: edgeOf(it), waits: it.waits })));
 }
 async function followOrders() {
   try {
     const text = await ask(\"/api/orders\"), next = text ? JSON.parse(text) : null;
     connect(!!next && next.console);
     if (next) learn(next.orders);
+    learnModes((next && next.modes) || []);
     tellEnds();
+    tellBegun();
   } finally {
     flag(by(\"console\"), \"away\", !hasConsole);
     set(by(\"console\"), hasConsole ? \"orders: connected\" : \"orders: NO CONSOLE\");
@@ -383,7 +442,7 @@ by(\"clock\").before(chooser, standing);
 by(\"alarms\").after(list, told);
 set(by(\"never\"), \"A click orders once you have said yes.\");
 extras.push(ordersOf);
-modeSayers.push((d) => d.parent && isManual(d) ? \"manual\" : \"\");
+modeSayers.push((d) => modeOf(d) || (d.parent && isManual(d) ? \"manual\" : \"\"));
 afterBuild.push(offerAnew);
 afterShow.push(showButtons);
 afterRestart.push(() => location.reload());

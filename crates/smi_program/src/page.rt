@@ -27,9 +27,9 @@ header { display: flex; flex-wrap: wrap; align-items: center; gap: .3rem .8rem; 
 h1 { font-size: 1.2rem; margin: 0; font-weight: 600 }
 h1 a, a.tool { color: var(--soft); text-decoration: none }
 a.tool { display: inline-block; margin-top: .8rem }
-#live { font-weight: 700; padding: .1rem .7rem; border-radius: 99px; background: #15803d; color: #fff }
-#live.late { background: #f0b429; color: #000 }
-#live.lost { background: #c81e1e; color: #fff }
+#live { font-weight: 700; padding: .1rem .7rem; border-radius: 99px; background: #0ba860; color: #000 }
+#live.late { background: #f2c841; color: #000 }
+#live.lost { background: #bb1c1c; color: #fff }
 #clock { margin-left: auto; font-size: 1.5rem; font-weight: 700 }
 .tool { border: 2px solid var(--line); border-radius: 8px; padding: .15rem .6rem; color: var(--soft); font-weight: 600 }
 .tool[aria-pressed=true] { color: var(--ink); border-color: var(--soft) }
@@ -58,6 +58,7 @@ summary { font-weight: 700; cursor: pointer }
 .legend { display: flex; flex-wrap: wrap; gap: .2rem 1rem; align-items: center }
 .legend b, #people button { display: inline-flex; align-items: center; gap: .35rem; font-weight: 600 }
 .legend i { width: 1rem; height: 1rem; border-radius: 50%; background: var(--c, var(--none)) }
+.legend i, .devices i { box-shadow: inset 0 0 0 1px var(--soft) }
 .legend i.initials { width: auto; height: auto; border-radius: 4px; padding: 0 .3em; font-style: normal;
   font-weight: 800; font-size: .85em; color: var(--t, var(--ink)) }
 #people [aria-pressed=true] { text-decoration: underline; text-underline-offset: .25em }
@@ -74,12 +75,12 @@ section { min-width: 0 }
 .who:empty, .mode:empty, .note:empty { display: none }
 .mode { color: var(--soft); font-size: .9rem; font-weight: 700 }
 .note { font-weight: 800; border-radius: 6px; padding: 0 .45em; white-space: nowrap; color: var(--soft) }
-.silent > .top > .note { background: #f0b429; color: #000 }
+.silent > .top > .note { background: #f2c841; color: #000 }
 .top { display: flex; flex-wrap: wrap; align-items: center; gap: .1rem .5rem; width: 100% }
 .fold { flex: none; width: 1em; color: var(--soft); text-align: center; font-weight: 800 }
 .fold::before { content: \"\\25BE\" }
 .folded > .top > .fold::before { content: \"\\25B8\" }
-.folded > .top > .fold.hot { color: #fff; background: #c81e1e; border-radius: 4px }
+.folded > .top > .fold.hot { color: #fff; background: #bb1c1c; border-radius: 4px }
 body:not(.finding) .folded > .kids { display: none }
 .root > .top { padding: .2rem .7rem; border-radius: 10px; background: var(--card); border: 2px solid var(--line);
   border-left: 12px solid var(--edge, var(--line)) }
@@ -110,7 +111,7 @@ body:not(.finding) .folded > .kids { display: none }
   var(--none) 0 8px, var(--part) 8px 16px); color: var(--soft); outline: 2px dashed var(--soft); outline-offset: -2px }
 .silent > .top > .state, .old .state { text-decoration: line-through }
 .busy::after { content: \"\"; order: 2; flex: 100%; height: 5px; border-radius: 3px;
-  background: repeating-linear-gradient(90deg, #f0b429 0 14px, #0000 14px 28px); animation: go 1.2s linear infinite }
+  background: repeating-linear-gradient(90deg, #f2c841 0 14px, #0000 14px 28px); animation: go 1.2s linear infinite }
 .group > .busy::after { height: 3px }
 @keyframes go { to { background-position: 28px 0 } }
 @media (prefers-reduced-motion: reduce) { .top::after { animation: none !important } }
@@ -163,8 +164,8 @@ body:not(.finding) .folded > .kids { display: none }
   margin: .3rem 0 0 }
 .alarm { display: flex; align-items: stretch; gap: 2px; margin-bottom: 2px; font-size: .9rem }
 .alarm > [data-alarm] { flex: 1; display: flex; flex-wrap: wrap; gap: 0 .4rem; padding: .05rem .4rem;
-  border-radius: 5px; background: #c81e1e; color: #fff; border: 1px solid #0000 }
-.alarm.warn > [data-alarm] { background: #f0b429; color: #000 }
+  border-radius: 5px; background: #bb1c1c; color: #fff; border: 1px solid #0000 }
+.alarm.warn > [data-alarm] { background: #f2c841; color: #000 }
 .alarm time { font-weight: 400 }
 .alarm b { overflow-wrap: anywhere }
 .alarm small { flex: 100%; font-size: .75rem; overflow-wrap: anywhere }
@@ -240,7 +241,8 @@ td, th { padding: .2rem .4rem; border-bottom: 1px solid var(--line); text-align:
     unfolds. <kbd>Enter</kbd>: more, <kbd>Esc</kbd>: back, <kbd>/</kbd>: find, <kbd>t</kbd>: light or dark,
     <kbd>+</kbd> and <kbd>-</kbd>: size, <kbd>f</kbd>: fit. A name above: what that person commands. A dashed edge:
     held by somebody else than what is above.
-    <i>mode unknown</i>: nobody tells an observer whether a child is included, manual or ignored.
+    <i>mode unknown</i>: only the node that keeps the domain above knows whether a child is included, manual or ignored,
+    and it tells only a screen that orders there.
     <span id=\"never\">This page shows and never orders.</span></p></details>
 </footer>
 </div>
@@ -392,8 +394,8 @@ by(\"dense\").addEventListener(\"click\", () => {
   keep(\"dense\", String(document.body.classList.contains(\"dense\")));
 });
 resize(1);
-const KNOWN = { OFF: \"#5f6b7a\", UNKNOWN: \"#b9a7c9\", STANDBY: \"#7cc4ee\", RAMPING: \"#f0b429\", READY: \"#1f6fd6\",
-  RUNNING: \"#15803d\", ERROR: \"#c81e1e\" };
+const KNOWN = { OFF: \"#5a5f6d\", UNKNOWN: \"#ddccdf\", STANDBY: \"#4faff3\", RAMPING: \"#f2c841\", READY: \"#1f6fd6\",
+  RUNNING: \"#0ba860\", ERROR: \"#bb1c1c\" };
 const NAMED = [[ALARM, KNOWN.ERROR], [/UNKNOWN|UNDEF|DEAD|LOST/, KNOWN.UNKNOWN],
   [/^NOT_|_NOT_|OFF|CLOSED|DISABLED/, KNOWN.OFF],
   [/RAMP|SWITCHING|STARTING|STOPPING|CONFIGURING|MOVING|WAIT|BUSY/, KNOWN.RAMPING],
@@ -401,7 +403,7 @@ const NAMED = [[ALARM, KNOWN.ERROR], [/UNKNOWN|UNDEF|DEAD|LOST/, KNOWN.UNKNOWN],
   [/RUN|TAKING|PHYSICS/, KNOWN.RUNNING], [/READY|^ON$|_ON$|CONFIGURED/, KNOWN.READY]];
 const KINDS = { ok: KNOWN.RUNNING, busy: KNOWN.RAMPING, off: KNOWN.OFF, alarm: KNOWN.ERROR, unknown: KNOWN.UNKNOWN };
 const SPARE = [\"#6b8e23\", \"#008b8b\", \"#b565a7\", \"#a0522d\", \"#4682b4\", \"#556b2f\", \"#5f6fd0\"];
-const PEOPLE = [\"#5555aa\", \"#ff7700\", \"#339977\", \"#bb77ff\", \"#994422\", \"#ff66aa\", \"#aa8822\", \"#8888bb\", \"#aa4499\"];
+const PEOPLE = [\"#31703e\", \"#ff7700\", \"#955406\", \"#6f1afa\", \"#308b89\", \"#ff66aa\", \"#d5958a\", \"#98870b\", \"#aa4499\"];
 const inks = new Map();
 function inkOn(colour) {
   if (!inks.has(colour)) {
@@ -613,6 +615,11 @@ function open(domain) {
   fill();
   if (!more.open) more.showModal();
 }
+function modeWords(d) {
+  const holder = holderOf(d), mode = modeSayers.map((say) => say(d)).find((said) => said);
+  if (!d.parent || d.told && !(holder && holder.domain)) return \"has none: it is not held by what is above\";
+  return mode || \"mode unknown\";
+}
 function rows(d) {
   const told = d.told, shown = d.shown, boss = commander(d), holder = told && told.holder;
   return [
@@ -620,8 +627,7 @@ function rows(d) {
       age(now() - shown.at) + \")\" : \"not seen\"],
     [\"held by\", !told ? \"not heard\" : !holder ? \"nobody\" : holder.operator || \"domain \" + holder.domain],
     [\"commanded by\", boss === null ? \"not told\" : boss || \"nobody\"],
-    [\"mode\", holder && holder.domain ? modeSayers.map((say) => say(d)).find((mode) => mode) || \"mode unknown\"
-      : \"has none: it is not held by what is above\"],
+    [\"mode\", modeWords(d)],
     [\"epoch\", told ? String(told.epoch) : \"\"],
     [\"last command\", !told || !told.last ? \"none\" : told.last +
       (told.busy ? \", at work\" : \", ended with \" + told.outcome)],
@@ -693,7 +699,7 @@ function showCount(count) {
   document.title = (count ? \"(\" + count + \") \" : \"\") + \"tree \" + tree.tree;
   const text = count > 99 ? \"99\" : String(count);
   const icon = \"<svg xmlns='http://www.w3.org/2000/svg' viewBox='0 0 16 16'>\" +
-    \"<rect width='16' height='16' rx='4' fill='\" + (count ? \"#c81e1e\" : \"#15803d\") + \"'/>\" + (count ? \"<text x='8' \" +
+    \"<rect width='16' height='16' rx='4' fill='\" + (count ? \"#bb1c1c\" : \"#0ba860\") + \"'/>\" + (count ? \"<text x='8' \" +
     \"y='12.5' font-size='12' font-family='sans-serif' font-weight='bold' text-anchor='middle' fill='#fff'>\" + text +
     \"</text>\" : \"\") + \"</svg>\";
   by(\"icon\").href = \"data:image/svg+xml,\" + encodeURIComponent(icon);
@@ -878,9 +884,10 @@ function describe(d, silence) {
   words.push(boss === null ? \"commander not told\" : boss === \"\" ? \"free\" : \"commanded by \" + boss);
   if (silence !== null) words.push(silence < 0 ? \"not heard yet\" : \"silent for \" + age(silence));
   if (d.told && d.told.busy) words.push(\"at work\");
+  if (markedMode(d)) words.push(markedMode(d));
   return words.join(\", \");
 }
-const knownMode = (d) => modeSayers.map((say) => say(d)).find((mode) => mode) || \"\";
+const markedMode = (d) => modeSayers.map((say) => say(d)).find((mode) => mode === \"manual\" || mode === \"ignored\") || \"\";
 function usualState() {
   const counts = new Map();
   domains.forEach((d) => { if (d.silence === null) counts.set(stateOf(d), (counts.get(stateOf(d)) || 0) + 1); });
@@ -896,7 +903,7 @@ function showDomain(d, heard, time, usual) {
   style(at.who, \"--who\", colour);
   style(at.who, \"--whot\", colour ? inkOn(colour) : \"\");
   set(at.who, byDomain ? \"\" : boss === null ? \"\" : boss || \"free\");
-  set(at.mode, knownMode(d));
+  set(at.mode, markedMode(d));
   flag(at.box, \"apart\", boss !== null && !byDomain && !!d.parent);
   flag(at.box, \"silent\", silence !== null);
   flag(at.top, \"busy\", !!(d.told && d.told.busy) && silence === null);

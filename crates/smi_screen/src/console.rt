@@ -1,4 +1,4 @@
-//! The console of a node, which receives the orders from the page.
+//! The console of a node, which receives the orders from the page, and tells in which mode each child is.
 
 use mio::net::{TcpStream, UnixStream};
 use smi_session::LineSplitter;
@@ -12,6 +12,10 @@ use std::net::{Net, SocketAddr};
 const BETWEEN_TRIES: u64 = 1_000;
 
 const PATIENCE: u64 = 3_000;
+
+/// How many milliseconds pass before the console is asked for the modes of the children again. Nothing tells that one
+/// has changed, and an answer has a line for each child of the node.
+const BETWEEN_QUESTIONS: u64 = 2_000;
 
 /// How many bytes are read at once, how many lines they have at most with the one that they end, and how many reads are
 /// made in one turn.
@@ -88,6 +92,8 @@ struct Connected {
     splitter: LineSplitter,
     /// Since when it is there or on its way.
     since: u64,
+    /// When the console is asked for the modes again.
+    next_question: u64,
 }
 
 /// The console of a node, and the connection with it, if there is one.
@@ -157,6 +163,14 @@ impl Connected {
         }
     }
 
+    /// Asks in which mode each child is, if it is time. Without memory it is asked the next time.
+    fn ask_modes(&mut self, relay: &mut OrderRelay, now: u64) {
+        if self.next_question <= now && relay.unsent().is_empty() {
+            self.next_question = now.saturating_add(BETWEEN_QUESTIONS);
+            let _ = relay.ask_modes();
+        }
+    }
+
     /// Makes the turn of a connection that may only be on its way.
     fn turn(&mut self, relay: &mut OrderRelay, now: u64) -> Health {
         if !relay.is_open() {
@@ -169,6 +183,7 @@ impl Connected {
             }
             relay.open();
         }
+        self.ask_modes(relay, now);
         match self.read(relay, now) {
             Health::Sound => self.write(relay),
             Health::Broken => Health::Broken,
@@ -198,6 +213,7 @@ impl NodeConsole {
                 stream,
                 splitter: LineSplitter::new(self.alloc),
                 since: now,
+                next_question: now,
             });
         }
     }

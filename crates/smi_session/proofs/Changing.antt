@@ -1,10 +1,10 @@
 -- One queue changes, and all others stay.
 use Rattle.std.proofs.Common.{◌≡◌, ◌≢◌, ℕ, zero, suc, ◌<◌, Bool, List, [], ◌∷◌, length, get_or, slice_get, slice_set}
-use Rattle.std.proofs.Common.{refl, ap, ◌∙◌, arith, true, false, Some}
+use Rattle.std.proofs.Common.{refl, ap, ◌∙◌, arith, true, false, Option, Some, None}
 use Rattle.std.proofs.Math.Seq.{map-set_same}
 use Rattle.std.proofs.lemmas.List.{get_or-set_same, length-set}
 use Rattle.std.proofs.lemmas.Option.{slice_get-get_or}
-use Rattle.smi_session.specs.SeatTable.{AreQueuesOf, Attempts, ChangesAt, SeatTableState, lane_of}
+use Rattle.smi_session.specs.SeatTable.{AreQueuesOf, Attempts, ChangesAt, GivesAt, SeatTableState, lane_of}
 use Rattle.smi_session.specs.declared.session.Deferred.{Deferred}
 use Rattle.smi_session.specs.SeatQueue.{Keeps, SeatQueueState, Submits}
 
@@ -57,3 +57,12 @@ pub took_at : (R : SeatQueueState → SeatQueueState → Type 0) (a : SeatTableS
     → i < length a.queues → d ≡ get_or a.queues i d → R d q
     → ChangesAt i R a (record a { queues = slice_set a.queues i q })
 took_at R a i q d within read took = changes R a i q d a.has_given within (rw (← read) took)
+
+-- an order that is submitted takes none out that wait
+pub keeps_held : (x : Deferred) (a b : SeatTableState) (given : Bool) → Attempts x a b given → b.held ≡ a.held
+keeps_held x a b given gives = by (lane_of a x) given gives
+  where
+    by : (place : Option ℕ) (given : Bool) → GivesAt place x.pending a b given → b.held ≡ a.held
+    by None given gives = ap (λ (t : SeatTableState). t.held) gives.0
+    by (Some place) true gives = gives.0.held
+    by (Some place) false gives = gives.0.held

@@ -2,7 +2,7 @@
 use Rattle.std.proofs.Common.{◌≡◌, ◌⊎◌, inl, inr, ◌<◌, ◌+◌, ℕ, zero, suc, Bool, true, false, List, [], ◌∷◌, ◌++◌}
 use Rattle.std.proofs.Common.{take, Option, Some, None, slice_get, get_or, refl, sym, ap, ◌∙◌, arith, true≢false}
 use Rattle.std.proofs.Common.{length, map, take_all, append-nil}
-use Rattle.std.specs.Prelude.{◌==◌, ◌||◌, ◌&&◌, is_some}
+use Rattle.std.specs.Prelude.{◌==◌, ◌||◌, ◌&&◌, is_some, if◌then◌else◌}
 use Rattle.std.specs.List.{list_any, position}
 use Rattle.std.proofs.lemmas.Bool.{eqb-true}
 use Rattle.std.proofs.lemmas.Bool.Decides.{nat_tests}
@@ -12,7 +12,9 @@ use Rattle.std.proofs.lemmas.Option.{slice_get_within, slice_get-get_or}
 use Rattle.smi_protocol.specs.declared.order.Order.{Order}
 use Rattle.smi_node.specs.Served.{operator_of_seat}
 use Rattle.smi_operator.specs.declared.ends.Seat.{Seat}
-use Rattle.smi_session.specs.Lane.{are_of_one_domain, is_about, is_same_operator, is_shared, lane_for, may_take}
+use Rattle.smi_operator.specs.Working.{commanded}
+use Rattle.smi_session.specs.Lane.{are_of_one_domain, is_about, is_further, is_same_operator, is_shared, joins}
+use Rattle.smi_session.specs.Lane.{lane_for, may_take}
 use Rattle.smi_session.specs.Lane.{or_place, takes, takes_of, unless_known}
 use Rattle.smi_session.specs.SeatTable.{AreQueuesOf, IsOpened, SeatTableState, lane_of, queues_over}
 use Rattle.smi_session.specs.SeatQueue.{SeatQueueState, new_queue}
@@ -31,10 +33,11 @@ same_is (Some a) None is = absurd (true≢false (sym is))
 same_is None (Some b) is = absurd (true≢false (sym is))
 
 -- a seat that takes an order is its operator's
-about_is : (operator : Option ℕ) (o : Order) (q : SeatQueueState) → is_about operator o q ≡ true → q.operator ≡ operator
-about_is operator o q is =
+joins_is : (operator : Option ℕ) (o : Order) (q : SeatQueueState) → joins operator o q ≡ true → q.operator ≡ operator
+joins_is operator o q is =
     same_is q.operator operator
-    (first_of (is_same_operator q.operator operator) (list_any (λ p. are_of_one_domain p.order o) q.pending) is)
+    (first_of (is_same_operator q.operator operator) (list_any (λ p. are_of_one_domain p.order o) q.pending)
+    (first_of (is_about operator o q) (is_further (commanded o) q.pending) is))
 
 may_is : (operator : Option ℕ) (o : Order) (q : SeatQueueState) → may_take operator o q ≡ true → q.operator ≡ operator
 may_is operator o q is =
@@ -101,22 +104,23 @@ at_last (o ∷ ops) (x ∷ qs) (suc i) q are get is = ap suc (at_last ops qs i q
 -- where the seat of an order was found
 abbrev Found : List SeatQueueState → ℕ → Option ℕ → Order → ℕ → Type 0
 Found qs last operator o place =
-    (position (is_about operator o) qs ≡ Some place) ⊎ (position (may_take operator o) qs ≡ Some place)
+    (position (joins operator o) qs ≡ Some place) ⊎ (position (may_take operator o) qs ≡ Some place)
     ⊎ ((list_any (takes_of operator o) qs ≡ false) × (last ≡ place))
 
 found : (qs : List SeatQueueState) (last : ℕ) (operator : Option ℕ) (o : Order) (place : ℕ)
     → lane_for qs last operator o ≡ Some place → Found qs last operator o place
 found qs last operator o place is =
-    by (position (is_about operator o) qs) (position (may_take operator o) qs) (list_any (takes_of operator o) qs)
-    refl refl refl is
+    by (list_any (is_about operator o) qs) (position (joins operator o) qs) (position (may_take operator o) qs)
+    (list_any (takes_of operator o) qs) refl refl refl refl is
   where
-    by : (a b : Option ℕ) (k : Bool) → a ≡ position (is_about operator o) qs → b ≡ position (may_take operator o) qs
-        → k ≡ list_any (takes_of operator o) qs → or_place a (or_place b (unless_known k last)) ≡ Some place
-        → Found qs last operator o place
-    by (Some p) b k e f g is = inl (sym e ∙ is)
-    by None (Some p) k e f g is = inr (inl (sym f ∙ is))
-    by None None true e f g is = absurd (no_value place is)
-    by None None false e f g is = inr (inr (sym g, ap (value_of last) is))
+    by : (about : Bool) (a b : Option ℕ) (k : Bool) → about ≡ list_any (is_about operator o) qs
+        → a ≡ position (joins operator o) qs → b ≡ position (may_take operator o) qs
+        → k ≡ list_any (takes_of operator o) qs
+        → (if about then a else or_place b (unless_known k last)) ≡ Some place → Found qs last operator o place
+    by true a b k d e f g is = inl (sym e ∙ is)
+    by false a (Some p) k d e f g is = inr (inl (sym f ∙ is))
+    by false a None true d e f g is = absurd (no_value place is)
+    by false a None false d e f g is = inr (inr (sym g, ap (value_of last) is))
 
 served : (ops : List ℕ) (i op : ℕ) → slice_get ops i ≡ Some op → operator_of_seat ops (length ops + 1) i ≡ Some op
 served ops i op at =
@@ -137,9 +141,9 @@ speaks t x op place are who is known =
 
     by : Found t.queues (length t.operators) x.operator x.pending.order place
         → operator_of_seat t.operators (length t.operators + 1) place ≡ Some op
-    by (inl about) =
-        let f = found_at (is_about x.operator x.pending.order) t.queues place about in
-        at f.0 f.1 (about_is x.operator x.pending.order f.0 f.2)
+    by (inl joined) =
+        let f = found_at (joins x.operator x.pending.order) t.queues place joined in
+        at f.0 f.1 (joins_is x.operator x.pending.order f.0 f.2)
     by (inr (inl may)) =
         let f = found_at (may_take x.operator x.pending.order) t.queues place may in
         at f.0 f.1 (may_is x.operator x.pending.order f.0 f.2)
@@ -156,9 +160,9 @@ nobody t x place are who is = last (by (found t.queues (length t.operators) x.op
         rw same refl
 
     by : Found t.queues (length t.operators) x.operator x.pending.order place → place ≡ length t.operators
-    by (inl about) =
-        let f = found_at (is_about x.operator x.pending.order) t.queues place about in
-        at_last t.operators t.queues place f.0 are f.1 (about_is x.operator x.pending.order f.0 f.2 ∙ who)
+    by (inl joined) =
+        let f = found_at (joins x.operator x.pending.order) t.queues place joined in
+        at_last t.operators t.queues place f.0 are f.1 (joins_is x.operator x.pending.order f.0 f.2 ∙ who)
     by (inr (inl may)) =
         let f = found_at (may_take x.operator x.pending.order) t.queues place may in
         at_last t.operators t.queues place f.0 are f.1 (may_is x.operator x.pending.order f.0 f.2 ∙ who)

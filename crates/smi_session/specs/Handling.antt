@@ -20,6 +20,7 @@ use Rattle.smi_session.specs.Session.{with_reply, with_will}
 use Rattle.smi_session.specs.Tag.{tag_of, tag_text}
 use Rattle.smi_session.specs.Trust.{admitted, judged}
 use Rattle.smi_session.specs.Will.{will_text}
+use Rattle.smi_session.specs.Withdrawal.{Withdraws, named_tag}
 use Rattle.smi_session.specs.declared.request.SessionRequest.{SessionRequest}
 use Rattle.smi_session.specs.declared.request.SessionRequest.TheVariants as request
 use Rattle.smi_session.specs.declared.tag.Tag.{Tag}
@@ -41,6 +42,8 @@ Does h now tag text (Some (request.Will will)) a c b d =
     (d ≡ with_reply tag (will_text h will) (with_will will c)) × (b ≡ a)
 Does h now tag text (Some (request.Show object)) a c b d = Shows h tag object a c b d
 Does h now tag text (Some (request.Query query)) a c b d = Answers h now tag (words text) query a c d × (b ≡ a)
+Does h now tag text (Some request.Withdraw) a c b d =
+    Withdraws tag (named_tag (words text)) a.seats c b.seats d × (b ≡ record a { seats = b.seats })
 Does h now tag text None a c b d = (d ≡ c) × (b ≡ a)
 
 -- a line is refused: its session is told its fault, and no order is given

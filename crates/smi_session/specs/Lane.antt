@@ -2,11 +2,14 @@
 use Rattle.std.specs.Prelude.{ℕ, ◌==◌, ◌%◌, ◌&&◌, ◌||◌, Bool, true, false, if◌then◌else◌, List, length, Option, Some}
 use Rattle.std.specs.Prelude.{None}
 use Rattle.std.specs.Prelude.{is_some}
-use Rattle.std.specs.List.{list_any, position}
+use Rattle.std.specs.Prelude.{nat_lt}
+use Rattle.std.specs.List.{list_all, list_any, position}
+use Rattle.smi_operator.specs.Working.{commanded, is_on, most_work}
 use Rattle.smi_protocol.specs.declared.order.Order.{Order}
 use Rattle.smi_protocol.specs.declared.order.Order.TheVariants as order
 use Rattle.smi_session.specs.SeatQueue.{SeatQueueState}
 use Rattle.smi_session.specs.declared.lane.Lane.{Lane}
+use Rattle.smi_session.specs.declared.seat_queue.PendingOrder.{PendingOrder}
 use Rattle.smi_session.specs.declared.lane.Lane.TheVariants.{Any, Orders, Watches, Questions}
 
 -- the domain that an order is about
@@ -86,9 +89,20 @@ abbrev pub unless_known : Bool → ℕ → Option ℕ
 unless_known true last = None
 unless_known false last = Some last
 
--- The seat that takes an order now, if one does: where an order about the same domain is pending, so that they keep
--- their order; or else the first at which nothing would hold it up.
+-- commands on this domain are pending, and fewer than eight
+abbrev pub is_further : Option ℕ → List PendingOrder → Bool
+is_further None pending = false
+is_further (Some d) pending = nat_lt (length pending) most_work && list_all (λ p. is_on d p.order) pending
+
+-- one about the same domain is pending, and the station takes both at a time
+abbrev pub joins : Option ℕ → Order → SeatQueueState → Bool
+joins operator o q = is_about operator o q && is_further (commanded o) q.pending
+
+-- The seat that takes an order now, if one does. While an order about the same domain is pending, that is the seat of
+-- that order, if the station takes both at a time: so they keep their order, and what is submitted does not wait there.
+-- Else it is the first at which nothing would hold it up.
 abbrev pub lane_for : List SeatQueueState → ℕ → Option ℕ → Order → Option ℕ
-lane_for queues last operator o = or_place (position (is_about operator o) queues)
-    (or_place (position (may_take operator o) queues)
-    (unless_known (list_any (takes_of operator o) queues) last))
+lane_for queues last operator o =
+    if list_any (is_about operator o) queues then position (joins operator o) queues
+    else or_place (position (may_take operator o) queues)
+    (unless_known (list_any (takes_of operator o) queues) last)

@@ -18,3 +18,4 @@ pub mod Tag
 pub mod Trust
 pub mod UnknownName
 pub mod Will
+pub mod Withdrawal

@@ -12,7 +12,7 @@ use Rattle.smi_tree.specs.Hierarchy.{Hierarchy}
 use Rattle.smi_tree.specs.Lookups.{object_named}
 use Rattle.smi_tree.specs.Name.{number_of}
 use Rattle.smi_tree.specs.declared.fault.Fault.{Fault}
-use Rattle.smi_tree.specs.declared.fault.Fault.TheVariants.{UnknownWord, UnknownName, LineTooLong}
+use Rattle.smi_tree.specs.declared.fault.Fault.TheVariants.{UnknownWord, UnknownName, LineTooLong, WordCount}
 use Rattle.smi_protocol.specs.declared.item.Item.{Item}
 use Rattle.smi_protocol.specs.declared.item.Item.TheVariants as item
 use Rattle.smi_protocol.specs.declared.item.Deed.TheVariants as deed
@@ -67,6 +67,12 @@ willed h more = do
   state ← ok_or (number_of h.state_names names.1) UnknownName
   Ok (request.Will (record { device = device; state = state }))
 
+-- after `withdraw` comes one word, a tag
+unfoldable pub withdrawing : List (List ℕ) → Result SessionRequest Fault
+withdrawing [] = Err WordCount
+withdrawing (tag ∷ []) = Ok request.Withdraw
+withdrawing (tag ∷ another ∷ more) = Err WordCount
+
 -- what a line may begin with
 abbrev pub kind_of : List ℕ → Option LineKind
 kind_of word =
@@ -74,7 +80,8 @@ kind_of word =
     else (if bytes_eq word (codes "order") then Some kind.Order
     else (if bytes_eq word (codes "report") then Some kind.Report
     else (if bytes_eq word (codes "will") then Some kind.Will
-    else None)))
+    else (if bytes_eq word (codes "withdraw") then Some kind.Withdraw
+    else None))))
 
 unfoldable pub request_of : Hierarchy → List ℕ → LineKind → List ℕ → List (List ℕ)
     → Result (Option SessionRequest) Fault
@@ -85,6 +92,9 @@ request_of h operators kind.Order line more = request_as_item h operators line
 request_of h operators kind.Report line more = request_as_item h operators line
 request_of h operators kind.Will line more = do
   it ← willed h more
+  Ok (Some it)
+request_of h operators kind.Withdraw line more = do
+  it ← withdrawing more
   Ok (Some it)
 
 abbrev pub request_by : Hierarchy → List ℕ → List ℕ → List (List ℕ) → Result (Option SessionRequest) Fault

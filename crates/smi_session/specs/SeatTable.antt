@@ -1,10 +1,10 @@
 -- The seats of a station, and what becomes of an order of a session there.
 use Rattle.std.specs.Prelude.{ℕ, zero, suc, ◌≡◌, ◌≢◌, ◌==◌, ◌+◌, ◌&&◌, ◌||◌, nat_lt, Bool, true, false, List, [], ◌∷◌}
 use Rattle.std.specs.Prelude.{◌++◌, length}
-use Rattle.std.specs.Prelude.{map, take, drop, slice_get, Option, Some, None, IfSome}
+use Rattle.std.specs.Prelude.{map, take, remove, slice_get, Option, Some, None, IfSome}
 use Rattle.std.specs.List.{list_all, list_any}
 use Rattle.smi_operator.specs.declared.ends.Seat.{Seat}
-use Rattle.smi_session.specs.Lane.{lane_at, lane_for}
+use Rattle.smi_session.specs.Lane.{are_of_one_domain, is_same_operator, lane_at, lane_for}
 use Rattle.smi_session.specs.Session.{SessionState}
 use Rattle.smi_session.specs.SeatQueue.{Keeps, SeatQueueState, Submits, TellsOldest, new_queue}
 use Rattle.smi_session.specs.declared.seat_queue.PendingOrder.{PendingOrder}
@@ -60,11 +60,25 @@ Waits false x m c b d = (b ≡ m) × (d ≡ record c { deferred = Some x })
 
 abbrev pub WaitsUnless : Bool → Deferred → SeatTableState → SessionState → SeatTableState → SessionState → Type 0
 WaitsUnless true x m c b d = (b ≡ m) × (d ≡ c)
-WaitsUnless false x m c b d = Waits (nat_lt (length m.held) 64) x m c b d
+WaitsUnless false x m c b d = Waits (nat_lt (length m.held) 256) x m c b d
+
+-- one of these orders is of the same operator, and about the same domain
+abbrev pub has_earlier : Deferred → List Deferred → Bool
+has_earlier x held = list_any (λ y. is_same_operator y.operator x.operator
+    && are_of_one_domain y.pending.order x.pending.order) held
+
+-- an order is submitted after these, which wait: none of them may be about the same domain
+abbrev pub AttemptsUnless : Bool → Deferred → SeatTableState → SeatTableState → Bool → Type 0
+AttemptsUnless true x a b given = (b ≡ a) × (given ≡ false)
+AttemptsUnless false x a b given = Attempts x a b given
+
+abbrev pub AttemptsAfter : List Deferred → Deferred → SeatTableState → SeatTableState → Bool → Type 0
+AttemptsAfter held x a b given = AttemptsUnless (has_earlier x held) x a b given
 
 -- an order of an operator, or of nobody, is given: it is submitted, waits, or stays with its session
 abbrev pub GivesIt : Deferred → SeatTableState → SessionState → SeatTableState → SessionState → Type 0
-GivesIt x a c b d = (given : Bool) × (m : SeatTableState) × Attempts x a m given × WaitsUnless given x m c b d
+GivesIt x a c b d = (given : Bool) × (m : SeatTableState) × AttemptsAfter (take (length a.held) a.held) x a m given
+    × WaitsUnless given x m c b d
 
 abbrev pub Gives : Option ℕ → PendingOrder → SeatTableState → SessionState → SeatTableState → SessionState → Type 0
 Gives operator pending a c b d = GivesIt (record { operator = operator; pending = pending }) a c b d
@@ -89,23 +103,32 @@ ReportsAll now session [] a b = b ≡ a
 ReportsAll now session (w ∷ more) a b =
     (m : SeatTableState) × Reports (report_of now session w) a m × ReportsAll now session more m b
 
--- the oldest order that waits is taken out once it is submitted, and else waits after the others
-abbrev pub after_attempt : Bool → SeatTableState → SeatTableState
-after_attempt true t = record t { held = drop 1 t.held }
-after_attempt false t = record t { held = drop 1 t.held ++ take 1 t.held }
+-- an order that waits at this place is taken out once it is submitted, and else the next one has its turn
+abbrev pub after_attempt : Bool → ℕ → SeatTableState → SeatTableState
+after_attempt true place t = record t { held = remove t.held place }
+after_attempt false place t = t
 
-abbrev pub GivesFirst : Option Deferred → SeatTableState → SeatTableState → Type 0
-GivesFirst None a b = b ≡ a
-GivesFirst (Some x) a b = (given : Bool) × (m : SeatTableState) × Attempts x a m given × (b ≡ after_attempt given m)
+abbrev pub next_place : Bool → ℕ → ℕ
+next_place true place = place
+next_place false place = place + 1
 
--- the oldest order that waits is submitted if a seat takes it now
-abbrev pub GivesOldest : SeatTableState → SeatTableState → Type 0
-GivesOldest a b = GivesFirst (slice_get a.held 0) a b
+abbrev pub GivesThis : Option Deferred → ℕ → SeatTableState → SeatTableState → Bool → Type 0
+GivesThis None place a b given = (b ≡ a) × (given ≡ false)
+GivesThis (Some x) place a b given = (m : SeatTableState) × AttemptsAfter (take place a.held) x a m given
+    × (b ≡ after_attempt given place m)
 
--- so many orders, one after the other
+-- the order at this place is submitted if a seat takes it now, and none before it is about the same domain
+abbrev pub GivesAtPlace : ℕ → SeatTableState → SeatTableState → Bool → Type 0
+GivesAtPlace place a b given = GivesThis (slice_get a.held place) place a b given
+
+-- this many orders that wait had their turn, the oldest first; the next one waits at this place
+abbrev pub GivesMany : ℕ → SeatTableState → SeatTableState → ℕ → Type 0
+GivesMany zero a b next = (b ≡ a) × (next ≡ 0)
+GivesMany (suc n) a b next = (m : SeatTableState) × (place : ℕ) × (given : Bool) × GivesMany n a m place
+    × GivesAtPlace place m b given × (next ≡ next_place given place)
+
 abbrev pub GivesHeld : ℕ → SeatTableState → SeatTableState → Type 0
-GivesHeld zero a b = b ≡ a
-GivesHeld (suc n) a b = (m : SeatTableState) × GivesHeld n a m × GivesOldest m b
+GivesHeld n a b = (next : ℕ) × GivesMany n a b next
 
 -- an order that its session keeps is given
 abbrev pub GivesSo : Option Deferred → SeatTableState → SessionState → SeatTableState → SessionState → Type 0

@@ -105,6 +105,7 @@ unknown_of_kind h operators first (Some line.Report) names =
 unknown_of_kind h operators first (Some line.Will) names =
     unknown_of_two h operators (Some kind.Device, Some kind.State) names
 unknown_of_kind h operators first (Some line.Show) names = unknown_among h operators kind.Object names
+unknown_of_kind h operators first (Some line.Withdraw) names = None
 unknown_of_kind h operators first None names = unknown_of_query h operators (query_named first) names
 
 -- the first unknown name of a line, and what is said of it

@@ -1,10 +1,17 @@
 //! The lanes of an operator: which of his orders wait side by side.
 
 ghost use Rattle.std.specs.Prelude.{◌≡◌};
+ghost use Rattle.std.specs.List.{list_all};
+ghost use Rattle.smi_operator.specs.Working.{commanded, is_on};
 ghost use Rattle.smi_session.specs.Lane as spec;
 
+use crate::seat_queue::PendingOrder;
 use smi_operator::LANES;
 use smi_protocol::{Order, Request};
+use std::collections::VecDeque;
+
+/// The most commands of a seat that a station takes at a time.
+const MOST_WORK: usize = 8;
 
 /// What the seats of an operator are for. An operator has seven: four for orders, one for `watch` and `unwatch`, and
 /// two for questions. Reports have one seat for all.
@@ -27,6 +34,43 @@ fn domain_of(order: Order) -> Option<u16>
     match order.request() {
         Request::Command(domain, _) | Request::Take(domain) | Request::Drop(domain) => Some(domain),
         Request::Ask(_) | Request::Watch(_) | Request::Unwatch(_) | Request::Report(_, _) => None,
+    }
+}
+
+/// Returns the domain that an order commands. None if it is no command.
+fn commanded(order: Order) -> Option<u16>
+    ensures { result ≡ commanded order }
+{
+    match order.request() {
+        Request::Command(domain, _) => Some(domain),
+        _ => None,
+    }
+}
+
+/// Returns true if an order is a command on this domain.
+fn is_on(domain: u16, order: Order) -> bool
+    ensures { result ≡ is_on domain order }
+{
+    match commanded(order) {
+        Some(other) => other == domain,
+        None => false,
+    }
+}
+
+/// Returns true if all these orders are commands on this domain.
+fn are_on(pending: &VecDeque<PendingOrder>, domain: u16) -> bool
+    ensures { result ≡ list_all (λ p. is_on domain p.order) pending.now.items }
+{
+    pending.iter().all(|it| is_on(domain, it.order))
+}
+
+/// Returns true if an order is a further command beside these, which are fewer than eight commands on its domain.
+pub(crate) fn is_further(order: Order, pending: &VecDeque<PendingOrder>) -> bool
+    ensures { result ≡ spec.is_further (commanded order) pending.now.items }
+{
+    match commanded(order) {
+        Some(domain) => pending.len() < MOST_WORK && are_on(pending, domain),
+        None => false,
     }
 }
 

@@ -26,9 +26,11 @@
 //!   handled at once. Any other waits for those before it, and `Resumes` handles those that wait one after the
 //!   other, until one holds up the others or 64 were handled.
 //! - `Trust` (`specs/Trust`) is what the lines of a session have shown of it.
-//! - `Gives` (`specs/SeatTable`) says what becomes of an order. It is submitted once, after those before it, at the
-//!   seat of its operator, and is the newest of that queue. Or its session keeps it as deferred, nothing is submitted,
-//!   and it is given first the next time. Each other queue stays as it is.
+//! - `Gives` (`specs/SeatTable`) says what becomes of an order. It is submitted once, after those before it, at a seat
+//!   of its operator, and is the newest of that queue. Or it waits for a seat, or its session keeps it as deferred:
+//!   then nothing is submitted. Each other queue stays as it is.
+//! - `Withdraws` (`specs/Withdrawal`) says what becomes of an order that is taken back. One that waits is given no
+//!   more; one that was submitted stays as it is.
 //!
 //! ## Whose seat it is
 //!
@@ -84,6 +86,7 @@ mod tag;
 mod trust;
 mod unknown_name;
 mod will;
+mod withdrawal;
 
 pub use action::{StepAction, step_action};
 pub use boxes::boxed;
@@ -103,3 +106,4 @@ pub use subscription::Subscription;
 pub use tag::{Tag, tagged};
 pub use trust::Trust;
 pub use will::DeviceWill;
+pub use withdrawal::Withdrawal;

@@ -1,4 +1,4 @@
-//! Lines that are those of a schedule, `show` and `will`.
+//! Lines that are those of a schedule, `show`, `will` and `withdraw`.
 
 ghost use Rattle.std.specs.Prelude.{◌≡◌, ◌≤◌, IsTrue};
 ghost use Rattle.smi_tree.specs.Lookups.{operators_of, station_count};
@@ -59,6 +59,18 @@ fn willed(tree: &Tree, text: &[u8]) -> Result<SessionRequest, Fault>
     Ok(SessionRequest::Will(DeviceWill { device, state }))
 }
 
+/// Returns what the words after `withdraw` ask.
+#[tactic(auto, unfolding(crate::specs::Line::withdrawing))]
+fn withdrawing(text: &[u8]) -> Result<SessionRequest, Fault>
+    ensures { result ≡ spec.withdrawing (words text.now) }
+{
+    let (_, rest) = first_word(text).ok_or(Fault::WordCount)?;
+    match first_word(rest) {
+        Some(_) => Err(Fault::WordCount),
+        None => Ok(SessionRequest::Withdraw),
+    }
+}
+
 /// Returns what an `order` or a `report` asks, as a schedule has it.
 #[tactic(auto, unfolding(crate::specs::Line::request_as_item))]
 fn request_as_item(
@@ -81,6 +93,7 @@ pub(crate) enum LineKind {
     Order,
     Report,
     Will,
+    Withdraw,
 }
 
 /// Returns what a line is that begins with this word.
@@ -95,6 +108,8 @@ pub(crate) fn kind_of(word: &[u8]) -> Option<LineKind>
         Some(LineKind::Report)
     } else if word == b"will".as_slice() {
         Some(LineKind::Will)
+    } else if word == b"withdraw".as_slice() {
+        Some(LineKind::Withdraw)
     } else {
         None
     }
@@ -116,14 +131,15 @@ fn request_of(
         LineKind::Order => request_as_item(tree, operators, line),
         LineKind::Report => request_as_item(tree, operators, line),
         LineKind::Will => Ok(Some(willed(tree, rest)?)),
+        LineKind::Withdraw => Ok(Some(withdrawing(rest)?)),
     }
 }
 
 /// Returns what a line asks of a station with these operators. None if it has no words or is a comment.
 ///
 /// The line is without its line feed and the carriage return before it. An `order` or a `report` is as in a schedule,
-/// `show` is followed by an object's name, and `will` by those of a device and a state. The faults are those of
-/// schedules, in their order. An operator of another station is unknown here. It takes no memory.
+/// `show` is followed by an object's name, `will` by those of a device and a state, and `withdraw` by a tag. The faults
+/// are those of schedules, in their order. An operator of another station is unknown here. It takes no memory.
 #[tactic(auto, unfolding(crate::specs::Line::request_in))]
 pub fn request_in(
     tree: &Tree,

@@ -29,7 +29,7 @@ use std::io::Write;
 use std::time::Instant;
 
 /// What a line may ask, a line each, with its line feed.
-const HELP: [&str; 15] = [
+const HELP: [&str; 16] = [
     "help order OPERATOR take|drop|ask DOMAIN\n",
     "help order OPERATOR do DOMAIN ACTION\n",
     "help order OPERATOR include|exclude|manual|ignore DOMAIN CHILD\n",
@@ -43,6 +43,7 @@ const HELP: [&str; 15] = [
     "help actions --with numbers [DEVICE ..] -- the same, with domain, epoch and number of the command\n",
     "help modes -- how the domains of this node have their children: included, manual, ignored or out\n",
     "help under way -- the orders that are not answered yet, with their seconds\n",
+    "help withdraw TAG -- an order of this connection that waits for a seat ends as withdrawn\n",
     "help counts -- what this node has counted since it began\n",
     "help @TAG LINE -- any of these at once, its answers behind the tag\n",
 ];

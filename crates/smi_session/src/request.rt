@@ -23,6 +23,8 @@ pub enum SessionRequest {
     Query(Query),
     /// What the node reports when the session ends: the state of a device.
     Will(DeviceWill),
+    /// To take back an order of the session that waits for a seat.
+    Withdraw,
 }
 
 /// Returns true if a line may ask of the whole node, with a tag or without one.

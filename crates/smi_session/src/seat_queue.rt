@@ -1,6 +1,6 @@
 //! A seat, and the orders given there that are not answered yet.
 
-use crate::lane::{Lane, are_of_one_domain, is_same_operator};
+use crate::lane::{Lane, are_of_one_domain, is_further, is_same_operator};
 use crate::tag::Tag;
 use smi_operator::Seat;
 use smi_protocol::{Order, Told};
@@ -22,6 +22,21 @@ pub struct PendingOrder {
     pub order: Order,
     /// When it was given. None if the clock could not be read.
     pub since: Option<Instant>,
+}
+
+impl PendingOrder {
+    ghost use Rattle.std.specs.Prelude.{◌≡◌};
+    ghost use Rattle.smi_session.specs.Withdrawal.{is_of};
+
+    /// Returns true if a line of this session and tag gave it.
+    pub(crate) fn is_of(&self, session: u64, tag: &[u8]) -> bool
+        ensures { result ≡ is_of session tag.now self.now }
+    {
+        match &self.tag {
+            Some(own) => self.session == session && own.text() == tag,
+            None => false,
+        }
+    }
 }
 
 /// A seat with its orders that are not answered yet, the oldest first. The station answers them in this order.
@@ -53,7 +68,8 @@ impl SeatQueue {
     ghost use Rattle.std.specs.Prelude.{◌≡◌, ◌==◌, ◌<◌, ◌∷◌, [], length, IsOk, IfOk, IfErr, IfNone, IfSome, OnOk};
     ghost use Rattle.smi_operator.specs.Sides.{submitted};
     ghost use Rattle.smi_session.specs.SeatQueue.{IsInStep, IsUnused, Keeps, Submits, TellsOldest, new_queue};
-    ghost use Rattle.smi_session.specs.Lane.{are_of_one_domain, is_about, may_take, takes_of};
+    ghost use Rattle.smi_session.specs.Lane.{are_of_one_domain, is_about, joins, may_take, takes_of};
+    ghost use Rattle.smi_session.specs.Withdrawal.{is_of};
 
     /// Makes the queue of an operator's seat, or of nobody's, at which nothing is pending.
     ///
@@ -105,6 +121,15 @@ impl SeatQueue {
             .any(|pending| pending.session == session)
     }
 
+    /// Returns true if an order of this session and tag is pending.
+    pub(crate) fn has_order(&self, session: u64, tag: &[u8]) -> bool
+        ensures { result ≡ list_any (is_of session tag.now) self.now.pending }
+    {
+        self.pending
+            .iter()
+            .any(|pending| pending.is_of(session, tag))
+    }
+
     /// Returns true if an order about the same domain as this one, and of the same operator, is pending.
     pub(crate) fn is_about(&self, operator: Option<u16>, order: Order) -> bool
         ensures { result ≡ is_about operator order self.now }
@@ -119,6 +144,13 @@ impl SeatQueue {
         self.pending
             .iter()
             .any(|pending| are_of_one_domain(pending.order, order))
+    }
+
+    /// Returns true if an order about the same domain is pending, and the station takes this one beside it.
+    pub(crate) fn joins(&self, operator: Option<u16>, order: Order) -> bool
+        ensures { result ≡ joins operator order self.now }
+    {
+        self.is_about(operator, order) && is_further(order, &self.pending)
     }
 
     /// Returns true if its lane takes such an order of this operator.

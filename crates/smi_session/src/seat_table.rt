@@ -3,14 +3,17 @@
 ghost use Rattle.std.specs.Prelude.{◌≡◌, ◌==◌, ◌<◌, ◌++◌, ◌∷◌, [], IfSome, OnOk, drop, length, take};
 ghost use Rattle.std.proofs.Common.{deque_capacity};
 ghost use Rattle.std.specs.List.{list_all, list_any, position};
-ghost use Rattle.smi_session.specs.Lane.{is_about, may_take, takes_of};
+ghost use Rattle.smi_session.specs.Lane.{is_about, joins, may_take, takes_of};
 ghost use Rattle.smi_session.specs.SeatQueue.{new_queue};
+ghost use Rattle.smi_session.specs.SeatTable.{has_earlier};
+ghost use Rattle.smi_session.specs.Withdrawal.{is_of, waits_of};
 
-use crate::lane::{Lane, lane_at};
+use crate::lane::{Lane, are_of_one_domain, is_same_operator, lane_at};
 use crate::seat_queue::{PendingOrder, SeatQueue};
 use crate::session::{Deferred, Session};
 use crate::tag::Tag;
 use crate::will::DeviceWill;
+use crate::withdrawal::Withdrawal;
 use smi_operator::Seat;
 use smi_protocol::{Order, Told};
 use std::alloc::{AllocError, Global};
@@ -19,15 +22,16 @@ use std::marker::Model;
 use std::time::Instant;
 
 /// The most orders that wait for a seat. Then their sessions keep further ones.
-const MOST_HELD: usize = 64;
+const MOST_HELD: usize = 256;
 
 /// The queues of a station's seats: seven for each of its operators, in their order, and last the one for reports,
 /// which is nobody's.
 ///
-/// An order goes where an order of its operator about the same domain is pending, so that these keep their order, and
-/// else to an idle seat of the operator. If none is idle, it waits for one: so an order that is not answered for long
-/// holds up those about its own domain, and no other as long as fewer than four wait. A seat becomes idle by an answer
-/// alone, and then those that wait have it first: so no order overtakes another about the same domain.
+/// An order goes to an idle seat of its operator, or as a further command to the seat at which commands on its domain
+/// are pending. Else it waits: so an order that is not answered for long holds up those about its own domain, and no
+/// other as long as fewer than four domains have one. No order overtakes another of its operator about the same domain:
+/// it waits while such a one does, and after each answer those that wait have their turn, the oldest first. An order
+/// that waits can be taken back.
 ///
 /// Contracts see the operators by seat, the queues, the orders that wait for a seat, and whether an order was given
 /// since that was last asked.
@@ -54,7 +58,7 @@ impl Model for SeatTable {
       has_given = t.has_given;
     } };
 
-    ghost invariant = { λ t. AreQueuesOf t.operators.items t.queues.items × (64 ≤ deque_capacity t.held) };
+    ghost invariant = { λ t. AreQueuesOf t.operators.items t.queues.items × (256 ≤ deque_capacity t.held) };
 }
 
 /// An answer of a seat.
@@ -84,15 +88,20 @@ fn add_queue(
     Ok(())
 }
 
-/// Returns the place of the first queue at which an order about the same domain is pending.
+/// Returns true if an order about the same domain is pending at one of these queues.
+fn any_about(queues: &[SeatQueue], operator: Option<u16>, order: Order) -> bool
+    ensures { result ≡ list_any (is_about operator order) queues.now }
+{
+    queues.iter().any(|queue| queue.is_about(operator, order))
+}
+
+/// Returns the place of the first queue at which an order about the same domain is pending, and this one joins it.
 #[tactic(auto, using(crate::proofs::Seating::within_of))]
-fn place_about(queues: &[SeatQueue], operator: Option<u16>, order: Order) -> Option<usize>
-    ensures place { result ≡ position (is_about operator order) queues.now }
+fn place_joined(queues: &[SeatQueue], operator: Option<u16>, order: Order) -> Option<usize>
+    ensures place { result ≡ position (joins operator order) queues.now }
     ensures within { IfSome result (λ place. place < length queues.now) }
 {
-    queues
-        .iter()
-        .position(|queue| queue.is_about(operator, order))
+    queues.iter().position(|queue| queue.joins(operator, order))
 }
 
 /// Returns the place of the first queue that may take an order.
@@ -127,6 +136,22 @@ fn have_pending(queues: &[SeatQueue], session: u64) -> bool
     queues.iter().any(|queue| queue.has_pending(session))
 }
 
+/// Returns true if an order of this session and tag is pending at these queues.
+fn have_order(queues: &[SeatQueue], session: u64, tag: &[u8]) -> bool
+    ensures { result ≡ list_any (λ q. list_any (is_of session tag.now) q.pending) queues.now }
+{
+    queues.iter().any(|queue| queue.has_order(session, tag))
+}
+
+/// Returns the place of the oldest of these orders that is of this session and tag.
+#[tactic(auto, using(crate::proofs::Willing::waits_within))]
+fn place_of(held: &VecDeque<Deferred>, session: u64, tag: &[u8]) -> Option<usize>
+    ensures place { result ≡ position (waits_of session tag.now) held.now.items }
+    ensures within { IfSome result (λ place. place < length held.now.items) }
+{
+    held.iter().position(|it| it.pending.is_of(session, tag))
+}
+
 /// Returns true if one of these orders is of this session.
 fn are_of(held: &VecDeque<Deferred>, session: u64) -> bool
     ensures { result ≡ list_any (λ x. x.pending.session == session) held.now.items }
@@ -134,23 +159,24 @@ fn are_of(held: &VecDeque<Deferred>, session: u64) -> bool
     held.iter().any(|it| it.pending.session == session)
 }
 
-/// Moves the oldest of these orders after the others.
-fn move_back(held: &mut VecDeque<Deferred>)
-    ensures items { held.new.items ≡ drop 1 held.old.items ++ take 1 held.old.items }
-    ensures room { deque_capacity held.new ≡ deque_capacity held.old }
+/// Returns true if one of the first of these orders, so many, is of the same operator and about the same domain.
+fn has_earlier(held: &VecDeque<Deferred>, count: usize, order: Deferred) -> bool
+    ensures { result ≡ has_earlier order (take count held.now.items) }
 {
-    if let Some(order) = held.pop_front() {
-        held.push_back_reserved(order);
-    }
+    held.iter().take(count).any(|it| {
+        is_same_operator(it.operator, order.operator)
+            && are_of_one_domain(it.pending.order, order.pending.order)
+    })
 }
 
 impl SeatTable {
-    ghost use Rattle.std.specs.Prelude.{◌≡◌, ◌<◌, None, IfOk, IfSome, IfNone, OnOk, false, length};
+    ghost use Rattle.std.specs.Prelude.{◌≡◌, ◌<◌, None, IfOk, IfSome, IfNone, OnOk, false, length, remove, slice_get};
     ghost use Rattle.smi_session.specs.SeatQueue.{Keeps};
-    ghost use Rattle.smi_session.specs.SeatTable.{Attempts, ChangesAt, Gives, GivesDeferred, GivesHeld};
-    ghost use Rattle.smi_session.specs.SeatTable.{GivesOldest};
+    ghost use Rattle.smi_session.specs.SeatTable.{Attempts, AttemptsAfter, ChangesAt, Gives, GivesDeferred, GivesHeld};
+    ghost use Rattle.smi_session.specs.SeatTable.{GivesAtPlace};
     ghost use Rattle.smi_session.specs.SeatTable.{GivesIt, IsOpened, TakesAnswer, TakesNext, WaitsUnless, has_pending};
     ghost use Rattle.smi_session.specs.SeatTable.{Reports, ReportsAll, is_idle, lane_of, report_of};
+    ghost use Rattle.smi_session.specs.Withdrawal.{TakesBack, withdrawal_of};
     ghost use Rattle.smi_session.specs.Session.{beginning};
 
     /// Opens the seats of operators by seat: each gets the seats at the operator's places, as far as there are both,
@@ -220,6 +246,33 @@ impl SeatTable {
         have_pending(self.queues.as_slice(), session) || are_of(&self.held, session)
     }
 
+    /// Returns what would become of an order of this session and tag if it were taken back.
+    pub(crate) fn withdrawal_of(&self, session: &Session, tag: &[u8]) -> Withdrawal
+        ensures { result ≡ withdrawal_of tag.now self.now session.now }
+    {
+        let number = session.number();
+        if place_of(&self.held, number, tag).is_some() || session.has_deferred(tag) {
+            Withdrawal::Withdrawn
+        } else if have_order(self.queues.as_slice(), number, tag) {
+            Withdrawal::Begun
+        } else {
+            Withdrawal::Unknown
+        }
+    }
+
+    /// Takes the oldest order of this session and tag back that waits for a seat, or that the session keeps.
+    pub(crate) fn take_back(&mut self, session: &mut Session, tag: &[u8])
+        ensures { TakesBack tag.now self.old session.old self.new session.new }
+    {
+        match place_of(&self.held, session.number(), tag) {
+            Some(place) => self.remove_held(place),
+            None if session.has_deferred(tag) => {
+                let _ = session.take_deferred();
+            }
+            None => {}
+        }
+    }
+
     /// Returns true if an order was given since this was last asked: then the station has to look at its seats.
     pub fn has_given(&mut self) -> bool
         ensures asked { result ≡ self.old.has_given }
@@ -237,8 +290,8 @@ impl SeatTable {
     {
         let Deferred { operator, pending } = order;
         let queues = self.queues.as_slice();
-        if let Some(place) = place_about(queues, operator, pending.order) {
-            return Some(place);
+        if any_about(queues, operator, pending.order) {
+            return place_joined(queues, operator, pending.order);
         }
         if let Some(place) = place_free(queues, operator, pending.order) {
             return Some(place);
@@ -277,35 +330,65 @@ impl SeatTable {
         }
     }
 
+    /// Submits an order after the first ones that wait, so many: if none of these is about the same domain, and a seat
+    /// takes it now. Returns false otherwise.
+    #[tactic(auto, using(crate::proofs::Changing::keeps_held))]
+    fn attempt_after(&mut self, count: usize, order: Deferred) -> bool
+        ensures attempts { AttemptsAfter (take count self.old.held) order self.old self.new result }
+        ensures held { self.new.held ≡ self.old.held }
+    {
+        !has_earlier(&self.held, count, order) && self.attempt(order)
+    }
+
     /// Gives an order: at a seat that takes it now, or it waits for one.
     fn give(&mut self, session: &mut Session, order: Deferred)
         ensures { GivesIt order self.old session.old self.new session.new }
     {
-        if !self.attempt(order) {
+        let count = self.held.len();
+        if !self.attempt_after(count, order) {
             self.hold(session, order);
         }
     }
 
-    /// Submits the oldest order that waits, if a seat takes it now. Else it waits after the others.
-    fn give_oldest(&mut self)
-        ensures { GivesOldest self.old self.new }
+    /// Returns the order at this place of those that wait, if there is one.
+    fn held_at(&self, place: usize) -> Option<Deferred>
+        ensures order { result ≡ slice_get self.now.held place }
+        ensures within { IfSome result (λ order. place < length self.now.held) }
     {
-        let oldest = self.held.front().copied();
-        if let Some(order) = oldest {
-            if self.attempt(order) {
-                let _ = self.held.pop_front();
-            } else {
-                move_back(&mut self.held);
-            }
-        }
+        self.held.get(place).copied()
     }
 
-    /// Submits each order that waits, if a seat takes it now. The others wait in their order.
+    /// Takes the order at this place out of those that wait.
+    fn remove_held(&mut self, place: usize)
+        requires { place < length self.old.held }
+        ensures { self.new ≡ record self.old { held = remove self.old.held place } }
+    {
+        let _ = self.held.remove(place);
+    }
+
+    /// Submits the order at this place of those that wait, if a seat takes it now. Returns true if it was submitted.
+    fn give_at(&mut self, place: usize) -> bool
+        ensures { GivesAtPlace place self.old self.new result }
+    {
+        let Some(order) = self.held_at(place) else {
+            return false;
+        };
+        if !self.attempt_after(place, order) {
+            return false;
+        }
+        self.remove_held(place);
+        true
+    }
+
+    /// Submits each order that waits, the oldest first, if a seat takes it now. The others wait in their order.
     fn give_held(&mut self)
         ensures { GivesHeld (length self.old.held) self.old self.new }
     {
+        let mut place: usize = 0;
         for _ in 0..self.held.len() {
-            self.give_oldest();
+            if !self.give_at(place) {
+                place += 1;
+            }
         }
     }
 

@@ -211,6 +211,7 @@ impl<G: StateReader + Drop> SessionService<G> {
             Some(SessionRequest::Query(query)) => self.answer_query(
                 tree, now, session, line, query,
             ),
+            Some(SessionRequest::Withdraw) => self.withdraw(session, line),
             None => Ok(()),
         }
     }

@@ -116,6 +116,7 @@ impl Session {
     ghost use Rattle.smi_session.specs.Session.{wants_numbers, with_will};
     ghost use Rattle.smi_session.specs.Subscription.{tag_for};
     ghost use Rattle.smi_session.specs.Trust.{admitted, judged};
+    ghost use Rattle.smi_session.specs.Withdrawal.{has_deferred};
     ghost use Rattle.smi_tree.specs.Text.{words};
 
     /// Makes a session of this number, which no other has, that has typed nothing.
@@ -295,6 +296,16 @@ impl Session {
         ensures { self.new ≡ record self.old { deferred = Some order } }
     {
         self.deferred = Some(order);
+    }
+
+    /// Returns true if it keeps an order of this tag.
+    pub(crate) fn has_deferred(&self, tag: &[u8]) -> bool
+        ensures { result ≡ has_deferred tag.now self.now }
+    {
+        match &self.deferred {
+            Some(order) => order.pending.is_of(self.number, tag),
+            None => false,
+        }
     }
 
     /// Takes the order that it keeps, if any.

@@ -187,6 +187,7 @@ pub(crate) fn unknown_in<'a>(
             unknown_of_two(tree, operators, kinds, rest)
         }
         Some(LineKind::Show) => unknown_among(tree, operators, NameKind::Object, rest),
+        Some(LineKind::Withdraw) => None,
         None => match query_named(first.text()) {
             Some(Query::Follow) => unknown_among(tree, operators, NameKind::Object, rest),
             Some(Query::Actions) => {

@@ -4,6 +4,7 @@ pub mod Snapshot
 pub mod Outcome
 pub mod RelayedOrder
 pub mod OrderLine
+pub mod ModeList
 pub mod OrderRelay
 pub mod Metrics
 pub mod OrdersJson

@@ -1,7 +1,7 @@
 -- The orders that were given from a page, and what becomes of them.
 use Rattle.std.specs.Prelude.{ℕ, nat_lt, nat_le, ◌+◌, ◌-◌, ◌^◌, ◌==◌, ◌&&◌, ◌||◌, not, ◌++◌, Bool, true, false}
 use Rattle.std.specs.Prelude.{List, [], ◌∷◌, drop, length, remove, set, slice_get, position, Option}
-use Rattle.std.specs.Prelude.{is_some, if◌then◌else◌}
+use Rattle.std.specs.Prelude.{codes, is_some, if◌then◌else◌}
 use Rattle.std.specs.Option.{option_map_or}
 use Rattle.smi_tree.specs.Hierarchy.{Hierarchy}
 use Rattle.smi_web.specs.declared.relayed_order.RelayedOrder.{RelayedOrder}
@@ -9,15 +9,19 @@ use Rattle.smi_web.specs.declared.order_relay.Admission.{Admission}
 use Rattle.smi_web.specs.declared.order_relay.Admission.TheVariants as admission
 use Rattle.smi_web.specs.RelayedOrder as order
 use Rattle.smi_web.specs.OrderLine.{is_order_line}
+use Rattle.smi_web.specs.Outcome.{rest_of}
+use Rattle.smi_web.specs.ModeList as mode_list
+use Rattle.smi_web.specs.ModeList.{ModeListState}
 
 -- the orders, the oldest first; the number of the next, and of the first of this connection; the bytes that are to be
--- sent; and whether there is a connection
+-- sent; whether there is a connection; and the modes that were told on it
 pub record OrderRelayState : Type 0 where
   pub orders : List RelayedOrder
   pub next : ℕ
   pub first : ℕ
   pub unsent : List ℕ
   pub is_open : Bool
+  pub modes : ModeListState
 
 abbrev pub most_orders : ℕ
 most_orders = 64
@@ -26,7 +30,14 @@ abbrev pub most_unsent : ℕ
 most_unsent = 8192
 
 abbrev pub nothing : OrderRelayState
-nothing = record { orders = []; next = 1; first = 1; unsent = []; is_open = false }
+nothing = record {
+  orders = [];
+  next = 1;
+  first = 1;
+  unsent = [];
+  is_open = false;
+  modes = mode_list.nothing;
+}
 
 abbrev pub is_waiting : OrderRelayState → RelayedOrder → Bool
 is_waiting r e = order.is_waiting r.first e
@@ -81,14 +92,27 @@ place_of r line = position (order.is_answered_by r.first line) r.orders
 abbrev pub changed_at : (RelayedOrder → RelayedOrder) → ℕ → List RelayedOrder → List RelayedOrder
 changed_at f i orders = option_map_or (λ e. set orders i (f e)) (slice_get orders i) orders
 
--- a line is heard: it answers the order that waits with its tag, and nothing else changes
+-- a line answers the order that waits with its tag, and nothing else changes
+abbrev pub answered : OrderRelayState → List ℕ → ℕ → OrderRelayState
+answered r line now =
+    option_map_or (λ i. record r { orders = changed_at (order.answered line now) i r.orders }) (place_of r line) r
+
+-- a line is heard: with the tag `modes` it tells modes, and with any other it answers an order
 abbrev pub heard : OrderRelayState → List ℕ → ℕ → OrderRelayState
 heard r line now =
-    option_map_or (λ i. record r { orders = changed_at (order.answered line now) i r.orders }) (place_of r line) r
+    option_map_or (λ text. record r { modes = mode_list.told r.modes text }) (rest_of (codes "@modes ") line)
+    (answered r line now)
+
+-- the console is asked for the modes, if it is there and nothing else is to be sent
+abbrev pub asked : OrderRelayState → OrderRelayState
+asked r =
+    if r.is_open && length r.unsent == 0
+    then record r { unsent = codes "@modes modes\n"; modes = mode_list.begun r.modes }
+    else r
 
 abbrev pub opened : OrderRelayState → OrderRelayState
 opened r = record r { is_open = true }
 
--- the connection has ended: no order waits any more, and nothing is to be sent
+-- the connection has ended: no order waits any more, nothing is to be sent, and no mode is known
 abbrev pub closed : OrderRelayState → OrderRelayState
-closed r = record r { is_open = false; first = r.next; unsent = [] }
+closed r = record r { is_open = false; first = r.next; unsent = []; modes = mode_list.nothing }

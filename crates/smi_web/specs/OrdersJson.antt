@@ -51,6 +51,18 @@ errand_text_at r now n = errand_or_nothing r now (entry r.orders n)
 abbrev pub errands_text : OrderRelayState → ℕ → List ℕ
 errands_text r now = codes ",\"orders\":[" ++ listed (codes ",") (errand_text_at r now) (length r.orders)
 
--- whether there is a connection with the console, and the orders
+abbrev pub mode_or_nothing : Option (List ℕ) → List ℕ
+mode_or_nothing None = []
+mode_or_nothing (Some mode) = quoted mode
+
+abbrev pub mode_text_at : OrderRelayState → ℕ → List ℕ
+mode_text_at r n = mode_or_nothing (entry r.modes.known n)
+
+-- a child and its mode each, as the console told them
+abbrev pub modes_text : OrderRelayState → List ℕ
+modes_text r = codes "],\"modes\":[" ++ listed (codes ",") (mode_text_at r) (length r.modes.known)
+
+-- whether there is a connection with the console, the orders, and the modes
 abbrev pub orders_text : OrderRelayState → ℕ → List ℕ
-orders_text r now = codes "{\"console\":" ++ flag r.is_open ++ errands_text r now ++ codes "]}\n"
+orders_text r now =
+    codes "{\"console\":" ++ flag r.is_open ++ errands_text r now ++ modes_text r ++ codes "]}\n"

@@ -10,7 +10,8 @@
 //!   ([`OrderRelay::unsent`]). A line of the console answers the order whose tag it begins with
 //!   ([`OrderRelay::receive_line`]). If the connection ends, answers that have not come are lost, and what was not sent
 //!   is not sent later ([`OrderRelay::close`]), so that nobody is commanded by an order of long ago.
-//!   [`OrderRelay::admission`] says beforehand whether an order may be given.
+//!   [`OrderRelay::admission`] says beforehand whether an order may be given. The relay also asks the console in which
+//!   mode each child is ([`OrderRelay::ask_modes`]), and keeps its last whole answer ([`OrderRelay::modes`]).
 //! - [`write_tree`], [`write_picture`], [`write_orders`] and [`write_metrics`] write JSON, and Prometheus' text format.
 //!   The names of a tree have letters, digits and `_` alone, and a relay keeps plain text, so nothing is escaped.
 //!
@@ -31,6 +32,7 @@
 mod json;
 mod json_list;
 mod metrics;
+mod mode_list;
 mod order_line;
 mod order_relay;
 mod orders_json;

@@ -4,8 +4,11 @@ ghost use Rattle.std.specs.Prelude.{◌≡◌, ◌≤◌, ◌<◌, true, length,
 ghost use Rattle.smi_web.specs.RelayedOrder.{answered};
 ghost use Rattle.smi_web.specs.OrderRelay as spec;
 
+use crate::mode_list::ModeList;
 use crate::order_line::is_order_line;
+use crate::outcome::rest_of;
 use crate::relayed_order::RelayedOrder;
+use bytes::Bytes;
 use smi_tree::Tree;
 use std::alloc::{AllocError, Global};
 use std::marker::Model;
@@ -16,12 +19,15 @@ pub const MOST_ORDERS: usize = 64;
 /// No order is taken while more than this many bytes are to be sent.
 pub const MOST_UNSENT: usize = 8_192;
 
+/// The line that asks for the modes. No order has its tag, because the tags of orders are numbers.
+const MODES_LINE: &[u8] = b"@modes modes\n";
+
 /// Why an order may be given, or not.
 #[derive(Clone, Copy, PartialEq, Eq)]
 pub enum Admission {
     /// It may be given.
     Accepted,
-    /// It is no order of an operator of the tree.
+    /// It is no order of an operator of the tree, and withdraws none.
     NoOrder,
     /// There is no connection with a console.
     ConsoleDown,
@@ -32,7 +38,7 @@ pub enum Admission {
 /// The orders that were given from a page, what is to be sent of them, and what became of them.
 ///
 /// Contracts see the orders, the oldest first; the number of the next, and of the first that was given on this
-/// connection; the bytes that are to be sent; and whether there is a connection.
+/// connection; the bytes that are to be sent; whether there is a connection; and the modes that were told on it.
 #[derive(Drop)]
 pub struct OrderRelay {
     alloc: Global,
@@ -41,6 +47,7 @@ pub struct OrderRelay {
     first: u64,
     unsent: Vec<u8>,
     is_open: bool,
+    modes: ModeList,
 }
 
 impl Model for OrderRelay {
@@ -55,6 +62,7 @@ impl Model for OrderRelay {
       first = r.first;
       unsent = r.unsent.items;
       is_open = r.is_open;
+      modes = r.modes;
     } };
 
     ghost invariant = { λ r. length r.orders.items ≤ most_orders };
@@ -101,6 +109,7 @@ fn answer_at(
 
 impl OrderRelay {
     ghost use Rattle.std.specs.Prelude.{◌≡◌, ◌≤◌, ◌<◌, length, IfSome, OnErr, OnOk};
+    ghost use Rattle.smi_web.specs.ModeList.{most_modes};
     ghost use Rattle.smi_web.specs.OrderRelay as spec;
 
     /// Makes a relay without a connection, to which nothing was given.
@@ -114,6 +123,7 @@ impl OrderRelay {
             first: 1,
             unsent: Vec::new(alloc),
             is_open: false,
+            modes: ModeList::new(alloc),
         }
     }
 
@@ -216,18 +226,52 @@ impl OrderRelay {
             .position(|order| order.is_answered_by(first, line))
     }
 
-    /// Handles a line that the console has said now: what follows its tag is the answer to the order of that tag. A
-    /// line that answers none changes nothing.
-    ///
-    /// It fails only if memory ran out, which tests alone see, and changes nothing then.
-    pub fn receive_line(&mut self, line: &[u8], now: u64) -> Result<(), AllocError>
-        ensures ok { OnOk result (self.new ≡ spec.heard self.old line.now now) }
+    /// Answers the order of the tag with which a line begins by what follows the tag. A line that answers none changes
+    /// nothing.
+    fn answer_by(&mut self, line: &[u8], now: u64) -> Result<(), AllocError>
+        ensures ok { OnOk result (self.new ≡ spec.answered self.old line.now now) }
         ensures err { OnErr result (self.new ≡ self.old) }
     {
         match self.place_of(line) {
             Some(place) => answer_at(self.alloc, &mut self.orders, place, line, now),
             None => Ok(()),
         }
+    }
+
+    /// Handles a line that the console has said now: what follows its tag tells modes, or is the answer to the order of
+    /// that tag. Any other line changes nothing.
+    ///
+    /// It fails only if memory ran out, which tests alone see, and changes nothing then.
+    pub fn receive_line(&mut self, line: &[u8], now: u64) -> Result<(), AllocError>
+        ensures ok { OnOk result (self.new ≡ spec.heard self.old line.now now) }
+        ensures err { OnErr result (self.new ≡ self.old) }
+    {
+        match rest_of(b"@modes ", line) {
+            Some(text) => self.modes.receive(self.alloc, text),
+            None => self.answer_by(line, now),
+        }
+    }
+
+    /// Returns in which mode each child is, as `TRK manual`: the last whole answer of the console on this connection.
+    pub fn modes(&self) -> &[Bytes]
+        ensures items { result.now ≡ self.now.modes.known }
+        ensures most { length result.now ≤ most_modes }
+    {
+        self.modes.known()
+    }
+
+    /// Asks the console in which mode each child is, if there is a connection and nothing else is to be sent.
+    ///
+    /// It fails only if memory ran out, which tests alone see, and changes nothing then.
+    pub fn ask_modes(&mut self) -> Result<(), AllocError>
+        ensures ok { OnOk result (self.new ≡ spec.asked self.old) }
+        ensures err { OnErr result (self.new ≡ self.old) }
+    {
+        if self.is_open && self.unsent.is_empty() {
+            self.unsent.extend_from_slice(MODES_LINE)?;
+            self.modes.begin();
+        }
+        Ok(())
     }
 
     /// Notes that there is a connection now.
@@ -237,13 +281,14 @@ impl OrderRelay {
         self.is_open = true;
     }
 
-    /// Handles the end of the connection: the answers that have not come are lost, and nothing that was given is sent
-    /// any more.
+    /// Handles the end of the connection: the answers that have not come are lost, nothing that was given is sent any
+    /// more, and no mode is known.
     pub fn close(&mut self)
         ensures { self.new ≡ spec.closed self.old }
     {
         self.is_open = false;
         self.first = self.next;
         self.unsent.clear();
+        self.modes.forget();
     }
 }

@@ -1,6 +1,7 @@
 //! The orders that were given from a page, as JSON.
 
 ghost use Rattle.std.specs.Prelude.{◌≡◌, ◌≤◌, ◌++◌, length, IfOk, OnOk, option_map};
+ghost use Rattle.smi_web.specs.ModeList.{most_modes};
 ghost use Rattle.smi_web.specs.OrderRelay.{most_orders};
 ghost use Rattle.smi_tree.specs.Hierarchy.{entry};
 ghost use Rattle.smi_web.specs.OrdersJson.{
@@ -10,6 +11,7 @@ ghost use Rattle.smi_web.specs.OrdersJson.{
   errand_text,
   errands_text,
   given_text,
+  modes_text,
   orders_text,
   seconds,
   waiting_text,
@@ -20,6 +22,7 @@ use crate::json_list::{Listing, put_list};
 use crate::order_relay::OrderRelay;
 use crate::outcome::{code_of, words_of};
 use crate::relayed_order::{RelayedOrder, Reply};
+use bytes::Bytes;
 use std::alloc::{AllocError, Global};
 
 /// Returns when an order was answered; now, if it was not.
@@ -142,7 +145,49 @@ fn put_orders(text: &mut Vec<u8>, relay: &OrderRelay, now: u64) -> Result<(), Al
     Ok(())
 }
 
-/// Writes the orders that were given, the oldest first, in one line of JSON.
+/// The modes that a relay knows.
+#[derive(Clone, Copy)]
+struct Modes<'a> {
+    relay: &'a OrderRelay,
+}
+
+/// Returns the mode of a number among these.
+fn mode_at(modes: &[Bytes], number: u16) -> Option<&Bytes>
+    ensures { option_map (λ mode. mode.now) result ≡ entry modes.now number }
+{
+    modes.get(usize::from(number).checked_sub(1)?)
+}
+
+impl<'a> Listing for Modes<'a> {
+    ghost use Rattle.smi_web.specs.OrdersJson.{mode_text_at};
+
+    ghost text = { λ s n. mode_text_at s.relay.now n };
+
+    fn put(&self, into: &mut Vec<u8>, number: u16) -> Result<(), AllocError> {
+        match mode_at(self.relay.modes(), number) {
+            Some(mode) => put_text(into, b"", mode.as_slice()),
+            None => Ok(()),
+        }
+    }
+}
+
+/// Returns how many modes there are.
+fn mode_count(modes: &[Bytes]) -> u16
+    requires { length modes.now ≤ most_modes }
+    ensures { result ≡ length modes.now }
+{
+    modes.len() as u16
+}
+
+fn put_modes(text: &mut Vec<u8>, relay: &OrderRelay) -> Result<(), AllocError>
+    ensures { OnOk result (text.new.items ≡ text.old.items ++ modes_text relay.now) }
+{
+    let count = mode_count(relay.modes());
+    put_list(text, b"],\"modes\":[", &Modes { relay }, count)?;
+    Ok(())
+}
+
+/// Writes the orders that were given, the oldest first, and the modes that are known, in one line of JSON.
 ///
 /// It fails only if memory ran out, which tests alone see.
 pub fn write_orders(alloc: Global, relay: &OrderRelay, now: u64) -> Result<Vec<u8>, AllocError>
@@ -151,6 +196,7 @@ pub fn write_orders(alloc: Global, relay: &OrderRelay, now: u64) -> Result<Vec<u
     let mut text = Vec::new(alloc);
     put_flag(&mut text, b"{\"console\":", relay.is_open())?;
     put_orders(&mut text, relay, now)?;
+    put_modes(&mut text, relay)?;
     put(&mut text, b"]}\n")?;
     Ok(text)
 }

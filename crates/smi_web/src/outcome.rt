@@ -9,7 +9,7 @@ use smi_tree::number_within;
 const MOST_CODE: u64 = 99;
 
 /// Returns what follows in a text that begins so.
-fn rest_of<'a>(front: &[u8], text: &'a [u8]) -> Option<&'a [u8]>
+pub(crate) fn rest_of<'a>(front: &[u8], text: &'a [u8]) -> Option<&'a [u8]>
     ensures { option_map (λ rest. rest.now) result ≡ spec.rest_of front.now text.now }
 {
     if text.starts_with(front) {

@@ -1,4 +1,5 @@
-// Which children are manual for certain, although no picture says so: what this page ordered, and nobody else since.
+// Which children are manual for certain: what the console tells, and of a child of which it tells nothing, what this
+// page ordered, and nobody else since.
 //
 // A domain's record counts the commands that have run there. `d.counted` is how many they are if none but this page has
 // ordered there since it was begun, how many of these orders are open, and which children they have made manual. More
@@ -6,6 +7,7 @@
 // begins again.
 
 import { domains } from "../model.mjs";
+import { modeOf } from "./modes.mjs";
 
 /** @typedef {import("../model.mjs").Domain} Domain */
 /** @typedef {{epoch: number, last: number, open: number, manual: Set<string>}} Count */
@@ -30,6 +32,8 @@ function countedAt(d) {
 /** Returns true if a child is manual for certain.
  * @param {Domain} d */
 export function isManual(d) {
+  const mode = modeOf(d);
+  if (mode) return mode === "manual";
   const parent = domains.get(d.parent), old = parent.told && parent.counted;
   return !!old && !old.open && !isSilent(parent) && countedAt(parent) === old && old.manual.has(d.name);
 }

@@ -3,6 +3,7 @@
 import { domains, held, holderOf, tree } from "../model.mjs";
 import { asksChild, isManual, isSilent } from "./counted.mjs";
 import { hasConsole, who } from "./given.mjs";
+import { isSoAlready, modeOf } from "./modes.mjs";
 
 /** @typedef {import("../model.mjs").Domain} Domain */
 /** @typedef {{name: string, asked: string, line: () => string, why: () => string, waitsFor: () => Domain[],
@@ -24,8 +25,8 @@ export function above(d) {
   return null;
 }
 
-/** Returns the silent domains that a command at a domain would wait for: no mode is told, so one that may be manual is
- * among them.
+/** Returns the silent domains that a command at a domain would wait for. One whose mode is not told may be manual, and
+ * is among them.
  * @param {Domain} d @returns {Domain[]} */
 export function silentBelow(d) {
   return held(d).filter((c) => !isManual(c)).flatMap((c) => isSilent(c) ? [c] : silentBelow(c));
@@ -66,8 +67,10 @@ function whyNoCommand(d) {
 function whyNoMode(d, verb) {
   const parent = domains.get(d.parent), h = holderOf(d);
   if (!above(d)) return who + " commands nothing above " + d.name;
+  const isHeld = h && h.domain === parent.name;
+  if (isHeld && isSoAlready(d, verb)) return d.name + " is " + modeOf(d) + " already";
   if (verb === "include") return h && h.operator ? d.name + " is held by " + h.operator : "";
-  return h && h.domain === parent.name ? "" : d.name + " is not held by " + parent.name;
+  return isHeld ? "" : d.name + " is not held by " + parent.name;
 }
 
 /** @type {Record<string, (d: Domain) => string>} */

@@ -1,13 +1,16 @@
 // What became of the orders: those that wait with what they wait for, and those that have ended.
 
 import { ask } from "../contact.mjs";
-import { by, flag, make, set } from "../dom.mjs";
+import { by, flag, set } from "../dom.mjs";
 import { note } from "../log.mjs";
 import { domains, held, now, picture, tree } from "../model.mjs";
 import { offerOperators } from "./choosing.mjs";
 import { asksChild, isManual, isOfMode, isSilent, parentOf } from "./counted.mjs";
 import { connect, firstBefore, found, given, hasConsole, learn, orderOf, wordsOf } from "./given.mjs";
+import { listOrders } from "./given_list.mjs";
 import { tellEnds } from "./giving.mjs";
+import { learnModes } from "./modes.mjs";
+import { tellBegun } from "./withdrawals.mjs";
 
 /** @typedef {import("../model.mjs").Domain} Domain */
 /** @typedef {import("./given.mjs").Order} Order */
@@ -17,7 +20,6 @@ const BETWEEN = 400, SHOWN = 4, SHOWN_FOR = 20000;
 /** When each was first seen to have ended.
  * @type {Map<number, number>} */
 const ended = new Map();
-let drawn = "";
 
 /** Returns the station that a command waits for: that of the first silent domain on its way down, or of one that is at
  * work. A child that is manual is not on its way.
@@ -61,6 +63,13 @@ function fateOf(it) {
   return it.answer || "the connection with the console broke: not known how it ended";
 }
 
+/** Returns the colour of an order: that of what waits, what was done, what was withdrawn, or what was refused.
+ * @param {Order} it */
+function edgeOf(it) {
+  if (it.waits) return "#f2c841";
+  return it.code === 0 ? "#0ba860" : it.answer === "withdrawn" ? "#5a5f6d" : "#bb1c1c";
+}
+
 function showGiven() {
   const time = performance.now();
   given.forEach((it) => {
@@ -69,18 +78,9 @@ function showGiven() {
     if (picture) note(it.line + ": " + fateOf(it), now());
   });
   const old = given.filter((it) => !it.waits && time - ended.get(it.number) < SHOWN_FOR).slice(-SHOWN);
-  const colour = (/** @type {Order} */ it) => it.waits ? "#f0b429" : it.code === 0 ? "#15803d" : "#c81e1e";
-  const list = given.filter((it) => it.waits || old.includes(it)).map((it) => [it.line.slice(6), fateOf(it) +
-    (found.has(it.number) ? "" : ", not from this page"), colour(it)]);
-  const text = JSON.stringify(list);
-  if (text === drawn) return;
-  drawn = text;
-  by("given").replaceChildren(...list.map(([order, fate, edge]) => {
-    const li = make("li");
-    li.style.setProperty("--c", edge);
-    li.append(make("b", "", order), make("span", "", fate));
-    return li;
-  }));
+  listOrders(given.filter((it) => it.waits || old.includes(it)).map((it) => ({ number: it.number,
+    order: it.line.slice(6), fate: fateOf(it) + (found.has(it.number) ? "" : ", not from this page"),
+    edge: edgeOf(it), waits: it.waits })));
 }
 
 /** Asks again and again what became of the orders. */
@@ -89,7 +89,9 @@ export async function followOrders() {
     const text = await ask("/api/orders"), next = text ? JSON.parse(text) : null;
     connect(!!next && next.console);
     if (next) learn(next.orders);
+    learnModes((next && next.modes) || []);
     tellEnds();
+    tellBegun();
   } finally {
     flag(by("console"), "away", !hasConsole);
     set(by("console"), hasConsole ? "orders: connected" : "orders: NO CONSOLE");

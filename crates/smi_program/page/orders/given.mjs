@@ -1,4 +1,6 @@
 // The orders that the screen knows of, who orders here, and what an order is about.
+//
+// The screen tells lines that withdraw an order among the orders. Here they are apart, because they have no operator.
 
 /** @typedef {{number: number, line: string, seconds: number, waits: boolean, answer: string | null,
  *   code: number | null, words: string | null}} Order An order (docs/FORMATS.md, "Orders from the page"). */
@@ -6,10 +8,13 @@
 // About how many domains the orders of one operator may wait at once.
 export const LANES = 4;
 
-// Who orders; the orders of this screen, the oldest first; and whether there is a connection with the console.
+// Who orders; the orders of this screen and the lines that withdraw some of them, the oldest first; and whether there
+// is a connection with the console.
 export let who = "";
 /** @type {Order[]} */
 export let given = [];
+/** @type {Order[]} */
+export let withdrawals = [];
 export let hasConsole = false;
 /** The numbers of those that this page gave.
  * @type {Set<number>} */
@@ -17,8 +22,13 @@ export const found = new Set();
 
 /** @param {string} name */
 export function choose(name) { who = name; }
-/** @param {Order[]} orders */
-export function learn(orders) { given = orders; }
+/** @param {Order} it */
+const isWithdrawal = (it) => it.line.startsWith("withdraw ");
+/** @param {Order[]} lines */
+export function learn(lines) {
+  given = lines.filter((it) => !isWithdrawal(it));
+  withdrawals = lines.filter(isWithdrawal);
+}
 /** @param {boolean} is */
 export function connect(is) { hasConsole = is; }
 

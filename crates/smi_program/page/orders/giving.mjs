@@ -2,8 +2,9 @@
 
 import { PATIENCE } from "../contact.mjs";
 import { by, set } from "../dom.mjs";
-import { countedFor, endCounted } from "./counted.mjs";
+import { countedFor, endCounted, isOfMode } from "./counted.mjs";
 import { found, given, who } from "./given.mjs";
+import { noteMode } from "./modes.mjs";
 
 /** @typedef {import("./deeds.mjs").Deed} Deed */
 
@@ -17,18 +18,18 @@ let awaited = [];
 /** @param {string} text */
 export function tellGiven(text) { set(by("told"), text); }
 
-/** Sends the line of an order, and returns true if it is on its way.
- * @param {string} line */
-async function send(line) {
+/** Sends a line, and returns true if it is on its way. The page calls it by its name.
+ * @param {string} line @param {string} name */
+export async function send(line, name) {
   const gone = new AbortController(), bell = setTimeout(() => gone.abort(), PATIENCE);
   try {
     // @ts-ignore (the screen puts the key before this script)
     const answer = await fetch("/api/orders", { method: "POST", body: line, headers: { Authorization: KEY },
       signal: gone.signal, cache: "no-store", credentials: "omit" });
-    tellGiven(line + ": " + await answer.text());
+    tellGiven(name + ": " + await answer.text());
     return answer.status === 202;
   } catch (refused) {
-    tellGiven(line + ": not known whether the screen has it, look below");
+    tellGiven(name + ": not known whether the screen has it, look below");
     return false;
   } finally { clearTimeout(bell); }
 }
@@ -59,12 +60,14 @@ export function tellEnds() {
  * @param {string} order */
 export async function give(order) {
   const line = "order " + who + " " + order, words = order.split(" "), counts = countedFor(words), one = expect(line);
-  if (!await send(line)) {
+  if (!await send(line, line)) {
     awaited = awaited.filter((it) => it !== one);
     one.tell(null);
   }
   const code = await one.end;
   endCounted(words, counts, code);
+  // 3 says that the child was in that mode already.
+  if (isOfMode(words[0]) && (code === 0 || code === 3)) noteMode(words[0], words[2]);
   return code;
 }
 

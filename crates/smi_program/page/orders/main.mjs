@@ -6,6 +6,7 @@ import { offerAnew, offerOperators, ordersOf, showButtons } from "./choosing.mjs
 import { isManual } from "./counted.mjs";
 import { followOrders } from "./fates.mjs";
 import { choose } from "./given.mjs";
+import { modeOf } from "./modes.mjs";
 
 const chooser = make("label", "", "orders as"), select = make("select");
 chooser.id = "who";
@@ -23,7 +24,7 @@ by("clock").before(chooser, standing);
 by("alarms").after(list, told);
 set(by("never"), "A click orders once you have said yes.");
 extras.push(ordersOf);
-modeSayers.push((d) => d.parent && isManual(d) ? "manual" : "");
+modeSayers.push((d) => modeOf(d) || (d.parent && isManual(d) ? "manual" : ""));
 afterBuild.push(offerAnew);
 afterShow.push(showButtons);
 // A screen that has begun again has another key, and its page has to be loaded again.
