@@ -2,11 +2,11 @@
 
 usage: supply.py WHERE DEVICE [SECONDS]
 
-WHERE is the console of the node whose station keeps the DEVICE, of a class like HIGH_VOLTAGE of detector.tree. The
-program reports what the supply is in, off at first, and whenever the node has been started again. With each action of
-an operator it does what the device's state then asks: RAMPING takes so many SECONDS, 2 where none are given, and ends
-with READY. A line `trip` on its standard input has the supply trip: ERROR. It prints each state that the supply comes
-into. If the program ends, the node reports the device UNKNOWN, which is its last will.
+WHERE is the console of the node whose station keeps the DEVICE, of the class HIGH_VOLTAGE of detector.tree. The program
+reports what the supply is in, off at first, and whenever the node has been started again. An action that sets the
+device RAMPING begins a ramp of so many SECONDS, 2 if none are given. When the supply has arrived, the program reports
+it. A line `trip` on its standard input has the supply trip: ERROR. It prints each state that the supply comes into. If
+the program ends, the node reports the device UNKNOWN, which is its last will.
 """
 
 import os
@@ -17,9 +17,12 @@ sys.path.insert(0, os.path.join(os.path.dirname(os.path.abspath(__file__)), os.p
 
 import lunskaf
 
+# Where each action has the supply ramp to. It does nothing at an action that is not here.
+GOALS = {"GO_STANDBY": "STANDBY", "CONFIGURE": "READY", "SWITCH_OFF": "OFF", "RECOVER": "OFF"}
+
 
 class Supply:
-    """A supply, the state that it is really in, and its ramp where it is on its way.
+    """A supply, the state that it is really in, and its ramp if it is on its way.
 
     Actions, the end of a ramp and trips come in threads of their own: one at a time changes the state and reports it,
     so that reports are in the order of the states.
@@ -29,8 +32,7 @@ class Supply:
         self.device, self.seconds = device, seconds
         self.state, self.ramp, self.turn = "OFF", None, threading.RLock()
         device.on_start(self.start)
-        device.on("CONFIGURE", self.configure)
-        device.on(None, self.follow)
+        device.on(None, self.act)
 
     def halt(self):
         if self.ramp is not None:
@@ -42,7 +44,7 @@ class Supply:
         print(self.device.name, state, flush=True)
 
     def report(self, state):
-        """The supply has come into a state, which is printed once the node knows of it. Where the node is away, that is
+        """The supply has come into a state, which is printed once the node knows of it. If the node is away, that is
         reported once it is there again."""
         with self.turn:
             self.state = state
@@ -56,27 +58,23 @@ class Supply:
         """A node that has just begun does not know what the supply is in."""
         self.report(self.state)
 
-    def follow(self, acted):
-        """The supply does at once what most actions ask."""
+    def act(self, acted):
+        """It ramps, if that is what the action has it do. RECOVER does nothing if it has not tripped."""
         with self.turn:
-            self.halt()
-            self.come_to(acted.state)
-
-    def configure(self, acted):
-        """It ramps, where that is what the action has it do."""
-        with self.turn:
-            self.follow(acted)
-            if acted.state == "RAMPING":
-                self.ramp = threading.Timer(self.seconds, self.arrive)
+            is_asked = acted.action in GOALS and (acted.action != "RECOVER" or self.state == "ERROR")
+            if is_asked and acted.state == "RAMPING":
+                self.halt()
+                self.come_to("RAMPING")
+                self.ramp = threading.Timer(self.seconds, self.arrive, [GOALS[acted.action]])
                 self.ramp.daemon = True
                 self.ramp.start()
 
-    def arrive(self):
+    def arrive(self, state):
         """The ramp is at its end, if it was not halted."""
         with self.turn:
             if self.ramp is threading.current_thread():
                 self.ramp = None
-                self.report("READY")
+                self.report(state)
 
     def trip(self):
         with self.turn:

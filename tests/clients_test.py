@@ -104,10 +104,10 @@ def test_supply(folder, start_node, subtests):
     with lunskaf.Node(where) as node:
         node.take("TRK_EXPERT", "PIXEL_HV")
         node.do("TRK_EXPERT", "PIXEL_HV", "GO_STANDBY")
-        with subtests.test("it is moved by an action"):
-            assert seen("STANDBY")
+        with subtests.test("an action has it ramp, and it tells when it is there"):
+            assert seen("RAMPING") and seen("STANDBY")
         node.do("TRK_EXPERT", "PIXEL_HV", "CONFIGURE")
-        with subtests.test("it ramps"):
+        with subtests.test("it ramps up"):
             assert seen("RAMPING") and seen("READY")
         supply.stdin.write("trip\n")
         supply.stdin.flush()
@@ -130,12 +130,17 @@ def test_supply(folder, start_node, subtests):
     supply.kill()
 
 
+# Where each action has a supply of detector.tree ramp to.
+LOW = {"GO_STANDBY": "READY", "SWITCH_OFF": "OFF", "RECOVER": "OFF"}
+HIGH = {"GO_STANDBY": "STANDBY", "CONFIGURE": "READY", "SWITCH_OFF": "OFF", "RECOVER": "OFF"}
+
+
 class Drivers:
-    """The device programs of a station: they follow its devices, let what ramps arrive, and tell a new start."""
+    """The device programs of a station: they do its actions, let what ramps arrive, and tell a new start."""
 
     def __init__(self, where, devices, first):
         self.node, self.states = lunskaf.Node(where), {device: first for device in devices}
-        self.stopped = threading.Event()
+        self.ramps, self.stopped = {}, threading.Event()
         threading.Thread(target=self.run, daemon=True).start()
 
     def report(self, device, state):
@@ -146,20 +151,24 @@ class Drivers:
             # the node is away: its devices are UNKNOWN when it is back, and told then
             pass
 
-    def arrive(self, device):
-        if self.states[device] == "RAMPING" and not self.stopped.is_set():
-            self.report(device, "READY")
+    def begin(self):
+        for device, state in self.states.items():
+            self.report(device, state)
+
+    def arrive(self, device, ramp, state):
+        if self.ramps.get(device) is ramp and not self.stopped.is_set():
+            self.report(device, state)
 
     def run(self):
-        for shown in self.node.follow(*self.states):
+        for acted in self.node.actions(*self.states, on_start=self.begin):
             if self.stopped.is_set():
                 return
-            if shown.state == "UNKNOWN":
-                self.report(shown.object, self.states[shown.object])
-                continue
-            self.states[shown.object] = shown.state
-            if shown.state == "RAMPING":
-                threading.Timer(0.2, self.arrive, [shown.object]).start()
+            self.states[acted.device] = acted.state
+            goal = (LOW if "_LV" in acted.device else HIGH).get(acted.action)
+            if acted.state == "RAMPING" and goal:
+                # a ramp that is under way turns round
+                ramp = self.ramps[acted.device] = object()
+                threading.Timer(0.2, self.arrive, [acted.device, ramp, goal]).start()
 
 
 class Detector:
@@ -241,7 +250,8 @@ def test_shift(folder, start_node, subtests):
     is_in("a trip", EXPERIMENT="ERROR")
     orders("the tracker is taken out", "SHIFT_LEADER", "exclude EXPERIMENT TRK", EXPERIMENT="RUNNING")
     orders("and recovers", "TRK_EXPERT", "take TRK", "do TRK STOP", "do TRK RECOVER", "do TRK GO_STANDBY",
-           "do TRK CONFIGURE", TRK="READY")
+           TRK="STANDBY")
+    orders("and ramps", "TRK_EXPERT", "do TRK CONFIGURE", TRK="READY")
     with subtests.test("nobody else commands it"):
         assert detector.order("SHIFT_LEADER", "include", "EXPERIMENT", "TRK") == 5
     orders("it is given back", "TRK_EXPERT", "drop TRK")
@@ -253,7 +263,8 @@ def test_shift(folder, start_node, subtests):
     is_in("its devices tell what they are in", MUO="RUNNING")
     orders("it stops with the others", "SHIFT_LEADER", "include EXPERIMENT MUO", "do EXPERIMENT STOP",
            EXPERIMENT="READY")
-    orders("all is switched off", "SHIFT_LEADER", "do EXPERIMENT GO_STANDBY", EXPERIMENT="STANDBY")
+    orders("all goes back", "SHIFT_LEADER", "do EXPERIMENT GO_STANDBY", EXPERIMENT="STANDBY")
+    orders("and off", "SHIFT_LEADER", "do EXPERIMENT SWITCH_OFF", EXPERIMENT="OFF")
     detector.end()
 
 

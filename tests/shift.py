@@ -24,6 +24,9 @@ EXPERTS = [("TRK", "TRK_EXPERT"), ("CAL", "CAL_EXPERT"), ("MUO", "MUO_EXPERT"), 
 CONDITIONS = {
     "UNKNOWN": ("UNKNOWN", "UNKNOWN", "UNKNOWN", "UNKNOWN"),
     "OFF": ("OFF", "OFF", "OFF", "OFF"),
+    # The supplies are on their way up, or down, and the readout is there.
+    "RISING": ("RAMPING", "RAMPING", "STANDBY", "RAMPING"),
+    "FALLING": ("RAMPING", "RAMPING", "OFF", "RAMPING"),
     "STANDBY": ("READY", "STANDBY", "STANDBY", "STANDBY"),
     "RAMPING": ("READY", "RAMPING", "READY", "RAMPING"),
     "READY": ("READY", "READY", "READY", "READY"),
@@ -114,10 +117,11 @@ PLACES = [
     Place("one person commands the whole detector", units("OFF", alike("OFF")),
           ["granted EXPERIMENT 1 SHIFT_LEADER"] + ["granted %s 3 EXPERIMENT" % top for top in TOPS],
           ["SHIFT_LEADER take EXPERIMENT 0"] + ["SHIFT_LEADER include EXPERIMENT %s 0" % top for top in TOPS]),
-    Place("standby", units("STANDBY", alike("STANDBY")),
+    Place("the supplies are told", units("RAMPING", alike("RISING")),
           told=[led("GO_STANDBY")], runs=ran("GO_STANDBY", "EXPERIMENT")),
+    Place("standby", units("STANDBY", alike("STANDBY"))),
     # The calorimeter has heard nothing, and nobody is told that it has.
-    Place("the command waits for the calorimeter", units("STANDBY", alike("RAMPING", CAL="STANDBY")),
+    Place("the command waits for the calorimeter", units("RAMPING", alike("RAMPING", CAL="STANDBY")),
           runs=both({("EXPERIMENT", "CONFIGURE"): 1}, ran("CONFIGURE", "TRK", "MUO", "TRG", "DAQ"))),
     Place("the ramps have begun", units("RAMPING", alike("RAMPING")),
           told=[led("CONFIGURE")], runs=ran("CONFIGURE", "CAL")),
@@ -134,9 +138,12 @@ PLACES = [
     Place("a trip", units("ERROR", alike("RUNNING"), TRIPPED)),
     Place("the run goes on without the tracker", units("RUNNING", alike("RUNNING"), TRIPPED), ["freed TRK 4"],
           ["SHIFT_LEADER exclude EXPERIMENT TRK 0"]),
-    Place("the tracker is in standby", units("RUNNING", alike("RUNNING", TRK="STANDBY")), ["granted TRK 5 TRK_EXPERT"],
+    # All high voltages ramp, and the low voltage that had tripped. The low voltages of the strips were on all the time.
+    Place("the tracker has recovered", units("RUNNING", alike("RUNNING", TRK="RISING"), {"STRIP_LV": "READY"}),
+          ["granted TRK 5 TRK_EXPERT"],
           ["TRK_EXPERT take TRK 0"] + ["TRK_EXPERT do TRK %s 0" % it for it in ("STOP", "RECOVER", "GO_STANDBY")],
           both(both(ran("STOP", "TRK"), ran("RECOVER", "TRK")), ran("GO_STANDBY", "TRK"))),
+    Place("the tracker is in standby", units("RUNNING", alike("RUNNING", TRK="STANDBY"))),
     Place("the tracker runs alone", units("RUNNING", alike("RUNNING")),
           told=["TRK_EXPERT do TRK %s 0" % it for it in ("CONFIGURE", "START")],
           runs=both(ran("CONFIGURE", "TRK"), ran("START", "TRK"))),
@@ -148,8 +155,9 @@ PLACES = [
           ran("STOP", "TRK")),
     Place("all run", units("RUNNING", alike("RUNNING")), told=[led("START")], runs=ran("START", "EXPERIMENT")),
     Place("the run has ended", units("READY", alike("READY")), told=[led("STOP")], runs=ran("STOP", "EXPERIMENT")),
-    Place("all is off again", units("OFF", alike("OFF")), ["freed EXPERIMENT 2"],
-          [led("SWITCH_OFF"), "SHIFT_LEADER drop EXPERIMENT 0"], ran("SWITCH_OFF", "EXPERIMENT")),
+    Place("the supplies are told to go off", units("RAMPING", alike("FALLING")),
+          told=[led("SWITCH_OFF")], runs=ran("SWITCH_OFF", "EXPERIMENT")),
+    Place("all is off again", units("OFF", alike("OFF")), ["freed EXPERIMENT 2"], ["SHIFT_LEADER drop EXPERIMENT 0"]),
 ]
 
 

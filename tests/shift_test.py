@@ -56,12 +56,15 @@ def test_a_tree_that_does_not_see_a_trip(program, folder):
 ACTIONS = ("GO_STANDBY", "CONFIGURE", "START", "STOP", "RECOVER", "SWITCH_OFF")
 # Of each class a device, its domain, an operator of its station, and the states that such a device may be in.
 SAMPLES = {
-    "LOW_VOLTAGE": ("PIXEL_LV1", "PIXEL_LV", "TRK_EXPERT", ("UNKNOWN", "OFF", "READY", "ERROR")),
+    "LOW_VOLTAGE": ("PIXEL_LV1", "PIXEL_LV", "TRK_EXPERT", ("UNKNOWN", "OFF", "RAMPING", "READY", "ERROR")),
     "HIGH_VOLTAGE": ("PIXEL_HV1", "PIXEL_HV", "TRK_EXPERT",
                      ("UNKNOWN", "OFF", "STANDBY", "RAMPING", "READY", "ERROR")),
     "READOUT": ("CLOCK_1", "CLOCK", "TRG_EXPERT", ("UNKNOWN", "OFF", "STANDBY", "READY", "RUNNING", "ERROR")),
     "SENSOR": ("GAS_1", "GAS", "SAFETY", ("UNKNOWN", "READY", "ERROR")),
 }
+SUPPLIES = ("LOW_VOLTAGE", "HIGH_VOLTAGE")
+# In which states GO_STANDBY leaves what is on or off: a supply that is there already does not ramp.
+GATHERED = {"LOW_VOLTAGE": {"READY", "RAMPING"}, "HIGH_VOLTAGE": {"STANDBY", "RAMPING"}, "READOUT": {"STANDBY"}}
 
 
 def moved(program, folder, device, domain, operator, states):
@@ -94,15 +97,21 @@ def test_moves(program, folder, name, subtests):
         assert all((to.get(("ERROR", it)) == "ERROR") == (it != "RECOVER") for it in ACTIONS)
     with subtests.test("RECOVER moves nothing else"):
         assert all(to.get((it, "RECOVER")) == it for it in states if it != "ERROR")
+    if name in SUPPLIES:
+        with subtests.test("an action leaves a supply as it is, or sets it RAMPING"):
+            assert all(after in (before, "RAMPING") for (before, _), after in to.items())
+        with subtests.test("no action ends a ramp"):
+            assert all(to.get(("RAMPING", it)) == "RAMPING" for it in ACTIONS)
     if name == "SENSOR":
         return
-    on = [it for it in states if it not in ("UNKNOWN", "ERROR")]
-    with subtests.test("SWITCH_OFF switches off"):
-        assert all(to.get((it, "SWITCH_OFF")) == "OFF" for it in on)
-    # however far each is, the ones that are on come together, so that a group is in one state again
-    calm = [it for it in on if it != "RUNNING"]
+    on = [it for it in states if it not in ("UNKNOWN", "OFF", "ERROR")]
+    with subtests.test("SWITCH_OFF switches off, or has a supply ramp down"):
+        assert all(to.get((it, "SWITCH_OFF")) == ("RAMPING" if name in SUPPLIES else "OFF") for it in on)
+    # However far each is, those that are on come together, so that a group is in one state again. A supply has to ramp
+    # if it is not there yet.
+    begun = {to.get((it, "GO_STANDBY")) for it in [*on, "OFF"] if it != "RUNNING"}
     with subtests.test("GO_STANDBY brings them together"):
-        assert len({to.get((it, "GO_STANDBY")) for it in calm}) == 1
+        assert begun == GATHERED[name]
     again = {to.get((to.get(("ERROR", "RECOVER")), "GO_STANDBY")), to.get(("OFF", "GO_STANDBY"))}
     with subtests.test("and what has recovered with them"):
         assert len(again) == 1
