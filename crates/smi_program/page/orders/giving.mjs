@@ -18,16 +18,16 @@ let awaited = [];
 /** @param {string} text */
 export function tellGiven(text) { set(by("told"), text); }
 
-/** Sends a line, and returns true if it is on its way. The page calls it by its name.
- * @param {string} line @param {string} name */
-export async function send(line, name) {
+/** Sends a line, and returns true if the screen has taken it. The page calls it by its name.
+ * @param {string} line @param {string} name @param {string} [place] */
+export async function send(line, name, place = "/api/orders") {
   const gone = new AbortController(), bell = setTimeout(() => gone.abort(), PATIENCE);
   try {
     // @ts-ignore (the screen puts the key before this script)
-    const answer = await fetch("/api/orders", { method: "POST", body: line, headers: { Authorization: KEY },
+    const answer = await fetch(place, { method: "POST", body: line, headers: { Authorization: KEY },
       signal: gone.signal, cache: "no-store", credentials: "omit" });
     tellGiven(name + ": " + await answer.text());
-    return answer.status === 202;
+    return answer.ok;
   } catch (refused) {
     tellGiven(name + ": not known whether the screen has it, look below");
     return false;

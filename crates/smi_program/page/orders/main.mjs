@@ -1,7 +1,9 @@
 // What the page has more where orders may be given: who orders, what became of the orders, and the buttons.
 
+import { acknowledgers, knowers } from "../alarm_list.mjs";
 import { by, make, set } from "../dom.mjs";
 import { afterBuild, afterRestart, afterShow, extras, modeSayers, tree } from "../model.mjs";
+import { acknowledge, knowerOf } from "./acknowledging.mjs";
 import { offerAnew, offerOperators, ordersOf, showButtons } from "./choosing.mjs";
 import { isManual } from "./counted.mjs";
 import { followOrders } from "./fates.mjs";
@@ -25,6 +27,8 @@ by("alarms").after(list, told);
 set(by("never"), "A click orders once you have said yes.");
 extras.push(ordersOf);
 modeSayers.push((d) => modeOf(d) || (d.parent && isManual(d) ? "manual" : ""));
+knowers.push(knowerOf);
+acknowledgers.push(acknowledge);
 afterBuild.push(offerAnew);
 afterShow.push(showButtons);
 // A screen that has begun again has another key, and its page has to be loaded again.
