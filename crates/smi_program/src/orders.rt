@@ -104,14 +104,37 @@ function waitedFor(orders, domain) {
 }
 const firstBefore = (it) =>
   holdsUp(it) ? waitedFor(waitingOf(operatorOf(it), it.number), domainOf(it))[0] : undefined;
+let typed = \"\";
+try { typed = sessionStorage.getItem(\"token\") || \"\"; } catch (refused) { }
+const asksToken = () => KEY === \"\";
+const lacksToken = () => asksToken() && typed === \"\";
+const authorization = () => asksToken() ? \"Bearer \" + typed : KEY;
+function takeToken(text) {
+  typed = text.trim();
+  by(\"token\").value = typed;
+  try { sessionStorage.setItem(\"token\", typed); } catch (refused) { }
+}
+function tokenField() {
+  const field = make(\"input\");
+  field.id = \"token\";
+  field.type = \"password\";
+  field.autocomplete = \"off\";
+  field.placeholder = \"token\";
+  field.value = typed;
+  field.setAttribute(\"aria-label\", \"token for orders\");
+  field.addEventListener(\"change\", () => takeToken(field.value));
+  return field;
+}
 let awaited = [];
 function tellGiven(text) { set(by(\"told\"), text); }
 async function send(line, name, place = \"/api/orders\") {
   const gone = new AbortController(), bell = setTimeout(() => gone.abort(), PATIENCE);
   try {
-    const answer = await fetch(place, { method: \"POST\", body: line, headers: { Authorization: KEY },
+    const answer = await fetch(place, { method: \"POST\", body: line, headers: { Authorization: authorization() },
       signal: gone.signal, cache: \"no-store\", credentials: \"omit\" });
-    tellGiven(name + \": \" + await answer.text());
+    const isWrong = asksToken() && answer.status === 403;
+    if (isWrong) takeToken(\"\");
+    tellGiven(name + \": \" + (isWrong ? \"the token is wrong, type it at the top of the page\" : await answer.text()));
     return answer.ok;
   } catch (refused) {
     tellGiven(name + \": not known whether the screen has it, look below\");
@@ -167,8 +190,8 @@ function knowerOf(it) {
   return one && one.at >= (it.at ?? 0) ? one.name : \"\";
 }
 async function acknowledge(keys) {
-  if (!who) {
-    tellGiven(\"choose who acknowledges, at the top of the page\");
+  if (!who || lacksToken()) {
+    tellGiven(who ? \"type the token, at the top of the page\" : \"choose who acknowledges, at the top of the page\");
     return;
   }
   for (const key of keys) {
@@ -196,6 +219,7 @@ function silentOnWay(d) {
 }
 function whyNobody() {
   if (!who) return \"choose who orders, at the top of the page\";
+  if (lacksToken()) return \"type the token for orders, at the top of the page\";
   return hasConsole ? \"\" : \"there is no connection with the console\";
 }
 function whyNoTake(d) {
@@ -460,7 +484,7 @@ told.id = \"told\";
 told.setAttribute(\"role\", \"status\");
 list.id = \"given\";
 list.setAttribute(\"aria-label\", \"orders that were given here\");
-by(\"clock\").before(chooser, standing);
+by(\"clock\").before(chooser, ...(asksToken() ? [tokenField()] : []), standing);
 by(\"alarms\").after(list, told);
 set(by(\"never\"), \"A click orders once you have said yes.\");
 extras.push(ordersOf);

@@ -2,6 +2,7 @@
 
 import { send, tellGiven } from "./giving.mjs";
 import { who } from "./given.mjs";
+import { lacksToken } from "./token.mjs";
 
 /** @typedef {import("../alarms.mjs").Alarm} Alarm */
 
@@ -28,8 +29,8 @@ export function knowerOf(it) {
 /** Acknowledges alarms, one after the other.
  * @param {string[]} keys */
 export async function acknowledge(keys) {
-  if (!who) {
-    tellGiven("choose who acknowledges, at the top of the page");
+  if (!who || lacksToken()) {
+    tellGiven(who ? "type the token, at the top of the page" : "choose who acknowledges, at the top of the page");
     return;
   }
   for (const key of keys) {

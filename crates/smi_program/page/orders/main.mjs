@@ -9,6 +9,7 @@ import { isManual } from "./counted.mjs";
 import { followOrders } from "./fates.mjs";
 import { choose } from "./given.mjs";
 import { modeOf } from "./modes.mjs";
+import { asksToken, tokenField } from "./token.mjs";
 
 const chooser = make("label", "", "orders as"), select = make("select");
 chooser.id = "who";
@@ -22,7 +23,7 @@ told.id = "told";
 told.setAttribute("role", "status");
 list.id = "given";
 list.setAttribute("aria-label", "orders that were given here");
-by("clock").before(chooser, standing);
+by("clock").before(chooser, ...(asksToken() ? [tokenField()] : []), standing);
 by("alarms").after(list, told);
 set(by("never"), "A click orders once you have said yes.");
 extras.push(ordersOf);
