@@ -7,6 +7,7 @@ import time
 import pytest
 
 import nodes
+import running
 import screens
 from running import DEADLINE, at_last, is_so
 
@@ -329,6 +330,98 @@ def test_withdraw(folder, tree, console, start_screen, subtests):
               ("withdraw 1234567890123456", False, "unknown 1234567890123456", None, None)]
     with subtests.test("no answer has a code"):
         assert at_last(lambda: fates(screen), wanted) == wanted
+
+
+NOTED = (200, b"acknowledged")
+NO_ALARM = (400, b"this is no alarm of the tree and an operator of it")
+# Lines that acknowledge nothing of the worked tree, or not by an operator of it.
+NO_ALARMS = [
+    b"", b"acknowledge", b"acknowledge ", b"acknowledge device HV", b"acknowledge device HV EVE", b"acknowledge HV ANN",
+    b"acknowledge device TPC ANN", b"acknowledge domain HV ANN", b"acknowledge station TPC ANN",
+    b"acknowledge device HV ANN BOB", b"acknowledge device HV ANN\n", b"acknowledge device ANN HV",
+    b"device HV ANN", b"order ANN take DCS", b"acknowledge device \"HV\" ANN", b"\xff\xfe"]
+
+
+def test_acknowledge(folder, tree, console, start_screen, subtests):
+    """An alarm that is acknowledged is told to everybody, with who and when, and nothing is sent to the console."""
+    screen = start_screen(tree, os.path.join(folder, "screen"), more=("--endless", "--orders", console.place))
+    assert screen.is_up()
+    console.meet()
+    assert screen.has_console()
+
+    def give(line, **how):
+        return screen.give(line, target="/api/alarms", **how)
+
+    def told():
+        return [it["alarm"] for it in screen.told_orders()["acknowledged"]]
+
+    with subtests.test("at first none is"):
+        assert told() == []
+    for name, how in [("no key", {"key": None}), ("a wrong key", {"key": "Bearer " + "0" * 32}),
+                      ("a foreign Origin", {"origin": "http://evil.example"})]:
+        with subtests.test("%s, no" % name):
+            assert give("acknowledge device HV ANN", **how) == STRANGER
+    for line in NO_ALARMS:
+        with subtests.test("%s, no" % line):
+            assert give(line) == NO_ALARM
+    with subtests.test("at the place of orders, no"):
+        assert screen.give("acknowledge device HV ANN") == NO_ORDER
+    with subtests.test("by GET, no"):
+        assert screen.give("", method="GET", target="/api/alarms")[0] == 404
+    with subtests.test("none of them is told"):
+        assert told() == []
+    before = screen.picture()["now"]
+    given = [give("acknowledge " + it) for it in ("device HV ANN", "domain TPC BOB", "station B ANN", "device HV BOB")]
+    with subtests.test("what is in alarm"):
+        assert given == [NOTED] * 4
+    with subtests.test("is told, the oldest first"):
+        assert told() == ["device HV ANN", "domain TPC BOB", "station B ANN", "device HV BOB"]
+    with subtests.test("with its time by the picture's clock"):
+        times = [it["at"] for it in screen.told_orders()["acknowledged"]]
+        assert times == sorted(times) and before <= times[0] and times[-1] <= screen.picture()["now"] + 1000
+    give("acknowledge device HV ANN")
+    with subtests.test("once more is the newest"):
+        assert told() == ["domain TPC BOB", "station B ANN", "device HV BOB", "device HV ANN"]
+    with subtests.test("nothing was sent to the console"):
+        assert console.hears_nothing()
+    console.leave()
+    with subtests.test("without a console too"):
+        assert is_so(lambda: not screen.told_orders()["console"]) and give("acknowledge station A ANN") == NOTED
+    with subtests.test("what was acknowledged stays"):
+        assert told()[-2:] == ["device HV ANN", "station A ANN"]
+
+
+# What a file of a token may have, and what it may not.
+TOKENS = [("0123456789abcdef", True), ("a-B_9" * 20 + "\n", True), ("0123456789abcdef\r\n", True), ("x" * 128, True),
+          ("0123456789abcde", False), ("x" * 129, False), ("0123456789abcdef ghi", False), ("", False),
+          ("0123456789abcdef\n\n", False), ("0123456789abcdef\nx", False), ("0123456789abc\"ef", False)]
+
+
+@pytest.mark.parametrize("text, is_good", TOKENS)
+def test_tokens(folder, tree, console, start_screen, text, is_good):
+    """A screen with a token in a file: its page does not have it, and takes orders from nobody else."""
+    path = running.write(os.path.join(folder, "token"), text)
+    screen = start_screen(tree, os.path.join(folder, "screen"),
+                          more=("--endless", "--orders", console.place, "--token", path))
+    if not is_good:
+        assert (screen.child.wait(DEADLINE), screen.child.stderr.read()) == (3, "token fault\n")
+        return
+    assert screen.is_up()
+    console.meet()
+    assert screen.has_console()
+    page, token = screen.get("/")[1], text.strip()
+    assert (screen.key(), token.encode() in page) == ("", False)
+    given = [screen.give("order ANN take DCS", key=key) for key in ("Bearer ", "Bearer", "Bearer x", None, token,
+                                                                  "Bearer " + token + "x", "Bearer " + token[:-1])]
+    assert given == [STRANGER] * len(given)
+    assert screen.give("order ANN take DCS", key="Bearer " + token) == GIVEN
+
+
+def test_no_token(folder, tree, console, start_screen):
+    """A file that is not there is told as one that can't be read."""
+    screen = start_screen(tree, os.path.join(folder, "screen"),
+                          more=("--endless", "--orders", console.place, "--token", os.path.join(folder, "none")))
+    assert (screen.child.wait(DEADLINE), screen.child.stderr.read()) == (3, "read fault\n")
 
 
 def test_shut(folder, tree, start_node, start_screen, subtests):

@@ -193,7 +193,7 @@ COMPLETED = [
                             "--sources", "--turns"]),
     (["smi", "node", "--journal", "night", "three.tree", "B"], ["B"]),
     (["smi", "screen", "-"], ["--accept-older", "--endless", "--host", "--http", "--open", "--orders", "--origin",
-                              "--sources", "--style", "--turns"]),
+                              "--sources", "--style", "--token", "--turns"]),
     (["smi", "check", "--"], ["--lint"]), (["smi", "audit", "-"], ["--trace"]),
     (["smi", "audit", "three.tree", "worked.t"], ["worked.tree"]),
     (["smi", "screen", "--http", "127.0.0.1:80", "three.tree", "B"], ["B"]),

@@ -48,8 +48,10 @@ def tree_of(path):
 class MadeUp:
     """What a screen answers that a test makes up: a tree, pictures of it, and the orders that its page gives."""
 
-    def __init__(self, tree, key=KEY):
+    def __init__(self, tree, key=KEY, token=None):
         self.tree, self.key, self.style, self.domains, self.devices = tree, key, "", {}, {}
+        # what has to be shown: the key of the page, or a token that the page does not have
+        self.shown, self.acknowledged = "Bearer " + token if token else key, []
         self.orders, self.has_console, self.frame, self.begun = [], True, 0, time.monotonic()
         self.modes = []
         self.is_heard = lambda station: True
@@ -112,10 +114,17 @@ class MadeUp:
                 if it["waits"]:
                     it["seconds"] = int(time.monotonic() - it["at"])
             rows = [{key: it[key] for key in it if key != "at"} for it in self.orders]
-            return {"console": self.has_console, "orders": rows, "modes": self.modes if self.has_console else []}
+            return {"console": self.has_console, "orders": rows, "modes": self.modes if self.has_console else [],
+                    "acknowledged": list(self.acknowledged)}
 
     def answer(self, method, target, body, headers):
         """Returns the status and the text of an answer."""
+        if method == "POST" and headers.get("Authorization") != self.shown:
+            return 403, "orders are given from the page alone"
+        if method == "POST" and target == "/api/alarms":
+            with self.lock:
+                self.acknowledged.append({"alarm": body.decode().partition(" ")[2], "at": self.now()})
+            return 200, "acknowledged"
         if method == "POST":
             self.take_order(body.decode())
             return 202, "the order is on its way"

@@ -14,6 +14,12 @@ const MOST_LISTED = 40, MOST_READ = 3;
 /** When each alarm of the list began, by its key; null before the first list.
  * @type {Map<string, number | null> | null} */
 let since = null;
+/** Returns who has acknowledged an alarm, or "": what may order has one here.
+ * @type {((it: Alarm) => string)[]} */
+export const knowers = [];
+/** Acknowledges alarms by their keys: what may order has one here.
+ * @type {((keys: string[]) => void)[]} */
+export const acknowledgers = [];
 // What is listed, as a text, and whether all is.
 let listed = "", isAll = false;
 /** The elements that say how long a station has been silent, by the alarm's key.
@@ -44,12 +50,13 @@ function announce(alarms, fresh, unknown) {
  * @param {Map<string, number>} heard @param {number} time */
 export function tellAlarms(heard, time) {
   const all = alarmsOf(heard, time), old = since, unknown = unknownWords();
+  all.forEach((it) => { it.knower = knowers.map((tell) => tell(it)).find((name) => name) || ""; });
   since = new Map(all.map((it) => [it.key, old && old.has(it.key) ? old.get(it.key) : it.at]));
   all.forEach((it) => { it.at = since.get(it.key); });
   const off = shelved(), alarms = all.filter((it) => !isShelved(it.key)), isHiding = alarms.length < all.length;
   announce(alarms, old ? alarms.filter((it) => !old.has(it.key)) : [], unknown);
   const groups = grouped(alarms), hidden = isAll ? 0 : Math.max(0, alarms.length - MOST_LISTED);
-  const keys = groups.map(([, list]) => list.map((it) => [it.key, it.isSilence ? "" : it.text, it.follows]));
+  const keys = groups.map(([, list]) => list.map((it) => [it.key, it.isSilence ? "" : it.text, it.follows, it.knower]));
   const shown = JSON.stringify([keys, hidden, unknown, off, isLoud, isHiding]);
   if (shown !== listed) {
     listed = shown;
@@ -79,17 +86,24 @@ function button(name, text, deed) {
 /** Returns an alarm of the list.
  * @param {Alarm} it */
 function rowOf(it) {
-  const li = make("li", it.isSilence ? "alarm warn" : "alarm"), lead = button("", "", () => open(it.domain));
+  const li = make("li", "alarm" + (it.isSilence ? " warn" : "") + (it.knower ? " known" : ""));
+  const lead = button("", "", () => open(it.domain)), known = it.knower ? "acknowledged by " + it.knower : "";
   const text = make("b", "", it.text), names = it.follows.join(" ");
   const words = it.isSilence ? it.follows.length > 1 ? "keeps " + names : "" : names ? "so " + names : "";
   lead.dataset.alarm = it.domain;
   lead.dataset.key = it.key;
   lead.title = words;
-  lead.append(make("time", "", clock(it.at)), " ", text, ...(words ? [" ", make("small", "", words)] : []));
+  lead.append(make("time", "", clock(it.at)), " ", text, ...(known ? [" ", make("i", "", known)] : []),
+    ...(words ? [" ", make("small", "", words)] : []));
   texts.set(it.key, text);
   const off = button("small", "shelve", () => { shelve(it.key, Number(by("shelf-time").value)); });
   off.setAttribute("aria-label", "shelve " + it.name);
-  li.append(lead, off);
+  li.append(lead, ...acknowledgers.filter(() => !known).map((deed) => {
+    const taken = button("small", "acknowledge", () => deed([it.key]));
+    taken.setAttribute("aria-label", "acknowledge " + it.name);
+    taken.dataset.key = it.key;
+    return taken;
+  }), off);
   return li;
 }
 
@@ -153,7 +167,9 @@ function draw(heading, groups, hidden, unknown, off) {
   sound.title = "a tone for each new alarm, once somebody has clicked on this page";
   mark(sound, "aria-pressed", String(isLoud));
   texts = new Map();
-  head.append(make("h2", "", heading),
+  const fresh = groups.flatMap(([, list]) => list.filter((it) => !it.knower).map((it) => it.key));
+  head.append(make("h2", "", heading), ...(fresh.length ? acknowledgers.map((deed) =>
+    button("tool", "acknowledge all " + fresh.length, () => deed(fresh))) : []),
     ...(count ? [make("span", "", "shelve for"), shelfTimes(old ? old.value : "10")] : []), sound);
   by("alarms").replaceChildren(head, listOf(groups, hidden ? MOST_LISTED : count),
     ...(hidden ? [button("tool", "and " + hidden + " more", () => { isAll = true; })] : []),

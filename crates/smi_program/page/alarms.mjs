@@ -4,8 +4,9 @@ import { age, devices, domains, holderOf, isAlarm, isUnknown, limit, silenceOf, 
 
 /** @typedef {import("./model.mjs").Domain} Domain */
 /** @typedef {{key: string, isSilence: boolean, group: string, domain: string, name: string, text: string,
- *   at: number | null, follows: string[]}} Alarm
- * `group` is the sub-detector, `at` when it began by the screen's clock, and `follows` what is in alarm by it. */
+ *   at: number | null, follows: string[], knower?: string}} Alarm
+ * `group` is the sub-detector, `at` when it began by the screen's clock, `follows` what is in alarm by it, and `knower`
+ * who has acknowledged it: "" if nobody has. */
 
 /** Returns the sub-detector of a domain: the one below the root that it is in, or the root itself.
  * @param {Domain} d */

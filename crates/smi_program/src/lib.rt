@@ -31,6 +31,7 @@ mod screen;
 mod sim;
 pub mod simulating;
 mod style;
+mod token;
 mod tree;
 mod tree_words;
 mod with_orders;

@@ -116,6 +116,8 @@ pub struct ScreenLine<'a> {
     pub sources: Sources,
     /// The console of the node whose operators may order from its page.
     pub orders: Option<ConsolePlace<'a>>,
+    /// The path of the file that has the token for its orders, if people have to know one.
+    pub token: Option<&'a str>,
     /// How many turns it looks, none if it looks without end.
     pub turns: Option<u32>,
     /// Whether it starts on a store that is older than its label.
@@ -285,6 +287,7 @@ fn screen_command<'a>(alloc: Global) -> Result<Command<'a>, Error> {
     let form = form.arg(Arg::new(alloc, "NAME").long("host"))?;
     let form = form.arg(Arg::new(alloc, "ORIGIN").long("origin"))?;
     let form = form.arg(Arg::new(alloc, "STYLE").long("style"))?;
+    let form = form.arg(Arg::new(alloc, "TOKEN").long("token"))?;
     Ok(form.arg(Arg::new(alloc, "PLACE").long("orders"))?)
 }
 
@@ -370,6 +373,7 @@ fn screen_line<'a>(given: &ArgMatches<'a>) -> Option<ScreenLine<'a>> {
         style: given.get_str("STYLE"),
         sources: sources_of(given.get_str("SOURCES"))?,
         orders,
+        token: given.get_str("TOKEN"),
         turns: turns_of(given.get_str("T"), given.get_flag("endless"))?,
         accepts_older: given.get_flag("accept-older"),
     })

@@ -104,6 +104,101 @@ function waitedFor(orders, domain) {
 }
 const firstBefore = (it) =>
   holdsUp(it) ? waitedFor(waitingOf(operatorOf(it), it.number), domainOf(it))[0] : undefined;
+let typed = \"\";
+try { typed = sessionStorage.getItem(\"token\") || \"\"; } catch (refused) { }
+const asksToken = () => KEY === \"\";
+const lacksToken = () => asksToken() && typed === \"\";
+const authorization = () => asksToken() ? \"Bearer \" + typed : KEY;
+function takeToken(text) {
+  typed = text.trim();
+  by(\"token\").value = typed;
+  try { sessionStorage.setItem(\"token\", typed); } catch (refused) { }
+}
+function tokenField() {
+  const field = make(\"input\");
+  field.id = \"token\";
+  field.type = \"password\";
+  field.autocomplete = \"off\";
+  field.placeholder = \"token\";
+  field.value = typed;
+  field.setAttribute(\"aria-label\", \"token for orders\");
+  field.addEventListener(\"change\", () => takeToken(field.value));
+  return field;
+}
+let awaited = [];
+function tellGiven(text) { set(by(\"told\"), text); }
+async function send(line, name, place = \"/api/orders\") {
+  const gone = new AbortController(), bell = setTimeout(() => gone.abort(), PATIENCE);
+  try {
+    const answer = await fetch(place, { method: \"POST\", body: line, headers: { Authorization: authorization() },
+      signal: gone.signal, cache: \"no-store\", credentials: \"omit\" });
+    const isWrong = asksToken() && answer.status === 403;
+    if (isWrong) takeToken(\"\");
+    tellGiven(name + \": \" + (isWrong ? \"the token is wrong, type it at the top of the page\" : await answer.text()));
+    return answer.ok;
+  } catch (refused) {
+    tellGiven(name + \": not known whether the screen has it, look below\");
+    return false;
+  } finally { clearTimeout(bell); }
+}
+function expect(line) {
+  const one = { line, after: given.length ? given[given.length - 1].number : 0, number: 0 };
+  one.end = new Promise((tell) => { one.tell = tell; });
+  awaited.push(one);
+  return one;
+}
+function tellEnds() {
+  awaited = awaited.filter((one) => {
+    const it = given.find(({ number, line }) => one.number ? number === one.number
+      : line === one.line && number > one.after && !found.has(number));
+    if (it) found.add(one.number = it.number);
+    if (!it || it.waits) return true;
+    one.tell(it.code);
+    return false;
+  });
+}
+async function give(order) {
+  const line = \"order \" + who + \" \" + order, words = order.split(\" \"), counts = countedFor(words), one = expect(line);
+  if (!await send(line, line)) {
+    awaited = awaited.filter((it) => it !== one);
+    one.tell(null);
+  }
+  const code = await one.end;
+  endCounted(words, counts, code);
+  if (isOfMode(words[0]) && (code === 0 || code === 3)) noteMode(words[0], words[2]);
+  return code;
+}
+async function giveAfterManual(deed, names) {
+  for (const name of names) {
+    const code = await give(\"manual \" + deed.at.name + \" \" + name);
+    if (code !== 0 && code !== 3) {
+      tellGiven(deed.name + \" was not ordered: \" + name + \" was not made manual\");
+      return;
+    }
+  }
+  await give(deed.line());
+}
+let acknowledged = new Map();
+function learnAcknowledged(list) {
+  acknowledged = new Map(list.map(({ alarm, at }) => {
+    const [kind, object, name] = alarm.split(\" \");
+    return [kind + \" \" + object, { name, at }];
+  }));
+}
+function knowerOf(it) {
+  const one = acknowledged.get(it.key);
+  return one && one.at >= (it.at ?? 0) ? one.name : \"\";
+}
+async function acknowledge(keys) {
+  if (!who || lacksToken()) {
+    tellGiven(who ? \"type the token, at the top of the page\" : \"choose who acknowledges, at the top of the page\");
+    return;
+  }
+  for (const key of keys) {
+    const line = \"acknowledge \" + key + \" \" + who;
+    if (!await send(line, line, \"/api/alarms\")) return;
+  }
+}
 const holderName = (d) => { const h = holderOf(d); return !d.told ? \"\" : !h ? \"nobody\" : h.operator || h.domain; };
 const isHeldBy = (d, name) => holderName(d) === name && d.told !== null;
 function above(d) {
@@ -124,6 +219,7 @@ function silentOnWay(d) {
 }
 function whyNobody() {
   if (!who) return \"choose who orders, at the top of the page\";
+  if (lacksToken()) return \"type the token for orders, at the top of the page\";
   return hasConsole ? \"\" : \"there is no connection with the console\";
 }
 function whyNoTake(d) {
@@ -167,57 +263,6 @@ function deedsOf(d) {
       get at() { return above(d) || domains.get(d.parent); }, isOfMode: true }));
   }
   return deeds;
-}
-let awaited = [];
-function tellGiven(text) { set(by(\"told\"), text); }
-async function send(line, name) {
-  const gone = new AbortController(), bell = setTimeout(() => gone.abort(), PATIENCE);
-  try {
-    const answer = await fetch(\"/api/orders\", { method: \"POST\", body: line, headers: { Authorization: KEY },
-      signal: gone.signal, cache: \"no-store\", credentials: \"omit\" });
-    tellGiven(name + \": \" + await answer.text());
-    return answer.status === 202;
-  } catch (refused) {
-    tellGiven(name + \": not known whether the screen has it, look below\");
-    return false;
-  } finally { clearTimeout(bell); }
-}
-function expect(line) {
-  const one = { line, after: given.length ? given[given.length - 1].number : 0, number: 0 };
-  one.end = new Promise((tell) => { one.tell = tell; });
-  awaited.push(one);
-  return one;
-}
-function tellEnds() {
-  awaited = awaited.filter((one) => {
-    const it = given.find(({ number, line }) => one.number ? number === one.number
-      : line === one.line && number > one.after && !found.has(number));
-    if (it) found.add(one.number = it.number);
-    if (!it || it.waits) return true;
-    one.tell(it.code);
-    return false;
-  });
-}
-async function give(order) {
-  const line = \"order \" + who + \" \" + order, words = order.split(\" \"), counts = countedFor(words), one = expect(line);
-  if (!await send(line, line)) {
-    awaited = awaited.filter((it) => it !== one);
-    one.tell(null);
-  }
-  const code = await one.end;
-  endCounted(words, counts, code);
-  if (isOfMode(words[0]) && (code === 0 || code === 3)) noteMode(words[0], words[2]);
-  return code;
-}
-async function giveAfterManual(deed, names) {
-  for (const name of names) {
-    const code = await give(\"manual \" + deed.at.name + \" \" + name);
-    if (code !== 0 && code !== 3) {
-      tellGiven(deed.name + \" was not ordered: \" + name + \" was not made manual\");
-      return;
-    }
-  }
-  await give(deed.line());
 }
 const LONG = 2000;
 function question(words, choices, first) {
@@ -417,6 +462,7 @@ async function followOrders() {
     connect(!!next && next.console);
     if (next) learn(next.orders);
     learnModes((next && next.modes) || []);
+    if (next) learnAcknowledged(next.acknowledged || []);
     tellEnds();
     tellBegun();
   } finally {
@@ -438,11 +484,13 @@ told.id = \"told\";
 told.setAttribute(\"role\", \"status\");
 list.id = \"given\";
 list.setAttribute(\"aria-label\", \"orders that were given here\");
-by(\"clock\").before(chooser, standing);
+by(\"clock\").before(chooser, ...(asksToken() ? [tokenField()] : []), standing);
 by(\"alarms\").after(list, told);
 set(by(\"never\"), \"A click orders once you have said yes.\");
 extras.push(ordersOf);
 modeSayers.push((d) => modeOf(d) || (d.parent && isManual(d) ? \"manual\" : \"\"));
+knowers.push(knowerOf);
+acknowledgers.push(acknowledge);
 afterBuild.push(offerAnew);
 afterShow.push(showButtons);
 afterRestart.push(() => location.reload());

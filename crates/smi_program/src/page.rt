@@ -33,7 +33,7 @@ a.tool { display: inline-block; margin-top: .8rem }
 #clock { margin-left: auto; font-size: 1.5rem; font-weight: 700 }
 .tool { border: 2px solid var(--line); border-radius: 8px; padding: .15rem .6rem; color: var(--soft); font-weight: 600 }
 .tool[aria-pressed=true] { color: var(--ink); border-color: var(--soft) }
-#find { font: inherit; width: 11rem; padding: .15rem .5rem; border: 2px solid var(--line); border-radius: 8px;
+#find, #token { font: inherit; width: 11rem; padding: .15rem .5rem; border: 2px solid var(--line); border-radius: 8px;
   background: var(--card); color: var(--ink) }
 select { font: inherit; color: var(--ink); background: var(--card); border: 2px solid var(--line); border-radius: 8px }
 #all { display: grid; grid-template: \"aside\" \"main\" \"footer\" / minmax(0, 1fr) }
@@ -166,6 +166,8 @@ body:not(.finding) .folded > .kids { display: none }
 .alarm > [data-alarm] { flex: 1; display: flex; flex-wrap: wrap; gap: 0 .4rem; padding: .05rem .4rem;
   border-radius: 5px; background: #bb1c1c; color: #fff; border: 1px solid #0000 }
 .alarm.warn > [data-alarm] { background: #f2c841; color: #000 }
+.alarm.known > [data-alarm] { background: var(--card); color: inherit; border-color: #bb1c1c }
+.alarm.known.warn > [data-alarm] { border-color: #c79c12 }
 .alarm time { font-weight: 400 }
 .alarm b { overflow-wrap: anywhere }
 .alarm small { flex: 100%; font-size: .75rem; overflow-wrap: anywhere }
@@ -202,7 +204,7 @@ td, th { padding: .2rem .4rem; border-bottom: 1px solid var(--line); text-align:
   .dense #main { columns: auto }
 }
 @media (max-width: 40rem) {
-  button, summary, select, #find, h1 a, .tool { min-height: 44px; min-width: 44px }
+  button, summary, select, #find, #token, h1 a, .tool { min-height: 44px; min-width: 44px }
   h1 a { display: inline-flex; align-items: center }
   .top { min-height: 44px !important }
   .fold { min-width: 44px; line-height: 44px; margin: 0 -.3rem 0 -.8rem }
@@ -725,6 +727,8 @@ function ring() {
 }
 const MOST_LISTED = 40, MOST_READ = 3;
 let since = null;
+const knowers = [];
+const acknowledgers = [];
 let listed = \"\", isAll = false;
 let texts = new Map();
 function forgetAlarms() { since = null; listed = \"\"; }
@@ -741,12 +745,13 @@ function announce(alarms, fresh, unknown) {
 }
 function tellAlarms(heard, time) {
   const all = alarmsOf(heard, time), old = since, unknown = unknownWords();
+  all.forEach((it) => { it.knower = knowers.map((tell) => tell(it)).find((name) => name) || \"\"; });
   since = new Map(all.map((it) => [it.key, old && old.has(it.key) ? old.get(it.key) : it.at]));
   all.forEach((it) => { it.at = since.get(it.key); });
   const off = shelved(), alarms = all.filter((it) => !isShelved(it.key)), isHiding = alarms.length < all.length;
   announce(alarms, old ? alarms.filter((it) => !old.has(it.key)) : [], unknown);
   const groups = grouped(alarms), hidden = isAll ? 0 : Math.max(0, alarms.length - MOST_LISTED);
-  const keys = groups.map(([, list]) => list.map((it) => [it.key, it.isSilence ? \"\" : it.text, it.follows]));
+  const keys = groups.map(([, list]) => list.map((it) => [it.key, it.isSilence ? \"\" : it.text, it.follows, it.knower]));
   const shown = JSON.stringify([keys, hidden, unknown, off, isLoud, isHiding]);
   if (shown !== listed) {
     listed = shown;
@@ -767,17 +772,24 @@ function button(name, text, deed) {
   return b;
 }
 function rowOf(it) {
-  const li = make(\"li\", it.isSilence ? \"alarm warn\" : \"alarm\"), lead = button(\"\", \"\", () => open(it.domain));
+  const li = make(\"li\", \"alarm\" + (it.isSilence ? \" warn\" : \"\") + (it.knower ? \" known\" : \"\"));
+  const lead = button(\"\", \"\", () => open(it.domain)), known = it.knower ? \"acknowledged by \" + it.knower : \"\";
   const text = make(\"b\", \"\", it.text), names = it.follows.join(\" \");
   const words = it.isSilence ? it.follows.length > 1 ? \"keeps \" + names : \"\" : names ? \"so \" + names : \"\";
   lead.dataset.alarm = it.domain;
   lead.dataset.key = it.key;
   lead.title = words;
-  lead.append(make(\"time\", \"\", clock(it.at)), \" \", text, ...(words ? [\" \", make(\"small\", \"\", words)] : []));
+  lead.append(make(\"time\", \"\", clock(it.at)), \" \", text, ...(known ? [\" \", make(\"i\", \"\", known)] : []),
+    ...(words ? [\" \", make(\"small\", \"\", words)] : []));
   texts.set(it.key, text);
   const off = button(\"small\", \"shelve\", () => { shelve(it.key, Number(by(\"shelf-time\").value)); });
   off.setAttribute(\"aria-label\", \"shelve \" + it.name);
-  li.append(lead, off);
+  li.append(lead, ...acknowledgers.filter(() => !known).map((take) => {
+    const taken = button(\"small\", \"acknowledge\", () => take([it.key]));
+    taken.setAttribute(\"aria-label\", \"acknowledge \" + it.name);
+    taken.dataset.key = it.key;
+    return taken;
+  }), off);
   return li;
 }
 function listOf(groups, most) {
@@ -828,7 +840,9 @@ function draw(heading, groups, hidden, unknown, off) {
   sound.title = \"a tone for each new alarm, once somebody has clicked on this page\";
   mark(sound, \"aria-pressed\", String(isLoud));
   texts = new Map();
-  head.append(make(\"h2\", \"\", heading),
+  const fresh = groups.flatMap(([, list]) => list.filter((it) => !it.knower).map((it) => it.key));
+  head.append(make(\"h2\", \"\", heading), ...(fresh.length ? acknowledgers.map((take) =>
+    button(\"tool\", \"acknowledge all \" + fresh.length, () => take(fresh))) : []),
     ...(count ? [make(\"span\", \"\", \"shelve for\"), shelfTimes(old ? old.value : \"10\")] : []), sound);
   by(\"alarms\").replaceChildren(head, listOf(groups, hidden ? MOST_LISTED : count),
     ...(hidden ? [button(\"tool\", \"and \" + hidden + \" more\", () => { isAll = true; })] : []),

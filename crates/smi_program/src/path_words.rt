@@ -9,7 +9,7 @@ use std::io::{self, ErrorKind, Read, Write};
 use std::rt::Files;
 
 /// The most paths that a command reads.
-const MOST_PATHS: usize = 2;
+const MOST_PATHS: usize = 3;
 
 /// Says which path of a command line can't be read, or which folder of a store is not there, if a command has ended
 /// with a fault and `faults` is a terminal. Else it writes nothing, so that a program that reads `faults` finds the one
@@ -43,16 +43,16 @@ pub fn tell_path_fault<H: Files + AllocGlobal, F: Write>(
 /// Returns the paths of the files that a command line has read, as far as they are few.
 fn read_paths(line: CommandLine<'_>) -> [Option<&str>; MOST_PATHS] {
     match line {
-        CommandLine::Check(line) => [Some(line.tree), None],
-        CommandLine::Rows(store) => [Some(store), None],
+        CommandLine::Check(line) => [Some(line.tree), None, None],
+        CommandLine::Rows(store) => [Some(store), None, None],
         CommandLine::Sim(line) => match line.schedule {
-            Schedule::File(path) => [Some(line.tree), Some(path)],
-            Schedule::Drawn { .. } => [Some(line.tree), None],
+            Schedule::File(path) => [Some(line.tree), Some(path), None],
+            Schedule::Drawn { .. } => [Some(line.tree), None, None],
         },
-        CommandLine::Audit(line) => [Some(line.tree), None],
-        CommandLine::Node(line) => [Some(line.tree), None],
-        CommandLine::Screen(line) => [Some(line.tree), line.style],
-        CommandLine::Answer | CommandLine::Wrong | CommandLine::NoMemory => [None, None],
+        CommandLine::Audit(line) => [Some(line.tree), None, None],
+        CommandLine::Node(line) => [Some(line.tree), None, None],
+        CommandLine::Screen(line) => [Some(line.tree), line.style, line.token],
+        CommandLine::Answer | CommandLine::Wrong | CommandLine::NoMemory => [None, None, None],
     }
 }
 

@@ -5,6 +5,7 @@ ghost use Rattle.std.specs.Prelude.{◌≡◌, IfOk};
 use crate::line::{ConsolePlace, ScreenLine};
 use crate::node::{Opening, opened};
 use crate::style::style_script;
+use crate::token::token_in;
 use crate::tree::{read_bytes, read_marked, read_tree};
 use crate::with_orders::{page_bytes, page_with_orders, page_with_style};
 use crate::words::{Words, bytes_of};
@@ -39,13 +40,35 @@ fn told_end<F: Write>(ended: Ended, faults: &mut F) -> Status {
 /// How many random bytes a key is made of.
 const KEY: usize = 16;
 
-/// Returns random bytes, as the value of an `Authorization`.
-fn key_in(alloc: Global, bytes: [u8; KEY]) -> Result<Vec<u8>, AllocError> {
-    let mut key = Vec::from_slice(alloc, b"Bearer ")?;
-    for byte in bytes {
-        write!(key, "{byte:02x}").map_err(|_| AllocError)?;
+/// What a page has to show as its `Authorization` to give orders.
+#[derive(Drop)]
+enum PageKey {
+    /// These random bytes, which the page has.
+    Random([u8; KEY]),
+    /// A token, which the page has not: it asks people for it.
+    Token(Vec<u8>),
+}
+
+/// Returns the value of the `Authorization`.
+fn key_in(alloc: Global, key: &PageKey) -> Result<Vec<u8>, AllocError> {
+    let mut text = Vec::from_slice(alloc, b"Bearer ")?;
+    match key {
+        PageKey::Random(bytes) => {
+            for byte in bytes {
+                write!(text, "{byte:02x}").map_err(|_| AllocError)?;
+            }
+        }
+        PageKey::Token(token) => text.extend_from_slice(token.as_slice())?,
     }
-    Ok(key)
+    Ok(text)
+}
+
+/// Returns what stands of it in the page: all of a random one, and nothing of a token.
+fn key_in_page<'a>(key: &PageKey, text: &'a [u8]) -> &'a [u8] {
+    match key {
+        PageKey::Random(_) => text,
+        PageKey::Token(_) => &[],
+    }
 }
 
 /// Returns a text whose copies share its bytes.
@@ -67,8 +90,8 @@ fn console_address_of(
     }
 }
 
-/// A page that may give orders, the key that it has for that, its origin at a proxy, and the console that they go
-/// to.
+/// A page that may give orders, the key that it has to show for that, its origin at a proxy, and the console that they
+/// go to.
 #[derive(Drop)]
 struct Keyed {
     page: Bytes,
@@ -77,20 +100,20 @@ struct Keyed {
     console: ConsoleAddress,
 }
 
-/// Returns this page as one that may give orders by a key of these bytes, under this origin too if there is one, to the
-/// console at this place.
+/// Returns this page as one that may give orders by a key, under this origin too if there is one, to the console at this
+/// place.
 fn page_with_key(
     alloc: Global,
     page: &[u8],
-    bytes: [u8; KEY],
+    key: &PageKey,
     origin: Option<&str>,
     place: ConsolePlace<'_>,
 ) -> Result<Keyed, AllocError> {
-    let key = key_in(alloc, bytes)?;
-    let page = page_with_orders(alloc, page, key.as_slice())?;
+    let text = key_in(alloc, key)?;
+    let page = page_with_orders(alloc, page, key_in_page(key, text.as_slice()))?;
     Ok(Keyed {
         page: kept(page)?,
-        key: kept(key)?,
+        key: kept(text)?,
         origin: match origin {
             Some(origin) => Some(kept(Vec::from_slice(alloc, origin.as_bytes())?)?),
             None => None,
@@ -125,6 +148,22 @@ fn random<H: RandomSource, F: Write>(host: &H, faults: &mut F) -> Result<[u8; KE
     }
 }
 
+/// Returns the key that a page has to show: the token of the file of a command line, or random bytes.
+fn key_of<H: Files + RandomSource + AllocGlobal, F: Write>(
+    host: &H,
+    words: &Words,
+    line: ScreenLine<'_>,
+    faults: &mut F,
+) -> Result<PageKey, Status> {
+    match line.token {
+        Some(path) => {
+            let bytes = read_bytes(host, bytes_of(words, path), faults)?;
+            Ok(PageKey::Token(token_in(host.alloc(), bytes.as_slice(), faults)?))
+        }
+        None => Ok(PageKey::Random(random(host, faults)?)),
+    }
+}
+
 /// Has the page of a screen give orders from now on, to the console at this place.
 fn with_orders<H: Files + RandomSource + AllocGlobal, F: Write>(
     host: &H,
@@ -134,10 +173,10 @@ fn with_orders<H: Files + RandomSource + AllocGlobal, F: Write>(
     setup: &mut ScreenSetup,
     faults: &mut F,
 ) -> Result<(), Status> {
-    let bytes = random(host, faults)?;
+    let key = key_of(host, words, line, faults)?;
     let tree = read_tree(host, bytes_of(words, line.tree), faults)?;
     let page = setup.page.as_slice();
-    match page_with_key(host.alloc(), page, bytes, line.origin, place) {
+    match page_with_key(host.alloc(), page, &key, line.origin, place) {
         Ok(keyed) => {
             give(setup, keyed, tree);
             Ok(())

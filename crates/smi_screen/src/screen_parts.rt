@@ -5,7 +5,7 @@ use crate::screen::{OrderSetup, ScreenSetup};
 use bytes::Bytes;
 use smi_tree::Tree;
 use smi_view::Picture;
-use smi_web::{OrderRelay, PageOrders, Snapshot, WebService};
+use smi_web::{Acknowledgements, OrderRelay, PageOrders, Snapshot, WebService};
 use std::alloc::{AllocError, Global};
 use std::mem::replace;
 
@@ -30,6 +30,7 @@ fn order_parts(alloc: Global, orders: OrderSetup) -> (PageOrders, NodeConsole) {
         key,
         origin,
         relay: OrderRelay::new(alloc),
+        acknowledged: Acknowledgements::new(alloc),
         time: 0,
     };
     (orders, NodeConsole::new(alloc, console))

@@ -13,6 +13,7 @@ use Rattle.smi_web.specs.declared.snapshot.Snapshot.{Snapshot}
 use Rattle.smi_web.specs.declared.order_relay.Admission.{Admission}
 use Rattle.smi_web.specs.declared.order_relay.Admission.TheVariants as admission
 use Rattle.smi_web.specs.OrderRelay.{given, admission_of}
+use Rattle.smi_web.specs.Acknowledgements.{acknowledged, is_acknowledgement}
 use Rattle.smi_web.specs.Snapshot.{with_orders}
 use Rattle.smi_web.specs.declared.page_orders.PageOrders.{PageOrders}
 use Rattle.smi_web.specs.declared.service.WebService.{WebService}
@@ -62,15 +63,27 @@ route_by admission.NoOrder = route_to.NoOrder
 route_by admission.ConsoleDown = route_to.ConsoleDown
 route_by admission.QueueFull = route_to.QueueFull
 
--- an order is given at one place, by the page alone, and what the relay says of it counts
-abbrev pub order_route : PageOrders → PartsState → Route
-order_route o q =
-    if bytes_eq q.method (codes "POST") && bytes_eq q.path (codes "/api/orders")
-    then (if is_trusted o.key o.origin q then route_by (admission_of o.tree o.relay q.body) else route_to.ForeignOrigin)
+abbrev pub is_at_orders : PartsState → Bool
+is_at_orders q = bytes_eq q.path (codes "/api/orders")
+
+abbrev pub is_at_alarms : PartsState → Bool
+is_at_alarms q = bytes_eq q.path (codes "/api/alarms")
+
+-- of an order what the relay says of it counts, and of an acknowledgement whether it is one
+abbrev pub page_route : PageOrders → PartsState → Route
+page_route o q =
+    if is_at_orders q then route_by (admission_of o.tree o.relay q.body)
+    else (if is_acknowledgement o.tree q.body then route_to.Acknowledged else route_to.NoAlarm)
+
+-- an order is given at one place, and an alarm acknowledged at another, by the page alone
+abbrev pub posted_route : PageOrders → PartsState → Route
+posted_route o q =
+    if bytes_eq q.method (codes "POST") && (is_at_orders q || is_at_alarms q)
+    then (if is_trusted o.key o.origin q then page_route o q else route_to.ForeignOrigin)
     else route_to.Change
 
 abbrev pub change_route : Option PageOrders → PartsState → Route
-change_route (Some o) q = order_route o q
+change_route (Some o) q = posted_route o q
 change_route None q = route_to.Change
 
 -- first of all the host, then the method, then the place
@@ -97,6 +110,8 @@ status_of route_to.NotFound = 404
 status_of route_to.Change = 405
 status_of route_to.WrongHost = 421
 status_of route_to.Given = 202
+status_of route_to.Acknowledged = 200
+status_of route_to.NoAlarm = 400
 status_of route_to.ForeignOrigin = 403
 status_of route_to.NoOrder = 400
 status_of route_to.ConsoleDown = 503
@@ -115,6 +130,8 @@ body_of snapshot route_to.NotFound = codes "there is no such page"
 body_of snapshot route_to.Change = codes "this screen only shows"
 body_of snapshot route_to.WrongHost = codes "this is another host"
 body_of snapshot route_to.Given = codes "the order is on its way"
+body_of snapshot route_to.Acknowledged = codes "acknowledged"
+body_of snapshot route_to.NoAlarm = codes "this is no alarm of the tree and an operator of it"
 body_of snapshot route_to.ForeignOrigin = codes "orders are given from the page alone"
 body_of snapshot route_to.NoOrder = codes "this is no order of an operator of the tree"
 body_of snapshot route_to.ConsoleDown = codes "there is no connection with the console"
@@ -164,6 +181,8 @@ own_headers route_to.NotFound = plain
 own_headers route_to.Change = (codes "allow", codes "GET, HEAD") ∷ plain
 own_headers route_to.WrongHost = plain
 own_headers route_to.Given = plain
+own_headers route_to.Acknowledged = plain
+own_headers route_to.NoAlarm = plain
 own_headers route_to.ForeignOrigin = plain
 own_headers route_to.NoOrder = plain
 own_headers route_to.ConsoleDown = plain
@@ -184,12 +203,19 @@ pub record Answers (snapshot : Snapshot) (what : Route) (r : Response) : Type 0 
 abbrev pub ordered : PageOrders → List ℕ → PageOrders
 ordered o line = record o { relay = given o.relay line o.time }
 
--- what a request leaves of the service: an order that is given is given to the relay, once, and nothing else changes
--- anything
+-- the alarm is acknowledged
+abbrev pub noted_by : PageOrders → List ℕ → PageOrders
+noted_by o line = record o { acknowledged = acknowledged o.acknowledged line o.time }
+
+-- what a request leaves of the service: an order that is given is given to the relay, once, an alarm that is
+-- acknowledged is noted, and nothing else changes anything
 abbrev pub left_by : Route → WebService → List ℕ → WebService
 left_by route_to.Given w line = record w { orders = option_map (λ o. ordered o line) w.orders }
+left_by route_to.Acknowledged w line = record w { orders = option_map (λ o. noted_by o line) w.orders }
 left_by _ w line = w
 
 -- what became of the orders is told again, if orders may be given
 abbrev pub orders_told : WebService → WebService
-orders_told w = record w { snapshot = option_map_or (λ o. with_orders w.snapshot o.relay o.time) w.orders w.snapshot }
+orders_told w = record w {
+  snapshot = option_map_or (λ o. with_orders w.snapshot o.relay o.acknowledged o.time) w.orders w.snapshot;
+}

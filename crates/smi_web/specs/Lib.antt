@@ -1,5 +1,6 @@
 pub mod Answers
 pub mod Parts
+pub mod Acknowledgements
 pub mod Snapshot
 pub mod Outcome
 pub mod RelayedOrder

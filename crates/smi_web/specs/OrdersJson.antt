@@ -3,6 +3,7 @@ use Rattle.std.specs.Prelude.{ℕ, Bool, ◌-◌, ◌/◌, ◌++◌, List, [], l
 use Rattle.std.specs.Option.{option_map_or}
 use Rattle.std.specs.Fmt.{decimal}
 use Rattle.smi_tree.specs.Hierarchy.{entry}
+use Rattle.smi_web.specs.declared.acknowledgements.Acknowledgement.{Acknowledgement}
 use Rattle.smi_web.specs.declared.relayed_order.Reply.{Reply}
 use Rattle.smi_web.specs.declared.relayed_order.RelayedOrder.{RelayedOrder}
 use Rattle.smi_web.specs.Outcome.{code_of, words_of}
@@ -62,7 +63,24 @@ mode_text_at r n = mode_or_nothing (entry r.modes.known n)
 abbrev pub modes_text : OrderRelayState → List ℕ
 modes_text r = codes "],\"modes\":[" ++ listed (codes ",") (mode_text_at r) (length r.modes.known)
 
--- whether there is a connection with the console, the orders, and the modes
-abbrev pub orders_text : OrderRelayState → ℕ → List ℕ
-orders_text r now =
-    codes "{\"console\":" ++ flag r.is_open ++ errands_text r now ++ modes_text r ++ codes "]}\n"
+-- what is in alarm, who has acknowledged it, and when
+unfoldable pub alarm_text : Acknowledgement → List ℕ
+alarm_text a = codes "{\"alarm\":" ++ quoted a.text ++ codes ",\"at\":" ++ decimal a.at ++ codes "}"
+
+abbrev pub alarm_or_nothing : Option Acknowledgement → List ℕ
+alarm_or_nothing None = []
+alarm_or_nothing (Some a) = alarm_text a
+
+abbrev pub alarm_text_at : List Acknowledgement → ℕ → List ℕ
+alarm_text_at acknowledged n = alarm_or_nothing (entry acknowledged n)
+
+-- the alarms that were acknowledged, the oldest acknowledgement first
+abbrev pub alarms_text : List Acknowledgement → List ℕ
+alarms_text acknowledged =
+    codes "],\"acknowledged\":[" ++ listed (codes ",") (alarm_text_at acknowledged) (length acknowledged)
+
+-- whether there is a connection with the console, the orders, the modes, and the alarms that were acknowledged
+abbrev pub orders_text : OrderRelayState → List Acknowledgement → ℕ → List ℕ
+orders_text r acknowledged now =
+    codes "{\"console\":" ++ flag r.is_open ++ errands_text r now ++ modes_text r ++ alarms_text acknowledged
+    ++ codes "]}\n"

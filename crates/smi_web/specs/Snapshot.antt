@@ -5,6 +5,7 @@ use Rattle.smi_tree.specs.Hierarchy.{Hierarchy}
 use Rattle.smi_view.specs.Pictured.{Pictured}
 use Rattle.smi_web.specs.Metrics.{metrics_text}
 use Rattle.smi_web.specs.OrderRelay.{OrderRelayState}
+use Rattle.smi_web.specs.declared.acknowledgements.Acknowledgement.{Acknowledgement}
 use Rattle.smi_web.specs.OrdersJson.{orders_text}
 use Rattle.smi_web.specs.PictureJson.{picture_text}
 use Rattle.smi_web.specs.TreeJson.{tree_text}
@@ -33,6 +34,6 @@ renewed snapshot h p number now = record snapshot {
   metrics = metrics_text h p number now;
 }
 
--- what became of the orders that were given from the page, looked at at this time
-abbrev pub with_orders : Snapshot → OrderRelayState → ℕ → Snapshot
-with_orders snapshot r now = record snapshot { orders = orders_text r now }
+-- what became of the orders that were given from the page, and which alarms were acknowledged, looked at at this time
+abbrev pub with_orders : Snapshot → OrderRelayState → List Acknowledgement → ℕ → Snapshot
+with_orders snapshot r acknowledged now = record snapshot { orders = orders_text r acknowledged now }

@@ -12,6 +12,7 @@
 //!   is not sent later ([`OrderRelay::close`]), so that nobody is commanded by an order of long ago.
 //!   [`OrderRelay::admission`] says beforehand whether an order may be given. The relay also asks the console in which
 //!   mode each child is ([`OrderRelay::ask_modes`]), and keeps its last whole answer ([`OrderRelay::modes`]).
+//! - [`Acknowledgements`] has the alarms that somebody has acknowledged on a page, who, and when.
 //! - [`write_tree`], [`write_picture`], [`write_orders`] and [`write_metrics`] write JSON, and Prometheus' text format.
 //!   The names of a tree have letters, digits and `_` alone, and a relay keeps plain text, so nothing is escaped.
 //!
@@ -29,6 +30,7 @@
 //! order of this one (`is_waiting`, `specs/RelayedOrder`).
 #![tactic(auto)]
 
+mod acknowledgements;
 mod json;
 mod json_list;
 mod metrics;
@@ -45,6 +47,9 @@ mod service;
 mod snapshot;
 mod tree_json;
 
+pub use acknowledgements::{
+    Acknowledgement, Acknowledgements, MOST_ACKNOWLEDGED, is_acknowledgement,
+};
 pub use metrics::write_metrics;
 pub use order_line::is_order_line;
 pub use order_relay::{Admission, MOST_ORDERS, MOST_UNSENT, OrderRelay};

@@ -4,7 +4,10 @@ ghost use Rattle.std.specs.Prelude.{◌≡◌, ◌≤◌, ◌++◌, length, IfOk
 ghost use Rattle.smi_web.specs.ModeList.{most_modes};
 ghost use Rattle.smi_web.specs.OrderRelay.{most_orders};
 ghost use Rattle.smi_tree.specs.Hierarchy.{entry};
+ghost use Rattle.smi_web.specs.Acknowledgements.{most_acknowledged};
 ghost use Rattle.smi_web.specs.OrdersJson.{
+  alarm_text,
+  alarms_text,
   answer_text,
   code_text,
   end_of,
@@ -17,6 +20,7 @@ ghost use Rattle.smi_web.specs.OrdersJson.{
   waiting_text,
 };
 
+use crate::acknowledgements::{Acknowledgement, Acknowledgements};
 use crate::json::{put, put_flag, put_number, put_text};
 use crate::json_list::{Listing, put_list};
 use crate::order_relay::OrderRelay;
@@ -187,16 +191,80 @@ fn put_modes(text: &mut Vec<u8>, relay: &OrderRelay) -> Result<(), AllocError>
     Ok(())
 }
 
-/// Writes the orders that were given, the oldest first, and the modes that are known, in one line of JSON.
+/// Writes an alarm that was acknowledged.
+#[tactic(auto, unfolding(crate::specs::OrdersJson::alarm_text))]
+fn put_alarm(text: &mut Vec<u8>, alarm: &Acknowledgement) -> Result<(), AllocError>
+    ensures { OnOk result (text.new.items ≡ text.old.items ++ alarm_text alarm.now) }
+{
+    put_text(text, b"{\"alarm\":", alarm.text.as_slice())?;
+    put_number(text, b",\"at\":", alarm.at)?;
+    put(text, b"}")
+}
+
+/// The alarms that were acknowledged.
+#[derive(Clone, Copy)]
+struct Alarms<'a> {
+    acknowledged: &'a Acknowledgements,
+}
+
+/// Returns the alarm of a number among these.
+fn alarm_at(alarms: &[Acknowledgement], number: u16) -> Option<&Acknowledgement>
+    ensures { option_map (λ alarm. alarm.now) result ≡ entry alarms.now number }
+{
+    alarms.get(usize::from(number).checked_sub(1)?)
+}
+
+impl<'a> Listing for Alarms<'a> {
+    ghost use Rattle.smi_web.specs.OrdersJson.{alarm_text_at};
+
+    ghost text = { λ s n. alarm_text_at s.acknowledged.now n };
+
+    fn put(&self, into: &mut Vec<u8>, number: u16) -> Result<(), AllocError> {
+        match alarm_at(self.acknowledged.as_slice(), number) {
+            Some(alarm) => put_alarm(into, alarm),
+            None => Ok(()),
+        }
+    }
+}
+
+/// Returns how many alarms there are.
+fn alarm_count(alarms: &[Acknowledgement]) -> u16
+    requires { length alarms.now ≤ most_acknowledged }
+    ensures { result ≡ length alarms.now }
+{
+    alarms.len() as u16
+}
+
+fn put_alarms(text: &mut Vec<u8>, acknowledged: &Acknowledgements) -> Result<(), AllocError>
+    ensures { OnOk result (text.new.items ≡ text.old.items ++ alarms_text acknowledged.now) }
+{
+    let count = alarm_count(acknowledged.as_slice());
+    put_list(
+        text,
+        b"],\"acknowledged\":[",
+        &Alarms { acknowledged },
+        count,
+    )?;
+    Ok(())
+}
+
+/// Writes the orders that were given, the oldest first, the modes that are known, and the alarms that were
+/// acknowledged, in one line of JSON.
 ///
 /// It fails only if memory ran out, which tests alone see.
-pub fn write_orders(alloc: Global, relay: &OrderRelay, now: u64) -> Result<Vec<u8>, AllocError>
-    ensures { IfOk result (λ text. text.items ≡ orders_text relay.now now) }
+pub fn write_orders(
+    alloc: Global,
+    relay: &OrderRelay,
+    acknowledged: &Acknowledgements,
+    now: u64,
+) -> Result<Vec<u8>, AllocError>
+    ensures { IfOk result (λ text. text.items ≡ orders_text relay.now acknowledged.now now) }
 {
     let mut text = Vec::new(alloc);
     put_flag(&mut text, b"{\"console\":", relay.is_open())?;
     put_orders(&mut text, relay, now)?;
     put_modes(&mut text, relay)?;
+    put_alarms(&mut text, acknowledged)?;
     put(&mut text, b"]}\n")?;
     Ok(text)
 }

@@ -4,6 +4,7 @@ ghost use Rattle.std.specs.Prelude.{◌≡◌, bytes_eq, map, option_map};
 ghost use Rattle.std.specs.List.{list_any};
 ghost use Rattle.smi_web.specs.Answers as spec;
 
+use crate::acknowledgements::is_acknowledgement;
 use crate::order_relay::Admission;
 use crate::page_orders::PageOrders;
 use bytes::Bytes;
@@ -63,6 +64,10 @@ pub enum Route {
     Change,
     /// The order is given.
     Given,
+    /// The alarm is acknowledged.
+    Acknowledged,
+    /// What is acknowledged is no alarm.
+    NoAlarm,
     /// The order comes from another page than the one that is served here.
     ForeignOrigin,
     /// The order is none.
@@ -181,17 +186,44 @@ fn route_by(admission: Admission) -> Route
     }
 }
 
-/// Returns the answer to a request that would change something, if orders may be given.
-fn order_route(orders: &PageOrders, parts: &RequestParts<'_>) -> Route
-    ensures { result ≡ spec.order_route orders.now parts.now }
+/// Returns true if a request is at the place where orders are given.
+fn is_at_orders(parts: &RequestParts<'_>) -> bool
+    ensures { result ≡ spec.is_at_orders parts.now }
 {
-    if parts.method != b"POST".as_slice() || parts.path != b"/api/orders".as_slice() {
+    parts.path == b"/api/orders".as_slice()
+}
+
+/// Returns true if a request is at the place where alarms are acknowledged.
+fn is_at_alarms(parts: &RequestParts<'_>) -> bool
+    ensures { result ≡ spec.is_at_alarms parts.now }
+{
+    parts.path == b"/api/alarms".as_slice()
+}
+
+/// Returns the answer to the page that gives an order, or acknowledges an alarm.
+fn page_route(orders: &PageOrders, parts: &RequestParts<'_>) -> Route
+    ensures { result ≡ spec.page_route orders.now parts.now }
+{
+    if is_at_orders(parts) {
+        route_by(orders.relay.admission(&orders.tree, parts.body))
+    } else if is_acknowledgement(&orders.tree, parts.body) {
+        Route::Acknowledged
+    } else {
+        Route::NoAlarm
+    }
+}
+
+/// Returns the answer to a request that would change something, if orders may be given.
+fn posted_route(orders: &PageOrders, parts: &RequestParts<'_>) -> Route
+    ensures { result ≡ spec.posted_route orders.now parts.now }
+{
+    if parts.method != b"POST".as_slice() || !(is_at_orders(parts) || is_at_alarms(parts)) {
         return Route::Change;
     }
     if !is_trusted(orders.key.as_slice(), &orders.origin, parts) {
         return Route::ForeignOrigin;
     }
-    route_by(orders.relay.admission(&orders.tree, parts.body))
+    page_route(orders, parts)
 }
 
 /// Returns the answer to a request that would change something.
@@ -199,13 +231,13 @@ fn change_route(orders: &Option<PageOrders>, parts: &RequestParts<'_>) -> Route
     ensures { result ≡ spec.change_route orders.now parts.now }
 {
     match orders {
-        Some(orders) => order_route(orders, parts),
+        Some(orders) => posted_route(orders, parts),
         None => Route::Change,
     }
 }
 
-/// Returns the answer to a request, by these tests in their order: the host, the method, the place; and of an order who
-/// gives it, whether it is one, and whether it can be sent.
+/// Returns the answer to a request, by these tests in their order: the host, the method, the place; of what a page
+/// changes, who asks; of an order, whether it is one, and whether it can be sent; of an acknowledgement, whether it is one.
 ///
 /// The hosts are those that are answered. `version` is the query of a client that has the newest picture.
 pub fn route_request(

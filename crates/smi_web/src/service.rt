@@ -173,7 +173,7 @@ fn refuse_change(response: &mut Response) -> Result<(), AllocError>
 }
 
 impl WebService {
-    /// Renews the text of what became of the orders that were given.
+    /// Renews the text of what became of the orders that were given, and of the alarms that were acknowledged.
     ///
     /// Its error is that memory was refused: nothing changes then.
     pub fn renew_orders(&mut self, alloc: Global) -> Result<(), AllocError>
@@ -183,7 +183,7 @@ impl WebService {
         match &self.orders {
             Some(orders) => self
                 .snapshot
-                .renew_orders(alloc, &orders.relay, orders.time),
+                .renew_orders(alloc, &orders.relay, &orders.acknowledged, orders.time),
             None => Ok(()),
         }
     }
@@ -195,6 +195,17 @@ impl WebService {
     {
         match &mut self.orders {
             Some(orders) => orders.give(line),
+            None => Ok(()),
+        }
+    }
+
+    /// Acknowledges an alarm, if orders may be given.
+    fn acknowledge(&mut self, line: &[u8]) -> Result<(), AllocError>
+        ensures ok { OnOk result (self.new ≡ left_by route_to.Acknowledged self.old line.now) }
+        ensures err { OnErr result (self.new ≡ self.old) }
+    {
+        match &mut self.orders {
+            Some(orders) => orders.acknowledge(line),
             None => Ok(()),
         }
     }
@@ -224,6 +235,15 @@ impl WebService {
                 fill_plain(response, status, "this is another host")
             }
             Route::Given => fill_plain(response, StatusCode::ACCEPTED, "the order is on its way"),
+            Route::Acknowledged => fill_plain(response, StatusCode::OK, "acknowledged"),
+            Route::NoAlarm => {
+                let status = StatusCode::BAD_REQUEST;
+                fill_plain(
+                    response,
+                    status,
+                    "this is no alarm of the tree and an operator of it",
+                )
+            }
             Route::ForeignOrigin => {
                 let status = StatusCode::FORBIDDEN;
                 fill_plain(response, status, "orders are given from the page alone")
@@ -268,6 +288,9 @@ impl Service for WebService {
         self.answer(what, response)?;
         if what == Route::Given {
             return self.give(request.body().as_slice());
+        }
+        if what == Route::Acknowledged {
+            return self.acknowledge(request.body().as_slice());
         }
         Ok(())
     }

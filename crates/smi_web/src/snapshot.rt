@@ -3,6 +3,7 @@
 ghost use Rattle.std.specs.Prelude.{◌≡◌, IfOk};
 ghost use Rattle.smi_web.specs.Snapshot.{version_of};
 
+use crate::acknowledgements::Acknowledgements;
 use crate::metrics::write_metrics;
 use crate::order_relay::OrderRelay;
 use crate::orders_json::write_orders;
@@ -23,7 +24,7 @@ pub struct Snapshot {
     pub tree: Bytes,
     pub picture: Bytes,
     pub metrics: Bytes,
-    /// The orders that were given from the page; nothing, if none can be.
+    /// The orders that were given from the page, and the alarms that were acknowledged; nothing, if none can be.
     pub orders: Bytes,
 }
 
@@ -97,20 +98,21 @@ impl Snapshot {
         Ok(())
     }
 
-    /// Writes what became of the orders of this relay, looked at at this time, in place of what was told before. All
-    /// else stays.
+    /// Writes what became of the orders of this relay, and which alarms were acknowledged, looked at at this time, in
+    /// place of what was told before. All else stays.
     ///
     /// It fails only if memory ran out, which tests alone see, and changes nothing then.
     pub fn renew_orders(
         &mut self,
         alloc: Global,
         relay: &OrderRelay,
+        acknowledged: &Acknowledgements,
         now: u64,
     ) -> Result<(), AllocError>
-        ensures ok { OnOk result (self.new ≡ with_orders self.old relay.now now) }
+        ensures ok { OnOk result (self.new ≡ with_orders self.old relay.now acknowledged.now now) }
         ensures err { OnErr result (self.new ≡ self.old) }
     {
-        self.orders = shared(write_orders(alloc, relay, now)?)?;
+        self.orders = shared(write_orders(alloc, relay, acknowledged, now)?)?;
         Ok(())
     }
 }

@@ -4,6 +4,7 @@ import { domains, held, holderOf, tree } from "../model.mjs";
 import { asksChild, isManual, isSilent } from "./counted.mjs";
 import { hasConsole, who } from "./given.mjs";
 import { isSoAlready, modeOf } from "./modes.mjs";
+import { lacksToken } from "./token.mjs";
 
 /** @typedef {import("../model.mjs").Domain} Domain */
 /** @typedef {{name: string, asked: string, line: () => string, why: () => string, waitsFor: () => Domain[],
@@ -45,6 +46,7 @@ function silentOnWay(d) {
 /** Returns why nobody may order anything, if so. */
 export function whyNobody() {
   if (!who) return "choose who orders, at the top of the page";
+  if (lacksToken()) return "type the token for orders, at the top of the page";
   return hasConsole ? "" : "there is no connection with the console";
 }
 /** @param {Domain} d */

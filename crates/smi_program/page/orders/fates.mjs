@@ -4,6 +4,7 @@ import { ask } from "../contact.mjs";
 import { by, flag, set } from "../dom.mjs";
 import { note } from "../log.mjs";
 import { domains, held, now, picture, tree } from "../model.mjs";
+import { learnAcknowledged } from "./acknowledging.mjs";
 import { offerOperators } from "./choosing.mjs";
 import { asksChild, isManual, isOfMode, isSilent, parentOf } from "./counted.mjs";
 import { connect, firstBefore, found, given, hasConsole, learn, orderOf, wordsOf } from "./given.mjs";
@@ -90,6 +91,7 @@ export async function followOrders() {
     connect(!!next && next.console);
     if (next) learn(next.orders);
     learnModes((next && next.modes) || []);
+    if (next) learnAcknowledged(next.acknowledged || []);
     tellEnds();
     tellBegun();
   } finally {

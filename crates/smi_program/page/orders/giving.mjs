@@ -5,6 +5,7 @@ import { by, set } from "../dom.mjs";
 import { countedFor, endCounted, isOfMode } from "./counted.mjs";
 import { found, given, who } from "./given.mjs";
 import { noteMode } from "./modes.mjs";
+import { asksToken, authorization, takeToken } from "./token.mjs";
 
 /** @typedef {import("./deeds.mjs").Deed} Deed */
 
@@ -18,16 +19,17 @@ let awaited = [];
 /** @param {string} text */
 export function tellGiven(text) { set(by("told"), text); }
 
-/** Sends a line, and returns true if it is on its way. The page calls it by its name.
- * @param {string} line @param {string} name */
-export async function send(line, name) {
+/** Sends a line, and returns true if the screen has taken it. The page calls it by its name.
+ * @param {string} line @param {string} name @param {string} [place] */
+export async function send(line, name, place = "/api/orders") {
   const gone = new AbortController(), bell = setTimeout(() => gone.abort(), PATIENCE);
   try {
-    // @ts-ignore (the screen puts the key before this script)
-    const answer = await fetch("/api/orders", { method: "POST", body: line, headers: { Authorization: KEY },
+    const answer = await fetch(place, { method: "POST", body: line, headers: { Authorization: authorization() },
       signal: gone.signal, cache: "no-store", credentials: "omit" });
-    tellGiven(name + ": " + await answer.text());
-    return answer.status === 202;
+    const isWrong = asksToken() && answer.status === 403;
+    if (isWrong) takeToken("");
+    tellGiven(name + ": " + (isWrong ? "the token is wrong, type it at the top of the page" : await answer.text()));
+    return answer.ok;
   } catch (refused) {
     tellGiven(name + ": not known whether the screen has it, look below");
     return false;

@@ -1,12 +1,15 @@
 // What the page has more where orders may be given: who orders, what became of the orders, and the buttons.
 
+import { acknowledgers, knowers } from "../alarm_list.mjs";
 import { by, make, set } from "../dom.mjs";
 import { afterBuild, afterRestart, afterShow, extras, modeSayers, tree } from "../model.mjs";
+import { acknowledge, knowerOf } from "./acknowledging.mjs";
 import { offerAnew, offerOperators, ordersOf, showButtons } from "./choosing.mjs";
 import { isManual } from "./counted.mjs";
 import { followOrders } from "./fates.mjs";
 import { choose } from "./given.mjs";
 import { modeOf } from "./modes.mjs";
+import { asksToken, tokenField } from "./token.mjs";
 
 const chooser = make("label", "", "orders as"), select = make("select");
 chooser.id = "who";
@@ -20,11 +23,13 @@ told.id = "told";
 told.setAttribute("role", "status");
 list.id = "given";
 list.setAttribute("aria-label", "orders that were given here");
-by("clock").before(chooser, standing);
+by("clock").before(chooser, ...(asksToken() ? [tokenField()] : []), standing);
 by("alarms").after(list, told);
 set(by("never"), "A click orders once you have said yes.");
 extras.push(ordersOf);
 modeSayers.push((d) => modeOf(d) || (d.parent && isManual(d) ? "manual" : ""));
+knowers.push(knowerOf);
+acknowledgers.push(acknowledge);
 afterBuild.push(offerAnew);
 afterShow.push(showButtons);
 // A screen that has begun again has another key, and its page has to be loaded again.
