@@ -5,7 +5,8 @@ use Rattle.std.specs.Str.{bytes_eq}
 use Rattle.smi_tree.specs.declared.fault.Fault.{Fault}
 use Rattle.smi_tree.specs.declared.fault.Fault.TheVariants.{WordCount}
 use Rattle.smi_session.specs.declared.query.Query.{Query}
-use Rattle.smi_session.specs.declared.query.Query.TheVariants.{Counts, UnderWay, States, Follow, Actions, Modes, Help}
+use Rattle.smi_session.specs.declared.query.Query.TheVariants.{Counts, UnderWay, States, Follow, Actions, Modes}
+use Rattle.smi_session.specs.declared.query.Query.TheVariants.{Version, Help}
 
 -- what a first word asks
 abbrev pub query_named : List ℕ → Option Query
@@ -16,8 +17,9 @@ query_named word =
     else (if bytes_eq word (codes "follow") then Some Follow
     else (if bytes_eq word (codes "actions") then Some Actions
     else (if bytes_eq word (codes "modes") then Some Modes
+    else (if bytes_eq word (codes "version") then Some Version
     else (if bytes_eq word (codes "help") then Some Help
-    else None))))))
+    else None)))))))
 
 abbrev pub are_none : List (List ℕ) → Bool
 are_none [] = true
@@ -43,6 +45,7 @@ may_have States more = are_none more
 may_have Follow more = true
 may_have Actions more = true
 may_have Modes more = are_none more
+may_have Version more = are_none more
 may_have Help more = are_none more
 
 abbrev pub query_so : Option Query → List (List ℕ) → Result (Option Query) Fault

@@ -19,7 +19,8 @@ use Rattle.smi_session.specs.Session.{OnlyReplies, SessionState, with_reply}
 use Rattle.smi_session.specs.Subscription.{SubscriptionState, subscription_of, tag_for}
 use Rattle.smi_session.specs.declared.mode.ChildState.{ChildState}
 use Rattle.smi_session.specs.declared.query.Query.{Query}
-use Rattle.smi_session.specs.declared.query.Query.TheVariants.{Counts, UnderWay, States, Follow, Actions, Modes, Help}
+use Rattle.smi_session.specs.declared.query.Query.TheVariants.{Counts, UnderWay, States, Follow, Actions, Modes}
+use Rattle.smi_session.specs.declared.query.Query.TheVariants.{Version, Help}
 use Rattle.smi_session.specs.declared.session.Deferred.{Deferred}
 use Rattle.smi_session.specs.declared.seat_queue.PendingOrder.{PendingOrder}
 use Rattle.smi_session.specs.declared.tag.Tag.{Tag}
@@ -144,6 +145,7 @@ subscribed h tag line Counts s = s
 subscribed h tag line UnderWay s = s
 subscribed h tag line States s = s
 subscribed h tag line Modes s = s
+subscribed h tag line Version s = s
 subscribed h tag line Help s = s
 
 -- how many objects there are
@@ -162,5 +164,6 @@ Answers h now tag line Actions a c d =
     (subscribed h tag line Actions c)
 Answers h now tag line Modes a c d =
     d ≡ with_count tag (codes "modes") (length a.modes) (with_modes h tag a.modes c)
+Answers h now tag line Version a c d = d ≡ with_reply tag (codes "version 0.9\n") c
 Answers h now tag line Counts a c d = OnlyReplies c d
 Answers h now tag line Help a c d = OnlyReplies c d

@@ -13,7 +13,8 @@ use Rattle.smi_tree.specs.declared.fault.Fault.TheVariants.{UnknownName, WordCou
 use Rattle.smi_session.specs.Line.{request_in}
 use Rattle.smi_session.specs.Query.{numbers_in, query_in}
 use Rattle.smi_session.specs.declared.query.Query.{Query}
-use Rattle.smi_session.specs.declared.query.Query.TheVariants.{Counts, UnderWay, States, Follow, Actions, Modes, Help}
+use Rattle.smi_session.specs.declared.query.Query.TheVariants.{Counts, UnderWay, States, Follow, Actions, Modes}
+use Rattle.smi_session.specs.declared.query.Query.TheVariants.{Version, Help}
 use Rattle.smi_session.specs.declared.request.SessionRequest.{SessionRequest}
 use Rattle.smi_session.specs.declared.request.SessionRequest.TheVariants as request
 use Rattle.smi_session.specs.declared.session.ReplyStyle.{ReplyStyle}
@@ -37,6 +38,7 @@ may_name h Counts name = false
 may_name h UnderWay name = false
 may_name h States name = false
 may_name h Modes name = false
+may_name h Version name = false
 may_name h Help name = false
 
 abbrev pub may_name_all : Hierarchy → Query → List (List ℕ) → Bool
@@ -57,6 +59,7 @@ query_request h Counts line = Ok (request.Query Counts)
 query_request h UnderWay line = Ok (request.Query UnderWay)
 query_request h States line = Ok (request.Query States)
 query_request h Modes line = Ok (request.Query Modes)
+query_request h Version line = Ok (request.Query Version)
 query_request h Help line = Ok (request.Query Help)
 
 -- nothing is asked by a line that is skipped, which one with a tag can't be

@@ -11,7 +11,8 @@ use Rattle.smi_session.specs.Query.{numbers_in, query_named}
 use Rattle.smi_session.specs.declared.line.LineKind.{LineKind}
 use Rattle.smi_session.specs.declared.line.LineKind.TheVariants as line
 use Rattle.smi_session.specs.declared.query.Query.{Query}
-use Rattle.smi_session.specs.declared.query.Query.TheVariants.{Counts, UnderWay, States, Follow, Actions, Modes, Help}
+use Rattle.smi_session.specs.declared.query.Query.TheVariants.{Counts, UnderWay, States, Follow, Actions, Modes}
+use Rattle.smi_session.specs.declared.query.Query.TheVariants.{Version, Help}
 use Rattle.smi_session.specs.declared.unknown_name.NameKind.{NameKind}
 use Rattle.smi_session.specs.declared.unknown_name.NameKind.TheVariants as kind
 
@@ -96,6 +97,7 @@ unknown_of_query h operators (Some Counts) names = None
 unknown_of_query h operators (Some UnderWay) names = None
 unknown_of_query h operators (Some States) names = None
 unknown_of_query h operators (Some Modes) names = None
+unknown_of_query h operators (Some Version) names = None
 unknown_of_query h operators (Some Help) names = None
 
 abbrev pub unknown_of_kind : Hierarchy → List ℕ → List ℕ → Option LineKind → List (List ℕ) → Option (List ℕ × List ℕ)

@@ -21,6 +21,8 @@ pub enum Query {
     Actions,
     /// How the domains of the node have their children.
     Modes,
+    /// The version of the program.
+    Version,
     /// What a line may ask.
     Help,
 }
@@ -41,6 +43,8 @@ pub(crate) fn query_named(word: &[u8]) -> Option<Query>
         Some(Query::Actions)
     } else if word == b"modes".as_slice() {
         Some(Query::Modes)
+    } else if word == b"version".as_slice() {
+        Some(Query::Version)
     } else if word == b"help".as_slice() {
         Some(Query::Help)
     } else {
@@ -87,7 +91,9 @@ fn may_have(query: Query, text: &[u8]) -> bool
     ensures { result ≡ spec.may_have query (words text.now) }
 {
     match query {
-        Query::Counts | Query::States | Query::Modes | Query::Help => has_no_words(text),
+        Query::Counts | Query::States | Query::Modes | Query::Version | Query::Help => {
+            has_no_words(text)
+        }
         Query::UnderWay => is_way(text),
         Query::Follow | Query::Actions => true,
     }

@@ -28,8 +28,11 @@ use std::collections::VecDeque;
 use std::io::Write;
 use std::time::Instant;
 
+/// The line that tells the version of the program, as CHANGELOG.md has it.
+const VERSION: &[u8] = b"version 0.9\n";
+
 /// What a line may ask, a line each, with its line feed.
-const HELP: [&str; 16] = [
+const HELP: [&str; 17] = [
     "help order OPERATOR take|drop|ask DOMAIN\n",
     "help order OPERATOR do DOMAIN ACTION\n",
     "help order OPERATOR include|exclude|manual|ignore DOMAIN CHILD\n",
@@ -45,6 +48,7 @@ const HELP: [&str; 16] = [
     "help under way -- the orders that are not answered yet, with their seconds\n",
     "help withdraw TAG -- an order of this connection that waits for a seat ends as withdrawn\n",
     "help counts -- what this node has counted since it began\n",
+    "help version -- the version of this node's program\n",
     "help @TAG LINE -- any of these at once, its answers behind the tag\n",
 ];
 
@@ -402,6 +406,7 @@ impl<G: StateReader + Drop> SessionService<G> {
             Query::UnderWay => push_under_way(text, tree, now, session, tag, &self.seats),
             Query::Modes => push_modes(text, tree, session, tag, self.modes.as_slice()),
             Query::States => push_states(text, tree, &self.picture, session, tag),
+            Query::Version => session.push_reply(tag, VERSION),
             Query::Help => push_help(text, session, tag),
             Query::Follow => {
                 let names = behind_first(line.text);

@@ -55,7 +55,12 @@ fn may_name(tree: &Tree, query: Query, name: &[u8]) -> bool
     match query {
         Query::Follow => tree.object_named(name).is_some(),
         Query::Actions => tree.device_named(name).is_some(),
-        Query::Counts | Query::UnderWay | Query::States | Query::Modes | Query::Help => false,
+        Query::Counts
+        | Query::UnderWay
+        | Query::States
+        | Query::Modes
+        | Query::Version
+        | Query::Help => false,
     }
 }
 
@@ -104,9 +109,12 @@ fn query_request(tree: &Tree, query: Query, text: &[u8]) -> Result<SessionReques
             let (_, names) = numbers_in(behind_first(text));
             named_request(tree, Query::Actions, names)
         }
-        Query::Counts | Query::UnderWay | Query::States | Query::Modes | Query::Help => {
-            Ok(SessionRequest::Query(query))
-        }
+        Query::Counts
+        | Query::UnderWay
+        | Query::States
+        | Query::Modes
+        | Query::Version
+        | Query::Help => Ok(SessionRequest::Query(query)),
     }
 }
 

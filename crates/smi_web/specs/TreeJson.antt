@@ -95,6 +95,6 @@ all_kinds_text h =
     ++ kinds_text h kind.Domain
     ++ kinds_text h kind.Device
 
--- a tree, and all that it has
+-- the version of the program, a tree, and all that it has
 abbrev pub tree_text : Hierarchy → List ℕ
-tree_text h = codes "{\"tree\":" ++ decimal h.number ++ all_kinds_text h ++ codes "]}\n"
+tree_text h = codes "{\"version\":\"0.9\",\"tree\":" ++ decimal h.number ++ all_kinds_text h ++ codes "]}\n"

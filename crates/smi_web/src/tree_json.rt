@@ -242,7 +242,11 @@ pub fn write_tree(alloc: Global, tree: &Tree) -> Result<Vec<u8>, AllocError>
     ensures { IfOk result (λ text. text.items ≡ tree_text tree.now) }
 {
     let mut text = Vec::new(alloc);
-    put_number(&mut text, b"{\"tree\":", u64::from(tree.number()))?;
+    put_number(
+        &mut text,
+        b"{\"version\":\"0.9\",\"tree\":",
+        u64::from(tree.number()),
+    )?;
     put_all_kinds(&mut text, tree)?;
     put(&mut text, b"]}\n")?;
     Ok(text)
