@@ -10,6 +10,7 @@ import time
 
 import pytest
 
+import deb
 import hierarchy
 import lines
 import lunskaf
@@ -284,9 +285,12 @@ def test_people(place, subtests):
                                ("order BOB take LEFT", "told BOB take LEFT 5", 1),
                                ("order BOB grab LEFT", "line 1 fault 1: a word that no line has there", 1),
                                ("@x order BOB grab LEFT", "@x fault 1: a word that no line has there", 1),
-                               ("show L", "board L none", 0), ("@x report L OFF", "@x told report L OFF 0", 0)]:
+                               ("version", "version " + deb.version(), 0), ("show L", "board L none", 0),
+                               ("@x report L OFF", "@x told report L OFF 0", 0)]:
         with subtests.test("one line: " + line):
             assert ran([place.where, *line.split()]) == ([told], status)
+    with lunskaf.Node(place.where) as node, subtests.test("a program asks for the version"):
+        assert node.version() == deb.version()
     with subtests.test("a line that is answered by several"):
         assert ran([place.where, "modes"]) == (["mode LEFT out", "mode RIGHT out", "mode FAR out", "modes 3"], 0)
     waiting = begun([place.where, "order", "ANN", "ask", "FAR"])

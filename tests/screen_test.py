@@ -14,6 +14,7 @@ import time
 
 import pytest
 
+import deb
 import nodes
 import page as served
 import running
@@ -157,7 +158,7 @@ ACCEPTED = [True, True, False]
 def shape_wanted():
     """Returns the worked tree with a screen, as the screen tells it."""
     return {
-        "tree": 17, "states": ["OFF", "READY", "RUNNING", "ERROR"], "actions": ["CONFIGURE", "START", "STOP"],
+        "version": deb.version(), "tree": 17, "states": ["OFF", "READY", "RUNNING", "ERROR"], "actions": ["CONFIGURE", "START", "STOP"],
         "stations": ["A", "B", "SCREEN"],
         "operators": [{"name": "ANN", "station": "A"}, {"name": "BOB", "station": "B"},
                       {"name": "WATCHER", "station": "SCREEN"}],

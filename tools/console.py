@@ -26,14 +26,15 @@ sys.path.insert(0, os.path.dirname(os.path.abspath(__file__)))
 
 import lunskaf
 
-WORDS = ["order", "report", "show", "states", "follow", "actions", "under", "way", "modes", "counts", "will", "withdraw",
+WORDS = ["order", "report", "show", "states", "follow", "actions", "under", "way", "modes", "counts", "version", "will", "withdraw",
          "help", "take", "drop", "do", "include", "exclude", "manual", "ignore", "ask", "watch", "unwatch"]
 DECLARED = ["operator", "domain", "device", "state", "action"]
 # How long a node that is not there is waited for, in seconds.
 PATIENCE = 5
 # With which word the last line of an answer begins. What follows or tells actions has no last line.
-LAST = {"order": ("told", "replaced", "withdrawn"), "withdraw": ("withdrawn", "begun", "unknown"), "report": ("told",), "show": ("board",), "counts": ("counts",),
-        "states": ("states",), "modes": ("modes",), "under": ("under",), "will": ("will",), "help": ("help",)}
+LAST = {"order": ("told", "replaced", "withdrawn"), "withdraw": ("withdrawn", "begun", "unknown"), "report": ("told",),
+        "show": ("board",), "counts": ("counts",), "version": ("version",), "states": ("states",),
+        "modes": ("modes",), "under": ("under",), "will": ("will",), "help": ("help",)}
 # The exit status if there is no node, or no longer one.
 NOBODY = 3
 

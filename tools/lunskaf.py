@@ -402,6 +402,10 @@ class Node:
         """Returns in which mode each child of a domain of the station is: included, manual, ignored or out."""
         return {words[1]: words[2] for words in self.listed("modes", ["modes"])}
 
+    def version(self):
+        """Returns the version of the node's program."""
+        return self.answer("version")[1]
+
     def own_connection(self):
         """Returns a connection that is used for one purpose alone."""
         return Connection(self.where, self.patience)
