@@ -100,8 +100,8 @@ struct Keyed {
     console: ConsoleAddress,
 }
 
-/// Returns this page as one that may give orders by a key, under this origin too if there is one, to the console at this
-/// place.
+/// Returns this page as one that may give orders by a key, under this origin too if there is one, to the console at
+/// this place.
 fn page_with_key(
     alloc: Global,
     page: &[u8],

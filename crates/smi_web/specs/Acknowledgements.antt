@@ -1,6 +1,6 @@
 -- The alarms that somebody has acknowledged.
-use Rattle.std.specs.Prelude.{◌×◌, ℕ, ◌==◌, ◌&&◌, ◌++◌, Bool, false, List, [], ◌∷◌, Option, Result, Ok, Err, length, codes}
-use Rattle.std.specs.Prelude.{bytes_eq, is_some, if◌then◌else◌}
+use Rattle.std.specs.Prelude.{◌×◌, ℕ, ◌==◌, ◌&&◌, ◌++◌, Bool, false, List, [], ◌∷◌, Option, Result, Ok, Err}
+use Rattle.std.specs.Prelude.{length, codes, bytes_eq, is_some, if◌then◌else◌}
 use Rattle.std.specs.List.{list_all, position, remove}
 use Rattle.std.specs.Option.{option_map_or}
 use Rattle.smi_tree.specs.Declaration.{two_names}

@@ -236,8 +236,9 @@ fn change_route(orders: &Option<PageOrders>, parts: &RequestParts<'_>) -> Route
     }
 }
 
-/// Returns the answer to a request, by these tests in their order: the host, the method, the place; of what a page
-/// changes, who asks; of an order, whether it is one, and whether it can be sent; of an acknowledgement, whether it is one.
+/// Returns the answer to a request, by these tests in their order: the host, the method, the place; of what changes
+/// something, who asks; of an order, whether it is one, and whether it can be sent; of an acknowledgement, whether it
+/// is one.
 ///
 /// The hosts are those that are answered. `version` is the query of a client that has the newest picture.
 pub fn route_request(
