@@ -1,5 +1,5 @@
 -- The alarms that somebody has acknowledged.
-use Rattle.std.specs.Prelude.{◌×◌, ℕ, ◌==◌, ◌&&◌, ◌++◌, Bool, false, List, [], ◌∷◌, Option, Result, Ok, Err}
+use Rattle.std.specs.Prelude.{ℕ, ◌==◌, ◌&&◌, ◌++◌, Bool, false, List, [], ◌∷◌, Option, Result, Ok, Err}
 use Rattle.std.specs.Prelude.{length, codes, bytes_eq, is_some, if◌then◌else◌}
 use Rattle.std.specs.List.{list_all, position, remove}
 use Rattle.std.specs.Option.{option_map_or}

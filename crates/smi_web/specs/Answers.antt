@@ -69,6 +69,10 @@ is_at_orders q = bytes_eq q.path (codes "/api/orders")
 abbrev pub is_at_alarms : PartsState → Bool
 is_at_alarms q = bytes_eq q.path (codes "/api/alarms")
 
+-- a request would change something that a page may change
+abbrev pub is_posted : PartsState → Bool
+is_posted q = bytes_eq q.method (codes "POST") && (is_at_orders q || is_at_alarms q)
+
 -- of an order what the relay says of it counts, and of an acknowledgement whether it is one
 abbrev pub page_route : PageOrders → PartsState → Route
 page_route o q =
@@ -78,7 +82,7 @@ page_route o q =
 -- an order is given at one place, and an alarm acknowledged at another, by the page alone
 abbrev pub posted_route : PageOrders → PartsState → Route
 posted_route o q =
-    if bytes_eq q.method (codes "POST") && (is_at_orders q || is_at_alarms q)
+    if is_posted q
     then (if is_trusted o.key o.origin q then page_route o q else route_to.ForeignOrigin)
     else route_to.Change
 

@@ -79,8 +79,11 @@ abbrev pub alarms_text : List Acknowledgement → List ℕ
 alarms_text acknowledged =
     codes "],\"acknowledged\":[" ++ listed (codes ",") (alarm_text_at acknowledged) (length acknowledged)
 
+-- the modes, and the alarms that were acknowledged
+abbrev pub known_text : OrderRelayState → List Acknowledgement → List ℕ
+known_text r acknowledged = modes_text r ++ alarms_text acknowledged
+
 -- whether there is a connection with the console, the orders, the modes, and the alarms that were acknowledged
 abbrev pub orders_text : OrderRelayState → List Acknowledgement → ℕ → List ℕ
 orders_text r acknowledged now =
-    codes "{\"console\":" ++ flag r.is_open ++ errands_text r now ++ modes_text r ++ alarms_text acknowledged
-    ++ codes "]}\n"
+    codes "{\"console\":" ++ flag r.is_open ++ errands_text r now ++ known_text r acknowledged ++ codes "]}\n"

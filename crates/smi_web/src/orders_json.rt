@@ -14,6 +14,7 @@ ghost use Rattle.smi_web.specs.OrdersJson.{
   errand_text,
   errands_text,
   given_text,
+  known_text,
   modes_text,
   orders_text,
   seconds,
@@ -248,6 +249,17 @@ fn put_alarms(text: &mut Vec<u8>, acknowledged: &Acknowledgements) -> Result<(),
     Ok(())
 }
 
+fn put_known(
+    text: &mut Vec<u8>,
+    relay: &OrderRelay,
+    acknowledged: &Acknowledgements,
+) -> Result<(), AllocError>
+    ensures { OnOk result (text.new.items ≡ text.old.items ++ known_text relay.now acknowledged.now) }
+{
+    put_modes(text, relay)?;
+    put_alarms(text, acknowledged)
+}
+
 /// Writes the orders that were given, the oldest first, the modes that are known, and the alarms that were
 /// acknowledged, in one line of JSON.
 ///
@@ -263,8 +275,7 @@ pub fn write_orders(
     let mut text = Vec::new(alloc);
     put_flag(&mut text, b"{\"console\":", relay.is_open())?;
     put_orders(&mut text, relay, now)?;
-    put_modes(&mut text, relay)?;
-    put_alarms(&mut text, acknowledged)?;
+    put_known(&mut text, relay, acknowledged)?;
     put(&mut text, b"]}\n")?;
     Ok(text)
 }

@@ -200,6 +200,13 @@ fn is_at_alarms(parts: &RequestParts<'_>) -> bool
     parts.path == b"/api/alarms".as_slice()
 }
 
+/// Returns true if a request would change something that a page may change.
+fn is_posted(parts: &RequestParts<'_>) -> bool
+    ensures { result ≡ spec.is_posted parts.now }
+{
+    parts.method == b"POST".as_slice() && (is_at_orders(parts) || is_at_alarms(parts))
+}
+
 /// Returns the answer to the page that gives an order, or acknowledges an alarm.
 fn page_route(orders: &PageOrders, parts: &RequestParts<'_>) -> Route
     ensures { result ≡ spec.page_route orders.now parts.now }
@@ -217,7 +224,7 @@ fn page_route(orders: &PageOrders, parts: &RequestParts<'_>) -> Route
 fn posted_route(orders: &PageOrders, parts: &RequestParts<'_>) -> Route
     ensures { result ≡ spec.posted_route orders.now parts.now }
 {
-    if parts.method != b"POST".as_slice() || !(is_at_orders(parts) || is_at_alarms(parts)) {
+    if !is_posted(parts) {
         return Route::Change;
     }
     if !is_trusted(orders.key.as_slice(), &orders.origin, parts) {
