@@ -29,6 +29,10 @@ use Rattle.smi_session.specs.declared.tag.Tag.{Tag}
 abbrev pub with_count : Option Tag → List ℕ → ℕ → SessionState → SessionState
 with_count tag what count s = with_reply tag (what ++ 32 ∷ decimal count ++ 10 ∷ []) s
 
+-- the version of the program
+abbrev pub with_version : Option Tag → SessionState → SessionState
+with_version tag s = with_reply tag (codes "version 0.9\n") s
+
 -- The newest states.
 
 -- the newest state of an object, if one is known
@@ -164,6 +168,6 @@ Answers h now tag line Actions a c d =
     (subscribed h tag line Actions c)
 Answers h now tag line Modes a c d =
     d ≡ with_count tag (codes "modes") (length a.modes) (with_modes h tag a.modes c)
-Answers h now tag line Version a c d = d ≡ with_reply tag (codes "version 0.9\n") c
+Answers h now tag line Version a c d = d ≡ with_version tag c
 Answers h now tag line Counts a c d = OnlyReplies c d
 Answers h now tag line Help a c d = OnlyReplies c d

@@ -143,6 +143,13 @@ fn push_count(
     }
 }
 
+/// Tells a session the version of the program.
+fn push_version(session: &mut Session, tag: Option<Tag>) -> Result<(), AllocError>
+    ensures { OnOk result (session.new ≡ spec.with_version tag session.old) }
+{
+    session.push_reply(tag, VERSION)
+}
+
 /// Adds how many datagrams the system has dropped to the line of a node's numbers.
 fn push_drops(text: &mut Vec<u8>, drops: Option<u64>) -> Result<(), AllocError> {
     match drops {
@@ -406,7 +413,7 @@ impl<G: StateReader + Drop> SessionService<G> {
             Query::UnderWay => push_under_way(text, tree, now, session, tag, &self.seats),
             Query::Modes => push_modes(text, tree, session, tag, self.modes.as_slice()),
             Query::States => push_states(text, tree, &self.picture, session, tag),
-            Query::Version => session.push_reply(tag, VERSION),
+            Query::Version => push_version(session, tag),
             Query::Help => push_help(text, session, tag),
             Query::Follow => {
                 let names = behind_first(line.text);
