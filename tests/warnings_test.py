@@ -134,6 +134,9 @@ ASKED = [
      ["yes, manual", "cancel"]),
     ("an exclude of a silent station's domain", "MUON", "MUO", "exclude", HOLDS % ("MUON", "exclude", "TRK, CAL, TRG, DAQ"),
      [ANYWAY % "exclude", "cancel"]),
+    ("a command above two silent stations", "MUON CALORIMETER", TOP, "STOP", "CALORIMETER, MUON are silent. STOP will hold "
+     + TOP + ", and nobody will command TRK, TRG, DAQ until they are back.",
+     ["make CAL, MUO manual, then STOP", ANYWAY % "STOP", "cancel"]),
     ("an exclude of another one", "MUON", "TRK", "exclude", "exclude TRK from EXPERIMENT?", ["yes, exclude", "cancel"]),
 ]
 
@@ -141,7 +144,7 @@ ASKED = [
 @pytest.mark.parametrize("silent, domain, deed, words, choices", [pytest.param(*it, id=name) for name, *it in ASKED])
 def test_silent(played, silent, domain, deed, words, choices):
     """A silent station that an order would wait for is told before, and what is dangerous is not the first answer."""
-    played.silence(*[silent] if silent else [])
+    played.silence(*silent.split())
     assert played.asks(domain, deed) == (words, choices, choices[0] if words.endswith("?") else "cancel")
 
 
@@ -331,6 +334,30 @@ def test_withdraw(played, subtests):
     with subtests.test("lines that withdraw are no orders"):
         assert not [text for text in played.fates() if text.startswith("withdraw")]
         assert played.browser.run("given.every((it) => it.line.startsWith('order '))")
+
+
+# The orders that the details of a domain list, with what became of them.
+HERE = "[...document.querySelectorAll('#more .given li')].map((li) => [...li.querySelectorAll('b, span')]" \
+    ".map((e) => e.textContent).join(' '))"
+
+
+def test_orders_in_details(played, subtests):
+    """The details of a domain say what became of the orders about it, because they hide the list of all."""
+    played.hand.open(TOP)
+    stop, other = LEADER + " do %s STOP" % TOP, LEADER + " take INFRA"
+    number = played.gives(stop)
+    played.gives(other)
+    with subtests.test("one that waits"):
+        assert is_so(lambda: [it.startswith(stop + " waits") for it in played.browser.run(HERE)] == [True])
+    played.screen.end_order(number, 0)
+    listed = [stop + " 0: done, not from this page"]
+    with subtests.test("one that has ended"):
+        assert at_last(lambda: played.browser.run(HERE), listed) == listed
+    child = LEADER + " manual %s MUO" % TOP
+    played.gives(child)
+    played.hand.open("MUO")
+    with subtests.test("one about a child, at the child"):
+        assert is_so(lambda: [it.startswith(child + " waits") for it in played.browser.run(HERE)] == [True])
 
 
 def test_operators(played, subtests):

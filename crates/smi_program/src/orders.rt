@@ -6,19 +6,19 @@ pub const ORDERS: &str = "<style>
 #who select { font: inherit; font-weight: 700; color: var(--ink); background: var(--card); padding: .1rem .4rem }
 #console { font-weight: 700; border-radius: 8px; padding: .2rem .7rem; color: var(--soft) }
 #console.away { background: #bb1c1c; color: #fff }
-#given { list-style: none; margin: 0; padding: .4rem 0 0; display: grid; gap: .25rem }
-#given:empty { display: none }
-#given li { display: flex; flex-wrap: wrap; gap: 0 .6rem; background: var(--card); border: 2px solid var(--line);
+.given { list-style: none; margin: 0; padding: .4rem 0 0; display: grid; gap: .25rem }
+.given:empty { display: none }
+.given li { display: flex; flex-wrap: wrap; gap: 0 .6rem; background: var(--card); border: 2px solid var(--line);
   border-left: 10px solid var(--c, var(--line)); border-radius: 8px; padding: .1rem .5rem }
-#given b { overflow-wrap: anywhere }
-#given button { margin-left: auto; border: 2px solid var(--line); border-radius: 8px; padding: 0 .5rem;
+.given b { overflow-wrap: anywhere }
+.given button { margin-left: auto; border: 2px solid var(--line); border-radius: 8px; padding: 0 .5rem;
   background: var(--part); color: var(--ink) }
 .orders { display: flex; flex-wrap: wrap; gap: .5rem; margin: 1rem 0; align-items: center }
 .orders h3 { flex: 100%; margin: 0; font-size: 1.2rem }
 .orders button, #question button { border: 2px solid var(--line); border-radius: 8px; padding: .4rem .8rem;
   font-weight: 700; background: var(--part) }
 .orders button[aria-disabled=true] { color: var(--soft); border-style: dashed; cursor: not-allowed; font-weight: 400 }
-.orders p { flex: 100%; margin: 0; color: var(--soft); min-height: 1.3em }
+.orders p, .orders ol { flex: 100%; margin: 0; color: var(--soft); min-height: 1.3em }
 #question { inset: 0; margin: auto; width: min(40rem, 96%); height: fit-content; border: 4px solid var(--line);
   border-radius: 12px; padding: 1.2rem }
 #question p { font-size: 1.5rem; font-weight: 700; margin: 0 0 1rem }
@@ -264,6 +264,46 @@ function deedsOf(d) {
   }
   return deeds;
 }
+const withdrawing = new Map();
+async function withdraw(number, order) {
+  if (withdrawing.has(number)) return;
+  withdrawing.set(number, order);
+  if (!await send(\"withdraw \" + number, \"withdraw \" + order)) withdrawing.delete(number);
+}
+function tellBegun() {
+  withdrawing.forEach((order, number) => {
+    const it = withdrawals.find(({ line, waits }) => line === \"withdraw \" + number && !waits);
+    if (!it) return;
+    withdrawing.delete(number);
+    if (it.answer === \"begun \" + number) tellGiven(order + \" has begun and can't be withdrawn\");
+  });
+}
+function elementOf({ number, order }) {
+  const one = { li: make(\"li\"), fate: make(\"span\"), off: make(\"button\", \"\", \"withdraw\") };
+  one.off.type = \"button\";
+  label(one.off, \"withdraw \" + order);
+  one.off.addEventListener(\"click\", () => withdraw(number, order));
+  one.li.append(make(\"b\", \"\", order), one.fate, one.off);
+  return one;
+}
+function lister(list) {
+  const inList = new Map();
+  return (rows) => {
+    inList.forEach(({ li }, number) => {
+      if (rows.some((row) => row.number === number)) return;
+      li.remove();
+      inList.delete(number);
+    });
+    rows.forEach((row, place) => {
+      const one = inList.get(row.number) || elementOf(row);
+      if (!inList.has(row.number)) list.insertBefore(one.li, list.children[place] || null);
+      inList.set(row.number, one);
+      set(one.fate, row.fate);
+      style(one.li, \"--c\", row.edge);
+      if (!row.waits) one.off.remove();
+    });
+  };
+}
 const LONG = 2000;
 function question(words, choices, first) {
   const dialog = by(\"question\");
@@ -324,6 +364,7 @@ function confirm(deed) {
   else question(deed.asked, [[\"yes, \" + deed.name, () => give(deed.line())], [\"cancel\", () => {}]], 0);
 }
 let buttons = [];
+let listHere = null;
 let offered = \"\";
 function showButtons() {
   if (opened) buttons.forEach(([b, deed]) => {
@@ -333,7 +374,9 @@ function showButtons() {
   });
 }
 function ordersOf(d) {
-  const box = make(\"section\", \"orders\"), why = make(\"p\");
+  const box = make(\"section\", \"orders\"), why = make(\"p\"), list = make(\"ol\", \"given\");
+  label(list, \"orders about \" + d.name);
+  listHere = lister(list);
   why.setAttribute(\"role\", \"status\");
   box.setAttribute(\"aria-label\", \"orders\");
   buttons = deedsOf(d).map((deed) => {
@@ -343,7 +386,7 @@ function ordersOf(d) {
     b.addEventListener(\"click\", () => { set(why, whyNobody() || deed.why()); confirm(deed); });
     return [b, deed];
   });
-  box.append(make(\"h3\", \"\", \"orders\"), ...buttons.map(([b]) => b), why);
+  box.append(make(\"h3\", \"\", \"orders\"), ...buttons.map(([b]) => b), why, list);
   showButtons();
   return box;
 }
@@ -371,46 +414,9 @@ function offerOperators() {
   by(\"operator\").value = who;
 }
 function offerAnew() { offered = \"\"; offerOperators(); }
-const withdrawing = new Map();
-async function withdraw(number, order) {
-  if (withdrawing.has(number)) return;
-  withdrawing.set(number, order);
-  if (!await send(\"withdraw \" + number, \"withdraw \" + order)) withdrawing.delete(number);
-}
-function tellBegun() {
-  withdrawing.forEach((order, number) => {
-    const it = withdrawals.find(({ line, waits }) => line === \"withdraw \" + number && !waits);
-    if (!it) return;
-    withdrawing.delete(number);
-    if (it.answer === \"begun \" + number) tellGiven(order + \" has begun and can't be withdrawn\");
-  });
-}
-const inList = new Map();
-function enlist({ number, order }, place) {
-  const one = { li: make(\"li\"), fate: make(\"span\"), off: make(\"button\", \"\", \"withdraw\") };
-  one.off.type = \"button\";
-  label(one.off, \"withdraw \" + order);
-  one.off.addEventListener(\"click\", () => withdraw(number, order));
-  one.li.append(make(\"b\", \"\", order), one.fate, one.off);
-  by(\"given\").insertBefore(one.li, by(\"given\").children[place] || null);
-  inList.set(number, one);
-  return one;
-}
-function listOrders(rows) {
-  inList.forEach(({ li }, number) => {
-    if (rows.some((row) => row.number === number)) return;
-    li.remove();
-    inList.delete(number);
-  });
-  rows.forEach((row, place) => {
-    const { li, fate, off } = inList.get(row.number) || enlist(row, place);
-    set(fate, row.fate);
-    style(li, \"--c\", row.edge);
-    if (!row.waits) off.remove();
-  });
-}
 const BETWEEN = 400, SHOWN = 4, SHOWN_FOR = 20000;
 const ended = new Map();
+let listAll = null;
 function waitsFor(d) {
   if (isSilent(d)) return d.station;
   const below = held(d).filter((c) => !isManual(c));
@@ -452,9 +458,12 @@ function showGiven() {
     if (picture) note(it.line + \": \" + fateOf(it), now());
   });
   const old = given.filter((it) => !it.waits && time - ended.get(it.number) < SHOWN_FOR).slice(-SHOWN);
-  listOrders(given.filter((it) => it.waits || old.includes(it)).map((it) => ({ number: it.number,
+  const rows = given.filter((it) => it.waits || old.includes(it)).map((it) => ({ number: it.number,
     order: it.line.slice(6), fate: fateOf(it) + (found.has(it.number) ? \"\" : \", not from this page\"),
-    edge: edgeOf(it), waits: it.waits })));
+    edge: edgeOf(it), waits: it.waits, names: wordsOf(it).slice(2) }));
+  listAll = listAll || lister(by(\"given\"));
+  listAll(rows);
+  if (opened && listHere) listHere(rows.filter((row) => row.names.includes(opened)));
 }
 async function followOrders() {
   try {
@@ -483,6 +492,7 @@ standing.setAttribute(\"role\", \"status\");
 told.id = \"told\";
 told.setAttribute(\"role\", \"status\");
 list.id = \"given\";
+list.className = \"given\";
 list.setAttribute(\"aria-label\", \"orders that were given here\");
 by(\"clock\").before(chooser, ...(asksToken() ? [tokenField()] : []), standing);
 by(\"alarms\").after(list, told);

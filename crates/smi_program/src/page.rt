@@ -784,8 +784,8 @@ function rowOf(it) {
   texts.set(it.key, text);
   const off = button(\"small\", \"shelve\", () => { shelve(it.key, Number(by(\"shelf-time\").value)); });
   off.setAttribute(\"aria-label\", \"shelve \" + it.name);
-  li.append(lead, ...acknowledgers.filter(() => !known).map((take) => {
-    const taken = button(\"small\", \"acknowledge\", () => take([it.key]));
+  li.append(lead, ...acknowledgers.filter(() => !known).map((deed) => {
+    const taken = button(\"small\", \"acknowledge\", () => deed([it.key]));
     taken.setAttribute(\"aria-label\", \"acknowledge \" + it.name);
     taken.dataset.key = it.key;
     return taken;
@@ -841,8 +841,8 @@ function draw(heading, groups, hidden, unknown, off) {
   mark(sound, \"aria-pressed\", String(isLoud));
   texts = new Map();
   const fresh = groups.flatMap(([, list]) => list.filter((it) => !it.knower).map((it) => it.key));
-  head.append(make(\"h2\", \"\", heading), ...(fresh.length ? acknowledgers.map((take) =>
-    button(\"tool\", \"acknowledge all \" + fresh.length, () => take(fresh))) : []),
+  head.append(make(\"h2\", \"\", heading), ...(fresh.length ? acknowledgers.map((deed) =>
+    button(\"tool\", \"acknowledge all \" + fresh.length, () => deed(fresh))) : []),
     ...(count ? [make(\"span\", \"\", \"shelve for\"), shelfTimes(old ? old.value : \"10\")] : []), sound);
   by(\"alarms\").replaceChildren(head, listOf(groups, hidden ? MOST_LISTED : count),
     ...(hidden ? [button(\"tool\", \"and \" + hidden + \" more\", () => { isAll = true; })] : []),

@@ -1,10 +1,11 @@
 // Who orders, and the buttons of a domain, greyed if the rules would refuse the order, with the reason.
 
 import { opened } from "../details.mjs";
-import { by, make, mark, set } from "../dom.mjs";
+import { by, label, make, mark, set } from "../dom.mjs";
 import { tree } from "../model.mjs";
 import { deedsOf, whyNobody } from "./deeds.mjs";
 import { choose, given, operatorOf, who } from "./given.mjs";
+import { lister } from "./given_list.mjs";
 import { confirm } from "./questions.mjs";
 
 /** @typedef {import("../model.mjs").Operator} Operator */
@@ -12,6 +13,9 @@ import { confirm } from "./questions.mjs";
 
 /** @type {[any, Deed][]} */
 let buttons = [];
+/** What lists orders in the details, once there are any.
+ * @type {((rows: import("./given_list.mjs").Row[]) => void) | null} */
+export let listHere = null;
 // The operators that are offered, as a text.
 let offered = "";
 
@@ -27,7 +31,9 @@ export function showButtons() {
 /** Returns the buttons of a domain.
  * @param {import("../model.mjs").Domain} d */
 export function ordersOf(d) {
-  const box = make("section", "orders"), why = make("p");
+  const box = make("section", "orders"), why = make("p"), list = make("ol", "given");
+  label(list, "orders about " + d.name);
+  listHere = lister(list);
   why.setAttribute("role", "status");
   box.setAttribute("aria-label", "orders");
   buttons = deedsOf(d).map((deed) => {
@@ -37,7 +43,7 @@ export function ordersOf(d) {
     b.addEventListener("click", () => { set(why, whyNobody() || deed.why()); confirm(deed); });
     return [b, deed];
   });
-  box.append(make("h3", "", "orders"), ...buttons.map(([b]) => b), why);
+  box.append(make("h3", "", "orders"), ...buttons.map(([b]) => b), why, list);
   showButtons();
   return box;
 }

@@ -1,14 +1,15 @@
 // What became of the orders: those that wait with what they wait for, and those that have ended.
 
 import { ask } from "../contact.mjs";
+import { opened } from "../details.mjs";
 import { by, flag, set } from "../dom.mjs";
 import { note } from "../log.mjs";
 import { domains, held, now, picture, tree } from "../model.mjs";
 import { learnAcknowledged } from "./acknowledging.mjs";
-import { offerOperators } from "./choosing.mjs";
+import { listHere, offerOperators } from "./choosing.mjs";
 import { asksChild, isManual, isOfMode, isSilent, parentOf } from "./counted.mjs";
 import { connect, firstBefore, found, given, hasConsole, learn, orderOf, wordsOf } from "./given.mjs";
-import { listOrders } from "./given_list.mjs";
+import { lister } from "./given_list.mjs";
 import { tellEnds } from "./giving.mjs";
 import { learnModes } from "./modes.mjs";
 import { tellBegun } from "./withdrawals.mjs";
@@ -21,6 +22,9 @@ const BETWEEN = 400, SHOWN = 4, SHOWN_FOR = 20000;
 /** When each was first seen to have ended.
  * @type {Map<number, number>} */
 const ended = new Map();
+/** What lists all of them on the page.
+ * @type {((rows: import("./given_list.mjs").Row[]) => void) | null} */
+let listAll = null;
 
 /** Returns the station that a command waits for: that of the first silent domain on its way down, or of one that is at
  * work. A child that is manual is not on its way.
@@ -79,9 +83,12 @@ function showGiven() {
     if (picture) note(it.line + ": " + fateOf(it), now());
   });
   const old = given.filter((it) => !it.waits && time - ended.get(it.number) < SHOWN_FOR).slice(-SHOWN);
-  listOrders(given.filter((it) => it.waits || old.includes(it)).map((it) => ({ number: it.number,
+  const rows = given.filter((it) => it.waits || old.includes(it)).map((it) => ({ number: it.number,
     order: it.line.slice(6), fate: fateOf(it) + (found.has(it.number) ? "" : ", not from this page"),
-    edge: edgeOf(it), waits: it.waits })));
+    edge: edgeOf(it), waits: it.waits, names: wordsOf(it).slice(2) }));
+  listAll = listAll || lister(by("given"));
+  listAll(rows);
+  if (opened && listHere) listHere(rows.filter((row) => row.names.includes(opened)));
 }
 
 /** Asks again and again what became of the orders. */

@@ -22,6 +22,7 @@ standing.setAttribute("role", "status");
 told.id = "told";
 told.setAttribute("role", "status");
 list.id = "given";
+list.className = "given";
 list.setAttribute("aria-label", "orders that were given here");
 by("clock").before(chooser, ...(asksToken() ? [tokenField()] : []), standing);
 by("alarms").after(list, told);
