@@ -355,6 +355,9 @@ def test_acknowledge(folder, tree, console, start_screen, subtests):
     def told():
         return [it["alarm"] for it in screen.told_orders()["acknowledged"]]
 
+    def tells(*wanted):
+        return at_last(told, list(wanted)) == list(wanted)
+
     with subtests.test("at first none is"):
         assert told() == []
     for name, how in [("no key", {"key": None}), ("a wrong key", {"key": "Bearer " + "0" * 32}),
@@ -375,20 +378,20 @@ def test_acknowledge(folder, tree, console, start_screen, subtests):
     with subtests.test("what is in alarm"):
         assert given == [NOTED] * 4
     with subtests.test("is told, the oldest first"):
-        assert told() == ["device HV ANN", "domain TPC BOB", "station B ANN", "device HV BOB"]
+        assert tells("device HV ANN", "domain TPC BOB", "station B ANN", "device HV BOB")
     with subtests.test("with its time by the picture's clock"):
         times = [it["at"] for it in screen.told_orders()["acknowledged"]]
         assert times == sorted(times) and before <= times[0] and times[-1] <= screen.picture()["now"] + 1000
     give("acknowledge device HV ANN")
     with subtests.test("once more is the newest"):
-        assert told() == ["domain TPC BOB", "station B ANN", "device HV BOB", "device HV ANN"]
+        assert tells("domain TPC BOB", "station B ANN", "device HV BOB", "device HV ANN")
     with subtests.test("nothing was sent to the console"):
         assert console.hears_nothing()
     console.leave()
     with subtests.test("without a console too"):
         assert is_so(lambda: not screen.told_orders()["console"]) and give("acknowledge station A ANN") == NOTED
     with subtests.test("what was acknowledged stays"):
-        assert told()[-2:] == ["device HV ANN", "station A ANN"]
+        assert tells("domain TPC BOB", "station B ANN", "device HV BOB", "device HV ANN", "station A ANN")
 
 
 # What a file of a token may have, and what it may not.
