@@ -407,7 +407,7 @@ def test_tokens(folder, tree, console, start_screen, text, is_good):
     screen = start_screen(tree, os.path.join(folder, "screen"),
                           more=("--endless", "--orders", console.place, "--token", path))
     if not is_good:
-        assert (screen.child.wait(DEADLINE), screen.child.stderr.read()) == (3, "token fault\n")
+        assert (screen.child.wait(DEADLINE), screen.child.stderr.read()) == (1, "token fault\n")
         return
     assert screen.is_up()
     console.meet()

@@ -1,7 +1,6 @@
 //! The file of the token that people have to know to order from a page.
 
 use smi_commands::status::{Status, no_memory};
-use smi_console::print_fault;
 use std::alloc::Global;
 use std::io::Write;
 
@@ -23,7 +22,7 @@ fn without_end(bytes: &[u8]) -> &[u8] {
 }
 
 /// Returns the token of a file: one line of 16 to 128 letters, digits, `-` and `_`. Of any other file `token fault` is
-/// told.
+/// told, and the screen is refused, because a new start would not mend it.
 pub(crate) fn token_in<F: Write>(
     alloc: Global,
     bytes: &[u8],
@@ -31,7 +30,8 @@ pub(crate) fn token_in<F: Write>(
 ) -> Result<Vec<u8>, Status> {
     let text = without_end(bytes);
     if text.len() < LEAST || text.len() > MOST || !text.iter().all(is_of_token) {
-        return Err(print_fault("token fault", faults));
+        let _ = writeln!(faults, "token fault");
+        return Err(Status::Refused);
     }
     Vec::from_slice(alloc, text).map_err(|_| no_memory(faults))
 }
