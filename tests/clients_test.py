@@ -2,6 +2,7 @@
 
 import os
 import re
+import signal
 import socket
 import subprocess
 import sys
@@ -302,6 +303,38 @@ def test_people(place, subtests):
         assert ended(waiting) == (["replaced ANN ask FAR"], [], 1)
     with subtests.test("what is reported when the console ends"):
         assert ran([place.where, "will", "L", "READY"]) == (["will L READY"], 0)
+
+
+# tools/console.py with a short patience.
+HASTY = "import sys; sys.path.insert(0, sys.argv.pop(1)); import console; console.SILENCE = 1; console.main()"
+
+
+def test_a_node_that_hangs(place, subtests):
+    """A console tells of a node that is stopped and answers nothing, and not of an order that waits."""
+    words = [sys.executable, "-c", HASTY, os.path.join(running.ROOT, "tools"), place.where]
+    waiting = subprocess.Popen([*words, "order", "ANN", "take", "FAR"], stderr=subprocess.PIPE, stdout=subprocess.PIPE,
+                               text=True)
+    talk = subprocess.Popen(words, stdin=subprocess.PIPE, stderr=subprocess.PIPE, stdout=subprocess.PIPE, text=True)
+    talk.stdin.write("order BOB take FAR\nshow L\n")
+    talk.stdin.flush()
+    time.sleep(3)
+    os.kill(place.node.child.pid, signal.SIGSTOP)
+    one = subprocess.Popen([*words, "show", "L"], stderr=subprocess.PIPE, stdout=subprocess.PIPE, text=True)
+    with subtests.test("the one that types"):
+        assert talk.stderr.readline() == "the node answers nothing: it may hang\n"
+    with subtests.test("the one with one line"):
+        assert one.stderr.readline() == "the node answers nothing: it may hang\n"
+    os.kill(place.node.child.pid, signal.SIGCONT)
+    with subtests.test("it goes on"):
+        assert talk.stderr.readline() == "the node answers again\n"
+    with subtests.test("what was asked is answered"):
+        assert one.communicate(timeout=DEADLINE) == ("board L none\n", "the node answers again\n")
+    for it in (waiting, talk):
+        it.kill()
+    with subtests.test("nothing is told of an order that waits"):
+        assert waiting.communicate() == ("", "")
+    with subtests.test("nor is what the console itself asks"):
+        assert talk.communicate()[0] == ""
 
 
 def begun(words, **how):

@@ -11,7 +11,8 @@ waited for, five seconds at most.
 
 The status is 1 where the one line was not taken, or its order did not end with 0, and after Ctrl-C. It is 3 where no
 node listens there (`no console at ..` on standard error), and where the connection ended before all was answered
-(`connection lost`): so it always is where it ends under `follow` or `actions`.
+(`connection lost`): so it always is where it ends under `follow` or `actions`. A node that answers nothing at all for
+ten seconds is told on standard error once, and once when it answers again.
 """
 
 import argparse
@@ -35,6 +36,8 @@ PATIENCE = 5
 LAST = {"order": ("told", "replaced", "withdrawn"), "withdraw": ("withdrawn", "begun", "unknown"), "report": ("told",),
         "show": ("board",), "counts": ("counts",), "version": ("version",), "states": ("states",),
         "modes": ("modes",), "under": ("under",), "will": ("will",), "help": ("help",)}
+# The tag of the question whether the node answers at all, and for how many seconds nothing may come before that is told.
+PROBE, SILENCE = "@is_it_there", 10
 # The exit status if there is no node, or no longer one.
 NOBODY = 3
 
@@ -109,6 +112,64 @@ class Owed:
             self.lines.remove(found)
 
 
+class Pulse:
+    """Tells on standard error if a node answers nothing for some seconds while lines wait, and when it answers again.
+
+    An order may wait for another station. So the node is asked for its version, which it answers at once.
+    """
+
+    def __init__(self, made, owed):
+        self.made, self.owed, self.turn = made, owed, threading.Lock()
+        self.heard, self.asked, self.is_told, self.may_ask = time.monotonic(), None, False, True
+        threading.Thread(target=self.run, daemon=True).start()
+
+    def send(self, text):
+        """Sends a line. If the connection has ended, whoever reads there finds it out."""
+        try:
+            with self.turn:
+                self.made.sendall((text + "\n").encode("ascii", "replace"))
+        except OSError:
+            pass
+
+    def give(self, line):
+        """Sends a line that is to be answered."""
+        self.owed.give(line)
+        self.send(line)
+
+    def ask(self):
+        self.asked = time.monotonic()
+        self.send(PROBE + " version")
+
+    def end(self):
+        """Ends the lines: the last question is asked now, because none can be asked later."""
+        self.ask()
+        self.may_ask = False
+        try:
+            self.made.shutdown(socket.SHUT_WR)
+        except OSError:
+            pass
+
+    def hear(self, line):
+        """Notes that a line has come, and returns false if it answers the question of the pulse alone."""
+        self.heard, self.asked = time.monotonic(), None
+        if self.is_told:
+            self.is_told = False
+            print("the node answers again", file=sys.stderr, flush=True)
+        return not line.startswith(PROBE + " ")
+
+    def run(self):
+        while True:
+            time.sleep(SILENCE / 20)
+            time_now, asked = time.monotonic(), self.asked
+            if not self.owed.lines or self.is_told:
+                continue
+            if asked is None and self.may_ask and time_now - self.heard > SILENCE / 2:
+                self.ask()
+            elif asked is not None and time_now - asked > SILENCE / 2:
+                self.is_told = True
+                print("the node answers nothing: it may hang", file=sys.stderr, flush=True)
+
+
 def lines_of(made):
     """What comes, line by line, until the connection ends."""
     with made.makefile("r", encoding="ascii", errors="replace", newline="\n") as lines:
@@ -122,13 +183,15 @@ def lines_of(made):
             yield line
 
 
-def printed(made, owed):
+def printed(pulse):
     """Prints what comes, until the connection ends; the last line."""
-    line = ""
-    for line in lines_of(made):
-        owed.hear(line)
-        print(line.rstrip("\n"), flush=True)
-    return line.split()
+    last = ""
+    for line in lines_of(pulse.made):
+        if pulse.hear(line):
+            last = line
+            pulse.owed.hear(line)
+            print(line.rstrip("\n"), flush=True)
+    return last.split()
 
 
 def is_well(words):
@@ -145,30 +208,13 @@ def tell_loss():
     return NOBODY
 
 
-def send(made, owed, line):
-    """Sends a line. Where the connection has ended, whoever reads there finds it out."""
-    owed.give(line)
-    try:
-        made.sendall((line + "\n").encode("ascii", "replace"))
-    except OSError:
-        pass
-
-
-def end_sending(made):
-    """No further line comes."""
-    try:
-        made.shutdown(socket.SHUT_WR)
-    except OSError:
-        pass
-
-
 def give(made, line):
     """Gives one line; the status."""
-    owed = Owed()
-    send(made, owed, line)
-    end_sending(made)
-    last = printed(made, owed)
-    if owed.lines:
+    pulse = Pulse(made, Owed())
+    pulse.give(line)
+    pulse.end()
+    last = printed(pulse)
+    if pulse.owed.lines:
         return tell_loss()
     return 0 if is_well(last) else 1
 
@@ -185,11 +231,11 @@ class Talk:
     """Each line of the input is given as it comes."""
 
     def __init__(self, made):
-        self.made, self.owed, self.has_more, self.is_read = made, Owed(), True, True
+        self.made, self.pulse, self.has_more, self.is_read = made, Pulse(made, Owed()), True, True
 
     def read(self):
         try:
-            printed(self.made, self.owed)
+            printed(self.pulse)
         except BrokenPipeError:
             self.is_read = False
         if self.has_more:
@@ -204,14 +250,14 @@ class Talk:
             reader.start()
             try:
                 while True:
-                    send(self.made, self.owed, input())
+                    self.pulse.give(input())
             except EOFError:
                 self.has_more = False
-                end_sending(self.made)
+                self.pulse.end()
                 reader.join()
         except Gone:
             return self.status(is_whole=False)
-        return self.status(is_whole=not self.owed.lines)
+        return self.status(is_whole=not self.pulse.owed.lines)
 
     def status(self, is_whole):
         if not self.is_read:
