@@ -36,7 +36,7 @@ PATIENCE = 5
 LAST = {"order": ("told", "replaced", "withdrawn"), "withdraw": ("withdrawn", "begun", "unknown"), "report": ("told",),
         "show": ("board",), "counts": ("counts",), "version": ("version",), "states": ("states",),
         "modes": ("modes",), "under": ("under",), "will": ("will",), "help": ("help",)}
-# The tag of the question whether the node answers at all, and for how many seconds nothing may come before that is told.
+# The tag of the question whether the node answers at all, and for how many seconds nothing may come before it is told.
 PROBE, SILENCE = "@is_it_there", 10
 # The exit status if there is no node, or no longer one.
 NOBODY = 3
