@@ -27,8 +27,8 @@ sys.path.insert(0, os.path.dirname(os.path.abspath(__file__)))
 
 import lunskaf
 
-WORDS = ["order", "report", "show", "states", "follow", "actions", "under", "way", "modes", "counts", "version", "will", "withdraw",
-         "help", "take", "drop", "do", "include", "exclude", "manual", "ignore", "ask", "watch", "unwatch"]
+WORDS = ["order", "report", "show", "states", "follow", "actions", "under", "way", "modes", "counts", "version",
+         "will", "withdraw", "help", "take", "drop", "do", "include", "exclude", "manual", "ignore", "ask", "watch", "unwatch"]
 DECLARED = ["operator", "domain", "device", "state", "action"]
 # How long a node that is not there is waited for, in seconds.
 PATIENCE = 5
@@ -103,7 +103,8 @@ class Owed:
         elif words[:1] == ["fault"]:
             self.leave(lambda it: it[0] == tag)
         elif words and (words[0] != "help" or words[1:] and words[1].isdigit()):
-            self.leave(lambda it: (it[0] == tag if tag else not it[0].startswith("@")) and words[0] in LAST.get(it[1], ()))
+            self.leave(lambda it: (it[0] == tag if tag else not it[0].startswith("@"))
+                       and words[0] in LAST.get(it[1], ()))
 
     def leave(self, fits):
         """Takes away the first line that fits."""
@@ -199,7 +200,8 @@ def is_well(words):
     words = words[1:] if words[:1] and words[0].startswith("@") else words
     if words[:1] == ["told"]:
         return words[2] == "ask" and len(words) > 5 or words[-1] == "0"
-    return bool(words) and words[0] not in ("fault", "replaced", "begun", "unknown") and words[2:3] != ["fault"] and words != ["full"]
+    return (bool(words) and words[0] not in ("fault", "replaced", "begun", "unknown") and words[2:3] != ["fault"]
+            and words != ["full"])
 
 
 def tell_loss():
