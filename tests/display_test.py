@@ -453,7 +453,7 @@ def test_forced_colors(display, subtests):
     edge = display.browser.run("getComputedStyle(document.querySelector('.alarm > [data-alarm]')).borderTopStyle")
     display.browser.forced_colors(False)
     with subtests.test("dots"):
-        assert colours == ["rgb(200, 30, 30)", "rgb(21, 128, 61)"]
+        assert colours == ["rgb(187, 28, 28)", "rgb(11, 168, 96)"]
     with subtests.test("alarms"):
         assert edge == "solid"
 

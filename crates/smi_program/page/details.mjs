@@ -94,6 +94,8 @@ export function fill() {
 }
 
 by("more").addEventListener("close", () => {
+  // the details of another domain may be open by now
+  if (by("more").open) return;
   let was = domains.get(opened);
   opened = null;
   while (was && isHidden(was)) was = domains.get(was.parent);
