@@ -18,6 +18,8 @@ The last line is 'N refused, M not'. The status is 0 if each was refused.
 """
 
 import argparse
+import hashlib
+import json
 import os
 import re
 import shutil
@@ -242,6 +244,35 @@ def pick(left, most):
     return batch
 
 
+class Seen:
+    """The mutants of a crate that were seen refused over it as it is, kept in its out folder by the sums of their texts:
+    what a run that was broken off has found, and one in which a mutant was not refused."""
+
+    def __init__(self, crate):
+        self.path, self.lock = os.path.join(crate.folder, "out", "refused.json"), threading.Lock()
+        self.rests_on = "%s %s" % (kit.own_sum(crate, kit.PROVED), kit.below_sum(crate))
+        self.sums = set()
+        if os.path.isfile(self.path):
+            with open(self.path, encoding="ascii") as file:
+                kept = json.load(file)
+            self.sums = set(kept["sums"]) if kept["rests_on"] == self.rests_on else set()
+
+    def sum_of(self, edit):
+        with open(edit.path, "rb") as file:
+            return hashlib.sha256(file.read()).hexdigest()
+
+    def has(self, edit):
+        return self.sum_of(edit) in self.sums
+
+    def add(self, edits):
+        """Keeps these, and writes all of them at once."""
+        with self.lock:
+            self.sums |= {self.sum_of(it) for it in edits}
+            with open(self.path + ".new", "w", encoding="ascii") as file:
+                json.dump({"rests_on": self.rests_on, "sums": sorted(self.sums)}, file)
+            os.replace(self.path + ".new", self.path)
+
+
 class Budget:
     """The processor seconds that are left for trying mutants, shared by all parts; None: no limit."""
 
@@ -256,8 +287,9 @@ class Budget:
             self.seconds = None if self.seconds is None else self.seconds - seconds
 
 
-def try_together(crate, edits, kept, budget):
-    """Tries the mutants, many at a time, and then what is left in smaller parts, at last each alone."""
+def try_together(crate, edits, kept, budget, seen=None):
+    """Tries the mutants, many at a time, and then what is left in smaller parts, at last each alone. Keeps those that
+    are refused, if they are to be."""
     left, most = list(edits), MOST
     while left and not budget.is_spent():
         batch = pick(left, most)
@@ -271,6 +303,9 @@ def try_together(crate, edits, kept, budget):
         for edit in batch:
             edit.how, edit.why = verdict(edit, said, is_alone, not stray)
         again = [edit for edit in batch if edit.how == AGAIN]
+        if seen:
+            # (what one of a crate below does also rests on that crate's bodies)
+            seen.add([edit for edit in batch if edit.how == REFUSED and edit.owner is crate])
         say("%s: %d tried together, %d refused, %d once more: %.1f processor seconds"
             % (crate.name, len(batch), sum(edit.how == REFUSED for edit in batch), len(again), seconds))
         # if nothing was found the copy may not compile, or each may call another: smaller parts
@@ -295,10 +330,10 @@ def parts_of(edits):
     return [found[at::count] for at in range(count)]
 
 
-def try_part(crate, edits, room, budget):
+def try_part(crate, edits, room, budget, seen=None):
     """Tries the mutants of one part."""
     with tempfile.TemporaryDirectory(prefix="kept-", dir=room) as kept:
-        try_together(crate, [edit for edit in edits if edit.how == AGAIN], kept, budget)
+        try_together(crate, [edit for edit in edits if edit.how == AGAIN], kept, budget, seen)
     for edit in edits:
         say("%s/%s: %s: %s" % (crate.name, edit.name, edit.how, edit.why))
 
@@ -343,11 +378,21 @@ def ready(crates, since):
     return proved
 
 
-def try_all(crates, only="", folder=None, since=None, seconds=None):
+def before(crate, edits):
+    """Marks the mutants that an earlier run has seen refused over the crate as it is, and returns what it has seen."""
+    seen = Seen(crate)
+    for edit in edits:
+        if edit.how == AGAIN and seen.has(edit):
+            edit.how, edit.why = REFUSED, "as was seen before"
+    return seen
+
+
+def try_all(crates, only="", folder=None, since=None, seconds=None, remembers=False):
     """Tries the mutants of the crates side by side, those of the first crates first, for at most so many processor
     seconds, and returns them by the crate's name; None for a crate that is not proved.
 
-    A moment in `since` says that a gate has proved all crates from nothing since then.
+    A moment in `since` says that a gate has proved all crates from nothing since then. If it remembers, what an earlier
+    run has seen refused over the same files is not tried again.
     """
     found = {it.name: [Mutant(it, path) for path in paths_of(it, only, folder)] for it in crates}
     crates = [crate for crate in crates if found[crate.name]]
@@ -356,8 +401,9 @@ def try_all(crates, only="", folder=None, since=None, seconds=None):
     room, tasks, budget = room_of_run(), {}, Budget(seconds)
     proved = ready(crates, since)
     for rank, crate in enumerate(proved):
+        seen = before(crate, found[crate.name]) if remembers else None
         for number, part in enumerate(parts_of(found[crate.name])):
-            call = lambda _given, _jobs, it=crate, of=part: try_part(it, of, room, budget)
+            call = lambda _given, _jobs, it=crate, of=part, kept=seen: try_part(it, of, room, budget, kept)
             tasks[crate.name, "edits", number] = ([], len(proved) - rank, MEMORY, call)
     kit.rt.in_lanes(tasks)
     shutil.rmtree(room)

@@ -117,12 +117,12 @@ def stated(crate):
         yield crate.name, inside, public(text) if inside.startswith("src") else text
 
 
-def own_sum(crate):
+def own_sum(crate, parts=(*PROVED, MUTANTS)):
     """Returns a sum of the crate's own side of its mutants' verdicts: what judges them, the crate's line, sources,
     specifications and proofs without comments, and the mutants. It needs no library."""
     line = (crate.name, sorted(crate.of_kit), sorted(dep.name for dep in crate.deps))
     whole = hashlib.sha256(repr((judges(), RULES, line)).encode())
-    for path in (path for part in (*PROVED, MUTANTS) for path in paths_below(os.path.join(crate.folder, part))):
+    for path in (path for part in parts for path in paths_below(os.path.join(crate.folder, part))):
         with open(path, "rb") as file:
             told = os.path.relpath(path, crate.folder), without_comments(path, file.read())
             whole.update(repr(told).encode())

@@ -3,7 +3,8 @@
 usage: refusals.py [CRATE..] | refusals.py --adopt FILE
 
 A line has the crate, a sum of its own files, a sum of what the crates below it state, and the day. A crate that is
-named is tried; with no name, each one that has no valid line. If only what is below has changed, a crate keeps its line
+named is tried; with no name, each one that has no valid line. What an earlier run here has seen refused over the same
+files is not tried again, so a run that was broken off goes on. If only what is below has changed, a crate keeps its line
 if the prover, over what it kept when the line was valid, checks nothing again, and no mutant brings in a name that
 changed below: then no verdict can be another. --adopt takes the lines that a gate printed of crates whose files are the
 same.
@@ -165,7 +166,7 @@ def record(names):
         else:
             wanted.append(crate)
     before = {crate.name: kit.own_sum(crate) for crate in wanted}
-    tried = edits.try_all(sorted(wanted, key=lambda it: -len(edits.paths_of(it)) * it.count(rb"\n")))
+    tried = edits.try_all(sorted(wanted, key=lambda it: -len(edits.paths_of(it)) * it.count(rb"\n")), remembers=True)
     new |= {name: line for name, line in lines_of(tried).items() if line[0] == before[name]}
     # (another run may have written lines meanwhile)
     write({**read(), **new})
