@@ -150,7 +150,7 @@ class Records(Patched):
         """Records, and returns which crates were tried, if the mutants of some are not refused."""
         tried = []
 
-        def try_all(crates):
+        def try_all(crates, **_how):
             tried.extend(sorted(it.name for it in crates))
             return {it.name: [mock.Mock(how=edits.PASSED if it.name in passing else edits.REFUSED)] for it in crates}
 
@@ -289,6 +289,38 @@ class Sums(Patched):
             self.patch(kit, name, how)
             was, before = before, kit.own_sum(crate)
             self.assertNotEqual(before, was, name)
+
+    def test_seen(self):
+        """What was seen refused counts until a file of the crate, what is below it, or the mutant is another."""
+        self.patch(kit, "ROOT", self.folder())
+        self.patch(kit, "judges", lambda: "logic")
+        self.patch(kit, "below_sum", lambda crate: "below")
+        crate = Crate("one", folder=os.path.join(kit.ROOT, "crates", "one"))
+        found = []
+        for name in ("first", "second"):
+            self.write(os.path.join(crate.folder, "edits", name + ".edit"), name)
+            found.append(mock.Mock(path=os.path.join(crate.folder, "edits", name + ".edit"), how=edits.AGAIN, owner=crate))
+        self.write(os.path.join(crate.folder, "out", "stamp"), "")
+        self.write(os.path.join(crate.folder, "src", "lib.rt"), "fn one() {}\n")
+        edits.Seen(crate).add(found[:1])
+
+        def known():
+            for it in found:
+                it.how = edits.AGAIN
+            edits.before(crate, found)
+            return [it.how == edits.REFUSED for it in found]
+
+        self.assertEqual(known(), [True, False])
+        edits.Seen(crate).add(found[1:])
+        self.assertEqual(known(), [True, True])
+        self.write(found[0].path, "another first")
+        self.assertEqual(known(), [False, True])
+        self.write(os.path.join(crate.folder, "src", "lib.rt"), "fn two() {}\n")
+        self.assertEqual(known(), [False, False])
+        self.write(os.path.join(crate.folder, "src", "lib.rt"), "fn one() {}\n")
+        self.assertEqual(known(), [False, True])
+        self.patch(kit, "below_sum", lambda crate: "another below")
+        self.assertEqual(known(), [False, False])
 
     def test_what_other_crates_can_read(self):
         seen = "pub fn one ( ) -> u16\n    ensures { result ≡ 1 } ;\n"

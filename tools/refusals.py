@@ -4,8 +4,8 @@ usage: refusals.py [CRATE..] | refusals.py --adopt FILE
 
 A line has the crate, a sum of its own files, a sum of what the crates below it state, and the day. A crate that is
 named is tried; with no name, each one that has no valid line. What an earlier run here has seen refused over the same
-files is not tried again, so a run that was broken off goes on. If only what is below has changed, a crate keeps its line
-if the prover, over what it kept when the line was valid, checks nothing again, and no mutant brings in a name that
+files is not tried again, so a run that was broken off goes on. If only what is below has changed, a crate keeps its
+line if the prover, over what it kept when the line was valid, checks nothing again, and no mutant brings in a name that
 changed below: then no verdict can be another. --adopt takes the lines that a gate printed of crates whose files are the
 same.
 
