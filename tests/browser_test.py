@@ -403,7 +403,7 @@ COUNTED = """(async () => {""" + LEVELS + """
   for (const [text, how, last] of %s) {
     if (text === "record") domains.get("TOP").told = { ...domains.get("TOP").told, epoch: how, last };
     else {
-      window.fetch = async () => { if (how === "lost") throw Error(how); return { status: 202, text: async () => "" }; };
+      window.fetch = async () => { if (how === "lost") throw Error(how); return { ok: true, status: 202, text: async () => "" }; };
       give(text);
       await settle();
       number += 1;
