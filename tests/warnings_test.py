@@ -361,6 +361,22 @@ def test_orders_in_details(played, subtests):
         assert is_so(lambda: any(it.startswith(child + " waits") for it in played.browser.run(HERE)))
 
 
+def test_grant_not_seen(played, subtests):
+    """A station that died before the screen was told of its last grant: the console knows that its domain is held."""
+    played.screen.tell({"MUO": None})
+    played.silence("MUON")
+    with subtests.test("nobody tells that it is held"):
+        assert played.asks(TOP, "STOP")[0] == "STOP at EXPERIMENT?"
+    played.tells({"MUO": "out"})
+    with subtests.test("it is not held"):
+        assert played.asks(TOP, "STOP")[0] == "STOP at EXPERIMENT?"
+    played.tells({"MUO": "included"})
+    with subtests.test("it is held"):
+        assert played.asks(TOP, "STOP")[:2] == (HOLDS % ("MUON", "STOP", "TRK, CAL, TRG, DAQ"), [
+            "make MUO manual, then STOP", ANYWAY % "STOP", "cancel"])
+    played.screen.tell({"MUO": TOP})
+
+
 def test_operators(played, subtests):
     """Operators of the console's station alone are offered once that is known."""
     offered = "[...document.querySelectorAll('#operator option')].map((o) => o.value).filter((name) => name)"

@@ -104,9 +104,6 @@ export const isUnknown = (x) => stateOf(x) === "" || kindOf(stateOf(x)) === "unk
 
 /** @param {Domain} d */
 export const holderOf = (d) => d.told && d.told.holder;
-/** Returns the domains that a domain holds.
- * @param {Domain} d */
-export const held = (d) => d.children.filter((c) => { const h = holderOf(c); return h && h.domain === d.name; });
 
 /** Returns when each station was last heard, by its domains; those are left out that never were. */
 export function heardStations() {

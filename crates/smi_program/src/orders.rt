@@ -39,6 +39,10 @@ function modeOf(d) {
   const told = modes.get(d.name), [mode, until] = made.get(d.name) || [\"\", 0];
   return !told || !domains.has(d.parent) ? \"\" : performance.now() < until ? mode : told;
 }
+const held = (d) => d.children.filter((c) => {
+  const holder = holderOf(c), mode = modeOf(c);
+  return !!holder && holder.domain === d.name || mode !== \"\" && mode !== \"out\";
+});
 const isSoAlready = (d, verb) => modeOf(d) === MODE_BY[verb];
 const MODES = [\"include\", \"exclude\", \"manual\", \"ignore\"];
 const isOfMode = (verb) => MODES.includes(verb);

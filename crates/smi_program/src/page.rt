@@ -331,7 +331,6 @@ function kindOf(state) {
 const isAlarm = (x) => kindOf(stateOf(x)) === \"alarm\";
 const isUnknown = (x) => stateOf(x) === \"\" || kindOf(stateOf(x)) === \"unknown\";
 const holderOf = (d) => d.told && d.told.holder;
-const held = (d) => d.children.filter((c) => { const h = holderOf(c); return h && h.domain === d.name; });
 function heardStations() {
   const heard = new Map();
   domains.forEach((d) => {

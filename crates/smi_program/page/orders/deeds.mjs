@@ -1,9 +1,9 @@
 // What may be ordered of a domain: the order, the question before it, and why it would be refused, if it would.
 
-import { domains, held, holderOf, tree } from "../model.mjs";
+import { domains, holderOf, tree } from "../model.mjs";
 import { asksChild, isManual, isSilent } from "./counted.mjs";
 import { hasConsole, who } from "./given.mjs";
-import { isSoAlready, modeOf } from "./modes.mjs";
+import { held, isSoAlready, modeOf } from "./modes.mjs";
 import { lacksToken } from "./token.mjs";
 
 /** @typedef {import("../model.mjs").Domain} Domain */

@@ -4,14 +4,14 @@ import { ask } from "../contact.mjs";
 import { opened } from "../details.mjs";
 import { by, flag, set } from "../dom.mjs";
 import { note } from "../log.mjs";
-import { domains, held, now, picture, tree } from "../model.mjs";
+import { domains, now, picture, tree } from "../model.mjs";
 import { learnAcknowledged } from "./acknowledging.mjs";
 import { listHere, offerOperators } from "./choosing.mjs";
 import { asksChild, isManual, isOfMode, isSilent, parentOf } from "./counted.mjs";
 import { connect, firstBefore, found, given, hasConsole, learn, orderOf, wordsOf } from "./given.mjs";
 import { lister } from "./given_list.mjs";
 import { tellEnds } from "./giving.mjs";
-import { learnModes } from "./modes.mjs";
+import { held, learnModes } from "./modes.mjs";
 import { tellBegun } from "./withdrawals.mjs";
 
 /** @typedef {import("../model.mjs").Domain} Domain */

@@ -1,6 +1,6 @@
 // In which mode each child is, as the console tells it, and as this page has ordered since.
 
-import { domains } from "../model.mjs";
+import { domains, holderOf } from "../model.mjs";
 
 /** @typedef {import("../model.mjs").Domain} Domain */
 
@@ -33,6 +33,14 @@ export function modeOf(d) {
   const told = modes.get(d.name), [mode, until] = made.get(d.name) || ["", 0];
   return !told || !domains.has(d.parent) ? "" : performance.now() < until ? mode : told;
 }
+
+/** Returns the domains that a domain holds, by their own records or by what the console tells of it: a station that has
+ * gone silent may not have told the screen of its last grant.
+ * @param {Domain} d */
+export const held = (d) => d.children.filter((c) => {
+  const holder = holderOf(c), mode = modeOf(c);
+  return !!holder && holder.domain === d.name || mode !== "" && mode !== "out";
+});
 
 /** Returns true if a child is in the mode already that an order would make.
  * @param {Domain} d @param {string} verb */

@@ -1,11 +1,12 @@
 // The question before an order: what would hold it up, and what can be answered.
 
 import { by, make, set } from "../dom.mjs";
-import { age, held, now } from "../model.mjs";
+import { age, now } from "../model.mjs";
 import { isSilent } from "./counted.mjs";
 import { whyNobody } from "./deeds.mjs";
 import { LANES, domainOf, orderOf, waitedFor, waitingOf, who } from "./given.mjs";
 import { give, giveAfterManual } from "./giving.mjs";
+import { held } from "./modes.mjs";
 
 /** @typedef {import("../model.mjs").Domain} Domain */
 /** @typedef {import("./deeds.mjs").Deed} Deed */
