@@ -19,7 +19,7 @@ const NAMED = [[ALARM, KNOWN.ERROR], [/UNKNOWN|UNDEF|DEAD|LOST/, KNOWN.UNKNOWN],
 const KINDS = { ok: KNOWN.RUNNING, busy: KNOWN.RAMPING, off: KNOWN.OFF, alarm: KNOWN.ERROR, unknown: KNOWN.UNKNOWN };
 const SPARE = ["#6b8e23", "#008b8b", "#b565a7", "#a0522d", "#4682b4", "#556b2f", "#5f6fd0"];
 // None of these is near a colour of a state, and each can be told from white and from the dark background.
-const PEOPLE = ["#10721d", "#5633fc", "#b49010", "#15b0b1", "#f518fa", "#fd5203", "#8a92c9", "#9f6376", "#7d7e75"];
+const PEOPLE = ["#5633fc", "#b49010", "#15b0b1", "#f518fa", "#fd5203", "#9f6376", "#10721d", "#8a92c9", "#7d7e75"];
 
 /** @type {Map<string, string>} */
 const inks = new Map();
