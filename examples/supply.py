@@ -4,7 +4,7 @@ usage: supply.py WHERE DEVICE [SECONDS]
 
 WHERE is the console of the node whose station keeps the DEVICE, of the class HIGH_VOLTAGE of detector.tree. The program
 reports what the supply is in, off at first, and whenever the node has been started again. An action that sets the
-device RAMPING begins a ramp of so many SECONDS, 2 if none are given. When the supply has arrived, the program reports
+device RAMPING begins a ramp, which takes SECONDS, 2 if none are given. When the supply has arrived, the program reports
 it. A line `trip` on its standard input has the supply trip: ERROR. It prints each state that the supply comes into. If
 the program ends, the node reports the device UNKNOWN, which is its last will.
 """

@@ -280,7 +280,7 @@ def test_told_modes(played, subtests):
 
 
 def test_told_manual(played, subtests):
-    """The console says whether a silent child is manual, whoever has ordered there."""
+    """The console says whether a silent child is manual, no matter who has ordered there."""
     played.tells({"MUO": "manual"})
     played.silence("MUON")
     played.screen.tell({TOP: LEADER}, last=played.screen.frame)

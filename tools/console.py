@@ -125,7 +125,7 @@ class Pulse:
         threading.Thread(target=self.run, daemon=True).start()
 
     def send(self, text):
-        """Sends a line. If the connection has ended, whoever reads there finds it out."""
+        """Sends a line. If the connection has ended, the thread that reads there finds it out."""
         try:
             with self.turn:
                 self.made.sendall((text + "\n").encode("ascii", "replace"))

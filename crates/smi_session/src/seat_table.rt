@@ -159,7 +159,7 @@ fn are_of(held: &VecDeque<Deferred>, session: u64) -> bool
     held.iter().any(|it| it.pending.session == session)
 }
 
-/// Returns true if one of the first of these orders, so many, is of the same operator and about the same domain.
+/// Returns true if one of the first `count` of these orders is of the same operator and about the same domain.
 fn has_earlier(held: &VecDeque<Deferred>, count: usize, order: Deferred) -> bool
     ensures { result ≡ has_earlier order (take count held.now.items) }
 {
@@ -330,8 +330,8 @@ impl SeatTable {
         }
     }
 
-    /// Submits an order after the first ones that wait, so many: if none of these is about the same domain, and a seat
-    /// takes it now. Returns false otherwise.
+    /// Submits an order if a seat takes it now, and none of the first `count` that wait is of the same operator and
+    /// about the same domain. Returns true if it did.
     #[tactic(auto, using(crate::proofs::Changing::keeps_held))]
     fn attempt_after(&mut self, count: usize, order: Deferred) -> bool
         ensures attempts { AttemptsAfter (take count self.old.held) order self.old self.new result }
