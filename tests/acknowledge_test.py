@@ -13,6 +13,9 @@ from running import at_last
 
 pytestmark = pytest.mark.skipif(not browsers.program(), reason="there is no browser (Debian's chromium)")
 TOKEN = "0123456789abcdef"
+# How soon a second page shows what was acknowledged on the first one, in seconds: one, and one more on a machine that
+# others use.
+SEEN = 1 + 1
 # The alarms of a page: what each is of, and who is said to have acknowledged it.
 LISTED = """[...document.querySelectorAll("#alarms .alarm > [data-alarm]")].map((b) =>
   [b.dataset.key, (b.querySelector("i") || {textContent: ""}).textContent])"""
@@ -36,9 +39,9 @@ class Pages:
         for it in self.browsers:
             assert it.waits_for("domains.size && !!picture") is not None and shows(it, TOP, "READY")
 
-    def lists(self, at, wanted):
-        """Returns the alarms that a page lists, once they are these or a second is over."""
-        return at_last(lambda: dict(self.browsers[at].run(LISTED)), wanted, 1.0)
+    def lists(self, at, wanted, seconds=10):
+        """Returns the alarms that a page lists, once they are these or the time is over."""
+        return at_last(lambda: dict(self.browsers[at].run(LISTED)), wanted, seconds, pause=0.05)
 
     def click(self, at, text, key=None):
         """Clicks the button of the alarms with this text, of one alarm or above them all."""
@@ -71,6 +74,7 @@ def pages(request):
         it.end()
 
 
+@pytest.mark.alone
 def test_acknowledge(pages, subtests):
     """What is acknowledged on one page is so on another within a second, until it begins again."""
     two = pages(2)
@@ -85,14 +89,16 @@ def test_acknowledge(pages, subtests):
     Hand(two.browsers[0]).choose(LEADER)
     two.click(0, "acknowledge", trip)
     wanted = {trip: "acknowledged by " + LEADER, other: ""}
-    with subtests.test("both pages say who"):
-        assert [two.lists(at, wanted) for at in (0, 1)] == [wanted] * 2
+    with subtests.test("the other page says who, soon"):
+        assert two.lists(1, wanted, SEEN) == wanted
+    with subtests.test("and so does this one"):
+        assert two.lists(0, wanted) == wanted
     with subtests.test("it is offered no more"):
         assert sorted(two.buttons(0)) == ["acknowledge", "acknowledge all 1"]
     two.silent.add("MUON")
     two.screen.show({"PIXEL_HV7": "READY"})
     with subtests.test("a silent station is an alarm like any"):
-        assert at_last(lambda: dict(two.browsers[1].run(LISTED)), {other: "", station: ""}) == {other: "", station: ""}
+        assert two.lists(1, {other: "", station: ""}) == {other: "", station: ""}
     two.screen.show({"PIXEL_HV7": "ERROR"})
     with subtests.test("the same thing again is a new alarm"):
         assert two.lists(1, {trip: "", other: "", station: ""}) == {trip: "", other: "", station: ""}
