@@ -1,0 +1,8 @@
+pub mod History
+pub mod Looking
+pub mod Moment
+pub mod Wording
+pub mod Query
+pub mod Lines
+pub mod Parts
+pub mod Text

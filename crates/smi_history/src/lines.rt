@@ -1,0 +1,153 @@
+//! Entries as the lines of a file.
+
+ghost use Rattle.std.specs.Prelude.{◌≡◌, ◌++◌, IfOk, OnOk, option_map};
+ghost use Rattle.std.specs.List.{list_all};
+ghost use Rattle.smi_history.specs.Lines as spec;
+
+use crate::history::{History, HistoryEntry, HistoryNote};
+use crate::parts::cut_at;
+use crate::text::{is_all_plain, put, put_number, shared};
+use smi_tree::number_within;
+use std::alloc::{AllocError, Global};
+
+/// How many digits a time in milliseconds has from the year 2001 until the year 2286, and how many of them are seconds.
+const TIME_DIGITS: usize = 13;
+
+const SECOND_DIGITS: usize = 10;
+
+/// The last second that has ten digits.
+const LAST_SECOND: u64 = 9_999_999_999;
+
+/// Returns the time in milliseconds that a word of thirteen digits stands for, if it is one.
+fn time_of(word: &[u8]) -> Option<u64>
+    ensures { result ≡ spec.time_of word.now }
+{
+    if word.len() != TIME_DIGITS {
+        return None;
+    }
+    let (seconds, rest) = word.split_at(SECOND_DIGITS);
+    let seconds = number_within(0, LAST_SECOND, seconds)?;
+    let rest = number_within(0, 999, rest)?;
+    Some(1_000 * seconds + rest)
+}
+
+/// Returns the time with which a line begins, and what follows the blank after it.
+fn timed_text(line: &[u8]) -> Option<(u64, &[u8])>
+    ensures { option_map (λ timed. (timed.0, timed.1.now)) result ≡ spec.timed_text line.now }
+{
+    let (word, rest) = cut_at(b' ', line);
+    let at = time_of(word)?;
+    Some((at, rest?))
+}
+
+/// Returns the note that a line is.
+fn note_in(alloc: Global, line: &[u8]) -> Result<Option<HistoryNote>, AllocError>
+    ensures { IfOk result (λ note. note ≡ spec.note_in line.now) }
+{
+    match timed_text(line) {
+        Some((at, text)) if is_all_plain(text) => Ok(Some(HistoryNote {
+            at,
+            text: shared(Vec::from_slice(alloc, text)?)?,
+        })),
+        _ => Ok(None),
+    }
+}
+
+/// Writes an entry as a line: its time in milliseconds since 1970, a blank, and its text.
+#[tactic(auto, unfolding(crate::specs::Lines::entry_line))]
+fn put_line(text: &mut Vec<u8>, entry: &HistoryEntry) -> Result<(), AllocError>
+    ensures { OnOk result (text.new.items ≡ text.old.items ++ spec.entry_line entry.now) }
+{
+    put_number(text, b"", entry.note.at)?;
+    put(text, b" ")?;
+    put(text, entry.note.text.as_slice())?;
+    put(text, b"\n")
+}
+
+/// Writes an entry as a line, if it comes after the one of this number.
+#[tactic(auto, unfolding(crate::specs::Lines::later_line))]
+fn put_later(text: &mut Vec<u8>, after: u64, entry: &HistoryEntry) -> Result<(), AllocError>
+    ensures { OnOk result (text.new.items ≡ text.old.items ++ spec.later_line after entry.now) }
+{
+    if after < entry.number {
+        put_line(text, entry)
+    } else {
+        Ok(())
+    }
+}
+
+impl History {
+    ghost use Rattle.std.specs.Prelude.{◌≡◌, ◌++◌, OnOk, IfOk};
+    ghost use Rattle.std.specs.List.{flat_map};
+    ghost use Rattle.smi_history.specs.Lines as spec;
+
+    /// Writes the entries after the one of this number as lines.
+    fn put_lines(&self, text: &mut Vec<u8>, after: u64) -> Result<(), AllocError>
+        ensures { OnOk result (text.new.items ≡ text.old.items ++ spec.lines_text self.now after) }
+    {
+        for entry in self.entries() {
+            put_later(text, after, entry)?;
+        }
+        Ok(())
+    }
+
+    /// Writes all entries that are kept as the lines of a file, the oldest first.
+    ///
+    /// It fails only if memory ran out, which tests alone see.
+    pub fn write_lines(&self) -> Result<Vec<u8>, AllocError>
+        ensures { IfOk result (λ text. text.items ≡ spec.lines_text self.now 0) }
+    {
+        let mut text = Vec::new(self.alloc());
+        self.put_lines(&mut text, 0)?;
+        Ok(text)
+    }
+
+    /// Writes those entries as lines that are not saved, the oldest first.
+    ///
+    /// It fails only if memory ran out, which tests alone see.
+    pub fn write_unsaved(&self) -> Result<Vec<u8>, AllocError>
+        ensures { IfOk result (λ text. text.items ≡ spec.lines_text self.now self.now.saved) }
+    {
+        let mut text = Vec::new(self.alloc());
+        self.put_lines(&mut text, self.saved())?;
+        Ok(text)
+    }
+
+    /// Adds what a line tells, if it is the line of an entry.
+    fn take_line(&mut self, line: &[u8]) -> Result<(), AllocError>
+        ensures { OnOk result (self.new ≡ spec.line_noted self.old line.now) }
+    {
+        match note_in(self.alloc(), line)? {
+            Some(note) => self.note(note),
+            None => Ok(()),
+        }
+    }
+
+    /// Adds what the lines of a file tell.
+    #[tactic(auto, using(crate::proofs::Whole::whole_more))]
+    fn take_lines(&mut self, bytes: &[u8]) -> Result<(), AllocError>
+        ensures { OnOk result (self.new ≡ spec.lines_noted self.old (spec.whole_lines bytes.now)) }
+    {
+        let mut left = Some(bytes);
+        while let Some(rest) = left {
+            let (line, more) = cut_at(b'\n', rest);
+            if more.is_some() {
+                self.take_line(line)?;
+            }
+            left = more;
+        }
+        Ok(())
+    }
+
+    /// Reads the lines of a file, the oldest entry first; none of them counts as saved. Lines that are none of entries
+    /// are passed over, and so is a last one that has no end, as a kill leaves it.
+    ///
+    /// It fails only if memory ran out, which tests alone see.
+    pub fn read(alloc: Global, bytes: &[u8]) -> Result<History, AllocError>
+        ensures { IfOk result (λ history. history ≡ spec.history_in bytes.now) }
+    {
+        let mut history = History::new(alloc);
+        history.take_lines(bytes)?;
+        Ok(history)
+    }
+}

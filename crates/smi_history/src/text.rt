@@ -1,0 +1,80 @@
+//! Pieces of text.
+
+ghost use Rattle.std.specs.Prelude.{◌≡◌, ◌++◌, IfOk, OnOk, option_map};
+ghost use Rattle.std.specs.Fmt.{decimal};
+ghost use Rattle.std.specs.List.{list_all};
+ghost use Rattle.smi_schedule.specs.TraceWords.{called};
+ghost use Rattle.smi_history.specs.Text as spec;
+
+use bytes::Bytes;
+use std::alloc::AllocError;
+use std::io::Write;
+
+/// Writes a piece as it is.
+///
+/// It fails only if memory ran out, which tests alone see.
+pub fn put(text: &mut Vec<u8>, piece: &[u8]) -> Result<(), AllocError>
+    ensures { OnOk result (text.new.items ≡ text.old.items ++ piece.now) }
+{
+    text.extend_from_slice(piece)
+}
+
+/// Writes a piece, and after it a number.
+///
+/// It fails only if memory ran out, which tests alone see.
+pub fn put_number(text: &mut Vec<u8>, before: &[u8], number: u64) -> Result<(), AllocError>
+    ensures { OnOk result (text.new.items ≡ text.old.items ++ before.now ++ decimal number) }
+{
+    put(text, before)?;
+    write!(text, "{number}").map_err(|_| AllocError)
+}
+
+/// Writes a name, or the number if the tree has no such thing.
+///
+/// It fails only if memory ran out, which tests alone see.
+pub fn put_called(text: &mut Vec<u8>, name: Option<&[u8]>, number: u16) -> Result<(), AllocError>
+    ensures { OnOk result (text.new.items ≡ text.old.items ++ called (option_map (λ n. n.now) name.entry) number) }
+{
+    match name {
+        Some(name) => put(text, name),
+        None => write!(text, "{number}").map_err(|_| AllocError),
+    }
+}
+
+/// Returns true if a byte stands for itself in one line and within quotes.
+fn is_plain(byte: u8) -> bool
+    ensures { result ≡ spec.is_plain byte }
+{
+    32 <= byte && byte <= 126 && byte != b'"' && byte != b'\\'
+}
+
+/// Returns true if all bytes of a text stand for themselves in one line and within quotes: printable ASCII without the
+/// quotation mark and the backslash.
+pub fn is_all_plain(text: &[u8]) -> bool
+    ensures { result ≡ list_all spec.is_plain text.now }
+{
+    text.iter().all(|byte| is_plain(*byte))
+}
+
+/// Returns what follows in a text that begins so.
+pub fn rest_of<'a>(front: &[u8], text: &'a [u8]) -> Option<&'a [u8]>
+    ensures { option_map (λ rest. rest.now) result ≡ spec.rest_of front.now text.now }
+{
+    if text.starts_with(front) {
+        Some(&text[front.len()..])
+    } else {
+        None
+    }
+}
+
+/// Returns a text whose copies share its bytes.
+///
+/// It fails only if memory ran out, which tests alone see.
+pub fn shared(text: Vec<u8>) -> Result<Bytes, AllocError>
+    ensures { IfOk result (λ bytes. bytes ≡ text.items) }
+{
+    match Bytes::from_vec(text) {
+        Ok(bytes) => Ok(bytes),
+        Err(_) => Err(AllocError),
+    }
+}
