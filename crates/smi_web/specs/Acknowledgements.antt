@@ -11,8 +11,8 @@ use Rattle.smi_tree.specs.declared.fault.Fault.{Fault}
 use Rattle.smi_web.specs.declared.acknowledgements.Acknowledgement.{Acknowledgement}
 use Rattle.smi_web.specs.declared.acknowledgements.AlarmKind.{AlarmKind}
 use Rattle.smi_web.specs.declared.acknowledgements.AlarmKind.TheVariants as alarm
-use Rattle.smi_web.specs.OrderLine.{is_plain}
-use Rattle.smi_web.specs.Outcome.{rest_of}
+use Rattle.smi_history.specs.Text.{is_plain}
+use Rattle.smi_history.specs.Text.{rest_of}
 
 -- the tree has something of this kind and name, which can be in alarm
 abbrev pub is_known : Hierarchy → AlarmKind → List ℕ → Bool

@@ -7,6 +7,12 @@ use Rattle.std.specs.List.{list_any, starts_with}
 use Rattle.http.specs.declared.request.Request.{Request}
 use Rattle.http_server.specs.Response.{fields_of}
 use Rattle.http_server.specs.declared.response.Response.{Response}
+use Rattle.smi_tree.specs.Hierarchy.{Hierarchy}
+use Rattle.smi_view.specs.Pictured.{Pictured}
+use Rattle.smi_history.specs.History.{HistoryState, all_noted, looked_at}
+use Rattle.smi_history.specs.declared.moment.Moment.{Moment}
+use Rattle.smi_web.specs.OrderNotes.{page_notes}
+use Rattle.smi_history.specs.Query.{history_text, query_in}
 use Rattle.smi_web.specs.declared.routing.Route.{Route}
 use Rattle.smi_web.specs.declared.routing.Route.TheVariants as route_to
 use Rattle.smi_web.specs.declared.snapshot.Snapshot.{Snapshot}
@@ -31,15 +37,25 @@ is_ours hosts None = false
 abbrev pub reads_only : List ℕ → Bool
 reads_only method = bytes_eq method (codes "GET") || bytes_eq method (codes "HEAD")
 
+-- what a request has after the question mark of its target
+abbrev pub query_text : Option (List ℕ) → List ℕ
+query_text None = []
+query_text (Some query) = query
+
+-- the history is told, if the query is one
+abbrev pub history_route : Option (List ℕ) → Route
+history_route query = option_map_or (λ q. route_to.History) (query_in (query_text query)) route_to.NoQuery
+
 -- what is at a place; with the version as its query, a picture that the client has
 abbrev pub place_route : List ℕ → Option (List ℕ) → List ℕ → Bool → Route
 place_route path query version has_orders =
     if bytes_eq path (codes "/") then route_to.Page
     else (if bytes_eq path (codes "/api/tree") then route_to.Tree
     else (if bytes_eq path (codes "/api/picture") then (if is_text query version then route_to.Unchanged else route_to.Picture)
+    else (if bytes_eq path (codes "/api/history") then history_route query
     else (if bytes_eq path (codes "/metrics") then route_to.Metrics
     else (if bytes_eq path (codes "/healthz") then route_to.Health
-    else (if has_orders && bytes_eq path (codes "/api/orders") then route_to.Orders else route_to.NotFound)))))
+    else (if has_orders && bytes_eq path (codes "/api/orders") then route_to.Orders else route_to.NotFound))))))
 
 -- the request comes from a page of this very host
 abbrev pub is_own_page : Option (List ℕ) → Option (List ℕ) → Bool
@@ -110,6 +126,8 @@ status_of route_to.Metrics = 200
 status_of route_to.Health = 200
 status_of route_to.Unchanged = 204
 status_of route_to.Orders = 200
+status_of route_to.History = 200
+status_of route_to.NoQuery = 400
 status_of route_to.NotFound = 404
 status_of route_to.Change = 405
 status_of route_to.WrongHost = 421
@@ -121,25 +139,35 @@ status_of route_to.NoOrder = 400
 status_of route_to.ConsoleDown = 503
 status_of route_to.QueueFull = 429
 
--- the texts of the snapshot, and beside them some that tell nothing of the detector
-abbrev pub body_of : Snapshot → Route → List ℕ
-body_of snapshot route_to.Page = snapshot.page
-body_of snapshot route_to.Tree = snapshot.tree
-body_of snapshot route_to.Picture = snapshot.picture
-body_of snapshot route_to.Metrics = snapshot.metrics
-body_of snapshot route_to.Health = codes "ok"
-body_of snapshot route_to.Unchanged = []
-body_of snapshot route_to.Orders = snapshot.orders
-body_of snapshot route_to.NotFound = codes "there is no such page"
-body_of snapshot route_to.Change = codes "this screen only shows"
-body_of snapshot route_to.WrongHost = codes "this is another host"
-body_of snapshot route_to.Given = codes "the order is on its way"
-body_of snapshot route_to.Acknowledged = codes "acknowledged"
-body_of snapshot route_to.NoAlarm = codes "this is no alarm of the tree and an operator of it"
-body_of snapshot route_to.ForeignOrigin = codes "orders are given from the page alone"
-body_of snapshot route_to.NoOrder = codes "this is no order of an operator of the tree"
-body_of snapshot route_to.ConsoleDown = codes "there is no connection with the console"
-body_of snapshot route_to.QueueFull = codes "too many orders wait"
+-- the entries of the history that a query asks for
+abbrev pub history_told : HistoryState → Option (List ℕ) → List ℕ
+history_told h query = option_map_or (history_text h) (query_in (query_text query)) []
+
+abbrev pub told_of : WebService → Route → Option (List ℕ) → List ℕ
+told_of w route_to.History query = history_told w.history query
+told_of w _ query = []
+
+-- the texts of the snapshot, what is told of the history, and beside them some that tell nothing of the detector
+abbrev pub body_of : Snapshot → List ℕ → Route → List ℕ
+body_of snapshot told route_to.Page = snapshot.page
+body_of snapshot told route_to.Tree = snapshot.tree
+body_of snapshot told route_to.Picture = snapshot.picture
+body_of snapshot told route_to.Metrics = snapshot.metrics
+body_of snapshot told route_to.Health = codes "ok"
+body_of snapshot told route_to.Unchanged = []
+body_of snapshot told route_to.Orders = snapshot.orders
+body_of snapshot told route_to.History = told
+body_of snapshot told route_to.NoQuery = codes "this is no query: object=NAME&from=SECOND&to=SECOND&after=NUMBER"
+body_of snapshot told route_to.NotFound = codes "there is no such page"
+body_of snapshot told route_to.Change = codes "this screen only shows"
+body_of snapshot told route_to.WrongHost = codes "this is another host"
+body_of snapshot told route_to.Given = codes "the order is on its way"
+body_of snapshot told route_to.Acknowledged = codes "acknowledged"
+body_of snapshot told route_to.NoAlarm = codes "this is no alarm of the tree and an operator of it"
+body_of snapshot told route_to.ForeignOrigin = codes "orders are given from the page alone"
+body_of snapshot told route_to.NoOrder = codes "this is no order of an operator of the tree"
+body_of snapshot told route_to.ConsoleDown = codes "there is no connection with the console"
+body_of snapshot told route_to.QueueFull = codes "too many orders wait"
 
 -- what a page may do: run what is in it, and ask its own host
 abbrev pub policy : List ℕ
@@ -181,6 +209,8 @@ own_headers route_to.Metrics = of_type (codes "text/plain; version=0.0.4; charse
 own_headers route_to.Health = plain
 own_headers route_to.Unchanged = []
 own_headers route_to.Orders = json
+own_headers route_to.History = of_type (codes "application/x-ndjson")
+own_headers route_to.NoQuery = plain
 own_headers route_to.NotFound = plain
 own_headers route_to.Change = (codes "allow", codes "GET, HEAD") ∷ plain
 own_headers route_to.WrongHost = plain
@@ -198,10 +228,10 @@ with_headers done [] = done
 with_headers done (one ∷ more) = with_headers (done ++ one ∷ []) more
 
 -- a response is the one to what was asked
-pub record Answers (snapshot : Snapshot) (what : Route) (r : Response) : Type 0 where
+pub record Answers (snapshot : Snapshot) (told : List ℕ) (what : Route) (r : Response) : Type 0 where
   pub status : r.status ≡ status_of what
   pub headers : fields_of r ≡ security_headers ++ own_headers what
-  pub body : r.body.items ≡ body_of snapshot what
+  pub body : r.body.items ≡ body_of snapshot told what
 
 -- the order is given
 abbrev pub ordered : PageOrders → List ℕ → PageOrders
@@ -222,4 +252,10 @@ left_by _ w line = w
 abbrev pub orders_told : WebService → WebService
 orders_told w = record w {
   snapshot = option_map_or (λ o. with_orders w.snapshot o.relay o.acknowledged o.time) w.orders w.snapshot;
+}
+
+-- the picture is looked at, and what is new in it and among the orders is noted
+abbrev pub looked_by : WebService → Hierarchy → Pictured → Moment → WebService
+looked_by w h p m = record w {
+  history = all_noted (looked_at w.history h p m) (page_notes w.orders w.history.looked m);
 }

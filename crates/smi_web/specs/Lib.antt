@@ -5,6 +5,7 @@ pub mod Snapshot
 pub mod Outcome
 pub mod RelayedOrder
 pub mod OrderLine
+pub mod OrderNotes
 pub mod ModeList
 pub mod OrderRelay
 pub mod Metrics

@@ -3,8 +3,8 @@ use Rattle.std.specs.Prelude.{ℕ, nat_lt, nat_le, ◌==◌, ◌&&◌, ◌++◌,
 use Rattle.std.specs.Prelude.{if◌then◌else◌}
 use Rattle.std.specs.List.{list_all, starts_with}
 use Rattle.std.specs.Option.{option_map_or}
-use Rattle.smi_web.specs.OrderLine.{is_plain}
-use Rattle.smi_web.specs.Outcome.{rest_of}
+use Rattle.smi_history.specs.Text.{is_plain}
+use Rattle.smi_history.specs.Text.{rest_of}
 
 -- a child and its mode each: those of the last whole answer, and those that have come of the answer under way
 pub record ModeListState : Type 0 where

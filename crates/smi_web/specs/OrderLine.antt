@@ -1,5 +1,5 @@
 -- Which lines are orders.
-use Rattle.std.specs.Prelude.{ℕ, nat_le, ◌==◌, ◌&&◌, ◌||◌, not, Bool, true, false, List, length, codes}
+use Rattle.std.specs.Prelude.{ℕ, nat_le, ◌&&◌, ◌||◌, Bool, true, false, List, length, codes}
 use Rattle.std.specs.Prelude.{Option, Some, None, Result, Ok, Err}
 use Rattle.std.specs.List.{list_all}
 use Rattle.std.specs.Option.{option_map_or}
@@ -9,11 +9,7 @@ use Rattle.smi_protocol.specs.declared.item.Item.{Item}
 use Rattle.smi_protocol.specs.declared.item.Item.TheVariants as item
 use Rattle.smi_protocol.specs.declared.item.Deed.TheVariants as deed
 use Rattle.smi_schedule.specs.Line.{item_in}
-use Rattle.smi_web.specs.Outcome.{rest_of}
-
--- printable ASCII without the quotation mark and the backslash: no line ends there, and none is escaped
-abbrev pub is_plain : ℕ → Bool
-is_plain byte = nat_le 32 byte && nat_le byte 126 && not (byte == 34) && not (byte == 92)
+use Rattle.smi_history.specs.Text.{is_plain, rest_of}
 
 -- an operator orders
 abbrev pub is_order : Result (Option Item) Fault → Bool

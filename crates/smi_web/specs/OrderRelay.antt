@@ -9,7 +9,7 @@ use Rattle.smi_web.specs.declared.order_relay.Admission.{Admission}
 use Rattle.smi_web.specs.declared.order_relay.Admission.TheVariants as admission
 use Rattle.smi_web.specs.RelayedOrder as order
 use Rattle.smi_web.specs.OrderLine.{is_order_line}
-use Rattle.smi_web.specs.Outcome.{rest_of}
+use Rattle.smi_history.specs.Text.{rest_of}
 use Rattle.smi_web.specs.ModeList as mode_list
 use Rattle.smi_web.specs.ModeList.{ModeListState}
 

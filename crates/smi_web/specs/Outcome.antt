@@ -1,12 +1,8 @@
 -- How an order ended, as the console says it.
-use Rattle.std.specs.Prelude.{ℕ, ◌==◌, List, drop, length, codes, Option, Some, None, option_and_then}
+use Rattle.std.specs.Prelude.{ℕ, ◌==◌, List, codes, Option, option_and_then}
 use Rattle.std.specs.Prelude.{if◌then◌else◌}
-use Rattle.std.specs.List.{starts_with}
 use Rattle.smi_tree.specs.Number.{number_within}
-
--- what follows in a text that begins so
-abbrev pub rest_of : List ℕ → List ℕ → Option (List ℕ)
-rest_of front text = if starts_with (λ a b. a == b) text front then Some (drop (length front) text) else None
+use Rattle.smi_history.specs.Text.{rest_of}
 
 -- after `told` come the words of the order, and then its code
 abbrev pub code_of : List ℕ → List ℕ → Option ℕ

@@ -5,7 +5,7 @@ use Rattle.std.specs.Fmt.{decimal}
 use Rattle.std.specs.List.{list_all, starts_with}
 use Rattle.smi_web.specs.declared.relayed_order.Reply.{Reply}
 use Rattle.smi_web.specs.declared.relayed_order.RelayedOrder.{RelayedOrder}
-use Rattle.smi_web.specs.OrderLine.{is_plain}
+use Rattle.smi_history.specs.Text.{is_plain}
 
 -- a tag of its own for each number
 abbrev pub tag_of : ℕ → List ℕ

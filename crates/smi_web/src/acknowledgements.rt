@@ -5,10 +5,8 @@ ghost use Rattle.smi_tree.specs.Declaration.{two_names};
 ghost use Rattle.smi_tree.specs.Text.{words};
 ghost use Rattle.smi_web.specs.Acknowledgements as spec;
 
-use crate::order_line::is_all_plain;
-use crate::outcome::rest_of;
-use crate::relayed_order::shared;
 use bytes::Bytes;
+use smi_history::{is_all_plain, rest_of, shared};
 use smi_tree::{Fault, Name, Tree, two_names};
 use std::alloc::{AllocError, Global};
 use std::marker::Model;

@@ -1,37 +1,11 @@
 //! Writes pieces of JSON.
 
 ghost use Rattle.std.specs.Prelude.{◌≡◌, ◌++◌, OnOk, codes, option_map};
-ghost use Rattle.std.specs.Fmt.{decimal};
 ghost use Rattle.smi_schedule.specs.TraceWords.{called};
 ghost use Rattle.smi_web.specs.Json.{flag, quoted};
 
+use smi_history::{put, put_called};
 use std::alloc::AllocError;
-use std::io::Write;
-
-/// Writes a piece as it is.
-pub(crate) fn put(text: &mut Vec<u8>, piece: &[u8]) -> Result<(), AllocError>
-    ensures { OnOk result (text.new.items ≡ text.old.items ++ piece.now) }
-{
-    text.extend_from_slice(piece)
-}
-
-/// Writes a piece, and after it a number.
-pub(crate) fn put_number(text: &mut Vec<u8>, before: &[u8], number: u64) -> Result<(), AllocError>
-    ensures { OnOk result (text.new.items ≡ text.old.items ++ before.now ++ decimal number) }
-{
-    put(text, before)?;
-    write!(text, "{number}").map_err(|_| AllocError)
-}
-
-/// Writes a name, or the number if the tree has no such thing.
-fn put_called(text: &mut Vec<u8>, name: Option<&[u8]>, number: u16) -> Result<(), AllocError>
-    ensures { OnOk result (text.new.items ≡ text.old.items ++ called (option_map (λ n. n.now) name.entry) number) }
-{
-    match name {
-        Some(name) => put(text, name),
-        None => write!(text, "{number}").map_err(|_| AllocError),
-    }
-}
 
 /// Writes a piece, and after it a name in quotes.
 pub(crate) fn put_quoted(

@@ -3,7 +3,7 @@
 ghost use Rattle.std.specs.Prelude.{ℕ, List, ◌≡◌, ◌++◌, OnOk, codes};
 ghost use Rattle.smi_web.specs.Json.{listed, separator};
 
-use crate::json::put;
+use smi_history::put;
 use std::alloc::AllocError;
 
 /// Has a text for each number.

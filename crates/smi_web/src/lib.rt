@@ -36,6 +36,7 @@ mod json_list;
 mod metrics;
 mod mode_list;
 mod order_line;
+mod order_notes;
 mod order_relay;
 mod orders_json;
 mod outcome;

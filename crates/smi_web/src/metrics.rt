@@ -24,10 +24,11 @@ ghost use Rattle.smi_web.specs.Metrics.{
   whole_text,
 };
 
-use crate::json::{put, put_number, put_quoted, put_text};
+use crate::json::{put_quoted, put_text};
 use crate::json_list::{Listing, put_listed};
 use crate::tree_json::station_of;
 use smi_grant::{Holder, Phase};
+use smi_history::{put, put_number};
 use smi_schedule::names;
 use smi_tree::Tree;
 use smi_view::{Hearing, Picture, Sight};

@@ -3,10 +3,8 @@
 ghost use Rattle.std.specs.Prelude.{◌≡◌, ◌≤◌, ◌<◌, length, OnErr, OnOk};
 ghost use Rattle.smi_web.specs.ModeList as spec;
 
-use crate::order_line::is_all_plain;
-use crate::outcome::rest_of;
-use crate::relayed_order::shared;
 use bytes::Bytes;
+use smi_history::{is_all_plain, rest_of, shared};
 use std::alloc::{AllocError, Global};
 use std::marker::Model;
 use std::mem::replace;

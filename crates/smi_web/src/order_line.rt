@@ -4,7 +4,7 @@ ghost use Rattle.std.specs.Prelude.{◌≡◌};
 ghost use Rattle.std.specs.List.{list_all};
 ghost use Rattle.smi_web.specs.OrderLine as spec;
 
-use crate::outcome::rest_of;
+use smi_history::{is_all_plain, rest_of};
 use smi_protocol::{Deed, Item};
 use smi_schedule::read_item;
 use smi_tree::{Fault, Tree};
@@ -17,20 +17,6 @@ fn is_digit(byte: u8) -> bool
     ensures { result ≡ spec.is_digit byte }
 {
     b'0' <= byte && byte <= b'9'
-}
-
-/// Returns true if a byte stands for itself in one line and within quotes.
-fn is_plain(byte: u8) -> bool
-    ensures { result ≡ spec.is_plain byte }
-{
-    32 <= byte && byte <= 126 && byte != b'"' && byte != b'\\'
-}
-
-/// Returns true if all bytes of a text stand for themselves in one line and within quotes.
-pub(crate) fn is_all_plain(text: &[u8]) -> bool
-    ensures { result ≡ list_all spec.is_plain text.now }
-{
-    text.iter().all(|byte| is_plain(*byte))
 }
 
 /// Returns true if what a line of a schedule lets happen is an operator's order.

@@ -6,9 +6,9 @@ ghost use Rattle.smi_web.specs.OrderRelay as spec;
 
 use crate::mode_list::ModeList;
 use crate::order_line::is_order_line;
-use crate::outcome::rest_of;
 use crate::relayed_order::RelayedOrder;
 use bytes::Bytes;
+use smi_history::rest_of;
 use smi_tree::Tree;
 use std::alloc::{AllocError, Global};
 use std::marker::Model;

@@ -22,12 +22,13 @@ ghost use Rattle.smi_web.specs.OrdersJson.{
 };
 
 use crate::acknowledgements::{Acknowledgement, Acknowledgements};
-use crate::json::{put, put_flag, put_number, put_text};
+use crate::json::{put_flag, put_text};
 use crate::json_list::{Listing, put_list};
 use crate::order_relay::OrderRelay;
 use crate::outcome::{code_of, words_of};
 use crate::relayed_order::{RelayedOrder, Reply};
 use bytes::Bytes;
+use smi_history::{put, put_number};
 use std::alloc::{AllocError, Global};
 
 /// Returns when an order was answered; now, if it was not.

@@ -1,23 +1,13 @@
 //! The code of an order in a line of the console, and its meaning.
 
-ghost use Rattle.std.specs.Prelude.{◌≡◌, option_map};
+ghost use Rattle.std.specs.Prelude.{◌≡◌};
 ghost use Rattle.smi_web.specs.Outcome as spec;
 
+use smi_history::rest_of;
 use smi_tree::number_within;
 
 /// The most that a code is.
 const MOST_CODE: u64 = 99;
-
-/// Returns what follows in a text that begins so.
-pub(crate) fn rest_of<'a>(front: &[u8], text: &'a [u8]) -> Option<&'a [u8]>
-    ensures { option_map (λ rest. rest.now) result ≡ spec.rest_of front.now text.now }
-{
-    if text.starts_with(front) {
-        Some(&text[front.len()..])
-    } else {
-        None
-    }
-}
 
 /// Returns the code with which an order was answered: after `told` come the words of the order, and then its code.
 /// Nothing where something else was said.

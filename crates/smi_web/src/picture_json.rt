@@ -15,9 +15,10 @@ ghost use Rattle.smi_web.specs.PictureJson.{
   sight_text,
 };
 
-use crate::json::{put, put_number, put_quoted};
+use crate::json::put_quoted;
 use crate::json_list::{Listing, put_list};
 use smi_grant::{Holder, Phase, Record};
+use smi_history::{put, put_number};
 use smi_schedule::names;
 use smi_tree::Tree;
 use smi_view::{Hearing, Picture, Sight};

@@ -3,8 +3,8 @@
 ghost use Rattle.std.specs.Prelude.{◌≡◌, drop, IfOk};
 ghost use Rattle.smi_web.specs.RelayedOrder as spec;
 
-use crate::order_line::is_all_plain;
 use bytes::Bytes;
+use smi_history::{is_all_plain, shared};
 use std::alloc::{AllocError, Global};
 use std::io::Write;
 
@@ -27,16 +27,6 @@ pub struct RelayedOrder {
 pub struct Reply {
     pub text: Bytes,
     pub at: u64,
-}
-
-/// Returns a text whose copies share its bytes.
-pub(crate) fn shared(text: Vec<u8>) -> Result<Bytes, AllocError>
-    ensures { IfOk result (λ bytes. bytes ≡ text.items) }
-{
-    match Bytes::from_vec(text) {
-        Ok(bytes) => Ok(bytes),
-        Err(_) => Err(AllocError),
-    }
 }
 
 /// Returns the tag of the order of this number.

@@ -8,6 +8,7 @@ use crate::acknowledgements::is_acknowledgement;
 use crate::order_relay::Admission;
 use crate::page_orders::PageOrders;
 use bytes::Bytes;
+use smi_history::query_in;
 use std::marker::Model;
 
 /// The parts of a request that its route depends on.
@@ -58,6 +59,10 @@ pub enum Route {
     Unchanged,
     /// What became of the orders that were given.
     Orders,
+    /// What this screen has seen.
+    History,
+    /// The query asks for nothing of the history.
+    NoQuery,
     /// There is no such page.
     NotFound,
     /// This screen changes nothing.
@@ -115,6 +120,26 @@ fn reads_only(method: &[u8]) -> bool
     method == b"GET".as_slice() || method == b"HEAD".as_slice()
 }
 
+/// Returns what a request has after the `?` of its target, nothing if it has none.
+pub(crate) fn query_text(query: Option<&[u8]>) -> &[u8]
+    ensures { result.now ≡ spec.query_text (option_map (λ q. q.now) query.entry) }
+{
+    match query {
+        Some(query) => query,
+        None => b"",
+    }
+}
+
+/// Returns the answer to a request for the history.
+fn history_route(query: Option<&[u8]>) -> Route
+    ensures { result ≡ spec.history_route (option_map (λ q. q.now) query.entry) }
+{
+    match query_in(query_text(query)) {
+        Some(_) => Route::History,
+        None => Route::NoQuery,
+    }
+}
+
 /// Returns what is at a place.
 fn place_route(path: &[u8], query: Option<&[u8]>, version: &[u8], has_orders: bool) -> Route
     ensures { result ≡ spec.place_route path.now (option_map (λ q. q.now) query.entry) version.now has_orders }
@@ -131,6 +156,9 @@ fn place_route(path: &[u8], query: Option<&[u8]>, version: &[u8], has_orders: bo
         } else {
             Route::Picture
         };
+    }
+    if path == b"/api/history".as_slice() {
+        return history_route(query);
     }
     if path == b"/metrics".as_slice() {
         return Route::Metrics;

@@ -1,20 +1,25 @@
 //! The service over a snapshot.
 
-ghost use Rattle.std.specs.Prelude.{◌≡◌, ◌++◌, ◌∷◌, [], codes, option_map, IsTrue, OnErr, OnOk};
+ghost use Rattle.std.specs.Prelude.{◌≡◌, ◌++◌, ◌∷◌, [], codes, option_map, IfOk, IsTrue, OnErr, OnOk};
 ghost use Rattle.http_header.specs.FieldValue.{is_visible_text};
 ghost use Rattle.http_header.specs.FieldName.{is_header_name};
 ghost use Rattle.http_server.specs.Response.{IsBlank, fields_of};
-ghost use Rattle.smi_web.specs.Answers.{Answers, left_by, of_type, orders_told, origin_headers, own_headers};
+ghost use Rattle.smi_web.specs.Answers.{Answers, history_told, left_by, looked_by, of_type, orders_told};
+ghost use Rattle.smi_web.specs.Answers.{origin_headers, own_headers, told_of};
 ghost use Rattle.smi_web.specs.Answers.{page_headers, plain, security_headers, with_headers};
 ghost use Rattle.smi_web.specs.declared.routing.Route.TheVariants as route_to;
 ghost use Rattle.smi_web.specs.Parts.{parts_of, field_of};
 
+use crate::order_notes::notes_of_page;
 use crate::page_orders::PageOrders;
-use crate::routing::{RequestParts, Route, route_request};
+use crate::routing::{RequestParts, Route, query_text, route_request};
 use crate::snapshot::Snapshot;
 use bytes::Bytes;
 use http::{HeaderName, HeaderValue, Request, StatusCode, header};
 use http_server::{Response, Service};
+use smi_history::{History, Moment, query_in, shared};
+use smi_tree::Tree;
+use smi_view::Picture;
 use std::alloc::{AllocError, Global};
 
 /// Answers requests from a snapshot.
@@ -25,6 +30,8 @@ pub struct WebService {
     pub snapshot: Snapshot,
     /// The orders that its page may give, if it may.
     pub orders: Option<PageOrders>,
+    /// What the screen has seen.
+    pub history: History,
 }
 
 /// What a page may do: run what is in it, and ask its own host.
@@ -34,6 +41,8 @@ const CSP: &str =
 const HTML: &str = "text/html; charset=utf-8";
 
 const JSON: &str = "application/json";
+
+const JSON_LINES: &str = "application/x-ndjson";
 
 const METRICS: &str = "text/plain; version=0.0.4; charset=utf-8";
 
@@ -160,6 +169,21 @@ fn fill_plain(
     fill(response, status, PLAIN, &text)
 }
 
+/// Fills in that a query is none.
+fn refuse_query(response: &mut Response) -> Result<(), AllocError>
+    ensures status { OnOk result (response.new.status ≡ 400) }
+    ensures headers { OnOk result (fields_of response.new ≡ with_headers (fields_of response.old) plain) }
+    ensures body { OnOk result (response.new.body.items ≡ response.old.body.items
+        ++ codes "this is no query: object=NAME&from=SECOND&to=SECOND&after=NUMBER") }
+{
+    let status = StatusCode::BAD_REQUEST;
+    fill_plain(
+        response,
+        status,
+        "this is no query: object=NAME&from=SECOND&to=SECOND&after=NUMBER",
+    )
+}
+
 /// Refuses to change anything.
 fn refuse_change(response: &mut Response) -> Result<(), AllocError>
     ensures status { OnOk result (response.new.status ≡ 405) }
@@ -188,6 +212,44 @@ impl WebService {
         }
     }
 
+    /// Notes in the history what is new in a picture, and which orders and acknowledgements are.
+    ///
+    /// It fails only if memory ran out, which tests alone see. Some of what was new may be noted nowhere then.
+    pub fn look(
+        &mut self,
+        alloc: Global,
+        tree: &Tree,
+        picture: &Picture,
+        moment: Moment,
+    ) -> Result<(), AllocError>
+        ensures ok { OnOk result (self.new ≡ looked_by self.old tree.now picture.now moment) }
+    {
+        let notes = notes_of_page(alloc, &self.orders, self.history.looked(), moment)?;
+        self.history.look(tree, picture, moment)?;
+        self.history.note_all(notes)
+    }
+
+    /// Returns the entries of the history that a query asks for.
+    fn history_told(&self, query: Option<&[u8]>) -> Result<Bytes, AllocError>
+        ensures { IfOk result (λ told. told ≡ history_told self.now.history (option_map (λ q. q.now) query.entry)) }
+    {
+        match query_in(query_text(query)) {
+            Some(query) => shared(self.history.write(&query)?),
+            None => Ok(Bytes::from_static(b"")),
+        }
+    }
+
+    /// Returns what is told of the history, if a request asks for it.
+    fn told(&self, what: Route, query: Option<&[u8]>) -> Result<Bytes, AllocError>
+        ensures { IfOk result (λ told. told ≡ told_of self.now what (option_map (λ q. q.now) query.entry)) }
+    {
+        if what == Route::History {
+            self.history_told(query)
+        } else {
+            Ok(Bytes::from_static(b""))
+        }
+    }
+
     /// Gives an order, if orders may be given.
     fn give(&mut self, line: &[u8]) -> Result<(), AllocError>
         ensures ok { OnOk result (self.new ≡ left_by route_to.Given self.old line.now) }
@@ -211,9 +273,9 @@ impl WebService {
     }
 
     /// Fills in the answer to a request.
-    fn answer(&self, what: Route, response: &mut Response) -> Result<(), AllocError>
+    fn answer(&self, what: Route, told: &Bytes, response: &mut Response) -> Result<(), AllocError>
         requires { IsBlank response.old }
-        ensures { OnOk result (Answers self.now.snapshot what response.new) }
+        ensures { OnOk result (Answers self.now.snapshot told.now what response.new) }
     {
         add_security_headers(response)?;
         let snapshot = &self.snapshot;
@@ -224,6 +286,8 @@ impl WebService {
             Route::Metrics => fill(response, StatusCode::OK, METRICS, &snapshot.metrics),
             Route::Health => fill_plain(response, StatusCode::OK, "ok"),
             Route::Orders => fill(response, StatusCode::OK, JSON, &snapshot.orders),
+            Route::History => fill(response, StatusCode::OK, JSON_LINES, told),
+            Route::NoQuery => refuse_query(response),
             Route::Unchanged => {
                 response.status = StatusCode::NO_CONTENT;
                 Ok(())
@@ -271,11 +335,13 @@ impl WebService {
 impl Service for WebService {
     ghost use Rattle.std.specs.Prelude.{◌≡◌};
     ghost use Rattle.http.specs.Request.{body_of};
-    ghost use Rattle.smi_web.specs.Answers.{Answers, route_of, left_by};
+    ghost use Rattle.smi_web.specs.Answers.{Answers, route_of, left_by, told_of};
+    ghost use Rattle.smi_web.specs.Parts.{parts_of};
 
     ghost answers = { λ old request response new.
         (new ≡ left_by (route_of old request) old (body_of request))
-        × Answers old.snapshot (route_of old request) response };
+        × Answers old.snapshot (told_of old (route_of old request) (parts_of request).query)
+        (route_of old request) response };
 
     fn call(
         &mut self,
@@ -285,7 +351,8 @@ impl Service for WebService {
         let parts = parts_of(request);
         let version = self.snapshot.version.as_slice();
         let what = route_request(&self.hosts, version, &self.orders, &parts);
-        self.answer(what, response)?;
+        let told = self.told(what, parts.query)?;
+        self.answer(what, &told, response)?;
         if what == Route::Given {
             return self.give(request.body().as_slice());
         }

@@ -10,6 +10,7 @@ use crate::orders_json::write_orders;
 use crate::picture_json::write_picture;
 use crate::tree_json::write_tree;
 use bytes::Bytes;
+use smi_history::shared;
 use smi_tree::Tree;
 use smi_view::Picture;
 use std::alloc::{AllocError, Global};
@@ -26,16 +27,6 @@ pub struct Snapshot {
     pub metrics: Bytes,
     /// The orders that were given from the page, and the alarms that were acknowledged; nothing, if none can be.
     pub orders: Bytes,
-}
-
-/// Returns a text whose copies share its bytes.
-fn shared(text: Vec<u8>) -> Result<Bytes, AllocError>
-    ensures { IfOk result (λ bytes. bytes ≡ text.items) }
-{
-    match Bytes::from_vec(text) {
-        Ok(bytes) => Ok(bytes),
-        Err(_) => Err(AllocError),
-    }
 }
 
 /// Returns the query of one who has the picture of this number.

@@ -19,8 +19,9 @@ ghost use Rattle.smi_web.specs.TreeJson.{
 };
 ghost use Rattle.smi_web.specs.Json.{quoted};
 
-use crate::json::{put, put_flag, put_number, put_quoted};
+use crate::json::{put_flag, put_quoted};
 use crate::json_list::{Listing, put_list};
+use smi_history::{put, put_number};
 use smi_schedule::names;
 use smi_tree::Tree;
 use std::alloc::{AllocError, Global};
