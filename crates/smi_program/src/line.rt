@@ -118,6 +118,8 @@ pub struct ScreenLine<'a> {
     pub orders: Option<ConsolePlace<'a>>,
     /// The path of the file that has the token for its orders, if people have to know one.
     pub token: Option<&'a str>,
+    /// The path of the file that keeps what it has seen, if there is one.
+    pub history: Option<&'a str>,
     /// How many turns it looks, none if it looks without end.
     pub turns: Option<u32>,
     /// Whether it starts on a store that is older than its label.
@@ -288,6 +290,7 @@ fn screen_command<'a>(alloc: Global) -> Result<Command<'a>, Error> {
     let form = form.arg(Arg::new(alloc, "ORIGIN").long("origin"))?;
     let form = form.arg(Arg::new(alloc, "STYLE").long("style"))?;
     let form = form.arg(Arg::new(alloc, "TOKEN").long("token"))?;
+    let form = form.arg(Arg::new(alloc, "HISTORY").long("history"))?;
     Ok(form.arg(Arg::new(alloc, "PLACE").long("orders"))?)
 }
 
@@ -374,6 +377,7 @@ fn screen_line<'a>(given: &ArgMatches<'a>) -> Option<ScreenLine<'a>> {
         sources: sources_of(given.get_str("SOURCES"))?,
         orders,
         token: given.get_str("TOKEN"),
+        history: given.get_str("HISTORY"),
         turns: turns_of(given.get_str("T"), given.get_flag("endless"))?,
         accepts_older: given.get_flag("accept-older"),
     })

@@ -31,6 +31,7 @@ fn told_end<F: Write>(ended: Ended, faults: &mut F) -> Status {
         Ended::Stopped => stopped(faults),
         Ended::Link => link_fault(faults),
         Ended::Listener => print_fault("screen fault", faults),
+        Ended::History => print_fault("history fault", faults),
         Ended::Memory => no_memory(faults),
         Ended::NoOperator => wrong_line(faults),
         Ended::Opening(fault) => opening_fault(fault, faults),
@@ -204,6 +205,14 @@ fn page_of<H: Files + AllocGlobal, F: Write>(
     }
 }
 
+/// Returns the path of the file of a screen's history, if its line has one.
+fn history_path(alloc: Global, line: ScreenLine<'_>) -> Result<Option<String>, AllocError> {
+    match line.history {
+        Some(path) => Ok(Some(String::from_str(alloc, path)?)),
+        None => Ok(None),
+    }
+}
+
 /// Makes what the screen of a station is run with, whose page gives no orders.
 fn setup_of(
     alloc: Global,
@@ -223,6 +232,7 @@ fn setup_of(
         hosts: hosts_of(alloc, line.http, line.name, line.origin)?,
         page,
         orders: None,
+        history: history_path(alloc, line)?,
         turns: line.turns,
     })
 }

@@ -1,5 +1,5 @@
 -- Whatever an observer does, its picture keeps up with what was had in it.
-use Rattle.std.proofs.Common.{◌≡◌, ℕ, Bool, true, false, List, [], ◌∷◌, Result, ap}
+use Rattle.std.proofs.Common.{ℕ, Bool, true, false, List, [], ◌∷◌, Result, ap}
 use Rattle.smi_protocol.specs.Step.{Out}
 use Rattle.smi_protocol.specs.declared.event.Event.{Event}
 use Rattle.smi_protocol.specs.declared.event.Heard.{Heard}
@@ -8,7 +8,6 @@ use Rattle.smi_protocol.specs.declared.event.Event.TheVariants as event
 use Rattle.smi_protocol.specs.declared.order.Order.TheVariants as order
 use Rattle.smi_station.specs.Core.{is_stopped_by}
 use Rattle.smi_view.specs.Keeping.{KeepsUp}
-use Rattle.smi_view.specs.Pictured.{Pictured}
 use Rattle.smi_view.proofs.Keeping.{keeps_both, keeps_same, keeps_up}
 use Rattle.smi_screen.specs.Looking.{Asks, Carried, Carries, Comes, Deed, Does, DoesAll, Fails, Follows, Looks}
 use Rattle.smi_screen.specs.Looking.{NotesTaken, Stepping, Ticks, View, Waits, Watches, with_link}

@@ -1,5 +1,5 @@
 -- Deeds of an observer, put together.
-use Rattle.std.proofs.Common.{◌≡◌, ℕ, Bool, true, false, List, [], ◌∷◌, ◌++◌, refl, sym, ap, subst}
+use Rattle.std.proofs.Common.{ℕ, Bool, true, false, List, [], ◌∷◌, ◌++◌, refl, sym, ap, subst}
 use Rattle.smi_node.specs.Linked.{LinkShows}
 use Rattle.smi_node.specs.Served.{FailsOnce, ReceivesNone, ReceivesOne}
 use Rattle.smi_view.specs.Pictured.{Pictured}

@@ -10,6 +10,10 @@
 //! and each turn sends what is to be sent of them over one connection, and hears what is said there, without waiting.
 //! The station of the screen orders nothing: the orders are those of operators of the node whose console it is.
 //!
+//! What is new in the picture at each turn is noted in the service's history (`smi_history`), and five times a second
+//! what is new there is appended to a file, if one is named. If the file can't be written, the screen goes on, tells
+//! how much is saved, and tries again each minute.
+//!
 //! The web server has a listener and its connections, at most `MOST_CONNECTIONS` of them. At each turn of it the
 //! connections that wait are accepted, and each one reads once, is answered, and writes once, over sockets that never
 //! wait. A connection has a time by which it has to go unless it has been answered, and a head and a body of bounded
@@ -37,6 +41,7 @@
 #![tactic(auto)]
 
 mod console;
+mod history_file;
 mod hosts;
 mod http_connection;
 mod http_listener;

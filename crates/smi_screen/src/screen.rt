@@ -16,6 +16,7 @@ use smi_station::{Station, migrate};
 use smi_tree::Tree;
 use smi_view::Picture;
 use std::alloc::{AllocError, Global};
+use std::fs::Files;
 use std::hash::RandomState;
 use std::io::{self, ErrorKind};
 use std::mem::replace;
@@ -38,6 +39,8 @@ pub enum Ended {
     Memory,
     /// The tree has no operator at its station.
     NoOperator,
+    /// The file of its history can't be read or written.
+    History,
     /// Its station was not opened on its store, or the rows not brought into their newest schema.
     Opening(OpenFault),
 }
@@ -77,12 +80,14 @@ pub struct ScreenSetup {
     pub page: Bytes,
     /// The orders that its page may give, if it may.
     pub orders: Option<OrderSetup>,
+    /// The path of the file in which it keeps its history, if it keeps it.
+    pub history: Option<String>,
     /// How many turns it looks, none if it looks without end.
     pub turns: Option<u32>,
 }
 
-/// Returns why there is no socket: out of memory, or this.
-fn error_of(error: io::Error, other: Ended) -> Ended {
+/// Returns why there is no socket or no file: out of memory, or this.
+pub(crate) fn error_of(error: io::Error, other: Ended) -> Ended {
     if error.kind() == ErrorKind::OutOfMemory {
         Ended::Memory
     } else {
@@ -104,28 +109,34 @@ fn listen<R: Net<Listener = TcpListener, Stream = TcpStream>>(
 }
 
 /// Makes the picture of a screen, and its web server once its listener is open.
-fn build_web_server<R: Net<Listener = TcpListener, Stream = TcpStream> + AllocGlobal>(
+fn build_web_server<R: Net<Listener = TcpListener, Stream = TcpStream> + Files + AllocGlobal>(
     rt: &R,
     tree: &Tree,
     keys: RandomState,
     setup: &mut ScreenSetup,
 ) -> Result<(Picture, Box<WebServer>), Ended> {
     let alloc = rt.alloc();
-    let parts = build_parts(alloc, tree, setup)?;
+    let parts = build_parts(rt, tree, setup)?;
     let listener = listen(rt, alloc, keys, setup.http)?;
     let ScreenParts {
         picture,
         service,
         console,
+        history_file,
     } = Box::into_inner(parts);
-    match Box::new(alloc, WebServer::new(alloc, service, listener, console)) {
+    match Box::new(
+        alloc,
+        WebServer::new(alloc, service, listener, console, history_file),
+    ) {
         Ok(web_server) => Ok((picture, web_server)),
         Err(_) => Err(Ended::Memory),
     }
 }
 
 /// Returns what a screen works with, in a box, because each place that drops one is expensive to prove.
-fn build_server<R: Net<Listener = TcpListener, Stream = TcpStream> + Wait + Clock + AllocGlobal>(
+fn build_server<
+    R: Net<Listener = TcpListener, Stream = TcpStream> + Wait + Clock + Files + AllocGlobal,
+>(
     rt: &R,
     tree: &Tree,
     operator: u16,
@@ -165,7 +176,7 @@ fn open_link<'a, R: Net + Clock + AllocGlobal>(
 /// Looks with a station that is open.
 fn look_with_station<
     S: Stable,
-    R: Net<Listener = TcpListener, Stream = TcpStream> + Wait + Clock + AllocGlobal,
+    R: Net<Listener = TcpListener, Stream = TcpStream> + Wait + Clock + Files + AllocGlobal,
 >(
     rt: &R,
     tree: &Tree,
@@ -192,7 +203,7 @@ fn end_of(looked: Result<(), Ended>) -> Ended {
 /// Opens the station on its store, and has it look.
 fn open_and_look<
     S: Stable,
-    R: Net<Listener = TcpListener, Stream = TcpStream> + Wait + Clock + AllocGlobal,
+    R: Net<Listener = TcpListener, Stream = TcpStream> + Wait + Clock + Files + AllocGlobal,
 >(rt: &R, tree: &Tree, keys: RandomState, setup: &mut ScreenSetup, store: S) -> (Ended, S) {
     match Station::open(rt.alloc(), tree, setup.station, store) {
         Ok(station) => {
@@ -206,12 +217,12 @@ fn open_and_look<
 
 /// Runs a screen, and gives its store back.
 ///
-/// The rows of its station are brought into their newest schema, the station is opened, its own socket is, and last
-/// that of its web server; then it looks, for this many turns or until a fault. Headers of requests are kept under
-/// these keys. What the setup has is taken out of it as it is needed.
+/// The rows of its station are brought into their newest schema, the station is opened, its own socket is, then the
+/// file of its history, if it has one, and last the socket of its web server; then it looks, for this many turns or
+/// until a fault. Headers of requests are kept under these keys. What the setup has is taken out of it as it is needed.
 pub fn run<
     S: Stable,
-    R: Net<Listener = TcpListener, Stream = TcpStream> + Wait + Clock + AllocGlobal,
+    R: Net<Listener = TcpListener, Stream = TcpStream> + Wait + Clock + Files + AllocGlobal,
 >(rt: &R, tree: &Tree, keys: RandomState, setup: &mut ScreenSetup, store: S) -> (Ended, S) {
     let mut store = store;
     match migrate(rt.alloc(), tree, setup.station, &mut store) {

@@ -1,20 +1,52 @@
 //! The picture of a screen, the service over it, and the console for its orders.
 
 use crate::console::NodeConsole;
-use crate::screen::{OrderSetup, ScreenSetup};
+use crate::history_file::HistoryFile;
+use crate::screen::{Ended, OrderSetup, ScreenSetup, error_of};
 use bytes::Bytes;
+use smi_history::History;
 use smi_tree::Tree;
 use smi_view::Picture;
 use smi_web::{Acknowledgements, OrderRelay, PageOrders, Snapshot, WebService};
-use std::alloc::{AllocError, Global};
+use std::alloc::Global;
+use std::fs::Files;
 use std::mem::replace;
 
-/// A picture, the service over it, and the console that its orders go to, if there may be orders.
+/// A picture, the service over it, the console that its orders go to, if there may be orders, and the file of its
+/// history, if it has one.
 #[derive(Drop)]
 pub(crate) struct ScreenParts {
     pub(crate) picture: Picture,
     pub(crate) service: WebService,
     pub(crate) console: Option<NodeConsole>,
+    pub(crate) history_file: Option<HistoryFile>,
+}
+
+/// A history, and its file, if it has one.
+#[derive(Drop)]
+struct KeptHistory {
+    history: History,
+    file: Option<HistoryFile>,
+}
+
+/// Returns the history of a screen: that in its file, if it has one, and else an empty one.
+fn kept_history<R: Files + AllocGlobal>(
+    rt: &R,
+    path: &Option<String>,
+) -> Result<KeptHistory, Ended> {
+    let Some(path) = path else {
+        return Ok(KeptHistory {
+            history: History::new(rt.alloc()),
+            file: None,
+        });
+    };
+    match HistoryFile::open(rt, path.as_str()) {
+        Ok((file, history)) => Ok(KeptHistory {
+            history,
+            file: Some(file),
+        }),
+        Err(e) => Err(error_of(e, Ended::History)),
+    }
 }
 
 /// Returns what the service of a page has that may give orders, and the console that they go to.
@@ -42,7 +74,9 @@ fn parts_with(
     setup: &mut ScreenSetup,
     picture: Picture,
     snapshot: Snapshot,
+    kept: KeptHistory,
 ) -> ScreenParts {
+    let KeptHistory { history, file } = kept;
     let hosts = replace(&mut setup.hosts, Vec::new(alloc));
     let (orders, console) = match replace(&mut setup.orders, None) {
         Some(orders) => {
@@ -57,23 +91,31 @@ fn parts_with(
             hosts,
             snapshot,
             orders,
+            history,
         },
         console,
+        history_file: file,
     }
 }
 
-/// Returns the parts of a screen that has seen nothing, with what the setup has for it, which is taken out of it.
+/// Returns the parts of a screen that has seen nothing but what its history tells, with what the setup has for it,
+/// which is taken out of it.
 ///
 /// It is handed out in a box, because each place that drops one is expensive to prove.
-pub(crate) fn build_parts(
-    alloc: Global,
+pub(crate) fn build_parts<R: Files + AllocGlobal>(
+    rt: &R,
     tree: &Tree,
     setup: &mut ScreenSetup,
-) -> Result<Box<ScreenParts>, AllocError> {
+) -> Result<Box<ScreenParts>, Ended> {
+    let alloc = rt.alloc();
+    let kept = kept_history(rt, &setup.history)?;
     let picture = Picture::new(alloc, tree.object_count(), tree.domain_count())?;
     let page = replace(&mut setup.page, Bytes::from_static(b""));
     let snapshot = Snapshot::first(alloc, page, tree, &picture)?;
-    let mut parts = Box::new(alloc, parts_with(alloc, setup, picture, snapshot))?;
+    let Ok(parts) = Box::new(alloc, parts_with(alloc, setup, picture, snapshot, kept)) else {
+        return Err(Ended::Memory);
+    };
+    let mut parts = parts;
     parts.service.renew_orders(alloc)?;
     Ok(parts)
 }

@@ -15,6 +15,7 @@ use smi_rows::Stable;
 use smi_station::Station;
 use smi_tree::Tree;
 use smi_view::Picture;
+use std::fs::Files;
 use std::net::Net;
 use std::sync::Wait;
 use std::time::{Clock, Instant};
@@ -109,9 +110,10 @@ impl ScreenServer {
         }
     }
 
-    /// Does what follows a look that went well: orders go on, a snapshot is made, the connections have their turn, and
+    /// Does what follows a look that went well: orders go on, what is new is noted, a snapshot is made, the connections
+    /// have their turn, and
     /// faults are counted.
-    fn go_on<R: Net + Clock>(
+    fn go_on<R: Net + Clock + Files>(
         &mut self,
         rt: &R,
         tree: &Tree,
@@ -127,7 +129,7 @@ impl ScreenServer {
     }
 
     /// Does what follows a look. The picture stays, and the station has stopped by it or not at all.
-    fn follow<R: Net + Clock>(
+    fn follow<R: Net + Clock + Files>(
         &mut self,
         rt: &R,
         tree: &Tree,
@@ -145,7 +147,7 @@ impl ScreenServer {
 
     /// Makes one turn: the station looks, orders go on, a snapshot is made, and the connections have their turn. Of all
     /// that, the station is told nothing but what the look tells it.
-    fn turn<S: Stable, L: DatagramLink, R: Net + Clock>(
+    fn turn<S: Stable, L: DatagramLink, R: Net + Clock + Files>(
         &mut self,
         rt: &R,
         tree: &Tree,
@@ -165,7 +167,7 @@ impl ScreenServer {
     }
 
     /// Makes this many turns, or fewer if a fault ends them.
-    fn turns<S: Stable, L: DatagramLink, R: Net + Clock>(
+    fn turns<S: Stable, L: DatagramLink, R: Net + Clock + Files>(
         &mut self,
         rt: &R,
         tree: &Tree,
@@ -190,7 +192,7 @@ impl ScreenServer {
     }
 
     /// Makes turns, this many or without end: all that becomes of the station by them is what it looks.
-    pub(crate) fn serve<S: Stable, L: DatagramLink, R: Net + Wait + Clock>(
+    pub(crate) fn serve<S: Stable, L: DatagramLink, R: Net + Wait + Clock + Files>(
         &mut self,
         rt: &R,
         tree: &Tree,

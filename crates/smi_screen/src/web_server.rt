@@ -1,13 +1,16 @@
 //! The HTTP server of a screen: its service, its listener, and the console for the orders of its page.
 
 use crate::console::NodeConsole;
+use crate::history_file::HistoryFile;
 use crate::http_listener::HttpListener;
+use smi_history::Moment;
 use smi_tree::Tree;
 use smi_view::Picture;
 use smi_web::WebService;
 use std::alloc::Global;
+use std::fs::Files;
 use std::net::Net;
-use std::time::Clock;
+use std::time::{Clock, SystemTime, UNIX_EPOCH};
 
 /// How many milliseconds lie between two snapshots.
 const SNAPSHOT_PERIOD: u64 = 200;
@@ -23,6 +26,19 @@ pub(crate) struct WebServer {
     listener: HttpListener,
     /// The relay of orders from the page, if orders may be given.
     console: Option<NodeConsole>,
+    /// Where the history is kept, if it is to outlast the screen.
+    history_file: Option<HistoryFile>,
+}
+
+/// Returns the milliseconds since 1970; 0 if there is no clock that tells them.
+fn clock_time<C: Clock>(clock: &C) -> u64 {
+    let Ok(time) = SystemTime::now(clock) else {
+        return 0;
+    };
+    match time.duration_since(UNIX_EPOCH) {
+        Ok(since) => u64::try_from(since.as_millis()).unwrap_or(0),
+        Err(_) => 0,
+    }
 }
 
 impl WebServer {
@@ -32,6 +48,7 @@ impl WebServer {
         service: WebService,
         listener: HttpListener,
         console: Option<NodeConsole>,
+        history_file: Option<HistoryFile>,
     ) -> WebServer {
         WebServer {
             alloc,
@@ -40,11 +57,29 @@ impl WebServer {
             service,
             listener,
             console,
+            history_file,
         }
     }
 
-    /// Makes a new snapshot of a picture, if it is time. One for which there is no memory is left out.
-    fn make_snapshot(&mut self, tree: &Tree, picture: &Picture, now: u64) {
+    /// Notes in the history what is new. What there is no memory for is noted nowhere.
+    fn note_history<R: Clock>(&mut self, rt: &R, tree: &Tree, picture: &Picture, now: u64) {
+        let moment = Moment {
+            now,
+            clock: clock_time(rt),
+        };
+        let _ = self.service.look(self.alloc, tree, picture, moment);
+    }
+
+    /// Saves what is new in the history, if it has a file.
+    fn save_history<R: Files>(&mut self, rt: &R, now: u64) {
+        if let Some(file) = &mut self.history_file {
+            file.keep(rt, &mut self.service.history, now);
+        }
+    }
+
+    /// Makes a new snapshot of a picture and saves the history, if it is time. A snapshot for which there is no memory
+    /// is left out.
+    fn make_snapshot<R: Files>(&mut self, rt: &R, tree: &Tree, picture: &Picture, now: u64) {
         if now.saturating_sub(self.made_at) < SNAPSHOT_PERIOD {
             return;
         }
@@ -55,6 +90,7 @@ impl WebServer {
             .snapshot
             .renew(self.alloc, tree, picture, self.made, now);
         let _ = self.service.renew_orders(self.alloc);
+        self.save_history(rt, now);
     }
 
     /// Sends the orders that were given to their console, and handles what it says.
@@ -65,9 +101,9 @@ impl WebServer {
         }
     }
 
-    /// Makes one turn, some milliseconds after the start: orders go on, a snapshot is made, and the connections
-    /// have their turn.
-    pub(crate) fn turn<R: Net + Clock>(
+    /// Makes one turn, some milliseconds after the start: orders go on, what is new is noted, a snapshot is made, and
+    /// the connections have their turn.
+    pub(crate) fn turn<R: Net + Clock + Files>(
         &mut self,
         rt: &R,
         tree: &Tree,
@@ -75,7 +111,8 @@ impl WebServer {
         now: u64,
     ) {
         self.relay_orders(rt, now);
-        self.make_snapshot(tree, picture, now);
+        self.note_history(rt, tree, picture, now);
+        self.make_snapshot(rt, tree, picture, now);
         self.listener.turn(&mut self.service, now);
     }
 }

@@ -1,7 +1,6 @@
 use Rattle.std.proofs.Common.{Bool, Err, refl, subst}
 use Rattle.smi_protocol.specs.declared.event.StepFault.TheVariants as fault
 use Rattle.smi_station.specs.Readers.{Whole}
-use Rattle.smi_node.specs.Carried.{StepsTo}
 use Rattle.smi_node.specs.Linked.{shown_by}
 use Rattle.smi_screen.specs.Looking.{NotesTaken, View, view}
 use Rattle.smi_screen.proofs.Looks.{taken_so}
