@@ -859,9 +859,8 @@ function marksOf(book, name, span) {
   within(entriesOf(book, \"given\"), span).forEach((it) => { if (it.words.slice(3).includes(name)) add(\"order\", it); });
   return marks;
 }
-const AN_HOUR = 3600000;
 const MOST_ROWS = 40;
-let hours = Number(kept(\"past-hours\") ?? 8);
+let hours = [0, 1, 24].find((it) => kept(\"past-hours\") === String(it)) ?? 8;
 let subject = \"\";
 let end = null;
 function chooseHours(next) {
@@ -873,7 +872,7 @@ function keepEnd(is) { end = is ? end ?? shownSpan().to : null; }
 function shownSpan() {
   const list = pastBook.list, last = list.length ? list[list.length - 1].at : 0;
   const to = end ?? Math.max(Date.now(), last + 1);
-  return { from: hours ? to - hours * AN_HOUR : list.length ? Math.min(list[0].at, to - 1) : to - AN_HOUR, to };
+  return { from: hours ? to - hours * HOUR : list.length ? Math.min(list[0].at, to - 1) : to - HOUR, to };
 }
 const namesBelow = (d) => [d.name, ...d.devices.map((it) => it.name), ...d.children.flatMap(namesBelow)];
 function wantedNames() {
@@ -884,10 +883,6 @@ function wantedNames() {
 function shownEntries() {
   const list = within(pastBook.list, shownSpan()), names = wantedNames();
   return names === null ? list : list.filter((it) => isAbout(pastBook, it, names));
-}
-function subjectEntries() {
-  const names = wantedNames();
-  return names === null ? pastBook.list : pastBook.list.filter((it) => isAbout(pastBook, it, names));
 }
 function rowNames() {
   const d = domains.get(subject), all = [...domains.values()];
@@ -1466,7 +1461,10 @@ function knewThen(book, place, alarm) {
 const MINUTE = 60000, DAY = 86400000;
 const STEPS = [1, 2, 5, 10, 15, 30, 60, 120, 180, 360, 720, 1440, 2880, 10080].map((it) => it * MINUTE);
 const two = (it) => String(it).padStart(2, \"0\");
-const dayTime = (at) => new Date(at).toLocaleTimeString(\"en-GB\");
+function dayTime(at) {
+  const it = new Date(at);
+  return two(it.getHours()) + \":\" + two(it.getMinutes()) + \":\" + two(it.getSeconds());
+}
 function dayOf(at) {
   const it = new Date(at);
   return it.getFullYear() + \"-\" + two(it.getMonth() + 1) + \"-\" + two(it.getDate());
@@ -1556,7 +1554,7 @@ function markEntry() {
     flag(b, \"here\", number !== null && Number(b.dataset.key) === number);
   });
 }
-const timesOf = (it, span) => timeBeside(it.from, span.to) + \" to \" +
+const timesOf = (it, span) => (it.from === span.from ? \"the start\" : timeBeside(it.from, span.to)) + \" to \" +
   (it.to === span.to ? \"the end\" : timeBeside(it.to, span.to));
 const chosen = (list, names) => [...list].map((it) => it.name).filter((name) => names === null || names.has(name));
 function holdingLines(book, span, names) {
@@ -1721,7 +1719,7 @@ function drawLine(redraw) {
 function showCursor() {
   style(by(\"time-line\"), \"--at\", shownPlace ? share(shownPlace.at, shownSpan()) : \"100%\");
 }
-const STEPS_SHOWN = 1000, REDRAWN = 10000;
+const STEPS_SHOWN = 1000, REDRAWN = 10000, COMING = 1000;
 const MOST_UNSAVED = 1000, LATE_SAVED = 60000;
 let drawnBook = null;
 let drawnAt = 0, unsavedSince = 0;
@@ -1756,7 +1754,8 @@ function showAnswer() {
   if (!isOpen()) return;
   const words = [historyFault || unsavedWords(), !historyFault && !isWhole ? \"earlier entries are on their way\" : \"\"];
   set(by(\"past-said\"), words.filter((it) => it).join(\", \"));
-  if (drawnBook !== pastBook || performance.now() - drawnAt > REDRAWN) drawPast();
+  const passed = performance.now() - drawnAt, isFirst = !drawnBook || !drawnBook.list.length;
+  if (drawnBook === pastBook ? passed > REDRAWN : isFirst || isWhole || passed > COMING) drawPast();
 }
 function openPast(name = \"\") {
   chooseSubject(name);

@@ -1,7 +1,7 @@
 // Of which time and of what the past is shown.
 
 import { keep, kept } from "../dom.mjs";
-import { devices, domains } from "../model.mjs";
+import { HOUR, devices, domains } from "../model.mjs";
 import { pastBook } from "./history.mjs";
 import { countFront, entriesOf, isAbout } from "./entries.mjs";
 import { within } from "./stretches.mjs";
@@ -10,12 +10,11 @@ import { within } from "./stretches.mjs";
 /** @typedef {import("./stretches.mjs").Span} Span */
 /** @typedef {import("../model.mjs").Domain} Domain */
 
-const AN_HOUR = 3600000;
 // How many rows a time line has at most.
 const MOST_ROWS = 40;
 
 /** How many hours are shown: 0 for all that is kept. */
-export let hours = Number(kept("past-hours") ?? 8);
+export let hours = [0, 1, 24].find((it) => kept("past-hours") === String(it)) ?? 8;
 /** What is shown: a domain with all below it, a device, an operator, or all if it is "". */
 export let subject = "";
 // The end of the time that is shown, if it is not now.
@@ -40,7 +39,7 @@ export function shownSpan() {
   const list = pastBook.list, last = list.length ? list[list.length - 1].at : 0;
   // the clock of the screen may be ahead of this one
   const to = end ?? Math.max(Date.now(), last + 1);
-  return { from: hours ? to - hours * AN_HOUR : list.length ? Math.min(list[0].at, to - 1) : to - AN_HOUR, to };
+  return { from: hours ? to - hours * HOUR : list.length ? Math.min(list[0].at, to - 1) : to - HOUR, to };
 }
 
 /** Returns the names of a domain, of all below it and of their devices.
@@ -58,12 +57,6 @@ export function wantedNames() {
 export function shownEntries() {
   const list = within(pastBook.list, shownSpan()), names = wantedNames();
   return names === null ? list : list.filter((it) => isAbout(pastBook, it, names));
-}
-
-/** Returns the entries of the subject, of all times. */
-export function subjectEntries() {
-  const names = wantedNames();
-  return names === null ? pastBook.list : pastBook.list.filter((it) => isAbout(pastBook, it, names));
 }
 
 /** Returns the objects that have a row: the subject, what is directly below it, and its own devices. An operator has

@@ -10,8 +10,9 @@ import { afterLook, lookAt, shownPlace } from "./looking.mjs";
 import { drawLine, showCursor } from "./time_line.mjs";
 import { dayTime, timeBeside } from "./times.mjs";
 
-// Into how many parts the slider divides the time, and how often all is drawn again though nothing has come.
-const STEPS_SHOWN = 1000, REDRAWN = 10000;
+// Into how many parts the slider divides the time, how often all is drawn again though nothing has come, and how often
+// at most while earlier entries come.
+const STEPS_SHOWN = 1000, REDRAWN = 10000, COMING = 1000;
 // How many entries may be not saved yet, and for how long more of them may be.
 const MOST_UNSAVED = 1000, LATE_SAVED = 60000;
 // What was drawn last, and when; and since when too many entries are not saved.
@@ -58,7 +59,8 @@ function showAnswer() {
   if (!isOpen()) return;
   const words = [historyFault || unsavedWords(), !historyFault && !isWhole ? "earlier entries are on their way" : ""];
   set(by("past-said"), words.filter((it) => it).join(", "));
-  if (drawnBook !== pastBook || performance.now() - drawnAt > REDRAWN) drawPast();
+  const passed = performance.now() - drawnAt, isFirst = !drawnBook || !drawnBook.list.length;
+  if (drawnBook === pastBook ? passed > REDRAWN : isFirst || isWhole || passed > COMING) drawPast();
 }
 
 /** Opens the past, of an object or of all.

@@ -11,9 +11,9 @@ import { dayOf, dayTime, lengthOf, timeBeside } from "./times.mjs";
 /** @typedef {import("./stretches.mjs").Span} Span */
 /** @typedef {import("./stretches.mjs").Stretch} Stretch */
 
-/** Returns a stretch as its two times. One that lasts to the end of the span has no second one.
+/** Returns a stretch as its two times. One that began before the span or lasts longer has no time there.
  * @param {Stretch} it @param {Span} span */
-const timesOf = (it, span) => timeBeside(it.from, span.to) + " to " +
+const timesOf = (it, span) => (it.from === span.from ? "the start" : timeBeside(it.from, span.to)) + " to " +
   (it.to === span.to ? "the end" : timeBeside(it.to, span.to));
 
 /** @param {Iterable<{name: string}>} list @param {Set<string> | null} names @returns {string[]} */

@@ -9,7 +9,11 @@ const two = (it) => String(it).padStart(2, "0");
 
 /** Returns the time of the day, as 03:12:07.
  * @param {number} at */
-export const dayTime = (at) => new Date(at).toLocaleTimeString("en-GB");
+export function dayTime(at) {
+  // not by toLocaleTimeString, because that takes longer than all else that a band needs
+  const it = new Date(at);
+  return two(it.getHours()) + ":" + two(it.getMinutes()) + ":" + two(it.getSeconds());
+}
 
 /** Returns the date, as 2026-11-30.
  * @param {number} at */
