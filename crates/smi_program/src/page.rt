@@ -732,6 +732,7 @@ async function askOnce() {
   if (mine !== begin) return 0;
   historyFault = answer === 404 ? \"this screen keeps no history\" :
     typeof answer === \"number\" ? \"the screen does not answer\" : \"\";
+  if (answer === 404) isWanted = false;
   if (typeof answer === \"number\") return EACH;
   if (isNewer) {
     askedLast = performance.now();
@@ -1747,7 +1748,7 @@ function unsavedWords() {
   const isLate = newestHead && newestHead.saved > 0 && newestHead.count - newestHead.saved > MOST_UNSAVED;
   unsavedSince = isLate ? unsavedSince || performance.now() : 0;
   if (!isLate || performance.now() - unsavedSince < LATE_SAVED) return \"\";
-  const entry = pastBook.list.find((it) => it.number === newestHead.saved);
+  const entry = lastUpTo(pastBook.list, newestHead.saved);
   return \"not saved since \" + (entry ? dayTime(entry.at).slice(0, 5) : \"before what is kept\");
 }
 function showAnswer() {
@@ -1792,7 +1793,7 @@ by(\"past-span\").addEventListener(\"change\", () => { chooseHours(Number(by(\"p
 by(\"past-of\").addEventListener(\"input\", () => {
   const name = by(\"past-of\").value.trim().toUpperCase();
   const isKnown = !name || domains.has(name) || devices.has(name) ||
-    tree.operators.some((it) => it.name === name);
+    !!tree && tree.operators.some((it) => it.name === name);
   flag(by(\"past-of\"), \"strange\", !isKnown);
   if (isKnown) { chooseSubject(name); drawPast(); }
 });

@@ -84,6 +84,8 @@ async function askOnce() {
   if (mine !== begin) return 0;
   historyFault = answer === 404 ? "this screen keeps no history" :
     typeof answer === "number" ? "the screen does not answer" : "";
+  // an older screen is asked again once somebody opens the past again
+  if (answer === 404) isWanted = false;
   if (typeof answer === "number") return EACH;
   if (isNewer) {
     askedLast = performance.now();

@@ -3,6 +3,7 @@
 import { by, flag, make, mark, set } from "../dom.mjs";
 import { afterBuild, devices, domains, extras, tree } from "../model.mjs";
 import { chooseHours, chooseSubject, hours, placeOf, shownEntries, shownSpan, subject } from "./choice.mjs";
+import { lastUpTo } from "./entries.mjs";
 import { drawEntries, markEntry } from "./entry_list.mjs";
 import { afterAnswer, followHistory, historyFault, isWhole, leaveHistory, newestHead, pastBook } from "./history.mjs";
 import { writeSummary } from "./log_book.mjs";
@@ -50,7 +51,7 @@ function unsavedWords() {
   const isLate = newestHead && newestHead.saved > 0 && newestHead.count - newestHead.saved > MOST_UNSAVED;
   unsavedSince = isLate ? unsavedSince || performance.now() : 0;
   if (!isLate || performance.now() - unsavedSince < LATE_SAVED) return "";
-  const entry = pastBook.list.find((it) => it.number === newestHead.saved);
+  const entry = lastUpTo(pastBook.list, newestHead.saved);
   return "not saved since " + (entry ? dayTime(entry.at).slice(0, 5) : "before what is kept");
 }
 
@@ -110,7 +111,7 @@ by("past-span").addEventListener("change", () => { chooseHours(Number(by("past-s
 by("past-of").addEventListener("input", () => {
   const name = by("past-of").value.trim().toUpperCase();
   const isKnown = !name || domains.has(name) || devices.has(name) ||
-    tree.operators.some((/** @type {any} */ it) => it.name === name);
+    !!tree && tree.operators.some((/** @type {any} */ it) => it.name === name);
   flag(by("past-of"), "strange", !isKnown);
   if (isKnown) { chooseSubject(name); drawPast(); }
 });
