@@ -5,16 +5,22 @@ the morning of a shift that began at ten. What is expected is written by hand.
 """
 
 import calendar
+import json
+import os
+import shutil
 import time
 
 import pytest
 
 import browsers
+import page
 import page_server
+import running
 from browser import LEADER, TOP, Hand, shows
 from running import at_last
 
 pytestmark = pytest.mark.skipif(not browsers.program(), reason="there is no browser (Debian's chromium)")
+NODE = shutil.which("node")
 NOW = 1000 * calendar.timegm(time.strptime("2026-11-30 06:00:00", "%Y-%m-%d %H:%M:%S"))
 # The clock of the page, which stays, and a count of its tones, which nobody hears.
 CLOCK = """Date.now = () => %d; window.tones = 0;
@@ -60,9 +66,9 @@ def shift(names):
 
 WORDS = """05:00:30 PIXEL_HV7 is READY
 05:00:00 PIXEL_HV7 is ERROR
-04:01:00 withdraw 3: withdrawn 3
+04:01:00 withdrawal of do MUO START of SHIFT_LEADER: withdrawn 3
 04:01:00 do MUO START of SHIFT_LEADER: withdrawn
-04:01:00 do MUO START of SHIFT_LEADER was to be withdrawn
+04:01:00 withdrawal of do MUO START of SHIFT_LEADER was asked for
 04:00:00 SHIFT_LEADER ordered do MUO START
 03:00:00 do TRK START of TRK_EXPERT ended with 0: done
 03:00:00 command 1 of TRK ended with 0
@@ -462,3 +468,39 @@ def test_telephone(night, subtests):
         assert small == []
     with subtests.test("width"):
         assert width == 390
+
+
+@pytest.mark.skipif(not NODE, reason="there is no node (Debian's nodejs)")
+def test_functions(subtests):
+    """What is worked out of entries without a page: short stretches as one, times of an axis, and faulty orders."""
+    folder = "file://%s/past/" % page.PARTS_FOLDER
+
+    def told(module, expression, **more):
+        script = "import * as it from '%s%s'; console.log(JSON.stringify(%s));" % (folder, module, expression)
+        done = running.run([NODE, "--input-type=module", "-e", script], env={**os.environ, **more})
+        return json.loads(done[0]) if done[2] == 0 else done[1].decode()
+
+    with subtests.test("short stretches are one, in alarm if any of them was"):
+        made = told("stretches.mjs", """it.thinned(["READY", "ERROR", "READY", "READY2", "OFF"].map((value, at) =>
+          ({ value, from: at, to: at < 4 ? at + 1 : 100, count: 1 })), 5)""")
+        assert made == [{"value": "ERROR", "from": 0, "to": 4, "count": 4},
+                        {"value": "OFF", "from": 4, "to": 100, "count": 1}]
+    with subtests.test("a flapping object has a band for each part at most, twice"):
+        assert told("stretches.mjs", """it.thinned(Array.from({ length: 100000 }, (_, at) =>
+          ({ value: String(at % 2), from: at, to: at + 1, count: 1 })), 250).length""") <= 800
+    axis = "it.axisOf({ from: %d, to: %d }).map((one) => one.text)"
+    with subtests.test("whole hours of local time"):
+        assert told("times.mjs", axis % (NOW - 8 * 60 * MINUTE, NOW), TZ="Asia/Kolkata") == [
+            "04:00", "05:00", "06:00", "07:00", "08:00", "09:00", "10:00", "11:00"]
+    with subtests.test("days"):
+        assert told("times.mjs", axis % (NOW - 3 * DAY, NOW), TZ="UTC") == [
+            "12:00", "2026-11-28", "12:00", "2026-11-29", "12:00", "2026-11-30"]
+    with subtests.test("an order of which it is not known how it was given, and words that nobody knows"):
+        texts = ["ended 7 told ANN do TRK START 2", "ended 8 fault 5: no such name", "given 9 withdraw 7", "new words"]
+        lines = ["{}"] + [json.dumps({"number": number, "at": 0, "text": text}) for number, text in enumerate(texts, 1)]
+        answer = json.dumps("\n".join([*lines, ""]))
+        assert told("saying.mjs", """await (async () => { const { readAnswer, bookOf } = await import("%sentries.mjs");
+          const { list } = readAnswer(%s), book = bookOf(list);
+          return list.map((one) => it.sayEntry(book, one)); })()""" % (folder, answer)) == [
+              "order 7 ended with 2: the target is not below the domain", "order 8: fault 5: no such name",
+              "withdrawal of order 7 was asked for", "new words"]

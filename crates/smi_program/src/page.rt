@@ -203,11 +203,11 @@ table { width: 100%; border-collapse: collapse; margin: 1rem 0 }
 td, th { padding: .2rem .4rem; border-bottom: 1px solid var(--line); text-align: left }
 [hidden] { display: none !important }
 #as-of { display: none; flex-wrap: wrap; align-items: center; gap: .3rem 1rem; padding: .3rem .8rem;
-  background: #5633fc; color: #fff }
+  background: var(--ink); color: var(--back) }
 .as-of #as-of { display: flex }
 #as-of-words { font-size: 1.8rem; font-weight: 900 }
-#as-of button { border: 2px solid #fff; border-radius: 8px; padding: .15rem .8rem; font-weight: 700 }
-#as-of :focus-visible { outline-color: #fff }
+#as-of :focus-visible { outline-color: var(--back) }
+#as-of button { border: 2px solid var(--back); border-radius: 8px; padding: .15rem .8rem; font-weight: 700 }
 #as-of-now:not(:empty) { background: #bb1c1c; color: #fff; border-radius: 8px; padding: .1rem .6rem; font-weight: 800 }
 .as-of .given { display: none }
 #past { padding: .4rem .8rem; border-top: 4px solid var(--line); background: var(--card) }
@@ -246,9 +246,9 @@ td, th { padding: .2rem .4rem; border-bottom: 1px solid var(--line); text-align:
 #past-list { max-height: 26rem; overflow: auto; font-size: .9rem }
 #past-list li { border-bottom: 1px solid var(--line) }
 #past-list button { width: 100%; overflow-wrap: anywhere }
-#past-list .here { background: #5633fc; color: #fff }
+#past-list .here, #past-list .here time { background: var(--ink); color: var(--back) }
 #past-list time { color: var(--soft); margin-right: .5em }
-#past-list .here time { color: #fff }
+#its-past { margin-left: .6rem }
 #past-more { color: var(--soft); margin: 0; font-weight: 600 }
 #summary-text { font: .85rem/1.3 ui-monospace, \"DejaVu Sans Mono\", monospace; white-space: pre-wrap; margin: .4rem 0 }
 @media (min-width: 64rem) { #past-body { grid-template-columns: minmax(0, 1fr) 24rem } }
@@ -273,6 +273,8 @@ td, th { padding: .2rem .4rem; border-bottom: 1px solid var(--line); text-align:
   .top { min-height: 44px !important }
   .row { grid-template-columns: 5rem minmax(0, 1fr) }
   .axis { margin-left: 5.4rem }
+  .axis span:nth-child(even) { display: none }
+  #past-slider { flex: 100%; order: -1 }
   .fold { min-width: 44px; line-height: 44px; margin: 0 -.3rem 0 -.8rem }
   .alarm > * { align-items: center }
 }
@@ -784,16 +786,18 @@ function endIn(entry) {
   if (words[0] !== \"told\" || !/^\\d+$/.test(code)) return words.join(\" \");
   return \"ended with \" + code + (CODE_WORDS[code] ? \": \" + CODE_WORDS[code] : \"\");
 }
+function orderWords(book, entry, number) {
+  const order = givenOf(book, { ...entry, words: [\"ended\", number] }), [operator, which] = orderIn(order);
+  return !order ? \"order \" + number : operator ? which + \" of \" + operator : withdrawalWords(book, order);
+}
+const withdrawalWords = (book, order) => \"withdrawal of \" + orderWords(book, order, order.words[3]);
 function givenWords(book, entry) {
   const [operator, order] = orderIn(entry);
-  if (operator) return operator + \" ordered \" + order;
-  const of = givenOf(book, { ...entry, words: [\"ended\", entry.words[3]] }), [whose, which] = orderIn(of);
-  return of && entry.words[2] === \"withdraw\" ? which + \" of \" + whose + \" was to be withdrawn\" : order + \" was ordered\";
+  return operator ? operator + \" ordered \" + order : withdrawalWords(book, entry) + \" was asked for\";
 }
 function endedWords(book, entry) {
-  const order = givenOf(book, entry), [operator, which] = orderIn(order);
-  const name = !order ? \"order \" + entry.words[1] : operator ? which + \" of \" + operator : which;
-  return name + (endIn(entry).startsWith(\"ended with \") ? \" \" : \": \") + endIn(entry);
+  const end = endIn(entry);
+  return orderWords(book, entry, entry.words[1]) + (end.startsWith(\"ended with \") ? \" \" : \": \") + end;
 }
 function sayEntry(book, entry) {
   const [kind, first, second, third] = entry.words;
@@ -1479,7 +1483,8 @@ function axisOf({ from, to }) {
   const step = STEPS.find((it) => (to - from) / it <= 8) || STEPS[STEPS.length - 1] * Math.ceil((to - from) / DAY / 56);
   const off = -MINUTE * new Date(to).getTimezoneOffset(), made = [];
   for (let at = Math.ceil((from + off) / step) * step - off; at < to; at += step) {
-    made.push({ at, text: step < DAY ? dayTime(at).slice(0, 5) : dayOf(at) });
+    const isDay = step >= DAY || to - from > DAY && dayTime(at) === \"00:00:00\";
+    made.push({ at, text: isDay ? dayOf(at) : dayTime(at).slice(0, 5) });
   }
   return made;
 }

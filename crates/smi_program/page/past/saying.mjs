@@ -48,19 +48,27 @@ export function endIn(entry) {
   return "ended with " + code + (CODE_WORDS[code] ? ": " + CODE_WORDS[code] : "");
 }
 
+/** Returns the words of an order with its operator, or its number if it is not known how it was given.
+ * @param {Book} book @param {Entry} entry @param {string} number @returns {string} */
+function orderWords(book, entry, number) {
+  const order = givenOf(book, { ...entry, words: ["ended", number] }), [operator, which] = orderIn(order);
+  return !order ? "order " + number : operator ? which + " of " + operator : withdrawalWords(book, order);
+}
+
+/** Returns which order was to be withdrawn.
+ * @param {Book} book @param {Entry} order */
+const withdrawalWords = (book, order) => "withdrawal of " + orderWords(book, order, order.words[3]);
+
 /** @param {Book} book @param {Entry} entry */
 function givenWords(book, entry) {
   const [operator, order] = orderIn(entry);
-  if (operator) return operator + " ordered " + order;
-  const of = givenOf(book, { ...entry, words: ["ended", entry.words[3]] }), [whose, which] = orderIn(of);
-  return of && entry.words[2] === "withdraw" ? which + " of " + whose + " was to be withdrawn" : order + " was ordered";
+  return operator ? operator + " ordered " + order : withdrawalWords(book, entry) + " was asked for";
 }
 
 /** @param {Book} book @param {Entry} entry */
 function endedWords(book, entry) {
-  const order = givenOf(book, entry), [operator, which] = orderIn(order);
-  const name = !order ? "order " + entry.words[1] : operator ? which + " of " + operator : which;
-  return name + (endIn(entry).startsWith("ended with ") ? " " : ": ") + endIn(entry);
+  const end = endIn(entry);
+  return orderWords(book, entry, entry.words[1]) + (end.startsWith("ended with ") ? " " : ": ") + end;
 }
 
 /** Returns an entry in plain words.

@@ -39,7 +39,8 @@ export function axisOf({ from, to }) {
   const step = STEPS.find((it) => (to - from) / it <= 8) || STEPS[STEPS.length - 1] * Math.ceil((to - from) / DAY / 56);
   const off = -MINUTE * new Date(to).getTimezoneOffset(), made = [];
   for (let at = Math.ceil((from + off) / step) * step - off; at < to; at += step) {
-    made.push({ at, text: step < DAY ? dayTime(at).slice(0, 5) : dayOf(at) });
+    const isDay = step >= DAY || to - from > DAY && dayTime(at) === "00:00:00";
+    made.push({ at, text: isDay ? dayOf(at) : dayTime(at).slice(0, 5) });
   }
   return made;
 }
