@@ -377,6 +377,26 @@ def test_again(night, subtests):
         assert at_last(lambda: night.browser.run(LISTED), ["05:40:00 TRK is OFF"], 5) == ["05:40:00 TRK is OFF"]
 
 
+def test_kept(night, subtests, monkeypatch):
+    """All entries are loaded that are kept, each once, and those that come meanwhile."""
+    monkeypatch.setattr(page_server, "KEPT", 25_500)
+    texts = [(NOW - 60_000 + it, "board TRK 1.%d READY" % it) for it in range(40_000)]
+    night.screen.past = texts[:-3]
+    night.click("past-open")
+    assert night.browser.waits_for("pastBook.list.length", 10) is not None
+    night.screen.past = texts
+    numbers = "[pastBook.list[0].number, pastBook.list.length, pastBook.list.every((it, at) => it.number === at + %d)]"
+    # three of those that were kept at first are not any more, and may be loaded by then
+    assert night.browser.waits_for("isWhole && upto === 40000", 20) is not None
+    with subtests.test("no gap, and none twice"):
+        first, count, is_whole = night.browser.run(numbers % night.browser.run("pastBook.list[0].number"))
+        assert [first + count, is_whole] == [40_001, True] and first in (14_498, 14_501)
+    night.screen.past = texts + [(NOW + it, "board TRK 2.%d READY" % it) for it in range(30_000)]
+    with subtests.test("with a gap it begins again"):
+        assert night.browser.waits_for("isWhole && upto === 70000", 20) is not None
+        assert night.browser.run(numbers % 44_501) == [44_501, 25_500, True]
+
+
 def test_saved(night):
     """Somebody is told if the file of the history is not written any more."""
     night.screen.past = [(at("05:00") + it, "board TRK 1.%d READY" % it) for it in range(1500)]
@@ -413,8 +433,8 @@ def test_keyboard(night, subtests):
     browser.key("ArrowLeft")
     with subtests.test("an arrow goes back"):
         # a thousandth of eight hours
-        assert [night.text("as-of-words"), browser.run("document.title")] == [
-            "AS OF 05:59:31, not now", "as of 05:59:31"]
+        assert night.text("as-of-words") == "AS OF 05:59:31, not now"
+        assert at_last(lambda: browser.run("document.title"), "as of 05:59:31") == "as of 05:59:31"
     browser.key("ArrowRight")
     with subtests.test("and to now"):
         assert browser.run("isPast") is False
