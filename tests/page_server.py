@@ -14,6 +14,7 @@ import re
 import sys
 import threading
 import time
+import urllib.parse
 
 import running
 
@@ -22,6 +23,8 @@ import hierarchy
 import page
 
 KEY, DETECTOR = "Bearer " + "0" * 32, running.example("detector.tree")
+# How many entries of the history an answer looks at, and how many are kept.
+LOOKED_AT, KEPT = 10_000, 131_072
 
 
 def whole(key=None, style=""):
@@ -54,6 +57,8 @@ class MadeUp:
         self.shown, self.acknowledged = "Bearer " + token if token else key, []
         self.orders, self.has_console, self.frame, self.begun = [], True, 0, time.monotonic()
         self.modes = []
+        # the history: a time (UTC, ms) and a text each, up to which number it is saved, and whether there is one at all
+        self.past, self.saved, self.keeps_history = [], 0, True
         self.is_heard = lambda station: True
         self.lock = threading.Lock()
 
@@ -117,6 +122,21 @@ class MadeUp:
             return {"console": self.has_console, "orders": rows, "modes": self.modes if self.has_console else [],
                     "acknowledged": list(self.acknowledged)}
 
+    def history(self, asked):
+        """Returns the head and the entries that were asked for, a line each, or None if the query is faulty."""
+        if any(not asked.get(it, "0").isdigit() for it in ("after", "from", "to")):
+            return None
+        with self.lock:
+            entries = list(self.past)
+        first = max(0, len(entries) - KEPT)
+        after = max(first, int(asked.get("after", len(entries) - LOOKED_AT)))
+        head = {"count": len(entries), "saved": self.saved, "after": after, "upto": after + LOOKED_AT}
+        begin, end = 1000 * int(asked.get("from", 0)), 1000 * int(asked.get("to", 1 << 40))
+        lines = [json.dumps({"number": after + place, "at": at, "text": text})
+                 for place, (at, text) in enumerate(entries[after:after + LOOKED_AT], 1)
+                 if begin <= at <= end and asked.get("object", text) in [text, *text.split()]]
+        return "\n".join([json.dumps(head), *lines, ""])
+
     def answer(self, method, target, body, headers):
         """Returns the status and the text of an answer."""
         if method == "POST" and headers.get("Authorization") != self.shown:
@@ -130,6 +150,9 @@ class MadeUp:
             return 202, "the order is on its way"
         if target == "/":
             return 200, whole(self.key, self.style)
+        if target.startswith("/api/history") and self.keeps_history:
+            text = self.history(dict(urllib.parse.parse_qsl(target.partition("?")[2])))
+            return (400, "there is no such query") if text is None else (200, text)
         made = {"/api/tree": lambda: self.tree, "/api/picture": self.picture, "/api/orders": self.told_orders}
         found = made.get(target.partition("?")[0])
         return (200, json.dumps(found())) if found else (404, "there is no such page")
@@ -177,6 +200,7 @@ class PageServer:
                     return
                 self.send_response(status)
                 kind = "text/html" if self.path == "/" else "application/json"
+                kind = "application/x-ndjson" if self.path.startswith("/api/history") else kind
                 self.send_header("Content-Type", kind + "; charset=utf-8")
                 self.send_header("Content-Length", str(len(text.encode())))
                 self.send_header("Cache-Control", "no-store")

@@ -3,7 +3,7 @@
 import { alarmsOf, grouped, unknownWords } from "./alarms.mjs";
 import { open } from "./details.mjs";
 import { by, make, mark, set } from "./dom.mjs";
-import { now } from "./model.mjs";
+import { dateOf, isPast } from "./model.mjs";
 import { isShelved, shelve, shelved, unshelve } from "./shelf.mjs";
 import { beLoud, isLoud, ring, showCount } from "./signs.mjs";
 
@@ -29,11 +29,9 @@ let texts = new Map();
 /** Forgets what was listed, because there is another tree. */
 export function forgetAlarms() { since = null; listed = ""; }
 
-/** Returns a time of the screen as one of the day.
+/** Returns a time of what is shown as one of the day.
  * @param {number | null} at */
-function clock(at) {
-  return at === null ? "--:--:--" : new Date(Date.now() - (now() - at)).toLocaleTimeString("en-GB");
-}
+const clock = (at) => at === null ? "--:--:--" : dateOf(at).toLocaleTimeString("en-GB");
 
 /** Says new alarms to somebody who does not see them, and plays a tone.
  * @param {Alarm[]} alarms @param {Alarm[]} fresh @param {string} unknown */
@@ -46,23 +44,34 @@ function announce(alarms, fresh, unknown) {
   } else if (!alarms.length) set(by("said"), unknown || "no alarms");
 }
 
+/** Keeps when each alarm began, says which are new, and returns those that are not shelved.
+ * @param {Alarm[]} all @param {string} unknown */
+function liveAlarms(all, unknown) {
+  const old = since;
+  since = new Map(all.map((it) => [it.key, old && old.has(it.key) ? old.get(it.key) : it.at]));
+  all.forEach((it) => { it.at = since.get(it.key); });
+  shelved();
+  const alarms = all.filter((it) => !isShelved(it.key));
+  announce(alarms, old ? alarms.filter((it) => !old.has(it.key)) : [], unknown);
+  return alarms;
+}
+
 /** Tells the alarms.
  * @param {Map<string, number>} heard @param {number} time */
 export function tellAlarms(heard, time) {
-  const all = alarmsOf(heard, time), old = since, unknown = unknownWords();
+  const all = alarmsOf(heard, time), unknown = unknownWords();
   all.forEach((it) => { it.knower = knowers.map((tell) => tell(it)).find((name) => name) || ""; });
-  since = new Map(all.map((it) => [it.key, old && old.has(it.key) ? old.get(it.key) : it.at]));
-  all.forEach((it) => { it.at = since.get(it.key); });
-  const off = shelved(), alarms = all.filter((it) => !isShelved(it.key)), isHiding = alarms.length < all.length;
-  announce(alarms, old ? alarms.filter((it) => !old.has(it.key)) : [], unknown);
+  const alarms = isPast ? all : liveAlarms(all, unknown), off = isPast ? [] : shelved();
+  const isHiding = alarms.length < all.length;
   const groups = grouped(alarms), hidden = isAll ? 0 : Math.max(0, alarms.length - MOST_LISTED);
-  const keys = groups.map(([, list]) => list.map((it) => [it.key, it.isSilence ? "" : it.text, it.follows, it.knower]));
-  const shown = JSON.stringify([keys, hidden, unknown, off, isLoud, isHiding]);
+  const keys = groups.map(([, list]) =>
+    list.map((it) => [it.key, it.isSilence ? "" : it.text, it.follows, it.knower, isPast ? it.at : 0]));
+  const shown = JSON.stringify([keys, hidden, unknown, off, isLoud, isHiding, isPast]);
   if (shown !== listed) {
     listed = shown;
     const calm = isHiding ? "no alarms but shelved ones" : unknown ? "no alarm is known" : "no alarms";
     draw(alarms.length ? countWords(alarms) : calm, groups, hidden, unknown, off);
-    showCount(alarms.length);
+    if (!isPast) showCount(alarms.length);
   }
   alarms.forEach((it) => { if (it.isSilence && texts.has(it.key)) set(texts.get(it.key), it.text); });
 }
@@ -96,6 +105,11 @@ function rowOf(it) {
   lead.append(make("time", "", clock(it.at)), " ", text, ...(known ? [" ", make("i", "", known)] : []),
     ...(words ? [" ", make("small", "", words)] : []));
   texts.set(it.key, text);
+  // an alarm of an earlier time can be looked at, and that is all
+  if (isPast) {
+    li.append(lead);
+    return li;
+  }
   const off = button("small", "shelve", () => { shelve(it.key, Number(by("shelf-time").value)); });
   off.setAttribute("aria-label", "shelve " + it.name);
   li.append(lead, ...acknowledgers.filter(() => !known).map((deed) => {
@@ -168,9 +182,9 @@ function draw(heading, groups, hidden, unknown, off) {
   mark(sound, "aria-pressed", String(isLoud));
   texts = new Map();
   const fresh = groups.flatMap(([, list]) => list.filter((it) => !it.knower).map((it) => it.key));
-  head.append(make("h2", "", heading), ...(fresh.length ? acknowledgers.map((deed) =>
+  head.append(make("h2", "", heading), ...(fresh.length && !isPast ? acknowledgers.map((deed) =>
     button("tool", "acknowledge all " + fresh.length, () => deed(fresh))) : []),
-    ...(count ? [make("span", "", "shelve for"), shelfTimes(old ? old.value : "10")] : []), sound);
+    ...(count && !isPast ? [make("span", "", "shelve for"), shelfTimes(old ? old.value : "10")] : []), sound);
   by("alarms").replaceChildren(head, listOf(groups, hidden ? MOST_LISTED : count),
     ...(hidden ? [button("tool", "and " + hidden + " more", () => { isAll = true; })] : []),
     ...(isAll && count > MOST_LISTED ? [button("tool", "the newest alone", () => { isAll = false; })] : []),

@@ -1,7 +1,7 @@
 // Asking the screen for pictures, and what is said of the screen itself.
 
 import { by, flag, set } from "./dom.mjs";
-import { age, afterRestart, lateness, picture, tree } from "./model.mjs";
+import { age, afterRestart, lateness, newest, tree } from "./model.mjs";
 import { build, show, take } from "./showing.mjs";
 import { showLost } from "./signs.mjs";
 
@@ -32,11 +32,11 @@ async function askTree() {
 }
 
 async function askPicture() {
-  const text = await ask("/api/picture" + (picture ? "?after=" + picture.frame : ""));
+  const text = await ask("/api/picture" + (newest ? "?after=" + newest.frame : ""));
   if (!text) return;
   const next = JSON.parse(text);
   // A screen that has begun again counts from 0, and may have another tree.
-  if (picture && next.frame < picture.frame) {
+  if (newest && next.frame < newest.frame) {
     await askTree();
     afterRestart.forEach((again) => again());
   }
@@ -55,7 +55,7 @@ export async function follow() {
 export function showLive() {
   const late = lateness(), live = by("live"), lost = late > GONE, kind = lost ? "lost" : late > LATE ? "late" : "";
   if (live.className !== kind) live.className = kind;
-  set(live, lost ? "NO CONTACT" : picture ? "live" : "joining");
+  set(live, lost ? "NO CONTACT" : newest ? "live" : "joining");
   flag(document.body, "lost", lost);
   showLost(lost);
   if (lost) set(by("lost-words"), "NO CONTACT for " + age(late) + ": nothing here is true any more");

@@ -5,6 +5,7 @@ import { by, enter } from "./dom.mjs";
 import { leaveOut } from "./finding.mjs";
 import { fold, isFolded, isHidden } from "./folding.mjs";
 import { domains } from "./model.mjs";
+import { turnPast } from "./past/panel.mjs";
 
 /** @typedef {import("./model.mjs").Domain} Domain */
 
@@ -37,14 +38,16 @@ function moves(key) {
 }
 
 /** @type {Record<string, () => void>} */
-const DEEDS = { t: turnTheme, f: fit, "/": () => by("find").focus(), "+": () => resize(1.1),
+const DEEDS = { t: turnTheme, f: fit, h: turnPast, "/": () => by("find").focus(), "+": () => resize(1.1),
   "-": () => resize(1 / 1.1) };
 
 document.addEventListener("keydown", (key) => {
   const target = /** @type {any} */ (key.target);
   const isTyping = target.matches && target.matches("input, select");
   if (key.ctrlKey || key.metaKey || key.altKey || by("more").open || isTyping) return;
-  if (DEEDS[key.key]) { DEEDS[key.key](); key.preventDefault(); } else if (moves(key.key)) key.preventDefault();
+  const isInPast = target.closest && target.closest("#past"), deed = DEEDS[key.key];
+  if (deed) deed();
+  if (deed || !isInPast && moves(key.key)) key.preventDefault();
 });
 by("find").addEventListener("input", leaveOut);
 by("find").addEventListener("keydown", (/** @type {any} */ key) => {

@@ -1,7 +1,7 @@
 // What this page has seen in the last hour.
 
 import { by, make } from "./dom.mjs";
-import { HOUR, domains, now, tree } from "./model.mjs";
+import { HOUR, domains, liveNow, tree } from "./model.mjs";
 
 const MOST_LOGGED = 2000;
 /** @type {{text: string, at: number}[]} */
@@ -16,7 +16,7 @@ const AGAIN = 3000;
 /** Notes what was seen at a time of the screen, unless it was noted before the page was loaded again.
  * @param {string} text @param {number} ms */
 export function note(text, ms) {
-  const at = Date.now() - Math.max(0, now() - ms);
+  const at = Date.now() - Math.max(0, liveNow() - ms);
   if (before.some((it) => it.text === text && Math.abs(it.at - at) < AGAIN)) return;
   log.push({ text, at });
   if (log.length > 2 * MOST_LOGGED) log = log.slice(-MOST_LOGGED);
@@ -66,7 +66,7 @@ export function noteSilence() {
     if (seen.has(d.station)) return;
     seen.add(d.station);
     const is = d.silence !== null && d.silence >= 0, text = "station " + d.station + ", which keeps " + d.name;
-    if (d.wasSilent !== undefined && d.wasSilent !== is) note(text + (is ? ": silent" : ": heard again"), now());
+    if (d.wasSilent !== undefined && d.wasSilent !== is) note(text + (is ? ": silent" : ": heard again"), liveNow());
     d.wasSilent = is;
   });
 }

@@ -4,10 +4,11 @@
 /** @typedef {{operator?: string, domain?: string} | null} Holder Who holds a domain; null if nobody does. */
 /** @typedef {{holder: Holder, epoch: number, last: number, busy: boolean, outcome: number, since: number,
  *   heard: number}} Told The furthest record of a domain, and when its keeper was last heard. */
-/** @typedef {{name: string, domain: string, shown: Shown | null, dot?: any}} Device */
+/** @typedef {{name: string, domain: string, shown: Shown | null, dot?: any, live?: any}} Device */
 /** @typedef {{name: string, station: string, parent: string | null, accepts?: boolean[], children: Domain[],
  *   devices: Device[], shown: Shown | null, told: Told | null, at?: any, silence?: number | null,
- *   wasSilent?: boolean, counted?: any}} Domain `at` has its elements, and `silence` how long its station is silent. */
+ *   wasSilent?: boolean, counted?: any, live?: any}} Domain
+ * `at` has its elements, `silence` how long its station is silent, and `live` what the newest picture says of it. */
 /** @typedef {{name: string, station: string}} Operator */
 /** @typedef {{tree: number, states: string[], actions: string[], stations: string[], operators: Operator[],
  *   domains: any[], devices: any[]}} Tree */
@@ -26,9 +27,15 @@ export let tree = null;
 export let domains = new Map();
 /** @type {Map<string, Device>} */
 export let devices = new Map();
-/** @type {any} */
+/** The newest picture that came. It is kept aside while the page shows an earlier time.
+ * @type {any} */
+export let newest = null;
+/** The picture that is shown: the newest one, or that of an earlier time.
+ * @type {any} */
 export let picture = null;
-// When the picture came, by the page's own clock.
+// Whether the page shows an earlier time (past/showing_past.mjs). Nothing may be ordered then, and nothing is an event.
+export let isPast = false;
+// When the newest picture came, by the page's own clock.
 let cameAt = 0;
 
 // What a further part of this page adds to the details of a domain, knows of a child's mode, and does once a tree or a
@@ -52,20 +59,34 @@ export function plant(next) {
   devices = new Map(next.devices.map((d) => [d.name, { ...d, shown: null }]));
   domains.forEach((d) => { if (d.parent) domains.get(d.parent).children.push(d); });
   devices.forEach((d) => domains.get(d.domain).devices.push(d));
-  picture = null;
+  newest = picture = null;
+  isPast = false;
 }
 
 /** Takes a picture as the newest one.
  * @param {Picture} next */
 export function hang(next) {
-  picture = next;
+  newest = next;
+  if (!isPast) picture = next;
   cameAt = performance.now();
+}
+
+/** Takes a picture of an earlier time as the one that is shown, or the newest one again if it is null.
+ * @param {Picture | null} earlier */
+export function hangPast(earlier) {
+  isPast = earlier !== null;
+  picture = earlier || newest;
 }
 
 /** Returns for how many milliseconds no picture has come, by the page's own clock. */
 export const lateness = () => performance.now() - cameAt;
-/** Returns the time of the screen. */
-export const now = () => picture.now + lateness();
+/** Returns the time of the screen, whatever is shown. */
+export const liveNow = () => newest.now + lateness();
+/** Returns the time of what is shown: that of the screen, or an earlier one, which stays. */
+export const now = () => isPast ? picture.now : liveNow();
+/** Returns a time of what is shown as a date. An earlier picture has dates, and a live one has the screen's clock.
+ * @param {number} at */
+export const dateOf = (at) => new Date(isPast ? at : Date.now() - (liveNow() - at));
 
 /** Returns who commands a domain, through all levels: null if that was not told, and "" if nobody does.
  * @param {Domain | undefined} d @returns {string | null} */

@@ -8,7 +8,12 @@ import { fill, opened } from "./details.mjs";
 import { by, flag, set, stopAt } from "./dom.mjs";
 import { leaveOut, leaveOutAgain, peopleOf } from "./finding.mjs";
 import { beginLog, noteChanges, noteSilence, showLog } from "./log.mjs";
-import { afterBuild, afterShow, devices, domains, hang, heardStations, now, picture, plant, tree } from "./model.mjs";
+import { afterBuild, afterShow, devices, domains, hang, hangPast, heardStations, isPast, newest, now, picture, plant,
+  tree } from "./model.mjs";
+
+/** @typedef {import("./model.mjs").Domain} Domain */
+/** @typedef {import("./model.mjs").Device} Device */
+/** @typedef {import("./model.mjs").Picture} Picture */
 
 // If there are at most this many roots, each has a row over all columns of the dense form.
 const MOST_SPANNED = 3;
@@ -46,23 +51,45 @@ export function show() {
   afterShow.forEach((more) => more());
 }
 
-/** Takes a picture: notes what has changed, and shows it.
- * @param {import("./model.mjs").Picture} next */
-export function take(next) {
-  hang(next);
+/** Gives each object of the tree what a picture says of it, and shows that.
+ * @param {Picture} next */
+function spread(next) {
   next.domains.forEach((row) => {
-    const d = domains.get(row.name), old = { shown: d.shown, told: d.told };
+    const d = domains.get(row.name);
     d.shown = row.shown;
     d.told = row.told;
-    noteChanges(old, d);
   });
   next.devices.forEach((row) => {
-    const d = devices.get(row.name), old = { shown: d.shown };
+    const d = devices.get(row.name);
     d.shown = row.shown;
-    noteChanges(old, d);
     showDevice(d);
   });
   show();
-  noteSilence();
+}
+
+/** Notes what has changed of an object since the live picture before.
+ * @param {Domain | Device} x @param {any} row */
+function noteRow(x, row) {
+  noteChanges(x.live || { shown: null, told: null }, row);
+  x.live = row;
+}
+
+/** Takes a live picture: notes what has changed, and shows it, unless the page shows an earlier time.
+ * @param {Picture} next */
+export function take(next) {
+  hang(next);
+  next.domains.forEach((row) => noteRow(domains.get(row.name), row));
+  next.devices.forEach((row) => noteRow(devices.get(row.name), row));
+  if (!isPast) {
+    spread(next);
+    noteSilence();
+  }
   showLog();
+}
+
+/** Shows a picture of an earlier time, or the newest one again if it is null.
+ * @param {Picture | null} earlier */
+export function showEarlier(earlier) {
+  hangPast(earlier);
+  if (earlier || newest) spread(earlier || newest);
 }

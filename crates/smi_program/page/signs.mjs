@@ -9,6 +9,8 @@ export let isLoud = kept("sound") === "on";
 
 // How many alarms there are, and whether the screen is lost.
 let shownCount = 0, isLost = false;
+// The earlier time that the page shows, in words: "" if it shows what is now.
+let shownTime = "";
 
 /** Says in the title that the screen is lost, or there again.
  * @param {boolean} is */
@@ -22,13 +24,20 @@ export function showLost(is) {
  * @param {number} count */
 export function showCount(count) {
   shownCount = count;
-  document.title = (count ? "(" + count + ") " : "") + "tree " + tree.tree;
+  document.title = shownTime || (count ? "(" + count + ") " : "") + "tree " + tree.tree;
   const text = count > 99 ? "99" : String(count);
   const icon = "<svg xmlns='http://www.w3.org/2000/svg' viewBox='0 0 16 16'>" +
     "<rect width='16' height='16' rx='4' fill='" + (count ? "#bb1c1c" : "#0ba860") + "'/>" + (count ? "<text x='8' " +
     "y='12.5' font-size='12' font-family='sans-serif' font-weight='bold' text-anchor='middle' fill='#fff'>" + text +
     "</text>" : "") + "</svg>";
   by("icon").href = "data:image/svg+xml," + encodeURIComponent(icon);
+}
+
+/** Says in the title which time the page shows: "" if that is now.
+ * @param {string} words */
+export function showTime(words) {
+  shownTime = words;
+  if (!isLost && tree) showCount(shownCount);
 }
 
 /** Turns the tone on or off. A browser plays nothing before somebody has clicked on the page.

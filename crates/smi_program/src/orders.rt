@@ -190,6 +190,7 @@ function learnAcknowledged(list) {
   }));
 }
 function knowerOf(it) {
+  if (isPast) return \"\";
   const one = acknowledged.get(it.key);
   return one && one.at >= (it.at ?? 0) ? one.name : \"\";
 }
@@ -222,6 +223,7 @@ function silentOnWay(d) {
   return silent;
 }
 function whyNobody() {
+  if (isPast) return \"the page shows an earlier time: go back to now\";
   if (!who) return \"choose who orders, at the top of the page\";
   if (lacksToken()) return \"type the token for orders, at the top of the page\";
   return hasConsole ? \"\" : \"there is no connection with the console\";
@@ -459,7 +461,7 @@ function showGiven() {
   given.forEach((it) => {
     if (it.waits || ended.has(it.number)) return;
     ended.set(it.number, time);
-    if (picture) note(it.line + \": \" + fateOf(it), now());
+    if (newest) note(it.line + \": \" + fateOf(it), liveNow());
   });
   const old = given.filter((it) => !it.waits && time - ended.get(it.number) < SHOWN_FOR).slice(-SHOWN);
   const rows = given.filter((it) => it.waits || old.includes(it)).map((it) => ({ number: it.number,
@@ -502,7 +504,7 @@ by(\"clock\").before(chooser, ...(asksToken() ? [tokenField()] : []), standing);
 by(\"alarms\").after(list, told);
 set(by(\"never\"), \"A click orders once you have said yes.\");
 extras.push(ordersOf);
-modeSayers.push((d) => modeOf(d) || (d.parent && isManual(d) ? \"manual\" : \"\"));
+modeSayers.push((d) => isPast ? \"\" : modeOf(d) || (d.parent && isManual(d) ? \"manual\" : \"\"));
 knowers.push(knowerOf);
 acknowledgers.push(acknowledge);
 afterBuild.push(offerAnew);

@@ -41,7 +41,12 @@ aside { grid-area: aside; padding: .4rem .8rem 0 }
 main { grid-area: main; padding: .4rem .8rem }
 footer { grid-area: footer; padding: 0 .8rem .4rem; color: var(--soft); display: grid; gap: .25rem }
 @media (min-width: 64rem) and (min-height: 32rem) {
-  body { display: grid; grid-template-rows: auto minmax(0, 1fr); height: 100vh }
+  body { display: grid; grid-template: \"head\" auto \"as-of\" auto \"all\" minmax(0, 1fr) \"past\" auto / minmax(0, 1fr);
+    height: 100vh }
+  header { grid-area: head }
+  #as-of { grid-area: as-of }
+  #all { grid-area: all }
+  #past { grid-area: past }
   #all { grid-template: \"main aside\" minmax(0, 1fr) \"footer aside\" auto / minmax(0, 1fr) 18rem }
   main, aside { overflow: auto; position: relative }
   aside { border-left: 2px solid var(--line) }
@@ -196,6 +201,65 @@ dt { color: var(--soft) }
 dd { margin: 0; font-weight: 700; overflow-wrap: anywhere }
 table { width: 100%; border-collapse: collapse; margin: 1rem 0 }
 td, th { padding: .2rem .4rem; border-bottom: 1px solid var(--line); text-align: left }
+[hidden] { display: none !important }
+#as-of { display: none; flex-wrap: wrap; align-items: center; gap: .3rem 1rem; padding: .3rem .8rem;
+  background: var(--ink); color: var(--back) }
+.as-of #as-of { display: flex }
+#as-of-words { font-size: 1.8rem; font-weight: 900 }
+#as-of :focus-visible { outline-color: var(--back) }
+#as-of button { border: 2px solid var(--back); border-radius: 8px; padding: .15rem .8rem; font-weight: 700 }
+#as-of-now:not(:empty) { background: #bb1c1c; color: #fff; border-radius: 8px; padding: .1rem .6rem; font-weight: 800 }
+.as-of .given { display: none }
+#past { padding: .4rem .8rem; border-top: 4px solid var(--line); background: var(--card) }
+#past h2 { font-size: 1.15rem; margin: 0 }
+#past-head, #past-time, #summary-tools { display: flex; flex-wrap: wrap; align-items: center; gap: .3rem .8rem }
+#past-head label, #past-search-label { display: inline-flex; align-items: center; gap: .4rem; font-weight: 600;
+  color: var(--soft) }
+#past input:not([type=range]) { font: inherit; width: 11rem; padding: .1rem .5rem; border: 2px solid var(--line);
+  border-radius: 8px; background: var(--card); color: var(--ink) }
+#past input.strange { border-style: dashed; border-color: var(--soft) }
+#past-said { font-weight: 700; color: var(--soft) }
+#past-close { margin-left: auto }
+#past-slider { flex: 1; min-width: 8rem }
+#past-shown { font-weight: 800; min-width: 8rem }
+#past-body { display: grid; gap: .4rem 1rem; grid-template-columns: minmax(0, 1fr) }
+#time-line { position: relative }
+#time-line ol, #past-list { list-style: none; margin: 0; padding: 0 }
+.row { display: grid; grid-template-columns: 9rem minmax(0, 1fr); gap: .4rem; align-items: center; margin-bottom: 3px }
+.row-name { font-weight: 700; font-size: .85rem; overflow-wrap: anywhere; color: var(--ink) }
+.track { position: relative; height: 1.5rem; background: var(--none); border-radius: 4px; overflow: hidden;
+  cursor: pointer }
+.band, .hush { position: absolute; top: 0; bottom: 0; min-width: 1px; background: var(--c, var(--none)) }
+.hush { background: repeating-linear-gradient(135deg, #0000 0 5px, #000c 5px 9px), #fff6 }
+.mark { position: absolute; top: 0; bottom: 0; width: 9px; margin-left: -4px; font: 900 .8rem/1.5rem system-ui,
+  sans-serif; text-align: center; color: #000; text-shadow: 0 0 2px #fff, 0 0 2px #fff, 0 0 3px #fff }
+.mark.grant::before { content: \"\\25C6\" }
+.mark.fault::before { content: \"\\2715\" }
+.mark.trip::before { content: \"!\" }
+.mark.order::before { content: \"\\25B8\" }
+.as-of .track::after { content: \"\"; position: absolute; top: 0; bottom: 0; left: var(--at); width: 2px;
+  margin-left: -1px; background: var(--ink); outline: 1px solid var(--card) }
+.axis { position: relative; height: 1.2rem; margin-left: 9.4rem; font-size: .8rem; color: var(--soft) }
+.axis span { position: absolute; border-left: 1px solid var(--soft); padding-left: .2rem }
+#past-signs { margin: 0; color: var(--soft); font-size: .8rem }
+#past-signs .mark { position: static; margin: 0 .2rem; color: inherit; text-shadow: none }
+#past-list { max-height: 26rem; overflow: auto; font-size: .9rem }
+#past-list li { border-bottom: 1px solid var(--line) }
+#past-list button { width: 100%; overflow-wrap: anywhere }
+#past-list .here, #past-list .here time { background: var(--ink); color: var(--back) }
+#past-list time { color: var(--soft); margin-right: .5em }
+#its-past { margin-left: .6rem }
+#past-more { color: var(--soft); margin: 0; font-weight: 600 }
+#summary-text { font: .85rem/1.3 ui-monospace, \"DejaVu Sans Mono\", monospace; white-space: pre-wrap; margin: .4rem 0 }
+@media (min-width: 64rem) { #past-body { grid-template-columns: minmax(0, 1fr) 24rem } }
+@media (min-width: 64rem) and (min-height: 32rem) { #past { max-height: 48vh; overflow: auto } }
+@media print {
+  body.summarised { display: block; height: auto }
+  body.summarised > :not(#past), body.summarised #past > :not(#past-body), .summarised #past-body > :not(#past-left),
+  .summarised #past-left > :not(#summary), .summarised #summary > :not(pre) { display: none !important }
+  body.summarised #past { max-height: none; overflow: visible; border: 0; padding: 0; background: #fff; color: #000 }
+  .summarised #past-body { display: block }
+}
 @media (max-width: 40rem) {
   #lost { font-size: 3rem }
   #alarms { max-height: 45vh }
@@ -204,14 +268,19 @@ td, th { padding: .2rem .4rem; border-bottom: 1px solid var(--line); text-align:
   .dense #main { columns: auto }
 }
 @media (max-width: 40rem) {
-  button, summary, select, #find, #token, h1 a, .tool { min-height: 44px; min-width: 44px }
+  button, summary, select, #find, #token, #past input, h1 a, .tool { min-height: 44px; min-width: 44px }
   h1 a { display: inline-flex; align-items: center }
   .top { min-height: 44px !important }
+  .row { grid-template-columns: 5rem minmax(0, 1fr) }
+  .axis { margin-left: 5.4rem }
+  .axis span:nth-child(even) { display: none }
+  #past-slider { flex: 100%; order: -1 }
   .fold { min-width: 44px; line-height: 44px; margin: 0 -.3rem 0 -.8rem }
   .alarm > * { align-items: center }
 }
 @media (forced-colors: active) {
-  .state, .who, .note, .devices i, .legend i, #live, .alarm > [data-alarm], .fold.hot, .initials {
+  .state, .who, .note, .devices i, .legend i, #live, .alarm > [data-alarm], .fold.hot, .initials,
+  .band, .hush {
     forced-color-adjust: none }
   .devices i, .legend i, .alarm > [data-alarm], .state { border: 1px solid CanvasText }
 }
@@ -226,7 +295,10 @@ td, th { padding: .2rem .4rem; border-bottom: 1px solid var(--line); text-align:
   <button class=\"tool\" id=\"dense\" type=\"button\" aria-pressed=\"false\">dense</button>
   <button class=\"tool\" id=\"fit\" type=\"button\" title=\"the largest letters with which all is in the window\">fit</button>
   <button class=\"tool\" id=\"theme\" type=\"button\">light / dark</button>
+  <button class=\"tool\" id=\"past-open\" type=\"button\" aria-pressed=\"false\" title=\"what was (h)\">past</button>
 </header>
+<div id=\"as-of\"><span id=\"as-of-words\" role=\"status\"></span>
+  <button id=\"back-to-now\" type=\"button\">back to now</button><span id=\"as-of-now\" role=\"status\"></span></div>
 <div id=\"said\" class=\"hidden\" role=\"alert\"></div>
 <div id=\"all\">
 <aside>
@@ -241,13 +313,49 @@ td, th { padding: .2rem .4rem; border-bottom: 1px solid var(--line); text-align:
   <details id=\"help\"><summary>keys and signs</summary>
     <p><kbd>Tab</kbd>: into the tree and out of it. Arrows: go round in it, <kbd>Left</kbd> folds and <kbd>Right</kbd>
     unfolds. <kbd>Enter</kbd>: more, <kbd>Esc</kbd>: back, <kbd>/</kbd>: find, <kbd>t</kbd>: light or dark,
-    <kbd>+</kbd> and <kbd>-</kbd>: size, <kbd>f</kbd>: fit. A name above: what that person commands. A dashed edge:
-    held by somebody else than what is above.
+    <kbd>+</kbd> and <kbd>-</kbd>: size, <kbd>f</kbd>: fit, <kbd>h</kbd>: the past. A name above: what that person
+    commands. A dashed edge: held by somebody else than what is above.
     <i>mode unknown</i>: only the node that keeps the domain above knows whether a child is included, manual or ignored,
     and it tells only a screen that orders there.
     <span id=\"never\">This page shows and never orders.</span></p></details>
 </footer>
 </div>
+<section id=\"past\" aria-labelledby=\"past-name\" hidden>
+  <div id=\"past-head\">
+    <h2 id=\"past-name\" tabindex=\"-1\">The past</h2>
+    <label>time <select id=\"past-span\"><option value=\"1\">last hour</option><option value=\"8\">8 hours</option>
+      <option value=\"24\">24 hours</option><option value=\"0\">all that is kept</option></select></label>
+    <label>of <input id=\"past-of\" list=\"past-names\" placeholder=\"all\" autocomplete=\"off\"></label>
+    <datalist id=\"past-names\"></datalist>
+    <span id=\"past-said\" role=\"status\"></span>
+    <button class=\"tool\" id=\"past-close\" type=\"button\">close (Esc)</button>
+  </div>
+  <div id=\"past-time\">
+    <button class=\"tool\" id=\"past-before\" type=\"button\">previous entry</button>
+    <input id=\"past-slider\" type=\"range\" min=\"0\" max=\"1000\" value=\"1000\" aria-label=\"the time that the page shows\">
+    <button class=\"tool\" id=\"past-after\" type=\"button\">next entry</button>
+    <output id=\"past-shown\">now</output>
+  </div>
+  <div id=\"past-body\">
+    <div id=\"past-left\">
+      <div id=\"time-line\"></div>
+      <p id=\"past-signs\"><b class=\"mark grant\"></b>another holder<b class=\"mark fault\"></b>a command that did not end
+        with 0<b class=\"mark trip\"></b>an alarm begins<b class=\"mark order\"></b>an order of this screen. Hatched: the
+        station is silent. A name: what is below it.</p>
+      <details id=\"summary\"><summary>summary for the log book</summary>
+        <div id=\"summary-tools\"><button class=\"tool\" id=\"summary-copy\" type=\"button\">copy</button>
+          <button class=\"tool\" id=\"summary-save\" type=\"button\">save</button>
+          <button class=\"tool\" id=\"summary-print\" type=\"button\">print</button>
+          <span id=\"summary-said\" role=\"status\"></span></div>
+        <pre id=\"summary-text\" tabindex=\"0\" aria-label=\"summary\"></pre></details>
+    </div>
+    <div id=\"past-right\">
+      <label id=\"past-search-label\">search <input id=\"past-search\" type=\"search\" placeholder=\"any words\"></label>
+      <ol id=\"past-list\" aria-label=\"entries, the newest first\"></ol>
+      <p id=\"past-more\"></p>
+    </div>
+  </div>
+</section>
 <div id=\"lost\" role=\"alertdialog\" aria-labelledby=\"lost-words\"><span id=\"lost-words\"></span></div>
 <dialog id=\"more\" aria-labelledby=\"more-name\"></dialog>
 <noscript>This page needs JavaScript.</noscript>
@@ -289,7 +397,9 @@ let styles = new Map();
 let tree = null;
 let domains = new Map();
 let devices = new Map();
+let newest = null;
 let picture = null;
+let isPast = false;
 let cameAt = 0;
 const extras = [];
 const modeSayers = [];
@@ -302,14 +412,22 @@ function plant(next) {
   devices = new Map(next.devices.map((d) => [d.name, { ...d, shown: null }]));
   domains.forEach((d) => { if (d.parent) domains.get(d.parent).children.push(d); });
   devices.forEach((d) => domains.get(d.domain).devices.push(d));
-  picture = null;
+  newest = picture = null;
+  isPast = false;
 }
 function hang(next) {
-  picture = next;
+  newest = next;
+  if (!isPast) picture = next;
   cameAt = performance.now();
 }
+function hangPast(earlier) {
+  isPast = earlier !== null;
+  picture = earlier || newest;
+}
 const lateness = () => performance.now() - cameAt;
-const now = () => picture.now + lateness();
+const liveNow = () => newest.now + lateness();
+const now = () => isPast ? picture.now : liveNow();
+const dateOf = (at) => new Date(isPast ? at : Date.now() - (liveNow() - at));
 function commander(d) {
   for (let level = 0; level <= 8 && d; level += 1) {
     if (!d.told) return null;
@@ -509,40 +627,280 @@ function showFold(d) {
   flag(d.at.fold, \"hot\", is && isHot(d));
   mark(d.at.top, \"aria-expanded\", String(!is));
 }
-function seen() {
-  const tops = ([...document.querySelectorAll(\"#main [data-domain]\")]);
-  return tops.map((top) => domains.get(top.dataset.domain))
-    .filter((d) => !d.at.box.classList.contains(\"left-out\") && !isHidden(d));
+function readAnswer(text) {
+  const [head, ...list] = JSON.parse(\"[\" + text.trimEnd().replaceAll(\"\\n\", \",\") + \"]\");
+  list.forEach((it) => { it.words = it.text.split(\" \"); });
+  return { head, list };
 }
-function moves(key) {
-  const all = seen(), here = document.activeElement && (document.activeElement).dataset.domain;
-  const d = domains.get(here), at = all.indexOf(d), step = ({ ArrowDown: 1, ArrowUp: -1 })[key];
-  let next = null;
-  if (!all.length) return false;
-  if (step) next = d ? all[(at + step + all.length) % all.length] : all[0];
-  else if (!d) return false;
-  else if (key === \"Home\" || key === \"End\") next = all[key === \"Home\" ? 0 : all.length - 1];
-  else if (key === \"ArrowRight\" && d.children.length) {
-    if (isFolded(d)) fold(d, false); else next = all[at + 1];
-  } else if (key === \"ArrowLeft\") {
-    if (d.children.length && !isFolded(d)) fold(d, true); else next = domains.get(d.parent);
-  } else return false;
-  if (next) enter(next.at.top);
-  return true;
+function keysOf([kind, first, second]) {
+  if (kind === \"board\" || kind === \"record\") return [kind + \" \" + first];
+  if (kind === \"silent\" || kind === \"heard\") return [\"silence \" + first];
+  if (kind === \"given\") return [\"order \" + first, \"given\"];
+  if (kind === \"ended\") return [\"order \" + first];
+  return kind === \"acknowledged\" ? [\"acknowledged \" + first + \" \" + second] : [];
 }
-const DEEDS = { t: turnTheme, f: fit, \"/\": () => by(\"find\").focus(), \"+\": () => resize(1.1),
-  \"-\": () => resize(1 / 1.1) };
-document.addEventListener(\"keydown\", (key) => {
-  const target = (key.target);
-  const isTyping = target.matches && target.matches(\"input, select\");
-  if (key.ctrlKey || key.metaKey || key.altKey || by(\"more\").open || isTyping) return;
-  if (DEEDS[key.key]) { DEEDS[key.key](); key.preventDefault(); } else if (moves(key.key)) key.preventDefault();
-});
-by(\"find\").addEventListener(\"input\", leaveOut);
-by(\"find\").addEventListener(\"keydown\", (key) => {
-  if (key.key === \"Escape\") { by(\"find\").value = \"\"; by(\"find\").blur(); leaveOut(); }
-});
-addEventListener(\"hashchange\", leaveOut);
+function bookOf(list) {
+  const of = new Map();
+  list.forEach((it) => keysOf(it.words).forEach((key) => {
+    const same = of.get(key);
+    if (same) same.push(it); else of.set(key, [it]);
+  }));
+  return { list, of };
+}
+function joinBooks(early, late) {
+  const of = new Map(early.of);
+  late.of.forEach((list, key) => of.set(key, (of.get(key) || []).concat(list)));
+  return { list: early.list.concat(late.list), of };
+}
+const entriesOf = (book, key) => book.of.get(key) || [];
+function countFront(list, holds) {
+  let low = 0, high = list.length;
+  while (low < high) {
+    const middle = (low + high) >> 1;
+    if (holds(list[middle])) low = middle + 1; else high = middle;
+  }
+  return low;
+}
+const lastUpTo = (list, number) => list[countFront(list, (it) => it.number <= number) - 1];
+function recordIn({ words: [, , kind, ...more] }) {
+  const holder = kind === \"operator\" ? { operator: more[0] } : kind === \"domain\" ? { domain: more[0] } : null;
+  const [epoch, last, work, outcome] = holder ? more.slice(1) : more;
+  return { holder, epoch: Number(epoch), last: Number(last), busy: work === \"busy\", outcome: Number(outcome) };
+}
+function newsOf(entry, before) {
+  const is = recordIn(entry), was = before && recordIn(before);
+  const isHeldOn = !!was && JSON.stringify(was.holder) === JSON.stringify(is.holder) &&
+    (is.holder === null || was.epoch === is.epoch);
+  const isNoNews = !!was && is.last === was.last && is.busy === was.busy;
+  return { ...is, hasHolder: !isHeldOn, hasCommand: is.last > 0 && !isNoNews };
+}
+const beforeIt = (book, entry) => lastUpTo(entriesOf(book, keysOf(entry.words)[0]), entry.number - 1);
+function givenOf(book, entry) {
+  const list = entriesOf(book, \"order \" + entry.words[1]), last = countFront(list, (it) => it.number <= entry.number);
+  return list.slice(0, last).reverse().find((it) => it.words[0] === \"given\");
+}
+function isAbout(book, entry, names) {
+  if (names === null || entry.words.some((word) => names.has(word))) return true;
+  const order = entry.words[0] === \"ended\" ? givenOf(book, entry) : undefined;
+  return !!order && order.words.some((word) => names.has(word));
+}
+const AT_ONCE = 10000, EACH = 1000, LONGEST = 10000;
+let pastBook = bookOf([]);
+let newestHead = null;
+let isWhole = false;
+let historyFault = \"\";
+const afterAnswer = [];
+let upto = 0, after = 0;
+let begin = 0;
+let isWanted = false, isAsking = false;
+let askedLast = 0;
+function forgetHistory() {
+  begin += 1;
+  pastBook = bookOf([]);
+  newestHead = null;
+  isWhole = false;
+  upto = after = 0;
+  historyFault = \"\";
+}
+async function fetchEntries(query) {
+  const gone = new AbortController(), bell = setTimeout(() => gone.abort(), LONGEST);
+  try {
+    const answer = await fetch(\"/api/history\" + query, { signal: gone.signal, cache: \"no-store\" });
+    return answer.ok ? readAnswer(await answer.text()) : answer.status;
+  } catch (refused) {
+    return 0;
+  } finally { clearTimeout(bell); }
+}
+function takeNewer({ head, list }) {
+  const isFirst = newestHead === null;
+  if (!isFirst && (head.count < upto || head.after > upto)) { forgetHistory(); return; }
+  newestHead = head;
+  if (isFirst) {
+    after = head.after;
+    isWhole = after === 0;
+  }
+  upto = Math.min(head.upto, head.count);
+  if (list.length) pastBook = joinBooks(pastBook, bookOf(list));
+}
+function takeEarlier({ head, list }, asked) {
+  pastBook = joinBooks(bookOf(list.filter((it) => it.number <= after)), pastBook);
+  isWhole = head.after > asked || asked === 0;
+  after = asked;
+}
+async function askOnce() {
+  const mine = begin, isNewer = newestHead === null || isWhole || askedLast + EACH < performance.now();
+  const from = isNewer ? upto : Math.max(0, after - AT_ONCE);
+  const answer = await fetchEntries(newestHead === null ? \"\" : \"?after=\" + from);
+  if (mine !== begin) return 0;
+  historyFault = answer === 404 ? \"this screen keeps no history\" :
+    typeof answer === \"number\" ? \"the screen does not answer\" : \"\";
+  if (answer === 404) isWanted = false;
+  if (typeof answer === \"number\") return EACH;
+  if (isNewer) {
+    askedLast = performance.now();
+    takeNewer(answer);
+  } else takeEarlier(answer, from);
+  return isWhole && newestHead !== null && upto >= newestHead.count ? EACH : 0;
+}
+async function followHistory() {
+  isWanted = true;
+  if (isAsking) return;
+  isAsking = true;
+  try {
+    while (isWanted) {
+      const pause = await askOnce();
+      afterAnswer.forEach((more) => more());
+      await new Promise((go) => { setTimeout(go, pause); });
+    }
+  } finally { isAsking = false; }
+}
+function leaveHistory() { isWanted = false; }
+afterBuild.push(forgetHistory);
+afterRestart.push(forgetHistory);
+const CODE_WORDS = { 0: \"done\", 1: \"a domain on the way does not accept the action\",
+  2: \"the target is not below the domain\", 3: \"the child is held and in that mode already\", 4: \"the child is not held\",
+  5: \"another one holds the domain\", 6: \"a child on the way is not held or is manual\",
+  7: \"a million commands were given to a child under one grant\", 8: \"ended, and how was not seen\",
+  9: \"the domain's epochs are used up\", 21: \"the operator does not hold the domain\",
+  22: \"a command on the domain is not answered yet\",
+  23: \"the operator holds the domain already, or takes it or gives it back\",
+  24: \"a million commands were given under this grant\", 25: \"the operator holds or waits for sixteen domains\",
+  26: \"nothing of that name is there\", 31: \"the store did not save it\", 32: \"the station has stopped\",
+  33: \"the node is out of memory\" };
+function holderWords(entry) {
+  const holder = recordIn(entry).holder;
+  return !holder ? \"free\" : holder.operator || \"domain \" + holder.domain;
+}
+function recordWords(entry, before) {
+  const name = entry.words[1], news = newsOf(entry, before), holder = holderWords(entry);
+  return [...(news.hasHolder ? [name + (holder === \"free\" ? \" is free\" : \" held by \" + holder)] : []),
+    ...(news.hasCommand ? [\"command \" + news.last + \" of \" + name +
+      (news.busy ? \" is at work\" : \" ended with \" + news.outcome)] : [])].join(\", \") || name + \" is as before\";
+}
+function orderIn(order) {
+  const [, , verb, ...more] = order ? order.words : [\"\", \"\", \"\"];
+  return verb === \"order\" ? [more[0], more.slice(1).join(\" \")] : [\"\", [verb, ...more].join(\" \")];
+}
+function endIn(entry) {
+  const words = entry.words.slice(2), code = words[words.length - 1];
+  if (words[0] !== \"told\" || !/^\\d+$/.test(code)) return words.join(\" \");
+  return \"ended with \" + code + (CODE_WORDS[code] ? \": \" + CODE_WORDS[code] : \"\");
+}
+function orderWords(book, entry, number) {
+  const order = givenOf(book, { ...entry, words: [\"ended\", number] }), [operator, which] = orderIn(order);
+  return !order ? \"order \" + number : operator ? which + \" of \" + operator : withdrawalWords(book, order);
+}
+const withdrawalWords = (book, order) => \"withdrawal of \" + orderWords(book, order, order.words[3]);
+function givenWords(book, entry) {
+  const [operator, order] = orderIn(entry);
+  return operator ? operator + \" ordered \" + order : withdrawalWords(book, entry) + \" was asked for\";
+}
+function endedWords(book, entry) {
+  const end = endIn(entry);
+  return orderWords(book, entry, entry.words[1]) + (end.startsWith(\"ended with \") ? \" \" : \": \") + end;
+}
+function sayEntry(book, entry) {
+  const [kind, first, second, third] = entry.words;
+  if (kind === \"board\") return first + \" is \" + third;
+  if (kind === \"record\") return recordWords(entry, beforeIt(book, entry));
+  if (kind === \"silent\") return \"station of \" + first + \" is silent\";
+  if (kind === \"heard\") return \"station of \" + first + \" is heard again\";
+  if (kind === \"given\") return givenWords(book, entry);
+  if (kind === \"ended\") return endedWords(book, entry);
+  return kind === \"acknowledged\" ? third + \" acknowledged \" + first + \" \" + second : entry.text;
+}
+function stretchesIn(list, valueOf, { from, to }) {
+  const first = countFront(list, (it) => it.at <= from), begin = list[first - 1];
+  const made = [{ value: begin ? valueOf(begin) : \"\", from, to, count: 1 }];
+  for (const it of list.slice(first, countFront(list, (other) => other.at < to))) {
+    const last = made[made.length - 1], value = valueOf(it);
+    if (value !== last.value) {
+      last.to = it.at;
+      made.push({ value, from: it.at, to, count: 1 });
+    }
+  }
+  return made.filter((it) => it.to > it.from);
+}
+const statesOf = (book, name, span) =>
+  stretchesIn(entriesOf(book, \"board \" + name), (it) => it.words[3], span);
+const holdersOf = (book, name, span) => stretchesIn(entriesOf(book, \"record \" + name), holderWords, span);
+function silenceEntries(book, station) {
+  const names = [...domains.values()].filter((d) => d.station === station).map((d) => d.name);
+  return names.flatMap((name) => entriesOf(book, \"silence \" + name)).sort((a, b) => a.number - b.number);
+}
+const silentTimes = (book, station, span) =>
+  stretchesIn(silenceEntries(book, station), (it) => it.words[0], span).filter((it) => it.value === \"silent\");
+function worse(one, other) {
+  const isHot = (it) => kindOf(it.value) === \"alarm\";
+  if (isHot(one) !== isHot(other)) return isHot(one) ? one.value : other.value;
+  return one.to - one.from >= other.to - other.from ? one.value : other.value;
+}
+function thinned(list, least) {
+  const made = [];
+  list.forEach((it) => {
+    const last = made[made.length - 1], isShort = it.to - it.from < least;
+    if (!last || !isShort || last.to - last.from >= least) { made.push({ ...it }); return; }
+    last.value = worse(last, it);
+    last.to = it.to;
+    last.count += it.count;
+  });
+  return made;
+}
+const within = (list, { from, to }) =>
+  list.slice(countFront(list, (it) => it.at < from), countFront(list, (it) => it.at <= to));
+function marksOf(book, name, span) {
+  const marks = [];
+  const add = (kind, it) =>
+    marks.push({ kind, at: it.at, words: sayEntry(book, it) });
+  within(entriesOf(book, \"record \" + name), span).forEach((it) => {
+    const before = beforeIt(book, it), news = newsOf(it, before);
+    if (before && news.hasHolder) add(\"grant\", it);
+    if (before && news.hasCommand && !news.busy && news.outcome) add(\"fault\", it);
+  });
+  within(entriesOf(book, \"board \" + name), span).forEach((it) => {
+    const before = beforeIt(book, it), wasHot = !!before && kindOf(before.words[3]) === \"alarm\";
+    if (kindOf(it.words[3]) === \"alarm\" && !wasHot) add(\"trip\", it);
+  });
+  within(entriesOf(book, \"given\"), span).forEach((it) => { if (it.words.slice(3).includes(name)) add(\"order\", it); });
+  return marks;
+}
+const MOST_ROWS = 40;
+let hours = [0, 1, 24].find((it) => kept(\"past-hours\") === String(it)) ?? 8;
+let subject = \"\";
+let end = null;
+function chooseHours(next) {
+  hours = next;
+  keep(\"past-hours\", String(next));
+}
+function chooseSubject(name) { subject = name; }
+function keepEnd(is) { end = is ? end ?? shownSpan().to : null; }
+function shownSpan() {
+  const list = pastBook.list, last = list.length ? list[list.length - 1].at : 0;
+  const to = end ?? Math.max(Date.now(), last + 1);
+  return { from: hours ? to - hours * HOUR : list.length ? Math.min(list[0].at, to - 1) : to - HOUR, to };
+}
+const namesBelow = (d) => [d.name, ...d.devices.map((it) => it.name), ...d.children.flatMap(namesBelow)];
+function wantedNames() {
+  if (!subject) return null;
+  const d = domains.get(subject);
+  return new Set(d ? namesBelow(d) : [subject]);
+}
+function shownEntries() {
+  const list = within(pastBook.list, shownSpan()), names = wantedNames();
+  return names === null ? list : list.filter((it) => isAbout(pastBook, it, names));
+}
+function rowNames() {
+  const d = domains.get(subject), all = [...domains.values()];
+  const isHeld = (it) =>
+    entriesOf(pastBook, \"record \" + it.name).some((entry) => entry.words[3] === subject);
+  const rows = d ? [d, ...d.children, ...d.devices] : devices.has(subject) ? [devices.get(subject)] :
+    subject ? all.filter(isHeld) : all.filter((it) => !it.parent).flatMap((it) => [it, ...it.children]);
+  return rows.slice(0, MOST_ROWS).map((it) => it.name);
+}
+function placeOf(at) {
+  const entry = pastBook.list[countFront(pastBook.list, (it) => it.at <= at) - 1];
+  return { number: entry ? entry.number : 0, at };
+}
 function groupOf(d) {
   let at = d;
   while (at.parent && domains.get(at.parent).parent) at = domains.get(at.parent);
@@ -691,6 +1049,7 @@ try {
 let audio = null;
 let isLoud = kept(\"sound\") === \"on\";
 let shownCount = 0, isLost = false;
+let shownTime = \"\";
 function showLost(is) {
   if (is === isLost) return;
   isLost = is;
@@ -698,13 +1057,17 @@ function showLost(is) {
 }
 function showCount(count) {
   shownCount = count;
-  document.title = (count ? \"(\" + count + \") \" : \"\") + \"tree \" + tree.tree;
+  document.title = shownTime || (count ? \"(\" + count + \") \" : \"\") + \"tree \" + tree.tree;
   const text = count > 99 ? \"99\" : String(count);
   const icon = \"<svg xmlns='http://www.w3.org/2000/svg' viewBox='0 0 16 16'>\" +
     \"<rect width='16' height='16' rx='4' fill='\" + (count ? \"#bb1c1c\" : \"#0ba860\") + \"'/>\" + (count ? \"<text x='8' \" +
     \"y='12.5' font-size='12' font-family='sans-serif' font-weight='bold' text-anchor='middle' fill='#fff'>\" + text +
     \"</text>\" : \"\") + \"</svg>\";
   by(\"icon\").href = \"data:image/svg+xml,\" + encodeURIComponent(icon);
+}
+function showTime(words) {
+  shownTime = words;
+  if (!isLost && tree) showCount(shownCount);
 }
 function beLoud(is) {
   isLoud = is;
@@ -732,9 +1095,7 @@ const acknowledgers = [];
 let listed = \"\", isAll = false;
 let texts = new Map();
 function forgetAlarms() { since = null; listed = \"\"; }
-function clock(at) {
-  return at === null ? \"--:--:--\" : new Date(Date.now() - (now() - at)).toLocaleTimeString(\"en-GB\");
-}
+const clock = (at) => at === null ? \"--:--:--\" : dateOf(at).toLocaleTimeString(\"en-GB\");
 function announce(alarms, fresh, unknown) {
   if (fresh.length) {
     const names = fresh.slice(0, MOST_READ).map((it) => it.isSilence ? \"station \" + it.name + \" is silent\" : it.text);
@@ -743,21 +1104,29 @@ function announce(alarms, fresh, unknown) {
     ring();
   } else if (!alarms.length) set(by(\"said\"), unknown || \"no alarms\");
 }
-function tellAlarms(heard, time) {
-  const all = alarmsOf(heard, time), old = since, unknown = unknownWords();
-  all.forEach((it) => { it.knower = knowers.map((tell) => tell(it)).find((name) => name) || \"\"; });
+function liveAlarms(all, unknown) {
+  const old = since;
   since = new Map(all.map((it) => [it.key, old && old.has(it.key) ? old.get(it.key) : it.at]));
   all.forEach((it) => { it.at = since.get(it.key); });
-  const off = shelved(), alarms = all.filter((it) => !isShelved(it.key)), isHiding = alarms.length < all.length;
+  shelved();
+  const alarms = all.filter((it) => !isShelved(it.key));
   announce(alarms, old ? alarms.filter((it) => !old.has(it.key)) : [], unknown);
+  return alarms;
+}
+function tellAlarms(heard, time) {
+  const all = alarmsOf(heard, time), unknown = unknownWords();
+  all.forEach((it) => { it.knower = knowers.map((tell) => tell(it)).find((name) => name) || \"\"; });
+  const alarms = isPast ? all : liveAlarms(all, unknown), off = isPast ? [] : shelved();
+  const isHiding = alarms.length < all.length;
   const groups = grouped(alarms), hidden = isAll ? 0 : Math.max(0, alarms.length - MOST_LISTED);
-  const keys = groups.map(([, list]) => list.map((it) => [it.key, it.isSilence ? \"\" : it.text, it.follows, it.knower]));
-  const shown = JSON.stringify([keys, hidden, unknown, off, isLoud, isHiding]);
+  const keys = groups.map(([, list]) =>
+    list.map((it) => [it.key, it.isSilence ? \"\" : it.text, it.follows, it.knower, isPast ? it.at : 0]));
+  const shown = JSON.stringify([keys, hidden, unknown, off, isLoud, isHiding, isPast]);
   if (shown !== listed) {
     listed = shown;
     const calm = isHiding ? \"no alarms but shelved ones\" : unknown ? \"no alarm is known\" : \"no alarms\";
     draw(alarms.length ? countWords(alarms) : calm, groups, hidden, unknown, off);
-    showCount(alarms.length);
+    if (!isPast) showCount(alarms.length);
   }
   alarms.forEach((it) => { if (it.isSilence && texts.has(it.key)) set(texts.get(it.key), it.text); });
 }
@@ -782,6 +1151,10 @@ function rowOf(it) {
   lead.append(make(\"time\", \"\", clock(it.at)), \" \", text, ...(known ? [\" \", make(\"i\", \"\", known)] : []),
     ...(words ? [\" \", make(\"small\", \"\", words)] : []));
   texts.set(it.key, text);
+  if (isPast) {
+    li.append(lead);
+    return li;
+  }
   const off = button(\"small\", \"shelve\", () => { shelve(it.key, Number(by(\"shelf-time\").value)); });
   off.setAttribute(\"aria-label\", \"shelve \" + it.name);
   li.append(lead, ...acknowledgers.filter(() => !known).map((deed) => {
@@ -841,9 +1214,9 @@ function draw(heading, groups, hidden, unknown, off) {
   mark(sound, \"aria-pressed\", String(isLoud));
   texts = new Map();
   const fresh = groups.flatMap(([, list]) => list.filter((it) => !it.knower).map((it) => it.key));
-  head.append(make(\"h2\", \"\", heading), ...(fresh.length ? acknowledgers.map((deed) =>
+  head.append(make(\"h2\", \"\", heading), ...(fresh.length && !isPast ? acknowledgers.map((deed) =>
     button(\"tool\", \"acknowledge all \" + fresh.length, () => deed(fresh))) : []),
-    ...(count ? [make(\"span\", \"\", \"shelve for\"), shelfTimes(old ? old.value : \"10\")] : []), sound);
+    ...(count && !isPast ? [make(\"span\", \"\", \"shelve for\"), shelfTimes(old ? old.value : \"10\")] : []), sound);
   by(\"alarms\").replaceChildren(head, listOf(groups, hidden ? MOST_LISTED : count),
     ...(hidden ? [button(\"tool\", \"and \" + hidden + \" more\", () => { isAll = true; })] : []),
     ...(isAll && count > MOST_LISTED ? [button(\"tool\", \"the newest alone\", () => { isAll = false; })] : []),
@@ -943,7 +1316,7 @@ let isLogOld = true;
 let before = [];
 const AGAIN = 3000;
 function note(text, ms) {
-  const at = Date.now() - Math.max(0, now() - ms);
+  const at = Date.now() - Math.max(0, liveNow() - ms);
   if (before.some((it) => it.text === text && Math.abs(it.at - at) < AGAIN)) return;
   log.push({ text, at });
   if (log.length > 2 * MOST_LOGGED) log = log.slice(-MOST_LOGGED);
@@ -983,7 +1356,7 @@ function noteSilence() {
     if (seen.has(d.station)) return;
     seen.add(d.station);
     const is = d.silence !== null && d.silence >= 0, text = \"station \" + d.station + \", which keeps \" + d.name;
-    if (d.wasSilent !== undefined && d.wasSilent !== is) note(text + (is ? \": silent\" : \": heard again\"), now());
+    if (d.wasSilent !== undefined && d.wasSilent !== is) note(text + (is ? \": silent\" : \": heard again\"), liveNow());
     d.wasSilent = is;
   });
 }
@@ -1031,24 +1404,468 @@ function show() {
   leaveOutAgain();
   afterShow.forEach((more) => more());
 }
-function take(next) {
-  hang(next);
+function spread(next) {
   next.domains.forEach((row) => {
-    const d = domains.get(row.name), old = { shown: d.shown, told: d.told };
+    const d = domains.get(row.name);
     d.shown = row.shown;
     d.told = row.told;
-    noteChanges(old, d);
   });
   next.devices.forEach((row) => {
-    const d = devices.get(row.name), old = { shown: d.shown };
+    const d = devices.get(row.name);
     d.shown = row.shown;
-    noteChanges(old, d);
     showDevice(d);
   });
   show();
-  noteSilence();
+}
+function noteRow(x, row) {
+  noteChanges(x.live || { shown: null, told: null }, row);
+  x.live = row;
+}
+function take(next) {
+  hang(next);
+  next.domains.forEach((row) => noteRow(domains.get(row.name), row));
+  next.devices.forEach((row) => noteRow(devices.get(row.name), row));
+  if (!isPast) {
+    spread(next);
+    noteSilence();
+  }
   showLog();
 }
+function showEarlier(earlier) {
+  hangPast(earlier);
+  if (earlier || newest) spread(earlier || newest);
+}
+function shownAt(book, name, number) {
+  const entry = lastUpTo(entriesOf(book, \"board \" + name), number);
+  if (!entry) return null;
+  const [boot, sequence] = entry.words[2].split(\".\").map(Number);
+  return { state: entry.words[3], boot, sequence, at: entry.at };
+}
+function silentAt(book, number) {
+  const since = new Map(), names = new Set([...domains.values()].map((d) => d.station));
+  names.forEach((station) => {
+    const entry = lastUpTo(silenceEntries(book, station), number);
+    if (entry && entry.words[0] === \"silent\") since.set(station, entry.at - limit() - 1);
+  });
+  return since;
+}
+function pictureAt(book, { number, at }) {
+  const silent = silentAt(book, number);
+  const rows = [...domains.values()].map((d) => {
+    const entry = lastUpTo(entriesOf(book, \"record \" + d.name), number);
+    const told = entry ? { ...recordIn(entry), since: entry.at, heard: silent.get(d.station) ?? at } : null;
+    return { name: d.name, shown: shownAt(book, d.name, number), told };
+  });
+  return { frame: -1, now: at, domains: rows,
+    devices: [...devices.values()].map((it) => ({ name: it.name, shown: shownAt(book, it.name, number) })) };
+}
+function knewThen(book, place, alarm) {
+  const entry = lastUpTo(entriesOf(book, \"acknowledged \" + alarm.key), place.number);
+  return entry && entry.at >= (alarm.at ?? 0) ? entry.words[3] : \"\";
+}
+const MINUTE = 60000, DAY = 86400000;
+const STEPS = [1, 2, 5, 10, 15, 30, 60, 120, 180, 360, 720, 1440, 2880, 10080].map((it) => it * MINUTE);
+const two = (it) => String(it).padStart(2, \"0\");
+function dayTime(at) {
+  const it = new Date(at);
+  return two(it.getHours()) + \":\" + two(it.getMinutes()) + \":\" + two(it.getSeconds());
+}
+function dayOf(at) {
+  const it = new Date(at);
+  return it.getFullYear() + \"-\" + two(it.getMonth() + 1) + \"-\" + two(it.getDate());
+}
+const timeBeside = (at, other) => (dayOf(at) === dayOf(other) ? \"\" : dayOf(at) + \" \") + dayTime(at);
+function lengthOf(ms) {
+  const s = Math.round(ms / 1000);
+  return Math.floor(s / 3600) + \":\" + two(Math.floor(s / 60) % 60) + \":\" + two(s % 60);
+}
+function axisOf({ from, to }) {
+  const step = STEPS.find((it) => (to - from) / it <= 8) || STEPS[STEPS.length - 1] * Math.ceil((to - from) / DAY / 56);
+  const off = -MINUTE * new Date(to).getTimezoneOffset(), made = [];
+  for (let at = Math.ceil((from + off) / step) * step - off; at < to; at += step) {
+    const isDay = step >= DAY || to - from > DAY && dayTime(at) === \"00:00:00\";
+    made.push({ at, text: isDay ? dayOf(at) : dayTime(at).slice(0, 5) });
+  }
+  return made;
+}
+const MOST_NAMED = 3;
+let shownPlace = null;
+const afterLook = [];
+let oldest = null;
+function lookAt(to) {
+  shownPlace = to;
+  keepEnd(to !== null);
+  showEarlier(to && pictureAt(pastBook, to));
+  flag(document.body, \"as-of\", to !== null);
+  set(by(\"as-of-words\"), to ? \"AS OF \" + timeBeside(to.at, Date.now()) + \", not now\" : \"\");
+  showTime(to ? \"as of \" + dayTime(to.at) : \"\");
+  afterLook.forEach((more) => more());
+}
+function alarmNow() {
+  const isTripped = (it) => it.shown && kindOf(it.shown.state) === \"alarm\";
+  const hot = newest ? newest.devices.filter(isTripped) : [];
+  const names = hot.slice(0, MOST_NAMED).map((it) => it.name).join(\", \");
+  return hot.length ? \"now in alarm: \" + names + (hot.length > MOST_NAMED ? \" and \" + (hot.length - MOST_NAMED) +
+    \" more\" : \"\") : \"\";
+}
+by(\"back-to-now\").addEventListener(\"click\", () => lookAt(null));
+knowers.push((it) => shownPlace ? knewThen(pastBook, shownPlace, it) : \"\");
+afterBuild.push(() => { if (shownPlace) lookAt(null); });
+afterShow.push(() => { if (isPast) set(by(\"as-of-now\"), alarmNow()); });
+afterAnswer.push(() => {
+  if (shownPlace && oldest !== pastBook.list[0]) showEarlier(pictureAt(pastBook, shownPlace));
+  oldest = pastBook.list[0];
+});
+function refill(element, children) {
+  const active = (document.activeElement), key = element.contains(active) ? active.dataset.key : \"\";
+  element.replaceChildren(...children);
+  const again = key && [...element.querySelectorAll(\"[data-key]\")].find((it) => it.dataset.key === key);
+  if (again) again.focus();
+}
+const MOST_ENTRIES = 500;
+const said = new WeakMap();
+function wordsFor(entry) {
+  const old = said.get(entry);
+  if (old !== undefined) return old;
+  const text = sayEntry(pastBook, entry);
+  if (isWhole && entry.words[0] !== \"given\") said.set(entry, text);
+  return text;
+}
+function searched(list) {
+  const words = by(\"past-search\").value.trim().toLowerCase().split(/\\s+/).filter((it) => it);
+  if (!words.length) return list;
+  return list.filter((it) => {
+    const text = wordsFor(it).toLowerCase();
+    return words.every((word) => text.includes(word));
+  });
+}
+function drawEntries() {
+  const list = searched(shownEntries()), span = shownSpan(), more = list.length - MOST_ENTRIES;
+  refill(by(\"past-list\"), list.slice(-MOST_ENTRIES).reverse().map((it) => {
+    const li = make(\"li\"), lead = make(\"button\"), time = make(\"time\", \"\", timeBeside(it.at, span.to));
+    time.dateTime = new Date(it.at).toISOString();
+    lead.type = \"button\";
+    lead.dataset.key = String(it.number);
+    lead.append(time, \" \", make(\"span\", \"\", wordsFor(it)));
+    lead.addEventListener(\"click\", () => lookAt({ number: it.number, at: it.at }));
+    li.append(lead);
+    return li;
+  }));
+  set(by(\"past-more\"), more > 0 ? more + \" more\" : list.length ? \"\" : \"no entries\");
+  markEntry();
+}
+function markEntry() {
+  const number = shownPlace && shownPlace.number;
+  by(\"past-list\").querySelectorAll(\"button\").forEach((b) => {
+    flag(b, \"here\", number !== null && Number(b.dataset.key) === number);
+  });
+}
+const timesOf = (it, span) => (it.from === span.from ? \"the start\" : timeBeside(it.from, span.to)) + \" to \" +
+  (it.to === span.to ? \"the end\" : timeBeside(it.to, span.to));
+const chosen = (list, names) => [...list].map((it) => it.name).filter((name) => names === null || names.has(name));
+function holdingLines(book, span, names) {
+  return chosen(domains.values(), names).flatMap((name) => {
+    const list = holdersOf(book, name, span).filter((it) => it.value && it.value !== \"free\");
+    return list.length ? [name, ...list.map((it) => \"  \" + timesOf(it, span) + \"  \" + it.value)] : [];
+  });
+}
+function orderLines(book, span, names) {
+  const ordered = new Map();
+  within(entriesOf(book, \"given\"), span).filter((it) => isAbout(book, it, names)).forEach((it) => {
+    const [operator, order] = orderIn(it);
+    const end = entriesOf(book, \"order \" + it.words[1])
+      .find((other) => other.words[0] === \"ended\" && givenOf(book, other) === it);
+    if (!operator) return;
+    const line = \"  \" + timeBeside(it.at, span.to) + \"  \" + order + \": \" + (end ? endIn(end) : \"has not ended\");
+    ordered.set(operator, [...(ordered.get(operator) || []), line]);
+  });
+  return [...ordered].flatMap(([operator, lines]) => [operator, ...lines]);
+}
+function faultLines(book, span, names) {
+  return chosen(domains.values(), names).flatMap((name) =>
+    within(entriesOf(book, \"record \" + name), span).flatMap((it) => {
+      const news = newsOf(it, beforeIt(book, it));
+      return news.hasCommand && !news.busy && news.outcome ? [{ it, news, name }] : [];
+    })).sort((a, b) => a.it.number - b.it.number).map(({ it, news, name }) =>
+    \"  \" + timeBeside(it.at, span.to) + \"  command \" + news.last + \" of \" + name + \" ended with \" + news.outcome);
+}
+const hotTimes = (book, span, name) => statesOf(book, name, span).filter((it) => kindOf(it.value) === \"alarm\");
+function ownAlarms(book, span, name) {
+  const d = domains.get(name), hot = hotTimes(book, span, name);
+  if (!d || !hot.length) return hot;
+  const causes = [...d.devices, ...d.children].flatMap((it) => hotTimes(book, span, it.name));
+  return hot.filter((it) => !causes.some((cause) => cause.from < it.to && it.from < cause.to));
+}
+function alarmLines(book, span, names) {
+  return chosen([...domains.values(), ...devices.values()], names).flatMap((name) => {
+    const of = new Map();
+    ownAlarms(book, span, name).forEach((it) => of.set(it.value, [...(of.get(it.value) || []), it.to - it.from]));
+    return [...of].map(([state, times]) => \"  \" + name + \" \" + state + \": \" +
+      (times.length === 1 ? \"once\" : times.length + \" times\") + \", \" +
+      lengthOf(times.reduce((sum, it) => sum + it, 0)) + \" in all\");
+  });
+}
+function silenceLines(book, span, names) {
+  const stations = new Set([...domains.values()].filter((d) => names === null || names.has(d.name))
+    .map((d) => d.station));
+  return [...stations].flatMap((station) => silentTimes(book, station, span)
+    .map((it) => \"  \" + station + \"  \" + timesOf(it, span) + \"  \" + lengthOf(it.to - it.from)));
+}
+function summaryOf(book, span, names, what) {
+  const head = \"tree \" + tree.tree + \", \" + (what || \"all\") + \", \" + dayOf(span.from) + \" \" + dayTime(span.from) +
+    \" to \" + dayOf(span.to) + \" \" + dayTime(span.to) + \", local time\";
+  const parts = [[\"Who held what\", holdingLines], [\"Orders of this screen\", orderLines],
+    [\"Commands that ended with a code other than 0\", faultLines], [\"Alarms\", alarmLines],
+    [\"Silent stations\", silenceLines]];
+  return [head, ...parts.flatMap(([title, linesOf]) => {
+    const lines = linesOf(book, span, names);
+    return [\"\", title, ...(lines.length ? lines : [\"  none\"])];
+  })].join(\"\\n\") + \"\\n\";
+}
+function writeSummary() {
+  if (by(\"summary\").open) set(by(\"summary-text\"), summaryOf(pastBook, shownSpan(), wantedNames(), subject));
+}
+function fileName() {
+  const to = shownSpan().to;
+  return \"shift-\" + dayOf(to).replaceAll(\"-\", \"\") + \"-\" + dayTime(to).slice(0, 5).replace(\":\", \"\") + \".txt\";
+}
+async function copySummary() {
+  try {
+    await navigator.clipboard.writeText(by(\"summary-text\").textContent);
+    set(by(\"summary-said\"), \"copied\");
+  } catch (refused) {
+    getSelection().selectAllChildren(by(\"summary-text\"));
+    set(by(\"summary-said\"), document.execCommand(\"copy\") ? \"copied\" : \"selected: copy it by Ctrl+C\");
+  }
+}
+function saveSummary() {
+  const url = URL.createObjectURL(new Blob([by(\"summary-text\").textContent], { type: \"text/plain\" })), a = make(\"a\");
+  a.href = url;
+  a.download = fileName();
+  a.click();
+  set(by(\"summary-said\"), \"saved as \" + a.download);
+  setTimeout(() => URL.revokeObjectURL(url), 10000);
+}
+by(\"summary-copy\").addEventListener(\"click\", copySummary);
+by(\"summary-save\").addEventListener(\"click\", saveSummary);
+by(\"summary-print\").addEventListener(\"click\", () => print());
+by(\"summary\").addEventListener(\"toggle\", () => {
+  flag(document.body, \"summarised\", by(\"summary\").open);
+  set(by(\"summary-said\"), \"\");
+  writeSummary();
+});
+const PARTS = 400, MOST_MARKS = 200, MOST_READ_OUT = 8;
+const share = (at, span) => (100 * (at - span.from) / (span.to - span.from)).toFixed(3) + \"%\";
+function putAt(e, it, span, title) {
+  style(e, \"left\", share(it.from, span));
+  if (it.to > it.from) style(e, \"width\", share(span.from + it.to - it.from, span));
+  e.title = title;
+  return e;
+}
+const timeWords = (it, span) => \" from \" + timeBeside(it.from, span.to) + \" to \" + timeBeside(it.to, span.to);
+const stateWords = (it, span) => (it.value || \"not seen\") +
+  (it.count > 1 ? \" and \" + (it.count - 1) + \" more\" : \"\") + timeWords(it, span);
+function spaced(marks, least) {
+  const lastAt = new Map();
+  return marks.filter((it) => {
+    if (it.at - (lastAt.get(it.kind) ?? -Infinity) < least) return false;
+    lastAt.set(it.kind, it.at);
+    return true;
+  }).slice(-MOST_MARKS);
+}
+function trackOf(name, span) {
+  const track = make(\"div\", \"track\"), least = (span.to - span.from) / PARTS;
+  const d = domains.get(name) || domains.get(devices.get(name).domain);
+  const states = thinned(statesOf(pastBook, name, span), least);
+  track.append(...states.map((it) => {
+    const band = putAt(make(\"i\", \"band\"), it, span, stateWords(it, span));
+    paint(band, it.value);
+    return band;
+  }), ...thinned(silentTimes(pastBook, d.station, span), least).map((it) =>
+    putAt(make(\"i\", \"hush\"), it, span, \"station \" + d.station + \" silent\" + timeWords(it, span))),
+  ...spaced(marksOf(pastBook, name, span), least).map((it) =>
+    putAt(make(\"b\", \"mark \" + it.kind), { from: it.at, to: it.at }, span, dayTime(it.at) + \" \" + it.words)));
+  track.tabIndex = 0;
+  track.dataset.key = \"track \" + name;
+  track.setAttribute(\"role\", \"img\");
+  const read = states.slice(-MOST_READ_OUT).map((it) => stateWords(it, span));
+  label(track, name + \": \" + read.join(\", \"));
+  track.addEventListener(\"click\", (click) => {
+    const box = track.getBoundingClientRect();
+    lookAt(placeOf(Math.round(span.from + (click.clientX - box.left) / box.width * (span.to - span.from))));
+  });
+  return track;
+}
+function leadTo(name, text, redraw) {
+  const b = make(\"button\", \"row-name\", text);
+  b.type = \"button\";
+  b.dataset.key = \"row \" + name;
+  b.addEventListener(\"click\", () => { chooseSubject(name); redraw(); });
+  return b;
+}
+function drawLine(redraw) {
+  const span = shownSpan(), list = make(\"ol\"), axis = make(\"div\", \"axis\"), d = domains.get(subject);
+  const up = d ? d.parent : devices.has(subject) ? devices.get(subject).domain : null;
+  axis.setAttribute(\"aria-hidden\", \"true\");
+  axis.append(...axisOf(span).map(({ at, text }) => {
+    const tick = make(\"span\", \"\", text);
+    style(tick, \"left\", share(at, span));
+    return tick;
+  }));
+  label(list, \"time line of \" + (subject || \"all\"));
+  list.append(...rowNames().map((name) => {
+    const li = make(\"li\", \"row\");
+    li.append(leadTo(name, name, redraw), trackOf(name, span));
+    return li;
+  }));
+  const upward = subject ? [leadTo(up || \"\", \"up to \" + (up || \"all\"), redraw)] : [];
+  refill(by(\"time-line\"), [...upward, list, axis]);
+  showCursor();
+}
+function showCursor() {
+  style(by(\"time-line\"), \"--at\", shownPlace ? share(shownPlace.at, shownSpan()) : \"100%\");
+}
+const STEPS_SHOWN = 1000, REDRAWN = 10000, COMING = 1000;
+const MOST_UNSAVED = 1000, LATE_SAVED = 60000;
+let drawnBook = null;
+let drawnAt = 0, unsavedSince = 0;
+const isOpen = () => !by(\"past\").hidden;
+function drawPast() {
+  drawnBook = pastBook;
+  drawnAt = performance.now();
+  drawLine(drawPast);
+  drawEntries();
+  writeSummary();
+  showPlace();
+  if (by(\"past-of\") !== document.activeElement) by(\"past-of\").value = subject;
+}
+function showPlace() {
+  const span = shownSpan(), slider = by(\"past-slider\"), at = shownPlace ? shownPlace.at : span.to;
+  const share = Math.round(STEPS_SHOWN * (at - span.from) / (span.to - span.from));
+  slider.value = String(shownPlace ? Math.max(0, Math.min(STEPS_SHOWN - 1, share)) : STEPS_SHOWN);
+  const words = shownPlace ? \"as of \" + timeBeside(at, span.to) : \"now\";
+  mark(slider, \"aria-valuetext\", words);
+  set(by(\"past-shown\"), words);
+  showCursor();
+  markEntry();
+}
+function unsavedWords() {
+  const isLate = newestHead && newestHead.saved > 0 && newestHead.count - newestHead.saved > MOST_UNSAVED;
+  unsavedSince = isLate ? unsavedSince || performance.now() : 0;
+  if (!isLate || performance.now() - unsavedSince < LATE_SAVED) return \"\";
+  const entry = lastUpTo(pastBook.list, newestHead.saved);
+  return \"not saved since \" + (entry ? dayTime(entry.at).slice(0, 5) : \"before what is kept\");
+}
+function showAnswer() {
+  if (!isOpen()) return;
+  const words = [historyFault || unsavedWords(), !historyFault && !isWhole ? \"earlier entries are on their way\" : \"\"];
+  set(by(\"past-said\"), words.filter((it) => it).join(\", \"));
+  const passed = performance.now() - drawnAt, isFirst = !drawnBook || !drawnBook.list.length;
+  if (drawnBook === pastBook ? passed > REDRAWN : isFirst || isWhole || passed > COMING) drawPast();
+}
+function openPast(name = \"\") {
+  chooseSubject(name);
+  by(\"past\").hidden = false;
+  mark(by(\"past-open\"), \"aria-pressed\", \"true\");
+  by(\"past-name\").focus();
+  if (tree) drawPast();
+  followHistory();
+}
+function closePast() {
+  if (shownPlace) lookAt(null);
+  leaveHistory();
+  by(\"past\").hidden = true;
+  by(\"summary\").open = false;
+  mark(by(\"past-open\"), \"aria-pressed\", \"false\");
+  by(\"past-open\").focus();
+}
+function turnPast() { if (isOpen()) closePast(); else openPast(); }
+function stepBy(step) {
+  const list = shownEntries(), number = shownPlace ? shownPlace.number : Infinity;
+  const next = step < 0 ? list.filter((it) => it.number < number).pop() : list.find((it) => it.number > number);
+  if (next) lookAt({ number: next.number, at: next.at }); else if (step > 0) lookAt(null);
+}
+function offerNames() {
+  by(\"past-names\").replaceChildren(...[...domains.keys(), ...devices.keys(),
+    ...tree.operators.map((it) => it.name)].map((name) => {
+    const option = make(\"option\");
+    option.value = name;
+    return option;
+  }));
+}
+by(\"past-span\").value = String(hours);
+by(\"past-span\").addEventListener(\"change\", () => { chooseHours(Number(by(\"past-span\").value)); drawPast(); });
+by(\"past-of\").addEventListener(\"input\", () => {
+  const name = by(\"past-of\").value.trim().toUpperCase();
+  const isKnown = !name || domains.has(name) || devices.has(name) ||
+    !!tree && tree.operators.some((it) => it.name === name);
+  flag(by(\"past-of\"), \"strange\", !isKnown);
+  if (isKnown) { chooseSubject(name); drawPast(); }
+});
+by(\"past-search\").addEventListener(\"input\", drawEntries);
+by(\"past-slider\").addEventListener(\"input\", () => {
+  const span = shownSpan(), value = Number(by(\"past-slider\").value);
+  lookAt(value < STEPS_SHOWN ? placeOf(Math.round(span.from + (span.to - span.from) * value / STEPS_SHOWN)) : null);
+});
+by(\"past-before\").addEventListener(\"click\", () => stepBy(-1));
+by(\"past-after\").addEventListener(\"click\", () => stepBy(1));
+by(\"past-open\").addEventListener(\"click\", turnPast);
+by(\"past-close\").addEventListener(\"click\", closePast);
+document.addEventListener(\"keydown\", (key) => {
+  const target = (key.target);
+  const isTaken = document.querySelector(\"dialog[open]\") || target.type === \"search\" && target.value;
+  if (key.key !== \"Escape\" || isTaken) return;
+  if (shownPlace) lookAt(null); else if (isOpen()) closePast();
+});
+afterAnswer.push(showAnswer);
+afterLook.push(() => { if (isOpen()) showPlace(); });
+afterBuild.push(offerNames);
+extras.push((d) => {
+  const b = make(\"button\", \"tool\", \"its past\");
+  b.type = \"button\";
+  b.id = \"its-past\";
+  b.addEventListener(\"click\", () => {
+    by(\"more\").addEventListener(\"close\", () => openPast(d.name), { once: true });
+    by(\"more\").close();
+  });
+  return b;
+});
+function seen() {
+  const tops = ([...document.querySelectorAll(\"#main [data-domain]\")]);
+  return tops.map((top) => domains.get(top.dataset.domain))
+    .filter((d) => !d.at.box.classList.contains(\"left-out\") && !isHidden(d));
+}
+function moves(key) {
+  const all = seen(), here = document.activeElement && (document.activeElement).dataset.domain;
+  const d = domains.get(here), at = all.indexOf(d), step = ({ ArrowDown: 1, ArrowUp: -1 })[key];
+  let next = null;
+  if (!all.length) return false;
+  if (step) next = d ? all[(at + step + all.length) % all.length] : all[0];
+  else if (!d) return false;
+  else if (key === \"Home\" || key === \"End\") next = all[key === \"Home\" ? 0 : all.length - 1];
+  else if (key === \"ArrowRight\" && d.children.length) {
+    if (isFolded(d)) fold(d, false); else next = all[at + 1];
+  } else if (key === \"ArrowLeft\") {
+    if (d.children.length && !isFolded(d)) fold(d, true); else next = domains.get(d.parent);
+  } else return false;
+  if (next) enter(next.at.top);
+  return true;
+}
+const DEEDS = { t: turnTheme, f: fit, h: turnPast, \"/\": () => by(\"find\").focus(), \"+\": () => resize(1.1),
+  \"-\": () => resize(1 / 1.1) };
+document.addEventListener(\"keydown\", (key) => {
+  const target = (key.target);
+  const isTyping = target.matches && target.matches(\"input, select\");
+  if (key.ctrlKey || key.metaKey || key.altKey || by(\"more\").open || isTyping) return;
+  const isInPast = target.closest && target.closest(\"#past\"), deed = DEEDS[key.key];
+  if (deed) deed();
+  if (deed || !isInPast && moves(key.key)) key.preventDefault();
+});
+by(\"find\").addEventListener(\"input\", leaveOut);
+by(\"find\").addEventListener(\"keydown\", (key) => {
+  if (key.key === \"Escape\") { by(\"find\").value = \"\"; by(\"find\").blur(); leaveOut(); }
+});
+addEventListener(\"hashchange\", leaveOut);
 const PAUSE = 250, LATE = 900, GONE = 1600;
 const PATIENCE = 1200;
 let shape = \"\";
@@ -1069,10 +1886,10 @@ async function askTree() {
   build(JSON.parse(text));
 }
 async function askPicture() {
-  const text = await ask(\"/api/picture\" + (picture ? \"?after=\" + picture.frame : \"\"));
+  const text = await ask(\"/api/picture\" + (newest ? \"?after=\" + newest.frame : \"\"));
   if (!text) return;
   const next = JSON.parse(text);
-  if (picture && next.frame < picture.frame) {
+  if (newest && next.frame < newest.frame) {
     await askTree();
     afterRestart.forEach((again) => again());
   }
@@ -1087,7 +1904,7 @@ async function follow() {
 function showLive() {
   const late = lateness(), live = by(\"live\"), lost = late > GONE, kind = lost ? \"lost\" : late > LATE ? \"late\" : \"\";
   if (live.className !== kind) live.className = kind;
-  set(live, lost ? \"NO CONTACT\" : picture ? \"live\" : \"joining\");
+  set(live, lost ? \"NO CONTACT\" : newest ? \"live\" : \"joining\");
   flag(document.body, \"lost\", lost);
   showLost(lost);
   if (lost) set(by(\"lost-words\"), \"NO CONTACT for \" + age(late) + \": nothing here is true any more\");

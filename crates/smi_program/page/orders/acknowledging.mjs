@@ -1,5 +1,6 @@
 // Acknowledging alarms. The screen keeps who has acknowledged what, and tells all its pages.
 
+import { isPast } from "../model.mjs";
 import { send, tellGiven } from "./giving.mjs";
 import { who } from "./given.mjs";
 import { lacksToken } from "./token.mjs";
@@ -19,9 +20,10 @@ export function learnAcknowledged(list) {
   }));
 }
 
-/** Returns who has acknowledged an alarm since it began, or "".
+/** Returns who has acknowledged an alarm since it began, or "". What the screen tells is of now alone.
  * @param {Alarm} it */
 export function knowerOf(it) {
+  if (isPast) return "";
   const one = acknowledged.get(it.key);
   return one && one.at >= (it.at ?? 0) ? one.name : "";
 }

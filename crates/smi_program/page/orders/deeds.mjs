@@ -1,6 +1,6 @@
 // What may be ordered of a domain: the order, the question before it, and why it would be refused, if it would.
 
-import { domains, holderOf, tree } from "../model.mjs";
+import { domains, holderOf, isPast, tree } from "../model.mjs";
 import { asksChild, isManual, isSilent } from "./counted.mjs";
 import { hasConsole, who } from "./given.mjs";
 import { held, isSoAlready, modeOf } from "./modes.mjs";
@@ -45,6 +45,7 @@ function silentOnWay(d) {
 
 /** Returns why nobody may order anything, if so. */
 export function whyNobody() {
+  if (isPast) return "the page shows an earlier time: go back to now";
   if (!who) return "choose who orders, at the top of the page";
   if (lacksToken()) return "type the token for orders, at the top of the page";
   return hasConsole ? "" : "there is no connection with the console";

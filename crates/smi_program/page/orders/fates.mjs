@@ -4,7 +4,7 @@ import { ask } from "../contact.mjs";
 import { opened } from "../details.mjs";
 import { by, flag, set } from "../dom.mjs";
 import { note } from "../log.mjs";
-import { domains, now, picture, tree } from "../model.mjs";
+import { domains, liveNow, newest, tree } from "../model.mjs";
 import { learnAcknowledged } from "./acknowledging.mjs";
 import { listHere, offerOperators } from "./choosing.mjs";
 import { asksChild, isManual, isOfMode, isSilent, parentOf } from "./counted.mjs";
@@ -80,7 +80,7 @@ function showGiven() {
   given.forEach((it) => {
     if (it.waits || ended.has(it.number)) return;
     ended.set(it.number, time);
-    if (picture) note(it.line + ": " + fateOf(it), now());
+    if (newest) note(it.line + ": " + fateOf(it), liveNow());
   });
   const old = given.filter((it) => !it.waits && time - ended.get(it.number) < SHOWN_FOR).slice(-SHOWN);
   const rows = given.filter((it) => it.waits || old.includes(it)).map((it) => ({ number: it.number,

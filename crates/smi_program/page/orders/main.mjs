@@ -2,7 +2,7 @@
 
 import { acknowledgers, knowers } from "../alarm_list.mjs";
 import { by, make, set } from "../dom.mjs";
-import { afterBuild, afterRestart, afterShow, extras, modeSayers, tree } from "../model.mjs";
+import { afterBuild, afterRestart, afterShow, extras, isPast, modeSayers, tree } from "../model.mjs";
 import { acknowledge, knowerOf } from "./acknowledging.mjs";
 import { offerAnew, offerOperators, ordersOf, showButtons } from "./choosing.mjs";
 import { isManual } from "./counted.mjs";
@@ -28,7 +28,8 @@ by("clock").before(chooser, ...(asksToken() ? [tokenField()] : []), standing);
 by("alarms").after(list, told);
 set(by("never"), "A click orders once you have said yes.");
 extras.push(ordersOf);
-modeSayers.push((d) => modeOf(d) || (d.parent && isManual(d) ? "manual" : ""));
+// what the console tells is of now alone
+modeSayers.push((d) => isPast ? "" : modeOf(d) || (d.parent && isManual(d) ? "manual" : ""));
 knowers.push(knowerOf);
 acknowledgers.push(acknowledge);
 afterBuild.push(offerAnew);

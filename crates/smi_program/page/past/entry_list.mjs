@@ -1,0 +1,61 @@
+// The entries of the time and the subject in plain words, the newest first.
+
+import { by, flag, make, set } from "../dom.mjs";
+import { shownEntries, shownSpan } from "./choice.mjs";
+import { isWhole, pastBook } from "./history.mjs";
+import { lookAt, shownPlace } from "./looking.mjs";
+import { refill } from "./refilling.mjs";
+import { sayEntry } from "./saying.mjs";
+import { timeBeside } from "./times.mjs";
+
+/** @typedef {import("./entries.mjs").Entry} Entry */
+
+const MOST_ENTRIES = 500;
+/** What was said of entries, once all are there that an entry may be said by.
+ * @type {WeakMap<Entry, string>} */
+const said = new WeakMap();
+
+/** @param {Entry} entry */
+function wordsFor(entry) {
+  const old = said.get(entry);
+  if (old !== undefined) return old;
+  const text = sayEntry(pastBook, entry);
+  if (isWhole && entry.words[0] !== "given") said.set(entry, text);
+  return text;
+}
+
+/** Returns the entries that have all words that are looked for.
+ * @param {Entry[]} list */
+function searched(list) {
+  const words = by("past-search").value.trim().toLowerCase().split(/\s+/).filter((/** @type {string} */ it) => it);
+  if (!words.length) return list;
+  return list.filter((it) => {
+    const text = wordsFor(it).toLowerCase();
+    return words.every((/** @type {string} */ word) => text.includes(word));
+  });
+}
+
+/** Draws the list. */
+export function drawEntries() {
+  const list = searched(shownEntries()), span = shownSpan(), more = list.length - MOST_ENTRIES;
+  refill(by("past-list"), list.slice(-MOST_ENTRIES).reverse().map((it) => {
+    const li = make("li"), lead = make("button"), time = make("time", "", timeBeside(it.at, span.to));
+    time.dateTime = new Date(it.at).toISOString();
+    lead.type = "button";
+    lead.dataset.key = String(it.number);
+    lead.append(time, " ", make("span", "", wordsFor(it)));
+    lead.addEventListener("click", () => lookAt({ number: it.number, at: it.at }));
+    li.append(lead);
+    return li;
+  }));
+  set(by("past-more"), more > 0 ? more + " more" : list.length ? "" : "no entries");
+  markEntry();
+}
+
+/** Marks the last entry up to the time that the page shows. */
+export function markEntry() {
+  const number = shownPlace && shownPlace.number;
+  by("past-list").querySelectorAll("button").forEach((/** @type {any} */ b) => {
+    flag(b, "here", number !== null && Number(b.dataset.key) === number);
+  });
+}

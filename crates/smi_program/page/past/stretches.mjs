@@ -1,0 +1,96 @@
+// Stretches of time in which something was the same, and what happened at one moment. All times are UTC in ms.
+
+import { domains, kindOf } from "../model.mjs";
+import { beforeIt, countFront, entriesOf, newsOf } from "./entries.mjs";
+import { holderWords, sayEntry } from "./saying.mjs";
+
+/** @typedef {import("./entries.mjs").Entry} Entry */
+/** @typedef {import("./entries.mjs").Book} Book */
+/** @typedef {{value: string, from: number, to: number, count: number}} Stretch
+ * `value` is "" before the first entry, and `count` of how many stretches it is made. */
+/** @typedef {{from: number, to: number}} Span */
+/** @typedef {{kind: string, at: number, words: string}} Mark `kind` is grant, fault, trip or order. */
+
+/** Returns the stretches of a value within a span.
+ * @param {Entry[]} list @param {(it: Entry) => string} valueOf @param {Span} span @returns {Stretch[]} */
+export function stretchesIn(list, valueOf, { from, to }) {
+  const first = countFront(list, (it) => it.at <= from), begin = list[first - 1];
+  const made = [{ value: begin ? valueOf(begin) : "", from, to, count: 1 }];
+  for (const it of list.slice(first, countFront(list, (other) => other.at < to))) {
+    const last = made[made.length - 1], value = valueOf(it);
+    if (value !== last.value) {
+      last.to = it.at;
+      made.push({ value, from: it.at, to, count: 1 });
+    }
+  }
+  return made.filter((it) => it.to > it.from);
+}
+
+/** Returns the stretches of the states of a domain or a device.
+ * @param {Book} book @param {string} name @param {Span} span */
+export const statesOf = (book, name, span) =>
+  stretchesIn(entriesOf(book, "board " + name), (it) => it.words[3], span);
+
+/** Returns the stretches of who held a domain.
+ * @param {Book} book @param {string} name @param {Span} span */
+export const holdersOf = (book, name, span) => stretchesIn(entriesOf(book, "record " + name), holderWords, span);
+
+/** Returns all entries that say whether a station is heard, by any of its domains.
+ * @param {Book} book @param {string} station */
+export function silenceEntries(book, station) {
+  const names = [...domains.values()].filter((d) => d.station === station).map((d) => d.name);
+  return names.flatMap((name) => entriesOf(book, "silence " + name)).sort((a, b) => a.number - b.number);
+}
+
+/** Returns when a station was silent.
+ * @param {Book} book @param {string} station @param {Span} span */
+export const silentTimes = (book, station, span) =>
+  stretchesIn(silenceEntries(book, station), (it) => it.words[0], span).filter((it) => it.value === "silent");
+
+/** Returns which of two states a stretch of both shows: the one in alarm, or else that of the longer one.
+ * @param {Stretch} one @param {Stretch} other */
+function worse(one, other) {
+  const isHot = (/** @type {Stretch} */ it) => kindOf(it.value) === "alarm";
+  if (isHot(one) !== isHot(other)) return isHot(one) ? one.value : other.value;
+  return one.to - one.from >= other.to - other.from ? one.value : other.value;
+}
+
+/** Makes one of stretches that are next to each other and shorter than a length: nobody could see them apart.
+ * @param {Stretch[]} list @param {number} least @returns {Stretch[]} */
+export function thinned(list, least) {
+  /** @type {Stretch[]} */
+  const made = [];
+  list.forEach((it) => {
+    const last = made[made.length - 1], isShort = it.to - it.from < least;
+    if (!last || !isShort || last.to - last.from >= least) { made.push({ ...it }); return; }
+    last.value = worse(last, it);
+    last.to = it.to;
+    last.count += it.count;
+  });
+  return made;
+}
+
+/** Returns the entries of a list within a span.
+ * @param {Entry[]} list @param {Span} span */
+export const within = (list, { from, to }) =>
+  list.slice(countFront(list, (it) => it.at < from), countFront(list, (it) => it.at <= to));
+
+/** Returns what happened to an object: another holder, a command that ended ill, an alarm, and orders of this screen.
+ * @param {Book} book @param {string} name @param {Span} span @returns {Mark[]} */
+export function marksOf(book, name, span) {
+  /** @type {Mark[]} */
+  const marks = [];
+  const add = (/** @type {string} */ kind, /** @type {Entry} */ it) =>
+    marks.push({ kind, at: it.at, words: sayEntry(book, it) });
+  within(entriesOf(book, "record " + name), span).forEach((it) => {
+    const before = beforeIt(book, it), news = newsOf(it, before);
+    if (before && news.hasHolder) add("grant", it);
+    if (before && news.hasCommand && !news.busy && news.outcome) add("fault", it);
+  });
+  within(entriesOf(book, "board " + name), span).forEach((it) => {
+    const before = beforeIt(book, it), wasHot = !!before && kindOf(before.words[3]) === "alarm";
+    if (kindOf(it.words[3]) === "alarm" && !wasHot) add("trip", it);
+  });
+  within(entriesOf(book, "given"), span).forEach((it) => { if (it.words.slice(3).includes(name)) add("order", it); });
+  return marks;
+}

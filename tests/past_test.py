@@ -1,0 +1,526 @@
+"""The past of the page: the time line, the entries in plain words, the page as of an earlier time, and the summary.
+
+The page runs in headless Chromium over a made-up history (tests/page_server.py), at a time that stays: six o'clock in
+the morning of a shift that began at ten. What is expected is written by hand.
+"""
+
+import calendar
+import json
+import os
+import shutil
+import time
+
+import pytest
+
+import browsers
+import page
+import page_server
+import running
+from browser import LEADER, TOP, Hand, shows
+from running import at_last
+
+pytestmark = pytest.mark.skipif(not browsers.program(), reason="there is no browser (Debian's chromium)")
+NODE = shutil.which("node")
+NOW = 1000 * calendar.timegm(time.strptime("2026-11-30 06:00:00", "%Y-%m-%d %H:%M:%S"))
+# The clock of the page, which stays, and a count of its tones, which nobody hears.
+CLOCK = """Date.now = () => %d; window.tones = 0;
+  addEventListener("DOMContentLoaded", () => { ring = () => { window.tones += 1; }; });""" % NOW
+MINUTE, DAY = 60_000, 86_400_000
+# How soon the first view of 100,000 entries has to be there, in milliseconds: half a second, and more on a machine that
+# others use.
+MANY, SOON = 100_000, 2_000
+UP = ["PIXEL_HV", "PIXEL", "TRK", TOP]
+
+
+def at(clock):
+    """Returns a time of the shift: an hour after noon is one of the evening before."""
+    hour, minute, second = (int(it) for it in (clock + ":00").split(":")[:3])
+    begun = NOW - 6 * 60 * MINUTE - (DAY if hour >= 12 else 0)
+    return begun + hour * 60 * MINUTE + minute * MINUTE + second * 1000
+
+
+def shift(names):
+    """Returns the history of a shift: two trips, a silence, a change of hands, and four orders."""
+    told = [(at("21:00"), "board %s 1.1 READY" % name) for name in names]
+    for clock, text in [
+            ("21:00", "record EXPERIMENT operator SHIFT_LEADER 1 0 settled 0"),
+            ("21:00", "record TRK domain EXPERIMENT 1 3 settled 0"),
+            ("21:00", "record MUO domain EXPERIMENT 1 0 settled 0"),
+            ("22:30", "board PIXEL_HV7 1.2 ERROR"), *(("22:30", "board %s 1.2 ERROR" % it) for it in UP),
+            ("22:31", "acknowledged device PIXEL_HV7 SHIFT_LEADER"),
+            ("22:36", "board PIXEL_HV7 1.3 READY"), *(("22:36", "board %s 1.3 READY" % it) for it in UP),
+            ("23:10", "given 1 order SHIFT_LEADER do TRK START"), ("23:10", "record TRK domain EXPERIMENT 1 4 busy 0"),
+            ("23:11", "record TRK domain EXPERIMENT 1 4 settled 6"),
+            ("23:11", "ended 1 told SHIFT_LEADER do TRK START 6"),
+            ("00:26", "silent MUO"), ("00:46", "heard MUO"),
+            ("02:00", "record TRK free 1 4 settled 6"), ("02:05", "record TRK operator TRK_EXPERT 2 0 settled 0"),
+            ("02:59", "given 2 order TRK_EXPERT do TRK START"), ("03:00", "board TRK 1.4 RUNNING"),
+            ("03:00", "record TRK operator TRK_EXPERT 2 1 settled 0"),
+            ("03:00", "ended 2 told TRK_EXPERT do TRK START 0"),
+            ("04:00", "given 3 order SHIFT_LEADER do MUO START"), ("04:01", "given 4 withdraw 3"),
+            ("04:01", "ended 3 withdrawn"), ("04:01", "ended 4 withdrawn 3"),
+            ("05:00", "board PIXEL_HV7 1.4 ERROR"), ("05:00:30", "board PIXEL_HV7 1.5 READY")]:
+        told.append((at(clock), text))
+    return told
+
+
+WORDS = """05:00:30 PIXEL_HV7 is READY
+05:00:00 PIXEL_HV7 is ERROR
+04:01:00 withdrawal of do MUO START of SHIFT_LEADER: withdrawn 3
+04:01:00 do MUO START of SHIFT_LEADER: withdrawn
+04:01:00 withdrawal of do MUO START of SHIFT_LEADER was asked for
+04:00:00 SHIFT_LEADER ordered do MUO START
+03:00:00 do TRK START of TRK_EXPERT ended with 0: done
+03:00:00 command 1 of TRK ended with 0
+03:00:00 TRK is RUNNING
+02:59:00 TRK_EXPERT ordered do TRK START
+02:05:00 TRK held by TRK_EXPERT
+02:00:00 TRK is free
+00:46:00 station of MUO is heard again
+00:26:00 station of MUO is silent
+2026-11-29 23:11:00 do TRK START of SHIFT_LEADER ended with 6: a child on the way is not held or is manual
+2026-11-29 23:11:00 command 4 of TRK ended with 6
+2026-11-29 23:10:00 command 4 of TRK is at work
+2026-11-29 23:10:00 SHIFT_LEADER ordered do TRK START
+2026-11-29 22:36:00 EXPERIMENT is READY""".split("\n")
+SUMMARY = """tree 2026, all, 2026-11-29 22:00:00 to 2026-11-30 06:00:00, local time
+
+Who held what
+EXPERIMENT
+  the start to the end  SHIFT_LEADER
+TRK
+  the start to 02:00:00  domain EXPERIMENT
+  02:05:00 to the end  TRK_EXPERT
+MUO
+  the start to the end  domain EXPERIMENT
+
+Orders of this screen
+SHIFT_LEADER
+  2026-11-29 23:10:00  do TRK START: ended with 6: a child on the way is not held or is manual
+  04:00:00  do MUO START: withdrawn
+TRK_EXPERT
+  02:59:00  do TRK START: ended with 0: done
+
+Commands that ended with a code other than 0
+  2026-11-29 23:11:00  command 4 of TRK ended with 6
+
+Alarms
+  PIXEL_HV7 ERROR: 2 times, 0:06:30 in all
+
+Silent stations
+  MUON  00:26:00 to 00:46:00  0:20:00
+"""
+LISTED = "[...document.querySelectorAll('#past-list li')].map((li) => li.textContent)"
+BANDS = """[...document.querySelectorAll("#time-line [data-key='track %s'] > *")].map((e) => [
+  e.className.split(" ").pop(), e.dataset.state || "", e.style.left, e.style.width, e.title])"""
+
+
+class Night:
+    """A browser at the page of a detector after a shift."""
+
+    def __init__(self, **how):
+        self.screen = page_server.MadeUp(page_server.tree_of(page_server.DETECTOR), **how)
+        self.names = [it["name"] for it in self.screen.tree["domains"] + self.screen.tree["devices"]]
+        self.screen.show(dict.fromkeys(self.names, "READY"), 60)
+        holders = {it["name"]: it["parent"] for it in self.screen.tree["domains"]}
+        self.screen.tell({**holders, TOP: LEADER, "INFRA": None})
+        self.screen.past = shift(self.names)
+        self.server = page_server.PageServer(self.screen)
+        self.browser = browsers.Browser(browsers.program())
+        self.browser.call("Emulation.setTimezoneOverride", timezoneId="UTC")
+        self.browser.before_each_page(CLOCK)
+        self.load()
+
+    def begin(self):
+        """Has all be as after the shift, and nothing chosen."""
+        self.screen.past, self.screen.saved, self.screen.keeps_history = shift(self.names), 0, True
+        self.screen.show(dict.fromkeys(self.names, "READY"), 60)
+        self.browser.run("localStorage.clear()")
+        self.browser.errors.clear()
+        self.load()
+        self.browser.run("log = []")
+
+    def load(self):
+        self.browser.open(self.server.url)
+        assert self.browser.waits_for("domains.size && !!picture") is not None and shows(self.browser, TOP, "READY")
+
+    def click(self, name):
+        self.browser.run("document.getElementById('%s').click()" % name)
+
+    def open(self):
+        self.click("past-open")
+        assert self.browser.waits_for("isWhole && document.querySelectorAll('#past-list li').length", 10) is not None
+
+    def text(self, name):
+        return self.browser.run("document.getElementById('%s').textContent" % name)
+
+    def look(self, words):
+        """Clicks the entry of these words."""
+        self.browser.run("[...document.querySelectorAll('#past-list button')]"
+                         ".find((b) => b.textContent === '%s').click()" % words)
+
+    def types(self, name, text):
+        self.browser.run("{ const e = document.getElementById('%s'); e.value = '%s';"
+                         " for (const it of ['input', 'change']) e.dispatchEvent(new Event(it)); }" % (name, text))
+
+    def state(self, domain):
+        return self.browser.run("document.querySelector('#main [data-domain=%s] .state').textContent" % domain)
+
+    def end(self):
+        self.browser.end()
+        self.server.end()
+
+
+@pytest.fixture(scope="module")
+def made():
+    it = Night()
+    yield it
+    it.end()
+
+
+@pytest.fixture
+def night(made):
+    """A page after a shift, with the past not open yet."""
+    made.begin()
+    return made
+
+
+def test_entries(night, subtests):
+    """The entries are listed in plain words, newest first, and a search leaves those that have its words."""
+    night.open()
+    listed = night.browser.run(LISTED)
+    with subtests.test("words"):
+        assert listed[:len(WORDS)] == WORDS
+    with subtests.test("those of eight hours alone"):
+        assert len(listed) == len(night.screen.past) - len(night.names) - 3
+    with subtests.test("times"):
+        assert night.browser.run("document.querySelector('#past-list time').dateTime") == "2026-11-30T05:00:30.000Z"
+    night.types("past-search", "ended TRK")
+    with subtests.test("a search"):
+        assert night.browser.run(LISTED) == [it for it in WORDS if "ended" in it and "TRK" in it]
+    night.types("past-search", "no such word")
+    with subtests.test("nothing is found"):
+        assert [night.browser.run(LISTED), night.text("past-more")] == [[], "no entries"]
+    night.types("past-search", "")
+    night.types("past-span", "1")
+    with subtests.test("the last hour"):
+        assert night.browser.run(LISTED) == WORDS[:2]
+    night.types("past-span", "0")
+    with subtests.test("all that is kept"):
+        assert len(night.browser.run(LISTED)) == min(500, len(night.screen.past))
+    with subtests.test("no faults"):
+        assert night.browser.errors == []
+
+
+def test_line(night, subtests):
+    """A row has bands of states, silences and marks, and its name leads a level down."""
+    night.open()
+    names = "[...document.querySelectorAll('#time-line .row-name')].map((b) => b.textContent)"
+    children = [it["name"] for it in night.screen.tree["domains"] if it["parent"] == TOP]
+    with subtests.test("the root, and what is below it"):
+        assert night.browser.run(names)[:len(children) + 1] == [TOP, *children]
+    with subtests.test("bands and marks"):
+        assert night.browser.run(BANDS % "TRK") == [
+            ["band", "READY", "0%", "6.25%", "READY from 2026-11-29 22:00:00 to 2026-11-29 22:30:00"],
+            ["band", "ERROR", "6.25%", "1.25%", "ERROR from 2026-11-29 22:30:00 to 2026-11-29 22:36:00"],
+            ["band", "READY", "7.5%", "55%", "READY from 2026-11-29 22:36:00 to 03:00:00"],
+            ["band", "RUNNING", "62.5%", "37.5%", "RUNNING from 03:00:00 to 06:00:00"],
+            ["fault", "", "14.792%", "", "23:11:00 command 4 of TRK ended with 6"],
+            ["grant", "", "50%", "", "02:00:00 TRK is free"],
+            ["grant", "", "51.042%", "", "02:05:00 TRK held by TRK_EXPERT"],
+            ["trip", "", "6.25%", "", "22:30:00 TRK is ERROR"],
+            ["order", "", "14.583%", "", "23:10:00 SHIFT_LEADER ordered do TRK START"],
+            ["order", "", "62.292%", "", "02:59:00 TRK_EXPERT ordered do TRK START"]]
+    with subtests.test("a silence"):
+        assert night.browser.run(BANDS % "MUO")[1] == [
+            "hush", "", "30.417%", "4.167%", "station MUON silent from 00:26:00 to 00:46:00"]
+    with subtests.test("the colour of a state"):
+        assert night.browser.run("getComputedStyle(document.querySelector('.band[data-state=ERROR]')).backgroundColor"
+                                 ) == "rgb(187, 28, 28)"
+    with subtests.test("it is read out"):
+        assert night.browser.run("document.querySelector(\"[data-key='track MUO']\").getAttribute('aria-label')") == (
+            "MUO: READY from 2026-11-29 22:00:00 to 06:00:00")
+    night.browser.run("document.querySelector(\"[data-key='row TRK']\").click()")
+    below = [it["name"] for it in night.screen.tree["domains"] if it["parent"] == "TRK"]
+    with subtests.test("a level down"):
+        assert night.browser.run(names) == ["up to " + TOP, "TRK", *below]
+    with subtests.test("the list is of what is chosen"):
+        listed = night.browser.run(LISTED)
+        assert [it for it in listed if "MUO" in it] == [] and WORDS[0] in listed and WORDS[6] in listed
+    night.types("past-of", "trk_expert")
+    with subtests.test("an operator"):
+        assert [night.browser.run(names), night.browser.run(LISTED)] == [
+            ["up to all", "TRK"], [WORDS[6], WORDS[7], WORDS[9], WORDS[10]]]
+
+
+def test_as_of(night, subtests):
+    """The whole page shows an earlier time until somebody goes back, and nothing of that is an event."""
+    browser, screen = night.browser, night.screen
+    before = browser.run("log.map((it) => it.text)")
+    night.open()
+    night.look("2026-11-29 22:30:00 EXPERIMENT is ERROR")
+    with subtests.test("boxes"):
+        assert [night.state(it) for it in (*UP, "MUO")] == ["ERROR"] * 4 + ["READY"]
+    with subtests.test("who commands"):
+        assert browser.run("[commander(domains.get('TRK')), commander(domains.get('CAL'))]") == [LEADER, None]
+    with subtests.test("alarms"):
+        assert browser.run("[...document.querySelectorAll('#alarms [data-key=\"device PIXEL_HV7\"] > *')]"
+                           ".map((e) => e.textContent)")[:2] == ["22:30:00", "PIXEL_HV7 ERROR"]
+    with subtests.test("nothing of it can be shelved"):
+        assert browser.run("document.querySelectorAll('#alarms .small, #shelf-time').length") == 0
+    with subtests.test("the banner"):
+        assert night.text("as-of-words") == "AS OF 2026-11-29 22:30:00, not now"
+    with subtests.test("the title"):
+        assert at_last(lambda: browser.run("document.title"), "as of 22:30:00") == "as of 22:30:00"
+    with subtests.test("the slider"):
+        assert browser.run("[by('past-slider').value, by('past-slider').getAttribute('aria-valuetext')]") == [
+            "63", "as of 2026-11-29 22:30:00"]
+    night.look("2026-11-29 22:31:00 SHIFT_LEADER acknowledged device PIXEL_HV7")
+    with subtests.test("who had acknowledged"):
+        assert browser.run("document.querySelector('#alarms [data-key=\"device PIXEL_HV7\"] i').textContent") == (
+            "acknowledged by " + LEADER)
+    screen.show({"EM_HV1": "ERROR"})
+    with subtests.test("what is in alarm now is told"):
+        assert at_last(lambda: night.text("as-of-now"), "now in alarm: EM_HV1") == "now in alarm: EM_HV1"
+    with subtests.test("and is not shown, nor has a tone"):
+        assert browser.run("[stateOf(devices.get('EM_HV1')), window.tones]") == ["READY", 0]
+    night.look("00:26:00 station of MUO is silent")
+    with subtests.test("a silent station"):
+        assert browser.run("[domains.get('MUO').silence > 0, domains.get('TRK').silence]") == [True, None]
+    night.click("back-to-now")
+    with subtests.test("back"):
+        assert [night.state("TRK"), browser.run("stateOf(devices.get('EM_HV1'))"), night.text("as-of-words")] == [
+            "READY", "ERROR", ""]
+    with subtests.test("the new alarm has its tone now"):
+        assert browser.waits_for("window.tones === 1", 5) is not None
+    with subtests.test("the title is as before"):
+        assert at_last(lambda: browser.run("document.title"), "(1) tree 2026") == "(1) tree 2026"
+    with subtests.test("the log has what came, and nothing of the past"):
+        after = browser.run("log.map((it) => it.text)")
+        assert [it for it in after if it not in before] == ["EM_HV1 ERROR"]
+    with subtests.test("no faults"):
+        assert browser.errors == []
+
+
+def test_steps(night, subtests):
+    """Buttons go from entry to entry, and after the last one is now."""
+    night.open()
+    seen = []
+    for button in ("past-before", "past-before", "past-before", "past-after", "past-after", "past-after"):
+        night.click(button)
+        seen.append(night.text("past-shown"))
+    with subtests.test("there and back"):
+        assert seen == ["as of 05:00:30", "as of 05:00:00", "as of 04:01:00", "as of 05:00:00", "as of 05:00:30", "now"]
+    night.types("past-span", "0")
+    night.types("past-slider", "0")
+    with subtests.test("an object without an entry was not seen"):
+        night.browser.run("lookAt({ number: 1, at: pastBook.list[0].at })")
+        assert [night.state(night.names[0]), night.state(night.names[1])] == ["READY", "NOT SEEN"]
+
+
+def test_orders(night, subtests):
+    """Nothing can be ordered of an earlier time."""
+    hand = Hand(night.browser)
+    assert night.browser.waits_for("hasConsole", 10) is not None
+    night.open()
+    hand.choose(LEADER)
+    night.look("2026-11-29 22:30:00 PIXEL_HV7 is ERROR")
+    assert hand.open(TOP)
+    grey = ["true", "the page shows an earlier time: go back to now"]
+    with subtests.test("grey, with the reason"):
+        assert [hand.button(it) for it in ("START", "STOP", "drop")] == [grey] * 3
+    night.browser.run("document.querySelector('[data-deed=STOP]').click()")
+    with subtests.test("no question"):
+        assert not night.browser.run("document.getElementById('question').open")
+    hand.shut()
+    night.click("back-to-now")
+    assert hand.open(TOP)
+    with subtests.test("and again now"):
+        assert at_last(lambda: hand.button("STOP"), [None, ""], 1) != grey
+        assert hand.button("STOP")[0] == "false"
+    night.browser.run("document.getElementById('its-past').click()")
+    with subtests.test("the details lead to the past of their domain"):
+        assert at_last(lambda: night.browser.run("by('past-of').value"), TOP) == TOP
+
+
+def test_summary(night, subtests):
+    """The summary of a shift is a text, which is saved under the time of its end, and printed alone."""
+    night.open()
+    night.browser.run("by('summary').open = true")
+    with subtests.test("the text"):
+        assert at_last(lambda: night.text("summary-text"), SUMMARY) == SUMMARY
+    night.browser.run("by('past').querySelectorAll('a').length; HTMLAnchorElement.prototype.click = function () {"
+                      " window.savedAs = [this.download, this.href.slice(0, 5)]; }; by('summary-save').click()")
+    with subtests.test("saved"):
+        assert night.browser.run("window.savedAs") == ["shift-20261130-0600.txt", "blob:"]
+    night.browser.call("Emulation.setEmulatedMedia", media="print")
+    seen = night.browser.run("""[...document.querySelectorAll("body *")].filter((e) => e.getClientRects().length &&
+      [...e.childNodes].some((it) => it.nodeType === 3 && it.textContent.trim())).map((e) => e.id || e.className)""")
+    night.browser.call("Emulation.setEmulatedMedia", media="")
+    with subtests.test("printed"):
+        assert seen == ["summary-text"]
+
+
+def test_again(night, subtests):
+    """Nothing is lost when the page is loaded again, and a screen that begins again has another history."""
+    night.open()
+    listed = night.browser.run(LISTED)
+    night.load()
+    night.open()
+    with subtests.test("loaded again"):
+        assert night.browser.run(LISTED) == listed
+    night.screen.past.append((at("05:30"), "board TRK 1.7 READY"))
+    with subtests.test("what comes is added"):
+        assert at_last(lambda: night.browser.run(LISTED)[0], "05:30:00 TRK is READY", 5) == "05:30:00 TRK is READY"
+    night.screen.past = [(at("05:40"), "board TRK 2.1 OFF")]
+    with subtests.test("begun again"):
+        assert at_last(lambda: night.browser.run(LISTED), ["05:40:00 TRK is OFF"], 5) == ["05:40:00 TRK is OFF"]
+
+
+def test_kept(night, subtests, monkeypatch):
+    """All entries are loaded that are kept, each once, and those that come meanwhile."""
+    monkeypatch.setattr(page_server, "KEPT", 25_500)
+    texts = [(NOW - 60_000 + it, "board TRK 1.%d READY" % it) for it in range(40_000)]
+    night.screen.past = texts[:-3]
+    night.click("past-open")
+    assert night.browser.waits_for("pastBook.list.length", 10) is not None
+    night.screen.past = texts
+    numbers = "[pastBook.list[0].number, pastBook.list.length, pastBook.list.every((it, at) => it.number === at + %d)]"
+    # three of those that were kept at first are not any more, and may be loaded by then
+    assert night.browser.waits_for("isWhole && upto === 40000", 20) is not None
+    with subtests.test("no gap, and none twice"):
+        first, count, is_whole = night.browser.run(numbers % night.browser.run("pastBook.list[0].number"))
+        assert [first + count, is_whole] == [40_001, True] and first in (14_498, 14_501)
+    night.screen.past = texts + [(NOW + it, "board TRK 2.%d READY" % it) for it in range(30_000)]
+    with subtests.test("with a gap it begins again"):
+        assert night.browser.waits_for("isWhole && upto === 70000", 20) is not None
+        assert night.browser.run(numbers % 44_501) == [44_501, 25_500, True]
+
+
+def test_saved(night):
+    """Somebody is told if the file of the history is not written any more."""
+    night.screen.past = [(at("05:00") + it, "board TRK 1.%d READY" % it) for it in range(1500)]
+    night.screen.saved = 1
+    night.open()
+    assert night.browser.waits_for("unsavedSince > 0", 5) is not None and night.text("past-said") == ""
+    night.browser.run("unsavedSince = performance.now() - 61000")
+    assert at_last(lambda: night.text("past-said"), "not saved since 05:00", 5) == "not saved since 05:00"
+
+
+def test_old_screen(night):
+    """A screen that keeps no history is said to keep none."""
+    night.screen.keeps_history = False
+    night.click("past-open")
+    assert at_last(lambda: night.text("past-said"), "this screen keeps no history", 5) == "this screen keeps no history"
+    assert night.state(TOP) == "READY"
+
+
+def test_keyboard(night, subtests):
+    """The keyboard alone opens the past, goes back in time, and returns."""
+    browser, here = night.browser, "document.activeElement.id"
+    browser.key("h")
+    with subtests.test("h opens it"):
+        assert [browser.run(here), browser.run("by('past').hidden")] == ["past-name", False]
+    assert browser.waits_for("isWhole && pastBook.list.length", 5) is not None
+    passed = []
+    for _ in range(8):
+        browser.key("Tab")
+        passed.append(browser.run(here))
+        if passed[-1] == "past-slider":
+            break
+    with subtests.test("Tab leads to the slider"):
+        assert passed == ["past-span", "past-of", "past-close", "past-before", "past-slider"]
+    browser.key("ArrowLeft")
+    with subtests.test("an arrow goes back"):
+        # a thousandth of eight hours
+        assert night.text("as-of-words") == "AS OF 05:59:31, not now"
+        assert at_last(lambda: browser.run("document.title"), "as of 05:59:31") == "as of 05:59:31"
+    browser.key("ArrowRight")
+    with subtests.test("and to now"):
+        assert browser.run("isPast") is False
+    browser.key("ArrowLeft")
+    browser.key("Escape")
+    with subtests.test("Esc leads to now"):
+        assert [browser.run("isPast"), browser.run("by('past').hidden")] == [False, False]
+    browser.key("Escape")
+    with subtests.test("and then closes it"):
+        assert [browser.run(here), browser.run("by('past').hidden")] == ["past-open", True]
+
+
+@pytest.mark.alone
+def test_many(night, subtests):
+    """Of very many entries the newest are seen soon, and the others come after them."""
+    step = 24 * 60 * MINUTE // MANY
+    states = ["READY", "RUNNING", "ERROR"]
+    names = night.names
+    night.screen.past = [(NOW - (MANY - it) * step, "board %s 1.%d %s" % (
+        names[it % len(names)], it, states[it // len(names) % len(states)])) for it in range(MANY)]
+    first = night.browser.run("""(async () => {
+      const begun = performance.now();
+      document.getElementById("past-open").click();
+      while (!document.querySelectorAll("#past-list li").length) await new Promise((go) => setTimeout(go, 2));
+      return performance.now() - begun; })()""")
+    with subtests.test("the newest"):
+        assert first < SOON
+    whole = night.browser.waits_for("isWhole && pastBook.list.length === %d" % MANY, 30)
+    print("first view after %d ms, all after %.1f s" % (first, whole or -1))
+    with subtests.test("all"):
+        assert whole is not None
+    with subtests.test("at most 500 are listed"):
+        assert night.browser.waits_for("document.querySelectorAll('#past-list li').length === 500", 5) is not None
+        assert night.text("past-more") == "%d more" % (MANY // 3 - 500)
+    redraw = night.browser.run("{ const begun = performance.now(); drawPast(); performance.now() - begun; }")
+    print("all is drawn again in %d ms" % redraw)
+    with subtests.test("drawing again"):
+        assert redraw < SOON
+
+
+def test_telephone(night, subtests):
+    """On a telephone all that is clicked is 44 pixels high, and nothing is wider than the display."""
+    night.browser.size(390, 844, True)
+    night.open()
+    small = night.browser.run("""["button", "select", "summary", "input"].flatMap((it) =>
+      [...document.querySelectorAll("#past " + it)]).filter((e) => e.getClientRects().length &&
+      e.getBoundingClientRect().height < 44).map((e) => e.id || e.className)""")
+    width = night.browser.run("document.documentElement.scrollWidth")
+    night.browser.size(1920, 1080)
+    with subtests.test("targets"):
+        assert small == []
+    with subtests.test("width"):
+        assert width == 390
+
+
+@pytest.mark.skipif(not NODE, reason="there is no node (Debian's nodejs)")
+def test_functions(subtests):
+    """What is worked out of entries without a page: short stretches as one, times of an axis, and faulty orders."""
+    folder = "file://%s/past/" % page.PARTS_FOLDER
+
+    def told(module, expression, **more):
+        script = "import * as it from '%s%s'; console.log(JSON.stringify(%s));" % (folder, module, expression)
+        done = running.run([NODE, "--input-type=module", "-e", script], env={**os.environ, **more})
+        return json.loads(done[0]) if done[2] == 0 else done[1].decode()
+
+    with subtests.test("short stretches are one, in alarm if any of them was"):
+        made = told("stretches.mjs", """it.thinned(["READY", "ERROR", "READY", "READY2", "OFF"].map((value, at) =>
+          ({ value, from: at, to: at < 4 ? at + 1 : 100, count: 1 })), 5)""")
+        assert made == [{"value": "ERROR", "from": 0, "to": 4, "count": 4},
+                        {"value": "OFF", "from": 4, "to": 100, "count": 1}]
+    with subtests.test("a flapping object has a band for each part at most, twice"):
+        assert told("stretches.mjs", """it.thinned(Array.from({ length: 100000 }, (_, at) =>
+          ({ value: String(at % 2), from: at, to: at + 1, count: 1 })), 250).length""") <= 800
+    axis = "it.axisOf({ from: %d, to: %d }).map((one) => one.text)"
+    with subtests.test("whole hours of local time"):
+        assert told("times.mjs", axis % (NOW - 8 * 60 * MINUTE, NOW), TZ="Asia/Kolkata") == [
+            "04:00", "05:00", "06:00", "07:00", "08:00", "09:00", "10:00", "11:00"]
+    with subtests.test("days"):
+        assert told("times.mjs", axis % (NOW - 3 * DAY, NOW), TZ="UTC") == [
+            "12:00", "2026-11-28", "12:00", "2026-11-29", "12:00", "2026-11-30"]
+    with subtests.test("an order of which it is not known how it was given, and words that nobody knows"):
+        texts = ["ended 7 told ANN do TRK START 2", "ended 8 fault 5: no such name", "given 9 withdraw 7", "new words"]
+        lines = ["{}"] + [json.dumps({"number": number, "at": 0, "text": text}) for number, text in enumerate(texts, 1)]
+        answer = json.dumps("\n".join([*lines, ""]))
+        assert told("saying.mjs", """await (async () => { const { readAnswer, bookOf } = await import("%sentries.mjs");
+          const { list } = readAnswer(%s), book = bookOf(list);
+          return list.map((one) => it.sayEntry(book, one)); })()""" % (folder, answer)) == [
+              "order 7 ended with 2: the target is not below the domain", "order 8: fault 5: no such name",
+              "withdrawal of order 7 was asked for", "new words"]
