@@ -55,11 +55,14 @@ def test_code(subtests):
 
 
 def test_meaning(subtests):
-    """What a code means is said with the same words by the screen, by tools/lunskaf.py and in docs/NUMBERS.md."""
+    """What a code means is said with the same words by the screen, its page, tools/lunskaf.py and docs/NUMBERS.md."""
     meanings = dict(re.findall(r'^ +(\d+) => b"(.*)",$', text_of("crates/smi_web/src/outcome.rt"), flags=re.M))
     rows = {row[0]: row[1] for row in tables(section(text_of("docs/NUMBERS.md"), "How an order ends"))}
     with subtests.test("codes: the same three times"):
         assert list(meanings) == list(map(str, lunskaf.CODES)) == list(rows) and len(rows) > 15
+    on_page = re.search(r"CODE_WORDS = \{(.*?)\}", text_of("crates/smi_program/page/past/saying.mjs"), flags=re.S)[1]
+    with subtests.test("codes: the page's past"):
+        assert dict(re.findall(r'(\d+): "(.*?)"', on_page)) == meanings
     for code, said in meanings.items():
         with subtests.test("codes: tools/lunskaf.py says of %s: %s" % (code, said)):
             assert lunskaf.CODES.get(int(code)) == said

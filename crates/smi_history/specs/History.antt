@@ -4,7 +4,7 @@ use Rattle.smi_tree.specs.Hierarchy.{Hierarchy}
 use Rattle.smi_view.specs.Pictured.{Pictured}
 use Rattle.smi_history.specs.declared.history.HistoryNote.{HistoryNote}
 use Rattle.smi_history.specs.declared.history.HistoryEntry.{HistoryEntry}
-use Rattle.smi_history.specs.declared.moment.Moment.{Moment}
+use Rattle.smi_history.specs.declared.look_time.LookTime.{LookTime}
 use Rattle.smi_history.specs.Looking.{picture_notes, silences}
 
 abbrev pub most_entries : ℕ
@@ -49,7 +49,7 @@ abbrev pub all_noted : HistoryState → List HistoryNote → HistoryState
 all_noted h notes = fold noted h notes
 
 -- what is new in a picture is noted
-abbrev pub looked_at : HistoryState → Hierarchy → Pictured → Moment → HistoryState
+abbrev pub looked_at : HistoryState → Hierarchy → Pictured → LookTime → HistoryState
 looked_at h tree picture m =
     all_noted (record h { looked = m.now; silent = silences tree picture m })
     (picture_notes tree picture h.looked m h.silent)

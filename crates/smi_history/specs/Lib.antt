@@ -1,6 +1,6 @@
 pub mod History
 pub mod Looking
-pub mod Moment
+pub mod LookTime
 pub mod Wording
 pub mod Query
 pub mod Lines

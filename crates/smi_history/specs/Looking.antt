@@ -8,8 +8,8 @@ use Rattle.smi_view.specs.Pictured.{Pictured, domain_of, object_of}
 use Rattle.smi_view.specs.declared.Hearing.{Hearing}
 use Rattle.smi_view.specs.declared.Sight.{Sight}
 use Rattle.smi_history.specs.declared.history.HistoryNote.{HistoryNote}
-use Rattle.smi_history.specs.declared.moment.Moment.{Moment}
-use Rattle.smi_history.specs.Moment.{clock_at, is_new}
+use Rattle.smi_history.specs.declared.look_time.LookTime.{LookTime}
+use Rattle.smi_history.specs.LookTime.{clock_at, is_new}
 use Rattle.smi_history.specs.Wording.{record_text, shown_text}
 
 -- what a list has for each number from 1 on, this many
@@ -21,19 +21,19 @@ abbrev pub note_of : ℕ → List ℕ → HistoryNote
 note_of at text = record { at = at; text = text }
 
 -- a state of an object was shown
-abbrev pub board_note : Hierarchy → Moment → List ℕ → Sight → HistoryNote
+abbrev pub board_note : Hierarchy → LookTime → List ℕ → Sight → HistoryNote
 board_note h m name seen = note_of (clock_at m seen.at) (codes "board " ++ name ++ shown_text h seen.shown)
 
-abbrev pub sight_notes : Hierarchy → ℕ → Moment → List ℕ → Option Sight → List HistoryNote
+abbrev pub sight_notes : Hierarchy → ℕ → LookTime → List ℕ → Option Sight → List HistoryNote
 sight_notes h from m name None = []
 sight_notes h from m name (Some seen) = if is_new from m seen.at then board_note h m name seen ∷ [] else []
 
 -- a record of a domain was told
-abbrev pub record_note : Hierarchy → Moment → ℕ → Hearing → HistoryNote
+abbrev pub record_note : Hierarchy → LookTime → ℕ → Hearing → HistoryNote
 record_note h m d had =
     note_of (clock_at m had.since) (codes "record " ++ domain_word h d ++ record_text h had.«record»)
 
-abbrev pub hearing_notes : Hierarchy → ℕ → Moment → ℕ → Option Hearing → List HistoryNote
+abbrev pub hearing_notes : Hierarchy → ℕ → LookTime → ℕ → Option Hearing → List HistoryNote
 hearing_notes h from m d None = []
 hearing_notes h from m d (Some had) = if is_new from m had.since then record_note h m d had ∷ [] else []
 
@@ -46,7 +46,7 @@ abbrev pub is_silent : ℕ → Option Hearing → ℕ → Bool
 is_silent domains None now = false
 is_silent domains (Some had) now = nat_lt (most_silence domains) (now - had.heard)
 
-abbrev pub is_silent_in : Hierarchy → Pictured → Moment → ℕ → Bool
+abbrev pub is_silent_in : Hierarchy → Pictured → LookTime → ℕ → Bool
 is_silent_in h p m d = is_silent (domain_count h) (domain_of p d) m.now
 
 -- whether the station of a domain was silent at the look before
@@ -54,35 +54,35 @@ abbrev pub was_silent : List Bool → ℕ → Bool
 was_silent silent zero = false
 was_silent silent (suc n) = slice_index_or silent n false
 
-abbrev pub change_note : Hierarchy → Moment → ℕ → Bool → HistoryNote
+abbrev pub change_note : Hierarchy → LookTime → ℕ → Bool → HistoryNote
 change_note h m d is = note_of m.clock ((if is then codes "silent " else codes "heard ") ++ domain_word h d)
 
-abbrev pub silence_notes : Hierarchy → Moment → ℕ → Bool → Bool → List HistoryNote
+abbrev pub silence_notes : Hierarchy → LookTime → ℕ → Bool → Bool → List HistoryNote
 silence_notes h m d true true = []
 silence_notes h m d true false = change_note h m d false ∷ []
 silence_notes h m d false true = change_note h m d true ∷ []
 silence_notes h m d false false = []
 
 -- of a domain: its state, its record, and whether its station is silent
-unfoldable pub domain_notes : Hierarchy → Pictured → ℕ → Moment → List Bool → ℕ → List HistoryNote
+unfoldable pub domain_notes : Hierarchy → Pictured → ℕ → LookTime → List Bool → ℕ → List HistoryNote
 domain_notes h p from m silent d =
     sight_notes h from m (domain_word h d) (object_of p d)
     ++ hearing_notes h from m d (domain_of p d)
     ++ silence_notes h m d (was_silent silent d) (is_silent_in h p m d)
 
-abbrev pub device_notes : Hierarchy → Pictured → ℕ → Moment → ℕ → List HistoryNote
+abbrev pub device_notes : Hierarchy → Pictured → ℕ → LookTime → ℕ → List HistoryNote
 device_notes h p from m d = sight_notes h from m (device_word h d) (object_of p (domain_count h + d))
 
-abbrev pub domains_notes : Hierarchy → Pictured → ℕ → Moment → List Bool → List HistoryNote
+abbrev pub domains_notes : Hierarchy → Pictured → ℕ → LookTime → List Bool → List HistoryNote
 domains_notes h p from m silent = each (domain_notes h p from m silent) (domain_count h)
 
-abbrev pub devices_notes : Hierarchy → Pictured → ℕ → Moment → List HistoryNote
+abbrev pub devices_notes : Hierarchy → Pictured → ℕ → LookTime → List HistoryNote
 devices_notes h p from m = each (device_notes h p from m) (device_count h)
 
 -- all domains, and then all devices
-abbrev pub picture_notes : Hierarchy → Pictured → ℕ → Moment → List Bool → List HistoryNote
+abbrev pub picture_notes : Hierarchy → Pictured → ℕ → LookTime → List Bool → List HistoryNote
 picture_notes h p from m silent = domains_notes h p from m silent ++ devices_notes h p from m
 
 -- of which domains the station is silent
-abbrev pub silences : Hierarchy → Pictured → Moment → List Bool
+abbrev pub silences : Hierarchy → Pictured → LookTime → List Bool
 silences h p m = each (λ d. is_silent_in h p m d ∷ []) (domain_count h)

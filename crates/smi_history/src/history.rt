@@ -4,8 +4,8 @@ ghost use Rattle.std.specs.Prelude.{◌≡◌, ◌≤◌, ◌<◌, length, IfOk}
 ghost use Rattle.std.specs.VecDeque.{deque_capacity};
 ghost use Rattle.smi_history.specs.History as spec;
 
+use crate::look_time::LookTime;
 use crate::looking::{Looking, put_notes, put_silences};
-use crate::moment::Moment;
 use bytes::Bytes;
 use smi_tree::Tree;
 use smi_view::Picture;
@@ -184,7 +184,12 @@ impl History {
     ///
     /// Of an object that changed more than once since then, the newest state alone is noted. It fails only if memory
     /// ran out, which tests alone see. Some of what was new may be noted nowhere then.
-    pub fn look(&mut self, tree: &Tree, picture: &Picture, moment: Moment) -> Result<(), AllocError>
+    pub fn look(
+        &mut self,
+        tree: &Tree,
+        picture: &Picture,
+        moment: LookTime,
+    ) -> Result<(), AllocError>
         ensures ok { OnOk result (self.new ≡ spec.looked_at self.old tree.now picture.now moment) }
     {
         let looking = Looking {

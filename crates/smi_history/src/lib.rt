@@ -20,15 +20,15 @@
 
 mod history;
 mod lines;
+mod look_time;
 mod looking;
-mod moment;
 mod parts;
 mod query;
 mod text;
 mod wording;
 
 pub use history::{History, HistoryEntry, HistoryNote, MOST_ENTRIES};
+pub use look_time::{LookTime, clock_at, is_new};
 pub use looking::push_note;
-pub use moment::{Moment, clock_at, is_new};
 pub use query::{HistoryQuery, MOST_TOLD, query_in};
 pub use text::{is_all_plain, put, put_called, put_number, rest_of, shared};

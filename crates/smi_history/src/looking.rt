@@ -7,7 +7,7 @@ ghost use Rattle.smi_view.specs.Pictured.{object_of};
 ghost use Rattle.smi_history.specs.Looking as spec;
 
 use crate::history::HistoryNote;
-use crate::moment::{Moment, clock_at, is_new};
+use crate::look_time::{LookTime, clock_at, is_new};
 use crate::text::{put_called, shared};
 use crate::wording::{put_record, put_shown};
 use smi_schedule::names;
@@ -25,7 +25,7 @@ pub(crate) struct Looking<'a> {
     pub(crate) tree: &'a Tree,
     pub(crate) picture: &'a Picture,
     pub(crate) from: u64,
-    pub(crate) moment: Moment,
+    pub(crate) moment: LookTime,
 }
 
 /// Adds a note of this time in milliseconds since 1970, and of this text.

@@ -3,7 +3,7 @@
 use crate::console::NodeConsole;
 use crate::history_file::HistoryFile;
 use crate::http_listener::HttpListener;
-use smi_history::Moment;
+use smi_history::LookTime;
 use smi_tree::Tree;
 use smi_view::Picture;
 use smi_web::WebService;
@@ -63,7 +63,7 @@ impl WebServer {
 
     /// Notes in the history what is new. What there is no memory for is noted nowhere.
     fn note_history<R: Clock>(&mut self, rt: &R, tree: &Tree, picture: &Picture, now: u64) {
-        let moment = Moment {
+        let moment = LookTime {
             now,
             clock: clock_time(rt),
         };

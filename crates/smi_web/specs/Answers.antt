@@ -10,7 +10,7 @@ use Rattle.http_server.specs.declared.response.Response.{Response}
 use Rattle.smi_tree.specs.Hierarchy.{Hierarchy}
 use Rattle.smi_view.specs.Pictured.{Pictured}
 use Rattle.smi_history.specs.History.{HistoryState, all_noted, looked_at}
-use Rattle.smi_history.specs.declared.moment.Moment.{Moment}
+use Rattle.smi_history.specs.declared.look_time.LookTime.{LookTime}
 use Rattle.smi_web.specs.OrderNotes.{page_notes}
 use Rattle.smi_history.specs.Query.{history_text, query_in}
 use Rattle.smi_web.specs.declared.routing.Route.{Route}
@@ -255,7 +255,7 @@ orders_told w = record w {
 }
 
 -- the picture is looked at, and what is new in it and among the orders is noted
-abbrev pub looked_by : WebService → Hierarchy → Pictured → Moment → WebService
+abbrev pub looked_by : WebService → Hierarchy → Pictured → LookTime → WebService
 looked_by w h p m = record w {
   history = all_noted (looked_at w.history h p m) (page_notes w.orders w.history.looked m);
 }

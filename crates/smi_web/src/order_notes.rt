@@ -7,7 +7,7 @@ ghost use Rattle.smi_web.specs.OrderNotes as spec;
 use crate::acknowledgements::Acknowledgement;
 use crate::page_orders::PageOrders;
 use crate::relayed_order::{RelayedOrder, Reply};
-use smi_history::{HistoryNote, Moment, clock_at, is_new, push_note, put, put_number};
+use smi_history::{HistoryNote, LookTime, clock_at, is_new, push_note, put, put_number};
 use std::alloc::{AllocError, Global};
 
 /// A time, and since when something is new.
@@ -15,7 +15,7 @@ use std::alloc::{AllocError, Global};
 struct Since {
     alloc: Global,
     from: u64,
-    moment: Moment,
+    moment: LookTime,
 }
 
 /// Adds something of a time of the screen, if it is new then: words, a number and a text.
@@ -158,7 +158,7 @@ pub(crate) fn notes_of_page(
     alloc: Global,
     orders: &Option<PageOrders>,
     from: u64,
-    moment: Moment,
+    moment: LookTime,
 ) -> Result<Vec<HistoryNote>, AllocError>
     ensures { IfOk result (λ notes. notes.items ≡ spec.page_notes orders.now from moment) }
 {

@@ -17,7 +17,7 @@ use crate::snapshot::Snapshot;
 use bytes::Bytes;
 use http::{HeaderName, HeaderValue, Request, StatusCode, header};
 use http_server::{Response, Service};
-use smi_history::{History, Moment, query_in, shared};
+use smi_history::{History, LookTime, query_in, shared};
 use smi_tree::Tree;
 use smi_view::Picture;
 use std::alloc::{AllocError, Global};
@@ -220,7 +220,7 @@ impl WebService {
         alloc: Global,
         tree: &Tree,
         picture: &Picture,
-        moment: Moment,
+        moment: LookTime,
     ) -> Result<(), AllocError>
         ensures ok { OnOk result (self.new ≡ looked_by self.old tree.now picture.now moment) }
     {
