@@ -508,6 +508,19 @@ def test_functions(subtests):
     with subtests.test("a flapping object has a band for each part at most, twice"):
         assert told("stretches.mjs", """it.thinned(Array.from({ length: 100000 }, (_, at) =>
           ({ value: String(at % 2), from: at, to: at + 1, count: 1 })), 250).length""") <= 800
+    with subtests.test("a station that was silent when the screen began again is heard by its records"):
+        rows = [(5, "record A free 0 0 settled 0"), (10, "silent A"), (11, "silent B"),
+                (50, "record B free 0 0 settled 0"), (51, "record A free 0 0 settled 0"), (70, "silent A"),
+                (80, "heard A"), (81, "record A free 0 1 busy 0")]
+        lines = ["{}"] + [json.dumps({"number": number, "at": when, "text": text})
+                          for number, (when, text) in enumerate(rows, 1)]
+        answer = json.dumps("\n".join([*lines, ""]))
+        assert told("stretches.mjs", """await (async () => {
+          const { readAnswer, bookOf } = await import("%sentries.mjs");
+          (await import("%s../model.mjs")).plant({ devices: [], domains: ["A", "B"].map((name) =>
+            ({ name, station: "S", parent: null })) });
+          return it.silentTimes(bookOf(readAnswer(%s).list), "S", { from: 0, to: 100 })
+            .map(({ from, to }) => [from, to]); })()""" % (folder, folder, answer)) == [[10, 50], [70, 80]]
     axis = "it.axisOf({ from: %d, to: %d }).map((one) => one.text)"
     with subtests.test("whole hours of local time"):
         assert told("times.mjs", axis % (NOW - 8 * 60 * MINUTE, NOW), TZ="Asia/Kolkata") == [

@@ -633,8 +633,9 @@ function readAnswer(text) {
   return { head, list };
 }
 function keysOf([kind, first, second]) {
-  if (kind === \"board\" || kind === \"record\") return [kind + \" \" + first];
-  if (kind === \"silent\" || kind === \"heard\") return [\"silence \" + first];
+  if (kind === \"board\") return [\"board \" + first];
+  if (kind === \"record\") return [\"record \" + first, \"sign \" + first];
+  if (kind === \"silent\" || kind === \"heard\") return [\"sign \" + first];
   if (kind === \"given\") return [\"order \" + first, \"given\"];
   if (kind === \"ended\") return [\"order \" + first];
   return kind === \"acknowledged\" ? [\"acknowledged \" + first + \" \" + second] : [];
@@ -824,12 +825,16 @@ function stretchesIn(list, valueOf, { from, to }) {
 const statesOf = (book, name, span) =>
   stretchesIn(entriesOf(book, \"board \" + name), (it) => it.words[3], span);
 const holdersOf = (book, name, span) => stretchesIn(entriesOf(book, \"record \" + name), holderWords, span);
+const isSilence = (it) => it.words[0] === \"silent\";
 function silenceEntries(book, station) {
   const names = [...domains.values()].filter((d) => d.station === station).map((d) => d.name);
-  return names.flatMap((name) => entriesOf(book, \"silence \" + name)).sort((a, b) => a.number - b.number);
+  return names.flatMap((name) => entriesOf(book, \"sign \" + name)
+    .filter((it, at, list) => isSilence(it) !== (at > 0 && isSilence(list[at - 1]))))
+    .sort((a, b) => a.number - b.number);
 }
 const silentTimes = (book, station, span) =>
-  stretchesIn(silenceEntries(book, station), (it) => it.words[0], span).filter((it) => it.value === \"silent\");
+  stretchesIn(silenceEntries(book, station), (it) => isSilence(it) ? \"silent\" : \"heard\", span)
+    .filter((it) => it.value === \"silent\");
 function worse(one, other) {
   const isHot = (it) => kindOf(it.value) === \"alarm\";
   if (isHot(one) !== isHot(other)) return isHot(one) ? one.value : other.value;

@@ -16,8 +16,10 @@ export function readAnswer(text) {
 /** Returns the keys under which an entry is found.
  * @param {string[]} words @returns {string[]} */
 function keysOf([kind, first, second]) {
-  if (kind === "board" || kind === "record") return [kind + " " + first];
-  if (kind === "silent" || kind === "heard") return ["silence " + first];
+  if (kind === "board") return ["board " + first];
+  // who tells a record is heard
+  if (kind === "record") return ["record " + first, "sign " + first];
+  if (kind === "silent" || kind === "heard") return ["sign " + first];
   if (kind === "given") return ["order " + first, "given"];
   if (kind === "ended") return ["order " + first];
   return kind === "acknowledged" ? ["acknowledged " + first + " " + second] : [];

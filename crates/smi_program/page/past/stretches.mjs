@@ -35,17 +35,24 @@ export const statesOf = (book, name, span) =>
  * @param {Book} book @param {string} name @param {Span} span */
 export const holdersOf = (book, name, span) => stretchesIn(entriesOf(book, "record " + name), holderWords, span);
 
-/** Returns all entries that say whether a station is heard, by any of its domains.
+/** @param {Entry} it */
+const isSilence = (it) => it.words[0] === "silent";
+
+/** Returns the entries with which a station fell silent or was heard again, by any of its domains. A screen that was
+ * started while a station was silent tells no `heard` of it, but its records.
  * @param {Book} book @param {string} station */
 export function silenceEntries(book, station) {
   const names = [...domains.values()].filter((d) => d.station === station).map((d) => d.name);
-  return names.flatMap((name) => entriesOf(book, "silence " + name)).sort((a, b) => a.number - b.number);
+  return names.flatMap((name) => entriesOf(book, "sign " + name)
+    .filter((it, at, list) => isSilence(it) !== (at > 0 && isSilence(list[at - 1]))))
+    .sort((a, b) => a.number - b.number);
 }
 
 /** Returns when a station was silent.
  * @param {Book} book @param {string} station @param {Span} span */
 export const silentTimes = (book, station, span) =>
-  stretchesIn(silenceEntries(book, station), (it) => it.words[0], span).filter((it) => it.value === "silent");
+  stretchesIn(silenceEntries(book, station), (it) => isSilence(it) ? "silent" : "heard", span)
+    .filter((it) => it.value === "silent");
 
 /** Returns which of two states a stretch of both shows: the one in alarm, or else that of the longer one.
  * @param {Stretch} one @param {Stretch} other */

@@ -1,0 +1,116 @@
+"""What a screen of a full tree costs with many guests: its memory, its time, and how many pictures it serves.
+
+usage: guests.py [--guests N] [--seconds S] PROGRAM ..
+
+One node keeps 128 domains with 512 devices, of which one changes each 50 ms. Beside it each program runs a screen, all
+at once, so that programs are compared in one run. At each screen this many guests ask four times a second for what is
+new, as its page does, and each asks for the whole history once. A line is printed for each program: the memory of its
+screen before and after in MiB, its processor time in percent of one processor, and how many pictures were answered.
+"""
+
+import argparse
+import asyncio
+import os
+import shutil
+import subprocess
+import tempfile
+import time
+
+import full
+import nodes
+import running
+import screens
+
+EACH = 0.25
+
+
+def tree_lines(ports, count):
+    """Returns the lines of the full tree with this many screens at the end."""
+    lines = full.tree_lines(ports)
+    for word, line in [("operator", "operator WATCHER%d SCREEN%d"), ("station", "station SCREEN%d 127.0.0.1:%d")]:
+        last = max(at for at, it in enumerate(lines) if it.split()[:1] == [word])
+        for number, port in reversed(list(enumerate(nodes.free_ports(count)))):
+            lines.insert(last + 1, line % ((number, number) if word == "operator" else (number, port)))
+    return lines
+
+
+async def asked(reader, writer, host, target):
+    """Returns the status and the body of an answer."""
+    writer.write(("GET %s HTTP/1.1\r\nHost: %s\r\n\r\n" % (target, host)).encode())
+    head = (await reader.readuntil(b"\r\n\r\n")).decode()
+    length = [int(it.split(":")[1]) for it in head.split("\r\n") if it.lower().startswith("content-length")]
+    return int(head.split()[1]), await reader.readexactly(length[0] if length else 0)
+
+
+async def visit(host, until, served):
+    """Visits a screen until a time, and comes again if it is let go."""
+    while time.monotonic() < until:
+        try:
+            reader, writer = await asyncio.open_connection(*host.split(":"))
+            await asked(reader, writer, host, "/api/history?after=0")
+            frame = ""
+            while time.monotonic() < until:
+                status, body = await asked(reader, writer, host, "/api/picture" + frame)
+                if status == 200:
+                    frame = "?after=" + body.partition(b'"frame":')[2].split(b",")[0].decode()
+                    served[host] += 1
+                await asyncio.sleep(EACH)
+            writer.close()
+        except (OSError, asyncio.IncompleteReadError):
+            await asyncio.sleep(EACH)
+
+
+async def change(node, until):
+    """Has a device change again and again."""
+    number = 0
+    while time.monotonic() < until:
+        number += 1
+        node.say("report R%d_%d_D%d %s" % (1 + number % 8, 1 + number % 15, 1 + number % 4,
+                                           ("READY", "RUNNING", "OFF")[number % 3]))
+        await asyncio.sleep(0.05)
+
+
+def seconds_of(child):
+    """Returns the processor time of a process, in seconds."""
+    words = running.read("/proc/%d/stat" % child.pid).decode().rpartition(")")[2].split()
+    return (int(words[11]) + int(words[12])) / os.sysconf("SC_CLK_TCK")
+
+
+async def crowd(hosts, node, count, seconds, served):
+    until = time.monotonic() + seconds
+    await asyncio.gather(change(node, until), *(visit(host, until, served) for host in hosts for _ in range(count)))
+
+
+def main():
+    words = argparse.ArgumentParser(description=__doc__.split("\n\n")[0])
+    words.add_argument("--guests", type=int, default=200, help="how many guests each screen has")
+    words.add_argument("--seconds", type=int, default=30, help="how long they stay")
+    words.add_argument("programs", nargs="+", metavar="PROGRAM")
+    said, folder = words.parse_args(), tempfile.mkdtemp()
+    programs = [os.path.abspath(it) for it in said.programs]
+    ports = {station: full.free_port(station) for station in range(1, full.STATIONS + 1)}
+    tree = nodes.write_tree(folder, None, tree_lines(ports, len(programs)))
+    children, node = [], nodes.Node(programs[-1], [tree, "S%d" % full.KEEPER, os.path.join(folder, "S"), "--endless"])
+    try:
+        hosts = ["127.0.0.1:%d" % screens.tcp_port() for _ in programs]
+        for number, (program, host) in enumerate(zip(programs, hosts)):
+            children.append(subprocess.Popen([
+                program, "screen", tree, "SCREEN%d" % number, os.path.join(folder, "screen%d" % number), "--http", host,
+                "--endless"], stdin=subprocess.DEVNULL))
+        time.sleep(10)
+        before = [(running.memory_of(it), seconds_of(it)) for it in children]
+        served = dict.fromkeys(hosts, 0)
+        asyncio.run(crowd(hosts, node, said.guests, said.seconds, served))
+        for program, host, child, (memory, spent) in zip(said.programs, hosts, children, before):
+            print("%s: %.1f MiB, with %d guests %.1f MiB; %.0f %% of a processor; %d pictures" % (
+                program, memory / 1024, said.guests, running.memory_of(child) / 1024,
+                100 * (seconds_of(child) - spent) / said.seconds, served[host]))
+    finally:
+        for child in children:
+            child.kill()
+        node.kill()
+        shutil.rmtree(folder)
+
+
+if __name__ == "__main__":
+    main()
