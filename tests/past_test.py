@@ -66,7 +66,7 @@ def shift(names):
 
 WORDS = """05:00:30 PIXEL_HV7 is READY
 05:00:00 PIXEL_HV7 is ERROR
-04:01:00 withdrawal of do MUO START of SHIFT_LEADER: withdrawn 3
+04:01:00 withdrawal of do MUO START of SHIFT_LEADER: done
 04:01:00 do MUO START of SHIFT_LEADER: withdrawn
 04:01:00 withdrawal of do MUO START of SHIFT_LEADER was asked for
 04:00:00 SHIFT_LEADER ordered do MUO START
@@ -91,8 +91,7 @@ EXPERIMENT
 TRK
   the start to 02:00:00  domain EXPERIMENT
   02:05:00 to the end  TRK_EXPERT
-MUO
-  the start to the end  domain EXPERIMENT
+held once, by the domain above: 1
 
 Orders of this screen
 SHIFT_LEADER

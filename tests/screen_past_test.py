@@ -101,9 +101,9 @@ def test_seen(world, subtests):
     with subtests.test("states of the nodes"):
         assert [state for _, state in versions(lines)["HV"]][-2:] == ["OFF", "READY"]
     with subtests.test("who held it"):
-        records = [it.split()[2:5] for it in lines if it.startswith("record TPC ")]
-        assert [it for at, it in enumerate(records) if it[:2] not in [one[:2] for one in records[:at]]] == [
-            ["free", "0", "0"], ["domain", "DCS", "1"], ["free", "2", "1"]]
+        records = [it.split()[2:4] for it in lines if it.startswith("record TPC ")]
+        assert [it for at, it in enumerate(records) if it not in records[:at]] == [
+            ["free", "0"], ["domain", "DCS"], ["free", "2"]]
     with subtests.test("orders"):
         numbered = [it.split(" ", 2) for it in lines if it.startswith(("given", "ended"))]
         wanted = [[[str(n), "order " + text], [str(n), "told %s %d" % (text, code)]] for n, (text, code) in

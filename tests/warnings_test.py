@@ -331,6 +331,9 @@ def test_withdraw(played, subtests):
     with subtests.test("one that has begun"):
         words = order + " has begun and can't be withdrawn"
         assert is_so(lambda: played.browser.run("document.getElementById('told').textContent") == words, 10)
+    with subtests.test("its list says so, wherever it is, and has no button"):
+        assert is_so(lambda: "has begun and can't be withdrawn" in played.fates()[-1], 10)
+        assert played.browser.run("!" + button)
     with subtests.test("lines that withdraw are no orders"):
         assert not [text for text in played.fates() if text.startswith("withdraw")]
         assert played.browser.run("given.every((it) => it.line.startsWith('order '))")

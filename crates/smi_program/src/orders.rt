@@ -98,6 +98,7 @@ const wordsOf = (it) => it.line.split(\" \").slice(1);
 const operatorOf = (it) => wordsOf(it)[0];
 const domainOf = (it) => wordsOf(it)[2];
 const orderOf = (it) => wordsOf(it).slice(1).join(\" \");
+const hasBegun = (it) => withdrawals.some(({ answer }) => answer === \"begun \" + it.number);
 const holdsUp = (it) => it.waits && wordsOf(it)[1] !== \"ask\";
 const waitingOf = (name, before = Infinity) =>
   given.filter((it) => holdsUp(it) && operatorOf(it) === name && it.number < before);
@@ -306,7 +307,7 @@ function lister(list) {
       inList.set(row.number, one);
       set(one.fate, row.fate);
       style(one.li, \"--c\", row.edge);
-      if (!row.waits) one.off.remove();
+      if (row.isFirm) one.off.remove();
     });
   };
 }
@@ -447,7 +448,7 @@ function fateOf(it) {
   if (it.waits) {
     const first = firstBefore(it), station = stationOf(wordsOf(it).slice(1));
     return \"waits \" + it.seconds + \" s\" + (first ? \" until \" + orderOf(first) + \" has ended\"
-      : station ? \" for station \" + station : \"\");
+      : station ? \" for station \" + station : \"\") + (hasBegun(it) ? \", has begun and can't be withdrawn\" : \"\");
   }
   if (it.code !== null) return it.code + \": \" + it.words;
   return it.answer || \"the connection with the console broke: not known how it ended\";
@@ -466,7 +467,7 @@ function showGiven() {
   const old = given.filter((it) => !it.waits && time - ended.get(it.number) < SHOWN_FOR).slice(-SHOWN);
   const rows = given.filter((it) => it.waits || old.includes(it)).map((it) => ({ number: it.number,
     order: it.line.slice(6), fate: fateOf(it) + (found.has(it.number) ? \"\" : \", not from this page\"),
-    edge: edgeOf(it), waits: it.waits, names: wordsOf(it).slice(2) }));
+    edge: edgeOf(it), isFirm: !it.waits || hasBegun(it), names: wordsOf(it).slice(2) }));
   listAll = listAll || lister(by(\"given\"));
   listAll(rows);
   if (opened && listHere) listHere(rows.filter((row) => row.names.includes(opened)));

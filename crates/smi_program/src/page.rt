@@ -33,7 +33,7 @@ a.tool { display: inline-block; margin-top: .8rem }
 #clock { margin-left: auto; font-size: 1.5rem; font-weight: 700 }
 .tool { border: 2px solid var(--line); border-radius: 8px; padding: .15rem .6rem; color: var(--soft); font-weight: 600 }
 .tool[aria-pressed=true] { color: var(--ink); border-color: var(--soft) }
-#find, #token { font: inherit; width: 11rem; padding: .15rem .5rem; border: 2px solid var(--line); border-radius: 8px;
+#find, #token { font: inherit; width: 9rem; padding: .15rem .5rem; border: 2px solid var(--line); border-radius: 8px;
   background: var(--card); color: var(--ink) }
 select { font: inherit; color: var(--ink); background: var(--card); border: 2px solid var(--line); border-radius: 8px }
 #all { display: grid; grid-template: \"aside\" \"main\" \"footer\" / minmax(0, 1fr) }
@@ -784,6 +784,8 @@ function orderIn(order) {
 }
 function endIn(entry) {
   const words = entry.words.slice(2), code = words[words.length - 1];
+  if (words.length === 2 && words[0] === \"begun\") return \"it has begun and can't be withdrawn\";
+  if (words.length === 2 && words[0] === \"withdrawn\") return \"done\";
   if (words[0] !== \"told\" || !/^\\d+$/.test(code)) return words.join(\" \");
   return \"ended with \" + code + (CODE_WORDS[code] ? \": \" + CODE_WORDS[code] : \"\");
 }
@@ -882,7 +884,9 @@ function keepEnd(is) { end = is ? end ?? shownSpan().to : null; }
 function shownSpan() {
   const list = pastBook.list, last = list.length ? list[list.length - 1].at : 0;
   const to = end ?? Math.max(Date.now(), last + 1);
-  return { from: hours ? to - hours * HOUR : list.length ? Math.min(list[0].at, to - 1) : to - HOUR, to };
+  if (!list.length) return { from: to - (hours || 1) * HOUR, to };
+  const first = Math.min(list[0].at, to - 1);
+  return { from: hours && !(isWhole && first > to - hours * HOUR) ? to - hours * HOUR : first, to };
 }
 const namesBelow = (d) => [d.name, ...d.devices.map((it) => it.name), ...d.children.flatMap(namesBelow)];
 function wantedNames() {
@@ -1528,6 +1532,7 @@ function refill(element, children) {
   if (again) again.focus();
 }
 const MOST_ENTRIES = 500;
+let wasMarked = false;
 const said = new WeakMap();
 function wordsFor(entry) {
   const old = said.get(entry);
@@ -1560,19 +1565,29 @@ function drawEntries() {
   markEntry();
 }
 function markEntry() {
-  const number = shownPlace && shownPlace.number;
-  by(\"past-list\").querySelectorAll(\"button\").forEach((b) => {
-    flag(b, \"here\", number !== null && Number(b.dataset.key) === number);
+  const number = shownPlace && shownPlace.number, list = by(\"past-list\");
+  if (wasMarked && number === null) list.scrollTop = 0;
+  wasMarked = number !== null;
+  list.querySelectorAll(\"button\").forEach((b) => {
+    const isHere = number !== null && Number(b.dataset.key) === number;
+    flag(b, \"here\", isHere);
+    if (!isHere) return;
+    const off = b.getBoundingClientRect().top - list.getBoundingClientRect().top;
+    if (off < 0 || off + b.offsetHeight > list.clientHeight) list.scrollTop += off - list.clientHeight / 2;
   });
 }
 const timesOf = (it, span) => (it.from === span.from ? \"the start\" : timeBeside(it.from, span.to)) + \" to \" +
   (it.to === span.to ? \"the end\" : timeBeside(it.to, span.to));
 const chosen = (list, names) => [...list].map((it) => it.name).filter((name) => names === null || names.has(name));
 function holdingLines(book, span, names) {
-  return chosen(domains.values(), names).flatMap((name) => {
+  let plain = 0;
+  const lines = chosen(domains.values(), names).flatMap((name) => {
     const list = holdersOf(book, name, span).filter((it) => it.value && it.value !== \"free\");
-    return list.length ? [name, ...list.map((it) => \"  \" + timesOf(it, span) + \"  \" + it.value)] : [];
+    const isPlain = list.length === 1 && list[0].value === \"domain \" + domains.get(name).parent;
+    plain += isPlain ? 1 : 0;
+    return list.length && !isPlain ? [name, ...list.map((it) => \"  \" + timesOf(it, span) + \"  \" + it.value)] : [];
   });
+  return plain ? [...lines, \"held once, by the domain above: \" + plain] : lines;
 }
 function orderLines(book, span, names) {
   const ordered = new Map();

@@ -8,7 +8,7 @@ import { domains, liveNow, newest, tree } from "../model.mjs";
 import { learnAcknowledged } from "./acknowledging.mjs";
 import { listHere, offerOperators } from "./choosing.mjs";
 import { asksChild, isManual, isOfMode, isSilent, parentOf } from "./counted.mjs";
-import { connect, firstBefore, found, given, hasConsole, learn, orderOf, wordsOf } from "./given.mjs";
+import { connect, firstBefore, found, given, hasBegun, hasConsole, learn, orderOf, wordsOf } from "./given.mjs";
 import { lister } from "./given_list.mjs";
 import { tellEnds } from "./giving.mjs";
 import { held, learnModes } from "./modes.mjs";
@@ -62,7 +62,7 @@ function fateOf(it) {
   if (it.waits) {
     const first = firstBefore(it), station = stationOf(wordsOf(it).slice(1));
     return "waits " + it.seconds + " s" + (first ? " until " + orderOf(first) + " has ended"
-      : station ? " for station " + station : "");
+      : station ? " for station " + station : "") + (hasBegun(it) ? ", has begun and can't be withdrawn" : "");
   }
   if (it.code !== null) return it.code + ": " + it.words;
   return it.answer || "the connection with the console broke: not known how it ended";
@@ -85,7 +85,7 @@ function showGiven() {
   const old = given.filter((it) => !it.waits && time - ended.get(it.number) < SHOWN_FOR).slice(-SHOWN);
   const rows = given.filter((it) => it.waits || old.includes(it)).map((it) => ({ number: it.number,
     order: it.line.slice(6), fate: fateOf(it) + (found.has(it.number) ? "" : ", not from this page"),
-    edge: edgeOf(it), waits: it.waits, names: wordsOf(it).slice(2) }));
+    edge: edgeOf(it), isFirm: !it.waits || hasBegun(it), names: wordsOf(it).slice(2) }));
   listAll = listAll || lister(by("given"));
   listAll(rows);
   if (opened && listHere) listHere(rows.filter((row) => row.names.includes(opened)));

@@ -42,6 +42,9 @@ export const domainOf = (it) => wordsOf(it)[2];
 /** Returns the words of an order without its operator.
  * @param {Order} it */
 export const orderOf = (it) => wordsOf(it).slice(1).join(" ");
+/** Returns true if somebody wanted to withdraw an order, and was told that it has begun.
+ * @param {Order} it */
+export const hasBegun = (it) => withdrawals.some(({ answer }) => answer === "begun " + it.number);
 /** Returns true if an order holds up later ones: it waits, and is no question.
  * @param {Order} it */
 const holdsUp = (it) => it.waits && wordsOf(it)[1] !== "ask";

@@ -3,8 +3,8 @@
 import { label, make, set, style } from "../dom.mjs";
 import { withdraw } from "./withdrawals.mjs";
 
-/** @typedef {{number: number, order: string, fate: string, edge: string, waits: boolean, names: string[]}} Row
- * `names` are the domains that the order is about. */
+/** @typedef {{number: number, order: string, fate: string, edge: string, isFirm: boolean, names: string[]}} Row
+ * `isFirm` says that it can't be withdrawn, and `names` are the domains that it is about. */
 
 /** Makes the element of an order.
  * @param {Row} row */
@@ -36,7 +36,7 @@ export function lister(list) {
       inList.set(row.number, one);
       set(one.fate, row.fate);
       style(one.li, "--c", row.edge);
-      if (!row.waits) one.off.remove();
+      if (row.isFirm) one.off.remove();
     });
   };
 }

@@ -2,7 +2,7 @@
 
 import { keep, kept } from "../dom.mjs";
 import { HOUR, devices, domains } from "../model.mjs";
-import { pastBook } from "./history.mjs";
+import { isWhole, pastBook } from "./history.mjs";
 import { countFront, entriesOf, isAbout } from "./entries.mjs";
 import { within } from "./stretches.mjs";
 
@@ -33,13 +33,15 @@ export function chooseSubject(name) { subject = name; }
  * @param {boolean} is */
 export function keepEnd(is) { end = is ? end ?? shownSpan().to : null; }
 
-/** Returns the time that is shown.
+/** Returns the time that is shown. It begins with the first entry that is kept, if the chosen hours begin earlier.
  * @returns {Span} */
 export function shownSpan() {
   const list = pastBook.list, last = list.length ? list[list.length - 1].at : 0;
   // the clock of the screen may be ahead of this one
   const to = end ?? Math.max(Date.now(), last + 1);
-  return { from: hours ? to - hours * HOUR : list.length ? Math.min(list[0].at, to - 1) : to - HOUR, to };
+  if (!list.length) return { from: to - (hours || 1) * HOUR, to };
+  const first = Math.min(list[0].at, to - 1);
+  return { from: hours && !(isWhole && first > to - hours * HOUR) ? to - hours * HOUR : first, to };
 }
 
 /** Returns the names of a domain, of all below it and of their devices.

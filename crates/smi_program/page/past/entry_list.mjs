@@ -11,6 +11,8 @@ import { timeBeside } from "./times.mjs";
 /** @typedef {import("./entries.mjs").Entry} Entry */
 
 const MOST_ENTRIES = 500;
+// Whether an entry was marked.
+let wasMarked = false;
 /** What was said of entries, once all are there that an entry may be said by.
  * @type {WeakMap<Entry, string>} */
 const said = new WeakMap();
@@ -52,10 +54,16 @@ export function drawEntries() {
   markEntry();
 }
 
-/** Marks the last entry up to the time that the page shows. */
+/** Marks the last entry up to the time that the page shows, and brings it into view; the newest one, if that is now. */
 export function markEntry() {
-  const number = shownPlace && shownPlace.number;
-  by("past-list").querySelectorAll("button").forEach((/** @type {any} */ b) => {
-    flag(b, "here", number !== null && Number(b.dataset.key) === number);
+  const number = shownPlace && shownPlace.number, list = by("past-list");
+  if (wasMarked && number === null) list.scrollTop = 0;
+  wasMarked = number !== null;
+  list.querySelectorAll("button").forEach((/** @type {any} */ b) => {
+    const isHere = number !== null && Number(b.dataset.key) === number;
+    flag(b, "here", isHere);
+    if (!isHere) return;
+    const off = b.getBoundingClientRect().top - list.getBoundingClientRect().top;
+    if (off < 0 || off + b.offsetHeight > list.clientHeight) list.scrollTop += off - list.clientHeight / 2;
   });
 }

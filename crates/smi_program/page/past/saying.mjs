@@ -44,6 +44,9 @@ export function orderIn(order) {
  * @param {Entry} entry */
 export function endIn(entry) {
   const words = entry.words.slice(2), code = words[words.length - 1];
+  // what the console says to a line that withdraws an order
+  if (words.length === 2 && words[0] === "begun") return "it has begun and can't be withdrawn";
+  if (words.length === 2 && words[0] === "withdrawn") return "done";
   if (words[0] !== "told" || !/^\d+$/.test(code)) return words.join(" ");
   return "ended with " + code + (CODE_WORDS[code] ? ": " + CODE_WORDS[code] : "");
 }

@@ -19,12 +19,18 @@ const timesOf = (it, span) => (it.from === span.from ? "the start" : timeBeside(
 /** @param {Iterable<{name: string}>} list @param {Set<string> | null} names @returns {string[]} */
 const chosen = (list, names) => [...list].map((it) => it.name).filter((name) => names === null || names.has(name));
 
-/** @param {Book} book @param {Span} span @param {Set<string> | null} names */
+/** Returns who held each domain and when. A domain that was held once, by the one above it, is counted alone: in most
+ * shifts that is nearly all of them.
+ * @param {Book} book @param {Span} span @param {Set<string> | null} names */
 function holdingLines(book, span, names) {
-  return chosen(domains.values(), names).flatMap((name) => {
+  let plain = 0;
+  const lines = chosen(domains.values(), names).flatMap((name) => {
     const list = holdersOf(book, name, span).filter((it) => it.value && it.value !== "free");
-    return list.length ? [name, ...list.map((it) => "  " + timesOf(it, span) + "  " + it.value)] : [];
+    const isPlain = list.length === 1 && list[0].value === "domain " + domains.get(name).parent;
+    plain += isPlain ? 1 : 0;
+    return list.length && !isPlain ? [name, ...list.map((it) => "  " + timesOf(it, span) + "  " + it.value)] : [];
   });
+  return plain ? [...lines, "held once, by the domain above: " + plain] : lines;
 }
 
 /** Returns the orders of each operator that were given in the span, and how each ended, if it has.
