@@ -118,7 +118,7 @@ class Gates(Patched):
     def test_mutants_are_tried_as_long_as_the_gate_is_in_time(self):
         self.patch(os, "cpu_count", lambda: 2)
         self.patch(gate.time, "time", lambda: 1000 * 60)
-        minutes = [gate.budget((1000 - since) * 60) / 60 for since in (0, 60, 115, 120, 136, 138, 200)]
+        minutes = [gate.budget((1000 - since) * 60) / 60 for since in (0, 60, 105, 110, 126, 128, 200)]
         self.assertEqual(minutes, [50, 50, 50, 40, 8, 5, 5])
 
     def test_words_that_it_does_not_know(self):

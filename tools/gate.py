@@ -24,8 +24,9 @@ import refusals
 
 # How long mutants of crates over changed ones are tried at most, and at least, in processor seconds.
 BUDGET, LEAST = 50 * 60, 5 * 60
-# How long after its begin a gate is to have ended, in seconds. Any machine that proves all in time ends in time so.
-END = 140 * 60
+# How long after its begin a gate begins no more mutants than fit, in seconds. Those that have begun were seen to take a
+# third more than was reckoned, so a gate may last some minutes longer.
+END = 130 * 60
 PROGRAM = os.path.join("bin", "smi")
 # Debian's python3 is the one that has pytest.
 PYTHON = "/usr/bin/python3"
