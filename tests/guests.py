@@ -4,8 +4,9 @@ usage: guests.py [--guests N] [--seconds S] PROGRAM ..
 
 One node keeps 128 domains with 512 devices, of which one changes each 50 ms. Beside it each program runs a screen, all
 at once, so that programs are compared in one run. At each screen this many guests ask four times a second for what is
-new, as its page does, and each asks once for the oldest 10,000 entries of its history. A line is printed for each program: the memory of its
-screen before and after in MiB, its processor time in percent of one processor, and how many pictures were answered.
+new, as its page does, and each asks once for the oldest 10,000 entries of its history. A line is printed for each
+program: the memory of its screen before and after in MiB, its processor time in percent of one processor, and how many
+pictures were answered.
 """
 
 import argparse
