@@ -5,7 +5,9 @@ use Rattle.std.proofs.lemmas.List.{at_drop_more, at_drop_all}
 use Rattle.std.proofs.lemmas.List.Sums.{prefix_len-le-length}
 use Rattle.std.specs.Prelude.{◌==◌}
 use Rattle.std.specs.List.{position_or_len, slice_split}
+use Rattle.smi_history.specs.History.{count_before, is_since}
 use Rattle.smi_history.specs.Parts.{parts, length_before}
+use Rattle.smi_history.specs.declared.history.HistoryEntry.{HistoryEntry}
 
 either : (b : Bool) → (b ≡ true) ⊎ (b ≡ false)
 either true = inl refl
@@ -50,3 +52,6 @@ parts_whole mark text none =
 
 pub at_most_all : (mark : ℕ) (text : List ℕ) → length_before mark text ≤ length text
 at_most_all mark text = prefix_len-le-length (λ byte. not (byte == mark)) text
+
+pub at_most_kept : (second : ℕ) (entries : List HistoryEntry) → count_before second entries ≤ length entries
+at_most_kept second entries = prefix_len-le-length (λ (e : HistoryEntry). not (is_since second e)) entries

@@ -1,4 +1,5 @@
 pub mod History
+pub mod Knowing
 pub mod Looking
 pub mod LookTime
 pub mod Wording

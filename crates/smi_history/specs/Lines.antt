@@ -1,11 +1,11 @@
 -- Entries as the lines of a file.
-use Rattle.std.specs.Prelude.{ℕ, ◌+◌, ◌*◌, ◌==◌, ◌++◌, take, drop, nat_lt, List, [], ◌∷◌, length, fold, codes}
+use Rattle.std.specs.Prelude.{ℕ, ◌+◌, ◌*◌, ◌==◌, ◌++◌, take, drop, List, [], ◌∷◌, length, fold, codes}
 use Rattle.std.specs.Prelude.{Option, Some, None, option_map, option_and_then, if◌then◌else◌}
 use Rattle.std.specs.Fmt as fmt
 use Rattle.std.specs.List.{flat_map, list_all}
 use Rattle.std.specs.Option.{option_map_or}
 use Rattle.smi_tree.specs.Number.{number_within}
-use Rattle.smi_history.specs.History.{HistoryState, empty, noted}
+use Rattle.smi_history.specs.History.{HistoryState, empty, noted, piece}
 use Rattle.smi_history.specs.Text.{is_plain}
 use Rattle.smi_history.specs.Parts.{after_mark, before_mark, parts}
 use Rattle.smi_history.specs.declared.history.HistoryEntry.{HistoryEntry}
@@ -35,12 +35,9 @@ note_in line = option_and_then plain_note (timed_text line)
 unfoldable pub entry_line : HistoryEntry → List ℕ
 entry_line e = fmt.decimal e.note.at ++ codes " " ++ e.note.text ++ codes "\n"
 
-unfoldable pub later_line : ℕ → HistoryEntry → List ℕ
-later_line after e = if nat_lt after e.number then entry_line e else []
-
--- those after the one of a number, the oldest first
+-- those after a number, at most so many as are written at a time
 abbrev pub lines_text : HistoryState → ℕ → List ℕ
-lines_text h after = flat_map (later_line after) h.entries
+lines_text h number = flat_map entry_line (piece h number)
 
 -- all but the last
 abbrev pub whole : List (List ℕ) → List (List ℕ)

@@ -1,6 +1,8 @@
 -- What is new in a picture since the look before.
 use Rattle.std.specs.Prelude.{ℕ, zero, suc, ◌+◌, ◌-◌, ◌*◌, max, nat_lt, ◌++◌, Bool, true, false, List, [], ◌∷◌}
 use Rattle.std.specs.Prelude.{slice_index_or, Option, Some, None, codes, if◌then◌else◌}
+use Rattle.smi_grant.specs.declared.state.Shown.{Shown}
+use Rattle.smi_grant.specs.Record as grants
 use Rattle.smi_tree.specs.Hierarchy.{Hierarchy}
 use Rattle.smi_tree.specs.Lookups.{domain_count, device_count}
 use Rattle.smi_schedule.specs.TraceWords.{device_word, domain_word}
@@ -20,9 +22,17 @@ each f (suc n) = each f n ++ f (suc n)
 abbrev pub note_of : ℕ → List ℕ → HistoryNote
 note_of at text = record { at = at; text = text }
 
+-- a state of an object that was shown
+abbrev pub board_text : Hierarchy → List ℕ → Shown → List ℕ
+board_text h name shown = codes "board " ++ name ++ shown_text h shown
+
+-- the record of a domain
+abbrev pub standing_text : Hierarchy → ℕ → grants.Standing → List ℕ
+standing_text h d told = codes "record " ++ domain_word h d ++ record_text h told
+
 -- a state of an object was shown
 abbrev pub board_note : Hierarchy → LookTime → List ℕ → Sight → HistoryNote
-board_note h m name seen = note_of (clock_at m seen.at) (codes "board " ++ name ++ shown_text h seen.shown)
+board_note h m name seen = note_of (clock_at m seen.at) (board_text h name seen.shown)
 
 abbrev pub sight_notes : Hierarchy → ℕ → LookTime → List ℕ → Option Sight → List HistoryNote
 sight_notes h from m name None = []
@@ -30,8 +40,7 @@ sight_notes h from m name (Some seen) = if is_new from m seen.at then board_note
 
 -- a record of a domain was told
 abbrev pub record_note : Hierarchy → LookTime → ℕ → Hearing → HistoryNote
-record_note h m d had =
-    note_of (clock_at m had.since) (codes "record " ++ domain_word h d ++ record_text h had.«record»)
+record_note h m d had = note_of (clock_at m had.since) (standing_text h d had.«record»)
 
 abbrev pub hearing_notes : Hierarchy → ℕ → LookTime → ℕ → Option Hearing → List HistoryNote
 hearing_notes h from m d None = []

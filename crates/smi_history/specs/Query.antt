@@ -1,11 +1,11 @@
 -- Which entries of a history a request asks for, and how they read.
-use Rattle.std.specs.Prelude.{ℕ, ◌+◌, ◌-◌, ◌/◌, ◌^◌, min, max, ◌&&◌, ◌++◌, nat_le, nat_lt, Bool, true, List, []}
+use Rattle.std.specs.Prelude.{ℕ, zero, suc, ◌+◌, ◌-◌, ◌/◌, ◌^◌, min, max, ◌&&◌, ◌++◌, nat_le, Bool, true, List, []}
 use Rattle.std.specs.Prelude.{Option, Some, None, option_map, option_and_then, codes, if◌then◌else◌}
 use Rattle.std.specs.List.{flat_map}
 use Rattle.std.specs.Option.{option_map_or}
 use Rattle.std.specs.Fmt.{decimal}
 use Rattle.smi_tree.specs.Number.{number_within}
-use Rattle.smi_history.specs.History.{HistoryState, dropped}
+use Rattle.smi_history.specs.History.{HistoryState, count_before, dropped, most_told, oldest, piece}
 use Rattle.smi_history.specs.Parts.{has_word, value_of}
 use Rattle.smi_history.specs.declared.history.HistoryEntry.{HistoryEntry}
 
@@ -43,10 +43,8 @@ is_about text (Some word) = has_word text word
 abbrev pub is_then : QueryState → ℕ → Bool
 is_then q at = nat_le q.from (at / 1_000) && nat_le (at / 1_000) q.to
 
--- an entry is asked for, of those after one number and up to another
-abbrev pub is_asked : QueryState → ℕ → ℕ → HistoryEntry → Bool
-is_asked q first last e =
-    nat_lt first e.number && (nat_le e.number last && (is_then q e.note.at && is_about e.note.text q.object))
+abbrev pub is_asked : QueryState → HistoryEntry → Bool
+is_asked q e = is_then q e.note.at && is_about e.note.text q.object
 
 -- an entry as a line of JSON
 unfoldable pub entry_line : HistoryEntry → List ℕ
@@ -54,24 +52,28 @@ entry_line e =
     codes "{\"number\":" ++ decimal e.number ++ codes ",\"at\":" ++ decimal e.note.at
     ++ codes ",\"text\":\"" ++ e.note.text ++ codes "\"}\n"
 
-unfoldable pub asked_line : QueryState → ℕ → ℕ → HistoryEntry → List ℕ
-asked_line q first last e = if is_asked q first last e then entry_line e else []
+unfoldable pub asked_line : QueryState → HistoryEntry → List ℕ
+asked_line q e = if is_asked q e then entry_line e else []
 
-abbrev pub most_told : ℕ
-most_told = 10_000
+-- before the first one of the second that is asked for, or before the newest
+abbrev pub usual_start : HistoryState → ℕ → ℕ
+usual_start h zero = max (h.count - most_told) (dropped h)
+usual_start h (suc second) = min (dropped h + count_before (suc second) h.entries) (2 ^ 64 - 1)
 
--- after the number that is asked for, or after all but the newest; and after those that are kept no longer
+-- after the number that is asked for, and after those that are kept no longer
 abbrev pub start_of : HistoryState → QueryState → ℕ
-start_of h q = max (option_map_or (λ after. after) q.after (h.count - most_told)) (dropped h)
+start_of h q = option_map_or (λ after. max after (dropped h)) q.after (usual_start h q.from)
 
-abbrev pub end_of : HistoryState → QueryState → ℕ
-end_of h q = min (start_of h q + most_told) (2 ^ 64 - 1)
-
--- how many there were so far, up to which they are saved, between which numbers was looked, and a line for each entry
-abbrev pub history_text : HistoryState → QueryState → List ℕ
-history_text h q =
+-- how many there were so far, up to which they are saved, after which number was looked and up to which, and when the
+-- oldest is from that is kept
+unfoldable pub head_line : HistoryState → ℕ → List ℕ
+head_line h first =
     codes "{\"count\":" ++ decimal h.count
     ++ codes ",\"saved\":" ++ decimal h.saved
-    ++ codes ",\"after\":" ++ decimal (start_of h q)
-    ++ codes ",\"upto\":" ++ decimal (end_of h q) ++ codes "}\n"
-    ++ flat_map (asked_line q (start_of h q) (end_of h q)) h.entries
+    ++ codes ",\"after\":" ++ decimal first
+    ++ codes ",\"upto\":" ++ decimal (min (first + most_told) (2 ^ 64 - 1))
+    ++ codes ",\"oldest\":" ++ decimal (oldest h.entries) ++ codes "}\n"
+
+-- where was looked, and a line for each entry
+abbrev pub history_text : HistoryState → QueryState → List ℕ
+history_text h q = head_line h (start_of h q) ++ flat_map (asked_line q) (piece h (start_of h q))

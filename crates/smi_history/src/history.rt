@@ -1,20 +1,32 @@
 //! The entries, the oldest first.
 
 ghost use Rattle.std.specs.Prelude.{◌≡◌, ◌≤◌, ◌<◌, length, IfOk};
+ghost use Rattle.std.specs.List.{position};
 ghost use Rattle.std.specs.VecDeque.{deque_capacity};
 ghost use Rattle.smi_history.specs.History as spec;
 
-use crate::look_time::LookTime;
+use crate::knowing::put_known;
+use crate::look_time::{LookTime, day_of};
 use crate::looking::{Looking, put_notes, put_silences};
-use bytes::Bytes;
+use crate::note_text::NoteText;
 use smi_tree::Tree;
 use smi_view::Picture;
 use std::alloc::{AllocError, Global};
 use std::collections::VecDeque;
+use std::collections::vec_deque::Iter;
 use std::marker::Model;
 
 /// The most entries that are kept.
-pub const MOST_ENTRIES: usize = 131_072;
+pub const MOST_ENTRIES: usize = 1_048_576;
+
+/// How many entries are looked through for one request, and are written at a time.
+pub const MOST_TOLD: usize = 10_000;
+
+/// For how many days entries are kept, unless somebody says otherwise.
+pub const USUAL_DAYS: u64 = 31;
+
+/// How many milliseconds a day has.
+const DAY: u64 = 86_400_000;
 
 /// What was seen, and when.
 #[derive(Drop)]
@@ -22,7 +34,7 @@ pub struct HistoryNote {
     /// When, in milliseconds since 1970.
     pub at: u64,
     /// What: `board TRK 1.6 READY`.
-    pub text: Bytes,
+    pub text: NoteText,
 }
 
 /// A note, and its number.
@@ -35,17 +47,21 @@ pub struct HistoryEntry {
 
 /// The history of a screen.
 ///
-/// Contracts see how many entries there were so far, up to which they are saved, those that are kept, when the picture
-/// was looked at last, and of which domains the station was silent then.
+/// Contracts see how many entries there were so far, up to which they are saved, for how many days they are kept, those
+/// that are, when the picture was looked at last, on which day, and of which domains the station was silent then.
 #[derive(Drop)]
 pub struct History {
     alloc: Global,
     count: u64,
     /// The number up to which entries are in a file.
     saved: u64,
+    /// For how many days entries are kept.
+    days: u64,
     entries: VecDeque<HistoryEntry>,
     /// When the picture was looked at last, in milliseconds since the screen has started.
     looked: u64,
+    /// On which day that was, counted since 1970.
+    day: u64,
     /// Whether the station of each domain was silent then.
     silent: Vec<bool>,
 }
@@ -59,8 +75,10 @@ impl Model for History {
     ghost view = { λ h. record {
       count = h.count;
       saved = h.saved;
+      days = h.days;
       entries = h.entries.items;
       looked = h.looked;
+      day = h.day;
       silent = h.silent.items;
     } };
 
@@ -86,8 +104,29 @@ fn next_number(count: u64) -> u64
     count.saturating_add(1)
 }
 
+/// Returns the place of the first entry of this second, counted since 1970, or of a later one.
+fn place_since(entries: &VecDeque<HistoryEntry>, second: u64) -> Option<usize>
+    ensures { result ≡ position (spec.is_since second) entries.now.items }
+{
+    entries.iter().position(|entry| entry.is_since(second))
+}
+
+impl HistoryEntry {
+    ghost use Rattle.std.specs.Prelude.{◌≡◌};
+    ghost use Rattle.smi_history.specs.History as spec;
+
+    /// Returns true if it is of this second, counted since 1970, or of a later one.
+    fn is_since(&self, second: u64) -> bool
+        ensures { result ≡ spec.is_since second self.now }
+    {
+        second <= self.note.at / 1_000
+    }
+}
+
 impl History {
-    ghost use Rattle.std.specs.Prelude.{◌≡◌, ◌-◌, length, OnErr, OnOk};
+    ghost use Rattle.std.specs.Prelude.{◌≡◌, ◌-◌, length, IfOk, OnErr, OnOk};
+    ghost use Rattle.std.specs.VecDeque.Iter.{deque_iter_rest, deque_iter_steps};
+    ghost use Rattle.std.specs.Iterator.Runs.{YieldsRefsInOrder};
     ghost use Rattle.smi_history.specs.History as spec;
 
     /// Makes one that has seen nothing.
@@ -98,8 +137,10 @@ impl History {
             alloc,
             count: 0,
             saved: 0,
+            days: USUAL_DAYS,
             entries: VecDeque::new(alloc),
             looked: 0,
+            day: 0,
             silent: Vec::new(alloc),
         }
     }
@@ -129,6 +170,13 @@ impl History {
         self.saved
     }
 
+    /// Keeps entries for this many days from now on.
+    pub fn keep_days(&mut self, days: u64)
+        ensures { self.new ≡ spec.kept_for self.old days }
+    {
+        self.days = days;
+    }
+
     /// Notes that all entries so far are saved.
     pub fn mark_saved(&mut self)
         ensures { self.new ≡ spec.all_saved self.old }
@@ -136,18 +184,80 @@ impl History {
         self.saved = self.count;
     }
 
-    /// Returns how many of them are kept no longer.
-    pub(crate) fn dropped(&self) -> u64
+    /// Returns how many of them are kept no longer: the number of the last one of these, or 0.
+    pub fn dropped(&self) -> u64
         ensures { result ≡ spec.dropped self.now }
     {
         self.count.saturating_sub(self.entries.len() as u64)
     }
 
-    /// Returns those that are kept, the oldest first.
-    pub(crate) fn entries(&self) -> &VecDeque<HistoryEntry>
-        ensures { result.now.items ≡ self.now.entries }
+    /// Returns when the oldest entry is from that is kept, in milliseconds since 1970, or 0.
+    pub(crate) fn oldest(&self) -> u64
+        ensures { result ≡ spec.oldest self.now.entries }
     {
-        &self.entries
+        match self.entries.front() {
+            Some(entry) => entry.note.at,
+            None => 0,
+        }
+    }
+
+    /// Returns how many of those that are kept come before the first one of this second, counted since 1970, or of a
+    /// later one.
+    #[tactic(auto, using(crate::proofs::Cuts::at_most_kept))]
+    pub(crate) fn count_before(&self, second: u64) -> usize
+        ensures { result ≡ spec.count_before second self.now.entries }
+    {
+        match place_since(&self.entries, second) {
+            Some(place) => place,
+            None => self.entries.len(),
+        }
+    }
+
+    /// Returns in which place the first entry after the one of this number is, of those that are kept.
+    fn place_after(&self, number: u64) -> usize
+        ensures { result ≡ spec.place_after self.now number }
+    {
+        let kept = self.entries.len();
+        match usize::try_from(number.saturating_sub(self.dropped())) {
+            Ok(place) => place.min(kept),
+            Err(_) => kept,
+        }
+    }
+
+    /// Returns those after the one of this number, the oldest first: at most 10,000.
+    pub(crate) fn piece(&self, number: u64) -> Iter<'_, HistoryEntry>
+        ensures rest { deque_iter_rest result ≡ spec.piece self.now number }
+        ensures runs { YieldsRefsInOrder (deque_iter_steps {X = HistoryEntry}) deque_iter_rest }
+    {
+        let start = self.place_after(number);
+        let end = start.saturating_add(MOST_TOLD).min(self.entries.len());
+        self.entries.range(start..end)
+    }
+
+    /// Returns true if the oldest entry is from before this time, in milliseconds since 1970.
+    fn begins_before(&self, time: u64) -> bool
+        ensures { result ≡ spec.begins_before time self.now.entries }
+    {
+        match self.entries.front() {
+            Some(entry) => entry.note.at < time,
+            None => false,
+        }
+    }
+
+    /// Drops the oldest entries, as long as they are from before this time.
+    fn forget_before(&mut self, time: u64)
+        ensures { self.new ≡ spec.forgotten self.old time }
+    {
+        while self.begins_before(time) {
+            let _oldest = self.entries.pop_front();
+        }
+    }
+
+    /// Drops the oldest entries, as long as they are from more days ago than entries are kept, at this time of the clock.
+    pub fn forget_older(&mut self, clock: u64)
+        ensures { self.new ≡ spec.forgotten self.old (spec.oldest_time self.old.days clock) }
+    {
+        self.forget_before(clock.saturating_sub(self.days.saturating_mul(DAY)));
     }
 
     /// Adds a note as the newest entry. If no more can be kept, the oldest goes.
@@ -179,8 +289,33 @@ impl History {
         Ok(())
     }
 
-    /// Notes what is new in a picture since the look before: each state that was shown, each record that was told, and
-    /// each domain whose station fell silent or is heard again.
+    /// Returns what is known, if this is the first look of a day.
+    fn known_today(&self, looking: &Looking<'_>) -> Result<Vec<HistoryNote>, AllocError>
+        ensures { IfOk result (λ notes. notes.items
+            ≡ spec.known_today self.now looking.now.tree.now looking.now.picture.now looking.now.moment) }
+    {
+        if self.day == day_of(looking.moment) {
+            Ok(Vec::new(self.alloc))
+        } else {
+            put_known(looking)
+        }
+    }
+
+    /// Returns of each domain whether its station was silent at the look before. At the first look of a day none counts
+    /// as silent, so that those that are silent then are told again.
+    fn silent_before(&self, moment: LookTime) -> &[bool]
+        ensures { result.now ≡ spec.silent_before self.now moment }
+    {
+        if self.day == day_of(moment) {
+            self.silent.as_slice()
+        } else {
+            &[]
+        }
+    }
+
+    /// Drops what is too old, and notes what is new in a picture since the look before: each state that was shown, each
+    /// record that was told, and each domain whose station fell silent or is heard again. At the first look of a day it
+    /// notes before that all that is known, so that who reads from there on knows the state of everything.
     ///
     /// Of an object that changed more than once since then, the newest state alone is noted. It fails only if memory
     /// ran out, which tests alone see. Some of what was new may be noted nowhere then.
@@ -200,9 +335,13 @@ impl History {
             moment,
         };
         let silent = put_silences(&looking)?;
-        let notes = put_notes(&looking, self.silent.as_slice())?;
+        let known = self.known_today(&looking)?;
+        let notes = put_notes(&looking, self.silent_before(moment))?;
+        self.forget_older(moment.clock);
         self.looked = moment.now;
+        self.day = day_of(moment);
         self.silent = silent;
+        self.note_all(known)?;
         self.note_all(notes)
     }
 }

@@ -1,13 +1,13 @@
 //! What a screen has seen, the oldest first: a value without file, socket or clock.
 //!
-//! - A [`History`] keeps the newest [`MOST_ENTRIES`] entries. Each [`HistoryEntry`] has a number, a time, and a line
-//!   that says what was seen: `board TRK 1.6 READY`.
+//! - A [`History`] keeps the entries of some days, [`MOST_ENTRIES`] at most. Each [`HistoryEntry`] has a number, a
+//!   time, and a line that says what was seen: `board TRK 1.6 READY`.
 //! - [`History::look`] notes what is new in a picture since it was looked at last: states that were shown, records that
-//!   were told, and domains whose station fell silent or is heard again. [`History::note_all`] notes lines of others,
-//!   as orders that were given.
+//!   were told, and domains whose station fell silent or is heard again; and once a day all that is known.
+//!   [`History::note_all`] notes lines of others, as orders that were given.
 //! - [`History::write`] writes the entries that a [`HistoryQuery`] asks for, each as a line of JSON.
-//! - [`History::write_unsaved`] and [`History::write_lines`] write entries as the lines of a file, and
-//!   [`History::read`] reads such lines again, so that a history outlasts the process that keeps it.
+//! - [`History::write_lines`] writes entries as the lines of a file, and [`History::read`] reads such lines again, so
+//!   that a history outlasts the process that keeps it.
 //!
 //! docs/FORMATS.md, "The history of a screen", has the texts.
 //!
@@ -19,16 +19,19 @@
 #![tactic(auto)]
 
 mod history;
+mod knowing;
 mod lines;
 mod look_time;
 mod looking;
+mod note_text;
 mod parts;
 mod query;
 mod text;
 mod wording;
 
-pub use history::{History, HistoryEntry, HistoryNote, MOST_ENTRIES};
+pub use history::{History, HistoryEntry, HistoryNote, MOST_ENTRIES, MOST_TOLD, USUAL_DAYS};
 pub use look_time::{LookTime, clock_at, is_new};
 pub use looking::push_note;
-pub use query::{HistoryQuery, MOST_TOLD, query_in};
+pub use note_text::NoteText;
+pub use query::{HistoryQuery, query_in};
 pub use text::{is_all_plain, put, put_called, put_number, rest_of, shared};

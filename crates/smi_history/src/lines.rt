@@ -5,8 +5,9 @@ ghost use Rattle.std.specs.List.{list_all};
 ghost use Rattle.smi_history.specs.Lines as spec;
 
 use crate::history::{History, HistoryEntry, HistoryNote};
+use crate::note_text::NoteText;
 use crate::parts::cut_at;
-use crate::text::{is_all_plain, put, put_number, shared};
+use crate::text::{is_all_plain, put, put_number};
 use smi_tree::number_within;
 use std::alloc::{AllocError, Global};
 
@@ -47,7 +48,7 @@ fn note_in(alloc: Global, line: &[u8]) -> Result<Option<HistoryNote>, AllocError
     match timed_text(line) {
         Some((at, text)) if is_all_plain(text) => Ok(Some(HistoryNote {
             at,
-            text: shared(Vec::from_slice(alloc, text)?)?,
+            text: NoteText::copy_of(alloc, text)?,
         })),
         _ => Ok(None),
     }
@@ -64,52 +65,20 @@ fn put_line(text: &mut Vec<u8>, entry: &HistoryEntry) -> Result<(), AllocError>
     put(text, b"\n")
 }
 
-/// Writes an entry as a line, if it comes after the one of this number.
-#[tactic(auto, unfolding(crate::specs::Lines::later_line))]
-fn put_later(text: &mut Vec<u8>, after: u64, entry: &HistoryEntry) -> Result<(), AllocError>
-    ensures { OnOk result (text.new.items ≡ text.old.items ++ spec.later_line after entry.now) }
-{
-    if after < entry.number {
-        put_line(text, entry)
-    } else {
-        Ok(())
-    }
-}
-
 impl History {
-    ghost use Rattle.std.specs.Prelude.{◌≡◌, ◌++◌, OnOk, IfOk};
-    ghost use Rattle.std.specs.List.{flat_map};
+    ghost use Rattle.std.specs.Prelude.{◌≡◌, OnOk, IfOk};
     ghost use Rattle.smi_history.specs.Lines as spec;
 
-    /// Writes the entries after the one of this number as lines.
-    fn put_lines(&self, text: &mut Vec<u8>, after: u64) -> Result<(), AllocError>
-        ensures { OnOk result (text.new.items ≡ text.old.items ++ spec.lines_text self.now after) }
+    /// Writes entries as the lines of a file, the oldest first: those after the one of this number, at most 10,000.
+    ///
+    /// It fails only if memory ran out, which tests alone see.
+    pub fn write_lines(&self, number: u64) -> Result<Vec<u8>, AllocError>
+        ensures { IfOk result (λ text. text.items ≡ spec.lines_text self.now number) }
     {
-        for entry in self.entries() {
-            put_later(text, after, entry)?;
+        let mut text = Vec::new(self.alloc());
+        for entry in self.piece(number) {
+            put_line(&mut text, entry)?;
         }
-        Ok(())
-    }
-
-    /// Writes all entries that are kept as the lines of a file, the oldest first.
-    ///
-    /// It fails only if memory ran out, which tests alone see.
-    pub fn write_lines(&self) -> Result<Vec<u8>, AllocError>
-        ensures { IfOk result (λ text. text.items ≡ spec.lines_text self.now 0) }
-    {
-        let mut text = Vec::new(self.alloc());
-        self.put_lines(&mut text, 0)?;
-        Ok(text)
-    }
-
-    /// Writes those entries as lines that are not saved, the oldest first.
-    ///
-    /// It fails only if memory ran out, which tests alone see.
-    pub fn write_unsaved(&self) -> Result<Vec<u8>, AllocError>
-        ensures { IfOk result (λ text. text.items ≡ spec.lines_text self.now self.now.saved) }
-    {
-        let mut text = Vec::new(self.alloc());
-        self.put_lines(&mut text, self.saved())?;
         Ok(text)
     }
 

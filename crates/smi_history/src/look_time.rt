@@ -27,3 +27,10 @@ pub fn clock_at(moment: LookTime, at: u64) -> u64
 {
     moment.clock.saturating_sub(moment.now.saturating_sub(at))
 }
+
+/// Returns on which day a look is, counted since 1970 (UTC).
+pub(crate) fn day_of(moment: LookTime) -> u64
+    ensures { result ≡ spec.day_of moment }
+{
+    moment.clock / 86_400_000
+}

@@ -8,8 +8,10 @@ ghost use Rattle.smi_history.specs.Looking as spec;
 
 use crate::history::HistoryNote;
 use crate::look_time::{LookTime, clock_at, is_new};
-use crate::text::{put_called, shared};
+use crate::note_text::NoteText;
+use crate::text::{put, put_called};
 use crate::wording::{put_record, put_shown};
+use smi_grant::{Record, Shown};
 use smi_schedule::names;
 use smi_tree::Tree;
 use smi_view::{Hearing, Picture, Sight};
@@ -34,12 +36,42 @@ pub(crate) struct Looking<'a> {
 pub fn push_note(notes: &mut Vec<HistoryNote>, at: u64, text: Vec<u8>) -> Result<(), AllocError>
     ensures { OnOk result (notes.new.items ≡ notes.old.items ++ spec.note_of at text.items ∷ []) }
 {
-    let text = shared(text)?;
+    let text = NoteText::copy_of(*text.allocator(), text.as_slice())?;
     notes.push(HistoryNote { at, text })?;
     Ok(())
 }
 
-/// Adds that a state of an object was shown: `board TRK 1.6 READY`.
+/// Writes which state of an object was shown: `board TRK 1.6 READY`.
+pub(crate) fn put_board(
+    text: &mut Vec<u8>,
+    tree: &Tree,
+    name: Option<&[u8]>,
+    number: u16,
+    shown: Shown,
+) -> Result<(), AllocError>
+    ensures { OnOk result (text.new.items ≡ text.old.items
+        ++ spec.board_text tree.now (called (option_map (λ n. n.now) name.entry) number) shown) }
+{
+    put(text, b"board ")?;
+    put_called(text, name, number)?;
+    put_shown(text, tree, shown)
+}
+
+/// Writes the record of a domain: `record TRK operator ANN 3 4 settled 0`.
+pub(crate) fn put_standing(
+    text: &mut Vec<u8>,
+    tree: &Tree,
+    domain: u16,
+    record: &Record,
+) -> Result<(), AllocError>
+    ensures { OnOk result (text.new.items ≡ text.old.items ++ spec.standing_text tree.now domain record.now) }
+{
+    put(text, b"record ")?;
+    put_called(text, names::domain(tree, domain), domain)?;
+    put_record(text, tree, record)
+}
+
+/// Adds that a state of an object was shown.
 fn add_board(
     notes: &mut Vec<HistoryNote>,
     looking: &Looking<'_>,
@@ -51,9 +83,8 @@ fn add_board(
         ++ spec.board_note looking.now.tree.now looking.now.moment
         (called (option_map (λ n. n.now) name.entry) number) seen ∷ []) }
 {
-    let mut text = Vec::from_slice(looking.alloc, b"board ")?;
-    put_called(&mut text, name, number)?;
-    put_shown(&mut text, looking.tree, seen.shown)?;
+    let mut text = Vec::new(looking.alloc);
+    put_board(&mut text, looking.tree, name, number, seen.shown)?;
     push_note(notes, clock_at(looking.moment, seen.at), text)
 }
 
@@ -77,7 +108,7 @@ fn add_sight(
     }
 }
 
-/// Adds that a record of a domain was told: `record TRK operator ANN 3 4 settled 0`.
+/// Adds that a record of a domain was told.
 fn add_record(
     notes: &mut Vec<HistoryNote>,
     looking: &Looking<'_>,
@@ -87,9 +118,8 @@ fn add_record(
     ensures { OnOk result (notes.new.items ≡ notes.old.items
         ++ spec.record_note looking.now.tree.now looking.now.moment domain had.now ∷ []) }
 {
-    let mut text = Vec::from_slice(looking.alloc, b"record ")?;
-    put_called(&mut text, names::domain(looking.tree, domain), domain)?;
-    put_record(&mut text, looking.tree, &had.record)?;
+    let mut text = Vec::new(looking.alloc);
+    put_standing(&mut text, looking.tree, domain, &had.record)?;
     push_note(notes, clock_at(looking.moment, had.since), text)
 }
 
@@ -202,7 +232,7 @@ fn add_domain(
 }
 
 /// Returns what was seen of a device.
-fn sight_of_device(tree: &Tree, picture: &Picture, device: u16) -> Option<Sight>
+pub(crate) fn sight_of_device(tree: &Tree, picture: &Picture, device: u16) -> Option<Sight>
     ensures { result ≡ object_of picture.now (domain_count tree.now + device) }
 {
     picture.object(usize::from(tree.domain_count()) + usize::from(device))

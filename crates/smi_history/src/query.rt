@@ -3,15 +3,12 @@
 ghost use Rattle.std.specs.Prelude.{◌≡◌, ◌++◌, OnOk, option_map};
 ghost use Rattle.smi_history.specs.Query as spec;
 
-use crate::history::{History, HistoryEntry};
+use crate::history::{History, HistoryEntry, MOST_TOLD};
 use crate::parts::{has_word, value_of};
 use crate::text::{put, put_number};
 use smi_tree::number_within;
 use std::alloc::AllocError;
 use std::marker::Model;
-
-/// How many entries are looked through for one request.
-pub const MOST_TOLD: u64 = 10_000;
 
 /// The greatest number that a query may have, and the last second.
 const MOST_NUMBER: u64 = 9_999_999_999;
@@ -19,7 +16,7 @@ const MOST_NUMBER: u64 = 9_999_999_999;
 /// Which entries are asked for.
 #[derive(Drop)]
 pub struct HistoryQuery<'a> {
-    /// Those after the one of this number; or the newest that are looked through for one request.
+    /// Those after the one of this number; or those from the first one of the second below; or the newest.
     pub after: Option<u64>,
     /// Those that have this word, as the name of an object or an operator.
     pub object: Option<&'a [u8]>,
@@ -99,14 +96,11 @@ fn is_then(query: &HistoryQuery<'_>, at: u64) -> bool
     query.from <= at / 1_000 && at / 1_000 <= query.to
 }
 
-/// Returns true if an entry is asked for, of those after one number and up to another.
-fn is_asked(query: &HistoryQuery<'_>, first: u64, last: u64, entry: &HistoryEntry) -> bool
-    ensures { result ≡ spec.is_asked query.now first last entry.now }
+/// Returns true if an entry is asked for.
+fn is_asked(query: &HistoryQuery<'_>, entry: &HistoryEntry) -> bool
+    ensures { result ≡ spec.is_asked query.now entry.now }
 {
-    first < entry.number
-        && entry.number <= last
-        && is_then(query, entry.note.at)
-        && is_about(entry.note.text.as_slice(), query.object)
+    is_then(query, entry.note.at) && is_about(entry.note.text.as_slice(), query.object)
 }
 
 /// Writes an entry as a line of JSON.
@@ -126,13 +120,11 @@ fn put_entry(text: &mut Vec<u8>, entry: &HistoryEntry) -> Result<(), AllocError>
 fn put_asked(
     text: &mut Vec<u8>,
     query: &HistoryQuery<'_>,
-    first: u64,
-    last: u64,
     entry: &HistoryEntry,
 ) -> Result<(), AllocError>
-    ensures { OnOk result (text.new.items ≡ text.old.items ++ spec.asked_line query.now first last entry.now) }
+    ensures { OnOk result (text.new.items ≡ text.old.items ++ spec.asked_line query.now entry.now) }
 {
-    if is_asked(query, first, last, entry) {
+    if is_asked(query, entry) {
         put_entry(text, entry)
     } else {
         Ok(())
@@ -142,7 +134,23 @@ fn put_asked(
 impl History {
     ghost use Rattle.std.specs.Prelude.{◌≡◌, ◌++◌, OnOk, IfOk};
     ghost use Rattle.std.specs.List.{flat_map};
+    ghost use Rattle.smi_history.specs.History.{piece};
     ghost use Rattle.smi_history.specs.Query as spec;
+
+    /// Returns the number after which it is looked for what a query asks for that names none: before the first entry of
+    /// this second, or before the newest that are looked through for one request.
+    fn usual_start(&self, second: u64) -> u64
+        ensures { result ≡ spec.usual_start self.now second }
+    {
+        if second == 0 {
+            self.count()
+                .saturating_sub(MOST_TOLD as u64)
+                .max(self.dropped())
+        } else {
+            self.dropped()
+                .saturating_add(self.count_before(second) as u64)
+        }
+    }
 
     /// Returns the number after which it is looked for what a query asks for.
     fn start_of(&self, query: &HistoryQuery<'_>) -> u64
@@ -150,44 +158,52 @@ impl History {
     {
         match query.after {
             Some(after) => after.max(self.dropped()),
-            None => self.count().saturating_sub(MOST_TOLD).max(self.dropped()),
+            None => self.usual_start(query.from),
         }
     }
 
-    /// Writes the entries that a query asks for, of those after one number and up to another.
+    /// Writes the entries that a query asks for, of those that are looked through after this number.
     fn put_entries(
         &self,
         text: &mut Vec<u8>,
         query: &HistoryQuery<'_>,
         first: u64,
-        last: u64,
     ) -> Result<(), AllocError>
         ensures { OnOk result (text.new.items ≡ text.old.items
-            ++ flat_map (spec.asked_line query.now first last) self.now.entries) }
+            ++ flat_map (spec.asked_line query.now) (piece self.now first)) }
     {
-        for entry in self.entries() {
-            put_asked(text, query, first, last, entry)?;
+        for entry in self.piece(first) {
+            put_asked(text, query, entry)?;
         }
         Ok(())
     }
 
-    /// Writes the entries that a query asks for, each as a line of JSON. Before them a line says how many entries there
-    /// were so far, up to which they are saved, and between which numbers was looked. At most 10,000 entries are looked
-    /// through, so that no answer is larger than some megabytes; the next request goes on after them.
+    /// Writes the first line of an answer: how many entries there were so far, up to which they are saved, after which
+    /// number was looked and up to which, and when the oldest is from that is kept.
+    #[tactic(auto, unfolding(crate::specs::Query::head_line))]
+    fn put_head(&self, text: &mut Vec<u8>, first: u64) -> Result<(), AllocError>
+        ensures { OnOk result (text.new.items ≡ text.old.items ++ spec.head_line self.now first) }
+    {
+        put_number(text, b"{\"count\":", self.count())?;
+        put_number(text, b",\"saved\":", self.saved())?;
+        put_number(text, b",\"after\":", first)?;
+        put_number(text, b",\"upto\":", first.saturating_add(MOST_TOLD as u64))?;
+        put_number(text, b",\"oldest\":", self.oldest())?;
+        put(text, b"}\n")
+    }
+
+    /// Writes the entries that a query asks for, each as a line of JSON, after a first line that says where was looked.
+    /// At most 10,000 entries are looked through, so that no answer is larger than some megabytes; the next request goes
+    /// on after them.
     ///
     /// It fails only if memory ran out, which tests alone see.
     pub fn write(&self, query: &HistoryQuery<'_>) -> Result<Vec<u8>, AllocError>
         ensures { IfOk result (λ text. text.items ≡ spec.history_text self.now query.now) }
     {
         let first = self.start_of(query);
-        let last = first.saturating_add(MOST_TOLD);
         let mut text = Vec::new(self.alloc());
-        put_number(&mut text, b"{\"count\":", self.count())?;
-        put_number(&mut text, b",\"saved\":", self.saved())?;
-        put_number(&mut text, b",\"after\":", first)?;
-        put_number(&mut text, b",\"upto\":", last)?;
-        put(&mut text, b"}\n")?;
-        self.put_entries(&mut text, query, first, last)?;
+        self.put_head(&mut text, first)?;
+        self.put_entries(&mut text, query, first)?;
         Ok(text)
     }
 }

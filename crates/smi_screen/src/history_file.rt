@@ -1,12 +1,14 @@
 //! The file of a screen's history.
 
+use crate::web_server::clock_time;
 use smi_base::write_whole;
-use smi_history::History;
+use smi_history::{History, MOST_TOLD};
 use std::fs::{self, File, Files, OpenOptions};
 use std::io::{self, ErrorKind, Write};
+use std::time::Clock;
 
 /// How many bytes the file has at least when it is written again, of the entries that are kept.
-const MOST_BYTES: u64 = 32 << 20;
+const MOST_BYTES: u64 = 128 << 20;
 
 /// How long it is not written after a fault, in milliseconds.
 const PATIENCE: u64 = 60_000;
@@ -33,6 +35,20 @@ fn write_text<F: Write>(file: &mut F, text: &[u8]) -> io::Result<()> {
     }
 }
 
+/// Writes the entries after the one of a number that are kept, piece by piece, and returns how many bytes these were.
+fn write_after<F: Write>(file: &mut F, history: &History, number: u64) -> io::Result<u64> {
+    let first = number.max(history.dropped());
+    let pieces = history.count().saturating_sub(first) / MOST_TOLD as u64;
+    let mut bytes = 0u64;
+    for piece in 0..=pieces {
+        let after = first.saturating_add(piece.saturating_mul(MOST_TOLD as u64));
+        let text = history.write_lines(after)?;
+        write_text(file, text.as_slice())?;
+        bytes = bytes.saturating_add(text.len() as u64);
+    }
+    Ok(bytes)
+}
+
 /// Reads a history from the file of a path; an empty one, if there is no file.
 ///
 /// Fails if the file is there and can't be read, or if memory ran out.
@@ -45,14 +61,18 @@ fn read_history<R: Files + AllocGlobal>(rt: &R, path: &str) -> io::Result<Histor
 }
 
 impl HistoryFile {
-    /// Reads the history in the file of a path, and writes all of it into a new file, which takes its place.
+    /// Reads the history in the file of a path, and writes what of it is kept for this many days into a new file, which
+    /// takes its place.
     ///
     /// Fails if the file is there and can't be read, if it can't be written, or if memory ran out.
-    pub(crate) fn open<R: Files + AllocGlobal>(
+    pub(crate) fn open<R: Clock + Files + AllocGlobal>(
         rt: &R,
         path: &str,
+        days: u64,
     ) -> io::Result<(HistoryFile, History)> {
         let mut history = read_history(rt, path)?;
+        history.keep_days(days);
+        history.forget_older(clock_time(rt));
         let mut draft = String::from_str(rt.alloc(), path)?;
         draft.push_str(".new")?;
         let mut file = HistoryFile {
@@ -67,23 +87,21 @@ impl HistoryFile {
 
     /// Writes all entries that are kept into a new file, and puts that in place of the one before.
     fn write_anew<R: Files>(&mut self, rt: &R, history: &mut History) -> io::Result<()> {
-        let text = history.write_lines()?;
         let mut file = File::create(rt, self.draft.as_str())?;
-        write_text(&mut file, text.as_slice())?;
+        let bytes = write_after(&mut file, history, 0)?;
         fs::rename(rt, self.draft.as_str(), self.path.as_str())?;
-        self.bytes = text.len() as u64;
+        self.bytes = bytes;
         history.mark_saved();
         Ok(())
     }
 
     /// Appends what is not saved.
     fn append<R: Files>(&mut self, rt: &R, history: &mut History) -> io::Result<()> {
-        let text = history.write_unsaved()?;
         let mut file = OpenOptions::new()
             .append(true)
             .open(rt, self.path.as_str())?;
-        write_text(&mut file, text.as_slice())?;
-        self.bytes = self.bytes.saturating_add(text.len() as u64);
+        let bytes = write_after(&mut file, history, history.saved())?;
+        self.bytes = self.bytes.saturating_add(bytes);
         history.mark_saved();
         Ok(())
     }

@@ -82,6 +82,8 @@ pub struct ScreenSetup {
     pub orders: Option<OrderSetup>,
     /// The path of the file in which it keeps its history, if it keeps it.
     pub history: Option<String>,
+    /// For how many days its history is kept, if not for the usual ones.
+    pub history_days: Option<u64>,
     /// How many turns it looks, none if it looks without end.
     pub turns: Option<u32>,
 }
@@ -109,7 +111,9 @@ fn listen<R: Net<Listener = TcpListener, Stream = TcpStream>>(
 }
 
 /// Makes the picture of a screen, and its web server once its listener is open.
-fn build_web_server<R: Net<Listener = TcpListener, Stream = TcpStream> + Files + AllocGlobal>(
+fn build_web_server<
+    R: Net<Listener = TcpListener, Stream = TcpStream> + Clock + Files + AllocGlobal,
+>(
     rt: &R,
     tree: &Tree,
     keys: RandomState,

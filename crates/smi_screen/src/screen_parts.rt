@@ -4,13 +4,14 @@ use crate::console::NodeConsole;
 use crate::history_file::HistoryFile;
 use crate::screen::{Ended, OrderSetup, ScreenSetup, error_of};
 use bytes::Bytes;
-use smi_history::History;
+use smi_history::{History, USUAL_DAYS};
 use smi_tree::Tree;
 use smi_view::Picture;
 use smi_web::{Acknowledgements, OrderRelay, PageOrders, Snapshot, WebService};
 use std::alloc::Global;
 use std::fs::Files;
 use std::mem::replace;
+use std::time::Clock;
 
 /// A picture, the service over it, the console that its orders go to, if there may be orders, and the file of its
 /// history, if it has one.
@@ -29,18 +30,22 @@ struct KeptHistory {
     file: Option<HistoryFile>,
 }
 
-/// Returns the history of a screen: that in its file, if it has one, and else an empty one.
-fn kept_history<R: Files + AllocGlobal>(
+/// Returns the history of a screen, which is kept for this many days: that in the file of a path, if it has one, and
+/// else an empty one.
+fn kept_history<R: Clock + Files + AllocGlobal>(
     rt: &R,
     path: &Option<String>,
+    days: Option<u64>,
 ) -> Result<KeptHistory, Ended> {
     let Some(path) = path else {
+        let mut history = History::new(rt.alloc());
+        history.keep_days(days.unwrap_or(USUAL_DAYS));
         return Ok(KeptHistory {
-            history: History::new(rt.alloc()),
+            history,
             file: None,
         });
     };
-    match HistoryFile::open(rt, path.as_str()) {
+    match HistoryFile::open(rt, path.as_str(), days.unwrap_or(USUAL_DAYS)) {
         Ok((file, history)) => Ok(KeptHistory {
             history,
             file: Some(file),
@@ -102,13 +107,13 @@ fn parts_with(
 /// which is taken out of it.
 ///
 /// It is handed out in a box, because each place that drops one is expensive to prove.
-pub(crate) fn build_parts<R: Files + AllocGlobal>(
+pub(crate) fn build_parts<R: Clock + Files + AllocGlobal>(
     rt: &R,
     tree: &Tree,
     setup: &mut ScreenSetup,
 ) -> Result<Box<ScreenParts>, Ended> {
     let alloc = rt.alloc();
-    let kept = kept_history(rt, &setup.history)?;
+    let kept = kept_history(rt, &setup.history, setup.history_days)?;
     let picture = Picture::new(alloc, tree.object_count(), tree.domain_count())?;
     let page = replace(&mut setup.page, Bytes::from_static(b""));
     let snapshot = Snapshot::first(alloc, page, tree, &picture)?;

@@ -31,7 +31,7 @@ pub(crate) struct WebServer {
 }
 
 /// Returns the milliseconds since 1970; 0 if there is no clock that tells them.
-fn clock_time<C: Clock>(clock: &C) -> u64 {
+pub(crate) fn clock_time<C: Clock>(clock: &C) -> u64 {
     let Ok(time) = SystemTime::now(clock) else {
         return 0;
     };

@@ -6,5 +6,4 @@ use Rattle.smi_history.proofs.history.History.put_entries.Given as goal
 -- the lines so far are there
 abbrev pub invariant-loop-entry : goal.invariant-loop-entry
 invariant-loop-entry l =
-    l.text.items ≡ l.initial.text.items
-    ++ flat_map (asked_line l.query l.first l.last) (map (λ entry. entry.now) l.yielded)
+    l.text.items ≡ l.initial.text.items ++ flat_map (asked_line l.query) (map (λ entry. entry.now) l.yielded)
