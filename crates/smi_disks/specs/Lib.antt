@@ -1,3 +1,5 @@
 pub mod Label
 pub mod Mark
 pub mod Spoken
+pub mod LogCheck
+pub mod StoreCopy

@@ -5,7 +5,9 @@ use crate::label::StoreLabel;
 use crate::label_file::{LabelFound, label_beside};
 use crate::listing::list;
 use crate::mark::{Kinship, TreeMark, compare};
-use crate::watched::{StoreFiles, Watched};
+use crate::store_copy::StoreHealth;
+use crate::sum_file::health_of;
+use crate::watched::{StoreFiles, Surroundings, Watched};
 use smi_commands::rows::Listed;
 use smi_stable::{LoggedStable, SqliteStable, StoreFault};
 use sqlite::{Alter, Connection, Error, ErrorCode, File, FileStore};
@@ -42,8 +44,12 @@ pub trait Stores {
         station: u16,
     ) -> Result<OpenStore<Self::Open>, StoreFault>;
 
-    /// Closes a store: its log is copied into its file, as far as that can be done. One whose files are gone is given
-    /// up as it is.
+    /// Returns what is seen of the files of a store that nobody has open, before it is opened. If they can't be read, they
+    /// count as sound, because the opening tells their fault. Its error is that memory was refused.
+    fn health(&self, path: &[u8]) -> Result<StoreHealth, StoreFault>;
+
+    /// Closes a store: its log is copied into its file, as far as that can be done, and what the file is then is noted.
+    /// One whose files are gone is given up as it is.
     fn close(&self, stable: Self::Open);
 
     /// Gives a store up as it is: nothing is written.
@@ -72,9 +78,19 @@ impl Stores for HostRuntime {
         }
     }
 
+    fn health(&self, path: &[u8]) -> Result<StoreHealth, StoreFault> {
+        match health_of(self, path) {
+            Ok(found) => Ok(found),
+            Err(e) if e.kind() == ErrorKind::OutOfMemory => Err(StoreFault::Memory),
+            Err(_) => Ok(StoreHealth::Sound),
+        }
+    }
+
     fn close(&self, stable: Watched<SqliteStable<FileStore<File>>, StoreFiles<HostRuntime>>) {
         if stable.may_be_closed() {
-            closed(stable.into_inner());
+            let (stable, mut files) = stable.into_parts();
+            closed(stable);
+            files.note_copy();
         } else {
             given_up(stable.into_inner());
         }

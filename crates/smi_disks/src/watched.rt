@@ -6,6 +6,7 @@ ghost use Rattle.smi_disks.specs.Label.{start_in};
 use crate::label::LastStart;
 use crate::label_file::LabelFile;
 use crate::mark::TreeMark;
+use crate::sum_file::SumFile;
 use smi_base::{Tally, u32_at};
 use smi_rows::{Key, RowKind, SavedRow, Stable, StoreFault};
 use smi_stable::LoggedStable;
@@ -24,6 +25,10 @@ pub trait Surroundings {
 
     /// Notes in the label that a station has started. Returns false if that could not be written.
     fn note(&mut self, start: LastStart) -> bool;
+
+    /// Notes what the file of the store is, once its log was copied into it. What could not be written is noted nowhere,
+    /// and then a later start has nothing to compare it with.
+    fn note_copy(&mut self);
 }
 
 /// Which file of the system a file is.
@@ -61,6 +66,7 @@ pub struct StoreFiles<H> {
     file: FileId,
     log: FileId,
     label: LabelFile,
+    sum: SumFile,
     tree: TreeMark,
 }
 
@@ -75,6 +81,7 @@ impl<H: Files + AllocGlobal + Drop> StoreFiles<H> {
         let file = FileId::of(&host, path.as_str())?;
         let log = FileId::of(&host, log_path.as_str())?;
         let label = LabelFile::of(host.alloc(), path.as_str())?;
+        let sum = SumFile::of(host.alloc(), path.as_str())?;
         Ok(StoreFiles {
             host,
             path,
@@ -82,12 +89,13 @@ impl<H: Files + AllocGlobal + Drop> StoreFiles<H> {
             file,
             log,
             label,
+            sum,
             tree,
         })
     }
 }
 
-impl<H: Files + Drop> Surroundings for StoreFiles<H> {
+impl<H: Files + AllocGlobal + Drop> Surroundings for StoreFiles<H> {
     fn are_in_place(&self) -> bool {
         self.file.is_at(&self.host, self.path.as_str())
             && self.log.is_at(&self.host, self.log_path.as_str())
@@ -96,6 +104,10 @@ impl<H: Files + Drop> Surroundings for StoreFiles<H> {
     fn note(&mut self, start: LastStart) -> bool {
         let (host, path) = (&self.host, self.path.as_str());
         self.label.put(host, path, &self.tree, start).is_ok()
+    }
+
+    fn note_copy(&mut self) {
+        let _ = self.sum.note(&self.host, self.path.as_str());
     }
 }
 
@@ -152,15 +164,23 @@ impl<S, P> Watched<S, P> {
         P: Drop,
         ensures { result ≡ self.store }
     {
+        self.into_parts().0
+    }
+
+    /// Returns the store, and what is beside it.
+    pub fn into_parts(self) -> (S, P)
+        ensures store { result.0 ≡ self.store }
+        ensures surroundings { result.1 ≡ self.surroundings }
+    {
         let Watched {
             store,
-            surroundings: _,
+            surroundings,
             saves: _,
             missed: _,
             is_lost: _,
             log: _,
         } = self;
-        store
+        (store, surroundings)
     }
 }
 
@@ -246,7 +266,9 @@ impl<S: LoggedStable, P: Surroundings> LoggedStable for Watched<S, P> {
         match self.log {
             LogState::Quiet if self.may_be_closed() => {
                 self.log = LogState::Copied;
-                self.store.copy_log(alloc)
+                self.store.copy_log(alloc)?;
+                self.surroundings.note_copy();
+                Ok(())
             }
             LogState::Grown => {
                 self.log = LogState::Quiet;

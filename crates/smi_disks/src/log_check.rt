@@ -1,0 +1,218 @@
+//! Whether the log of a store lost something in its middle.
+
+ghost use Rattle.std.specs.Prelude.{◌≡◌, ◌≤◌, take, drop, length};
+ghost use Rattle.smi_disks.specs.LogCheck as spec;
+
+use smi_base::u32_at;
+use sqlite_wal::checksum_of;
+use std::marker::Model;
+
+/// How many bytes the header of a log has, and that of a frame.
+const HEADER: usize = 32;
+
+const FRAME_HEADER: usize = 24;
+
+/// With what a log begins whose sums are of words with the lowest byte first, and with the highest byte first.
+const LOW_FIRST: u32 = 0x377f_0682;
+
+const HIGH_FIRST: u32 = 0x377f_0683;
+
+/// A sum as the log has it: of each frame, going on from the one before.
+type Sum = (u32, u32);
+
+/// What is known of a log after some of its frames.
+#[derive(Clone, Copy, PartialEq, Eq)]
+pub(crate) enum LogWalk {
+    /// Each frame goes on from the one before.
+    Sound,
+    /// One does not. The save that a crash broke off ends so.
+    Torn,
+    /// Behind that frame a save ends that had it.
+    Ended,
+    /// Behind that save another one begins, which only is if that one was made.
+    Damaged,
+}
+
+/// Frames of a log that are still to be read.
+#[derive(Drop)]
+struct Reading<'a> {
+    known: LogWalk,
+    /// The sum in the frame before.
+    before: Sum,
+    rest: &'a [u8],
+}
+
+impl<'a> Model for Reading<'a> {
+    ghost use Rattle.smi_disks.specs.LogCheck.{ReadingState};
+
+    ghost Value = { ReadingState };
+
+    ghost view = { λ r. record { known = r.known; before = r.before; rest = r.rest.now } };
+}
+
+/// Returns the sum in the eight bytes from a place on; none has zeros.
+fn sum_at(bytes: &[u8], at: usize) -> Sum
+    requires { at ≤ FRAME_HEADER }
+    ensures { result ≡ spec.sum_at bytes.now at }
+{
+    if bytes.len() < at + 8 {
+        (0, 0)
+    } else {
+        (u32_at(bytes, at), u32_at(bytes, at + 4))
+    }
+}
+
+/// Returns the bytes up to a place, and those from there on.
+fn cut_at(bytes: &[u8], place: usize) -> (&[u8], &[u8])
+    ensures front { result.0.now ≡ take place bytes.now }
+    ensures back { result.1.now ≡ drop place bytes.now }
+{
+    if place < bytes.len() {
+        bytes.split_at(place)
+    } else {
+        (bytes, &[])
+    }
+}
+
+/// Returns the sum of a frame that follows one with the sum `before`.
+fn frame_sum(is_high_first: bool, before: Sum, frame: &[u8]) -> Sum
+    ensures { result ≡ spec.frame_sum is_high_first before frame.now }
+{
+    let (front, _) = cut_at(frame, 8);
+    let (_, content) = cut_at(frame, FRAME_HEADER);
+    checksum_of(
+        is_high_first,
+        checksum_of(is_high_first, before, front),
+        content,
+    )
+}
+
+/// Returns true if the words of a log's sums have the highest byte first.
+fn is_high_first(head: &[u8]) -> bool
+    requires { HEADER ≤ length head.now }
+    ensures { result ≡ spec.is_high_first head.now }
+{
+    u32_at(head, 0) == HIGH_FIRST
+}
+
+/// Returns true if a log has this header.
+fn is_header(head: &[u8]) -> bool
+    requires { HEADER ≤ length head.now }
+    ensures { result ≡ spec.is_header head.now }
+{
+    let (front, _) = cut_at(head, FRAME_HEADER);
+    (u32_at(head, 0) == LOW_FIRST || u32_at(head, 0) == HIGH_FIRST)
+        && checksum_of(is_high_first(head), (0, 0), front) == sum_at(head, FRAME_HEADER)
+}
+
+/// Returns true if a frame goes on from one with the sum `before`, in a log with this header.
+fn is_linked(head: &[u8], before: Sum, frame: &[u8]) -> bool
+    requires { HEADER ≤ length head.now }
+    ensures { result ≡ spec.is_linked head.now before frame.now }
+{
+    frame.len() >= FRAME_HEADER
+        && u32_at(frame, 0) != 0
+        && sum_at(frame, 8) == sum_at(head, 16)
+        && frame_sum(is_high_first(head), before, frame) == sum_at(frame, 16)
+}
+
+/// Returns true if a save ends with a frame.
+fn ends_save(frame: &[u8]) -> bool
+    ensures { result ≡ spec.ends_save frame.now }
+{
+    frame.len() >= FRAME_HEADER && u32_at(frame, 4) != 0
+}
+
+/// Returns what is known after another frame: whether it goes on from the one before, and whether a save ends with it.
+fn known_after(known: LogWalk, is_linked: bool, ends_save: bool) -> LogWalk
+    ensures { result ≡ spec.known_after known is_linked ends_save }
+{
+    match known {
+        LogWalk::Sound if is_linked => LogWalk::Sound,
+        LogWalk::Sound => LogWalk::Torn,
+        LogWalk::Torn if is_linked && ends_save => LogWalk::Ended,
+        LogWalk::Torn => LogWalk::Torn,
+        LogWalk::Ended if !is_linked => LogWalk::Ended,
+        LogWalk::Ended | LogWalk::Damaged => LogWalk::Damaged,
+    }
+}
+
+/// Returns how many bytes each frame of a log has that has this header.
+fn frame_size(head: &[u8]) -> usize
+    requires { HEADER ≤ length head.now }
+    ensures { result ≡ spec.frame_size head.now }
+{
+    u32_at(head, 8) as usize + FRAME_HEADER
+}
+
+/// Reads a frame of this many bytes.
+fn read_frame<'a>(head: &[u8], size: usize, reading: &Reading<'a>) -> Reading<'a>
+    requires { HEADER ≤ length head.now }
+    ensures { result ≡ spec.frame_read head.now size reading.now }
+{
+    let (frame, rest) = cut_at(reading.rest, size);
+    let is_linked = is_linked(head, reading.before, frame);
+    Reading {
+        known: known_after(reading.known, is_linked, ends_save(frame)),
+        before: sum_at(frame, 16),
+        rest,
+    }
+}
+
+/// Returns what is known of a log with this header by all of its frames.
+#[tactic(auto, using(crate::proofs::Frames::frames_next))]
+fn walk(head: &[u8], frames: &[u8]) -> LogWalk
+    requires { HEADER ≤ length head.now }
+    ensures { result ≡ spec.walk head.now frames.now }
+{
+    let size = frame_size(head);
+    let mut reading = Reading {
+        known: LogWalk::Sound,
+        before: sum_at(head, FRAME_HEADER),
+        rest: frames,
+    };
+    for _ in 0..frames.len() / size {
+        reading = read_frame(head, size, &reading);
+    }
+    reading.known
+}
+
+/// Returns the salts in a header, which each frame has too.
+fn salts_in(head: &[u8]) -> [u8; 8]
+    requires { HEADER ≤ length head.now }
+    ensures { result ≡ spec.salts_in head.now }
+{
+    let mut salts = [0; 8];
+    salts.copy_from_slice(&head[16..24]);
+    salts
+}
+
+/// Returns the salts of a log that has a header and nothing behind it that goes on from there. None of any other log.
+pub(crate) fn salts_of_empty(log: &[u8]) -> Option<[u8; 8]>
+    ensures { result ≡ spec.salts_of_empty log.now }
+{
+    if log.len() < HEADER {
+        return None;
+    }
+    let (head, frames) = log.split_at(HEADER);
+    let (frame, _) = cut_at(frames, frame_size(head));
+    if !is_header(head) || is_linked(head, sum_at(head, FRAME_HEADER), frame) {
+        return None;
+    }
+    Some(salts_in(head))
+}
+
+/// Returns true if a log lost something in its middle: a frame in it does not go on from the one before, though a save
+/// that was begun after that frame's save stands behind it. A save is begun once the one before is on the disk, so no
+/// crash leaves such a log. What reads it would go on from before that frame.
+///
+/// Of a log whose header is damaged nothing is known, nor of the last save and the one before.
+pub fn is_damaged(log: &[u8]) -> bool
+    ensures { result ≡ spec.is_damaged log.now }
+{
+    if log.len() < HEADER {
+        return false;
+    }
+    let (head, frames) = log.split_at(HEADER);
+    is_header(head) && walk(head, frames) == LogWalk::Damaged
+}
