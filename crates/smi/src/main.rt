@@ -4,11 +4,14 @@
 #![tactic(auto)]
 
 use smi_commands::status::no_memory;
-use smi_program::{program, tell_help, tell_path_fault, tell_tree_fault, words_of};
+use smi_program::{
+    fill_standard_places, program, tell_help, tell_path_fault, tell_tree_fault, words_of,
+};
 use std::io::IsTerminal;
 use std::process::ExitCode;
 
 fn main(rt: HostRuntime) -> ExitCode {
+    fill_standard_places();
     let mut faults = rt.stderr();
     let is_terminal = faults.is_terminal();
     let status = match words_of(&rt) {

@@ -30,6 +30,7 @@ mod reopened_file;
 mod screen;
 mod sim;
 pub mod simulating;
+mod standard_places;
 mod style;
 mod token;
 mod tree;
@@ -45,6 +46,7 @@ pub use line::{
 pub use orders::ORDERS;
 pub use page::PAGE;
 pub use path_words::tell_path_fault;
+pub use standard_places::fill_standard_places;
 pub use tree_words::tell_tree_fault;
 pub use with_orders::{page_bytes, page_with_orders, page_with_style};
 pub use words::{Words, bytes_after, bytes_of, words_of};

@@ -10,6 +10,9 @@ use std::net::{SocketAddr, SocketAddrV4};
 /// The most turns of a node, and how many it serves if none are given.
 const MOST_TURNS: u32 = 1_000_000;
 
+/// For how many days the history of a screen is kept at most.
+const MOST_DAYS: u64 = 366;
+
 /// The most items of a drawn schedule.
 const MOST_STEPS: u64 = 1_000_000;
 
@@ -120,6 +123,8 @@ pub struct ScreenLine<'a> {
     pub token: Option<&'a str>,
     /// The path of the file that keeps what it has seen, if there is one.
     pub history: Option<&'a str>,
+    /// For how many days what it has seen is kept, if not for the usual ones.
+    pub history_days: Option<u64>,
     /// How many turns it looks, none if it looks without end.
     pub turns: Option<u32>,
     /// Whether it starts on a store that is older than its label.
@@ -291,6 +296,7 @@ fn screen_command<'a>(alloc: Global) -> Result<Command<'a>, Error> {
     let form = form.arg(Arg::new(alloc, "STYLE").long("style"))?;
     let form = form.arg(Arg::new(alloc, "TOKEN").long("token"))?;
     let form = form.arg(Arg::new(alloc, "HISTORY").long("history"))?;
+    let form = form.arg(Arg::new(alloc, "DAYS").long("history-days"))?;
     Ok(form.arg(Arg::new(alloc, "PLACE").long("orders"))?)
 }
 
@@ -355,6 +361,14 @@ fn origin_of(word: &str) -> Option<&str> {
     if is_one { Some(word) } else { None }
 }
 
+/// Returns for how many days a history is kept, if a word says so.
+fn days_of(word: Option<&str>) -> Option<Option<u64>> {
+    match word {
+        Some(word) => Some(Some(number_within(1, MOST_DAYS, word.as_bytes())?)),
+        None => Some(None),
+    }
+}
+
 fn screen_line<'a>(given: &ArgMatches<'a>) -> Option<ScreenLine<'a>> {
     let address = given.get_str("ADDRESS")?;
     let (http, name) = place_of(address, given.get_str("NAME"), given.get_flag("open"))?;
@@ -378,6 +392,7 @@ fn screen_line<'a>(given: &ArgMatches<'a>) -> Option<ScreenLine<'a>> {
         orders,
         token: given.get_str("TOKEN"),
         history: given.get_str("HISTORY"),
+        history_days: days_of(given.get_str("DAYS"))?,
         turns: turns_of(given.get_str("T"), given.get_flag("endless"))?,
         accepts_older: given.get_flag("accept-older"),
     })

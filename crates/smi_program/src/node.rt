@@ -9,7 +9,7 @@ use crate::tree::read_marked;
 use crate::words::{Words, bytes_of};
 use smi_commands::status::{Status, no_memory, store_fault, wrong_line};
 use smi_console::{Console, ListenAddress, NodeSetup, Turns, run};
-use smi_disks::{Kinship, OpenStore, StoreAge, Stores, TreeMark, age};
+use smi_disks::{Kinship, OpenStore, StoreAge, StoreHealth, Stores, TreeMark, age};
 use smi_journal::JournalSetup;
 use smi_rows::{Key, Row, Stable, StoreFault};
 use smi_tree::Tree;
@@ -189,6 +189,33 @@ fn has_age<F: Write>(age: StoreAge, accepts_older: bool, faults: &mut F) -> Resu
     }
 }
 
+/// Tells if the files of a store were damaged. What was saved last may be lost then.
+fn has_health<F: Write>(
+    health: StoreHealth,
+    accepts_older: bool,
+    faults: &mut F,
+) -> Result<(), Status> {
+    match health {
+        StoreHealth::Sound => Ok(()),
+        _ if accepts_older => Ok(()),
+        StoreHealth::DamagedLog => refused("store has a damaged log", faults),
+        StoreHealth::DamagedFile => refused("store differs from its sum", faults),
+    }
+}
+
+/// Tells what is amiss with the files of a store that is not open yet, if anything.
+fn may_be_opened<H: Stores, F: Write>(
+    host: &H,
+    path: &[u8],
+    opening: Opening<'_>,
+    faults: &mut F,
+) -> Result<(), Status> {
+    match host.health(path) {
+        Ok(health) => has_health(health, opening.accepts_older, faults),
+        Err(fault) => Err(told_fault(fault, faults)),
+    }
+}
+
 /// Tells what is amiss with an open store, if anything.
 fn may_go_on<S: Stable, F: Write>(
     alloc: Global,
@@ -211,6 +238,7 @@ pub(crate) fn opened<H: Stores + AllocGlobal, F: Write>(
     opening: Opening<'_>,
     faults: &mut F,
 ) -> Result<H::Open, Status> {
+    may_be_opened(host, path, opening, faults)?;
     let mut store = match host.open(path, opening.mark, opening.station) {
         Ok(store) => store,
         Err(fault) => return Err(told_fault(fault, faults)),

@@ -233,6 +233,7 @@ fn setup_of(
         page,
         orders: None,
         history: history_path(alloc, line)?,
+        history_days: line.history_days,
         turns: line.turns,
     })
 }
