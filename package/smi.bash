@@ -8,7 +8,7 @@ _smi_words()
     for ((place = 2; place < COMP_CWORD; place++)); do
         word=${COMP_WORDS[place]}
         case $word in
-            --console | --history | --host | --http | --journal | --orders | --origin | --seed | --sources | --steps | --style | --token | --turns) ((place++)) ;;
+            --console | --history | --history-days | --host | --http | --journal | --orders | --origin | --seed | --sources | --steps | --style | --token | --turns) ((place++)) ;;
             -*) ;;
             *) words+=("$word") ;;
         esac
@@ -28,7 +28,7 @@ _smi()
             mapfile -t COMPREPLY < <(compgen -W 'any exact host' -- "$word")
             return
             ;;
-        --host | --http | --origin | --seed | --steps | --turns) return ;;
+        --history-days | --host | --http | --origin | --seed | --steps | --turns) return ;;
         --console | --history | --journal | --orders | --style | --token)
             compopt -o filenames 2> /dev/null
             mapfile -t COMPREPLY < <(compgen -f -- "$word")
@@ -40,7 +40,7 @@ _smi()
         audit) options='--trace' ;;
         check) options='--lint' ;;
         node) options='--accept-older --console --endless --journal --journal-sync --open --sources --turns' ;;
-        screen) options='--accept-older --endless --history --host --http --open --orders --origin --sources --style --token --turns' ;;
+        screen) options='--accept-older --endless --history --history-days --host --http --open --orders --origin --sources --style --token --turns' ;;
     esac
     if [[ $word == -* ]]; then
         mapfile -t COMPREPLY < <(compgen -W "$options" -- "$word")

@@ -8,6 +8,7 @@ import collections
 import json
 import os
 import shutil
+import subprocess
 import time
 
 import pytest
@@ -20,7 +21,8 @@ from running import DEADLINE
 Past = collections.namedtuple("Past", "head entries")
 World = collections.namedtuple("World", "tree crews screen path")
 # How many entries are kept, and how many are looked through for one request.
-MOST, AT_ONCE = 131_072, 10_000
+MOST, AT_ONCE = 1_048_576, 10_000
+DAY = 86_400_000
 FAULTY = (400, b"this is no query: object=NAME&from=SECOND&to=SECOND&after=NUMBER")
 
 
@@ -143,7 +145,15 @@ def test_queries(world, subtests):
     with subtests.test("the head"):
         count = past(screen).head["count"]
         assert past(screen, "?after=7").head == {"count": count, "saved": past(screen).head["saved"], "after": 7,
-                                                 "upto": 7 + AT_ONCE}
+                                                 "upto": 7 + AT_ONCE, "oldest": every[0]["at"]}
+    with subtests.test("after all"):
+        assert past(screen, "?after=%d" % (count + 9)) == Past(
+            {**past(screen).head, "after": count + 9, "upto": count + 9 + AT_ONCE}, [])
+    with subtests.test("from a second on"):
+        first = next(it for it in every if it["at"] // 1000 >= second)
+        assert past(screen, "?from=%d" % second).head["after"] == first["number"] - 1
+    with subtests.test("from a second that nothing is of yet"):
+        assert past(screen, "?from=%d" % (second + 1000)).head["after"] == count
 
 
 def test_silence(world, start_node, folder):
@@ -209,6 +219,10 @@ def test_faults(smi, folder, home, subtests):
             assert told == (b"", b"history fault\n", 3)
     with subtests.test("without"):
         assert smi("screen", home, "SCREEN", store, "--http", http, "--turns", "3") == (b"", b"", 0)
+    for days, told in [("1", (b"", b"", 0)), ("366", (b"", b"", 0)), *(
+            (word, (b"", b"wrong line\n", 2)) for word in ("0", "367", "x", "-1", ""))]:
+        with subtests.test("days " + days):
+            assert smi("screen", home, "SCREEN", store, "--http", http, "--turns", "3", "--history-days", days) == told
 
 
 def test_without(folder, home, start_screen, subtests):
@@ -216,7 +230,82 @@ def test_without(folder, home, start_screen, subtests):
     screen = start_screen(home, screens.store_of(folder, "screen"))
     assert screen.is_up()
     with subtests.test("before anything was seen"):
-        assert past(screen) == Past({"count": 0, "saved": 0, "after": 0, "upto": AT_ONCE}, [])
+        assert past(screen) == Past({"count": 0, "saved": 0, "after": 0, "upto": AT_ONCE, "oldest": 0}, [])
+
+
+def test_days(start_past, subtests):
+    """Entries are kept for so many days, in memory and in the file."""
+    start, path = start_past
+    now = int(1000 * time.time())
+    lines = ["%d board HV 1.%d READY" % (now - int(days * DAY), at) for at, days in
+             enumerate((400, 365, 40, 32, 30.9, 20, 2.1, 1.9, 0.5))]
+    for more, kept in [((), 5), (("--history-days", "366"), 8), (("--history-days", "2"), 2),
+                       (("--history-days", "1"), 1)]:
+        running.write(path, "".join(it + "\n" for it in lines))
+        screen = start(*more)
+        assert screen.is_up()
+        with subtests.test("told: " + " ".join(more)):
+            assert ["%d %s" % whole(it) for it in past(screen).entries] == lines[-kept:]
+        screen.end()
+        with subtests.test("in the file: " + " ".join(more)):
+            assert running.read(path).decode().splitlines()[:kept] == lines[-kept:]
+
+
+@pytest.fixture
+def clock(folder):
+    """Returns a function that sets by how many milliseconds the clock of a screen is ahead, and its environment."""
+    subprocess.run(["cc", "-shared", "-fPIC", "-O1", "-o", os.path.join(folder, "clock.so"),
+                    os.path.join(running.HERE, "clock.c")], check=True)
+    path = os.path.join(folder, "ahead")
+
+    def put(milliseconds):
+        running.write(path + ".new", "%d" % milliseconds)
+        os.rename(path + ".new", path)
+
+    put(0)
+    # by its name, because a list of paths is split at each space
+    return put, {**os.environ, "LD_PRELOAD": "clock.so", "LD_LIBRARY_PATH": folder, "AHEAD": path}
+
+
+def test_midnight(folder, home, start_node, start_screen, clock, subtests):
+    """At the first look of a day all is noted that is known, and what is too old is gone."""
+    put, environment = clock
+    crews = {name: start_node(home, name, screens.store_of(folder, name), "--endless") for name in "AB"}
+    screen = start_screen(home, screens.store_of(folder, "screen"), more=("--endless", "--history-days", "3"),
+                          env=environment)
+    assert screen.is_up()
+    assert crews["B"].ask("report HV OFF") == "told report HV OFF 0"
+    assert crews["A"].ask("order ANN take DCS") == "told ANN take DCS 0"
+    assert screen.waits_for(lambda it: all(one["shown"] for one in it["domains"]))
+    crews["B"].kill()
+    assert running.is_so(lambda: "silent TPC" in texts(screen))
+    with subtests.test("before"):
+        assert not [it for it in texts(screen) if it.startswith("since")]
+    before = past(screen).entries
+    newest = {tuple(it["text"].split()[:2]): it for it in before}
+    midnight = (int(1000 * time.time()) // DAY + 1) * DAY
+    put(midnight - int(1000 * time.time()) + 1000)
+    assert running.is_so(lambda: any(it.startswith("since") for it in texts(screen)))
+    after = past(screen, "?from=%d" % (midnight // 1000))
+    known = [it["text"].split(" ", 2) for it in after.entries if it["text"].startswith("since")]
+    with subtests.test("each is known, and since when"):
+        wanted = {key: it for key, it in newest.items() if key[0] in ("board", "record")}
+        assert {tuple(text.split()[:2]): text for _, _, text in known} == {
+            key: it["text"] for key, it in wanted.items()}
+        assert all(abs(int(at) - wanted[tuple(text.split()[:2])]["at"] - (midnight - int(1000 * time.time()) + 1000))
+                   < 60_000 + 1000 * DEADLINE for _, at, text in known)
+    with subtests.test("who reads from midnight on misses nothing before it"):
+        assert after.head["after"] == before[-1]["number"]
+    with subtests.test("who is silent"):
+        assert [it["text"] for it in after.entries if it["text"].startswith("silent")] == ["silent TPC"]
+    with subtests.test("once a day"):
+        time.sleep(1)
+        assert len([it for it in texts(screen) if it.startswith("since")]) == len(known)
+    put(midnight + 3 * DAY - int(1000 * time.time()) + 10_000)
+    with subtests.test("three days later all of before is gone"):
+        assert running.is_so(lambda: past(screen).head["oldest"] > midnight + DAY)
+        assert all(it["text"].startswith(("since", "silent", "record", "board")) for it in past(screen).entries)
+        assert past(screen).entries[0]["number"] > before[-1]["number"]
 
 
 @pytest.mark.alone
@@ -224,13 +313,15 @@ def test_large(folder, start_past, subtests):
     """A file of more entries than are kept: the newest are there, in pieces, and soon."""
     start, path = start_past
     count = MOST + 8_928
-    lines = ["%d board HV%d 1.%d READY" % (1_790_000_000_000 + 10 * n, n % 512, n) for n in range(count)]
+    first = int(1000 * time.time()) - 20 * count
+    lines = ["%d board HV%d 1.%d READY" % (first + 10 * n, n % 512, n) for n in range(count)]
     running.write(path, "".join(it + "\n" for it in lines))
     begun = time.monotonic()
     screen = start()
     assert screen.is_up()
     print("FIGURE up after %.2f s, %d KiB" % (time.monotonic() - begun, screen.memory()))
     found, after, waited = [], 0, []
+    assert past(screen).head["oldest"] == first + 10 * (count - MOST)
     while True:
         begun = time.monotonic()
         piece = past(screen, "?after=%d" % after)
@@ -248,4 +339,13 @@ def test_large(folder, start_past, subtests):
         assert past(screen).entries == found[-AT_ONCE:]
     with subtests.test("by name"):
         assert past(screen, "?object=HV7").entries == [it for it in found[-AT_ONCE:] if " HV7 " in it["text"]]
+    second = (first + 10 * count) // 1000 - 600
+    before = len([it for it in found if it["at"] // 1000 < second])
+    with subtests.test("from a second on"):
+        told = past(screen, "?from=%d" % second)
+        assert told.head["after"] == found[before - 1]["number"]
+        assert told.entries == found[before:before + AT_ONCE]
+    with subtests.test("between two seconds"):
+        wanted = [it for it in found if second <= it["at"] // 1000 <= second + 1]
+        assert past(screen, "?from=%d&to=%d" % (second, second + 1)).entries == wanted
     shutil.rmtree(os.path.join(folder, "none"), ignore_errors=True)
