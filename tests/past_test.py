@@ -224,6 +224,7 @@ def test_line(night, subtests):
             ["band", "ERROR", "6.25%", "1.25%", "ERROR from 2026-11-29 22:30:00 to 2026-11-29 22:36:00"],
             ["band", "READY", "7.5%", "55%", "READY from 2026-11-29 22:36:00 to 03:00:00"],
             ["band", "RUNNING", "62.5%", "37.5%", "RUNNING from 03:00:00 to 06:00:00"],
+            ["run", "", "62.5%", "", "03:00:00 command 1 of TRK ended with 0"],
             ["fault", "", "14.792%", "", "23:11:00 command 4 of TRK ended with 6"],
             ["grant", "", "50%", "", "02:00:00 TRK is free"],
             ["grant", "", "51.042%", "", "02:05:00 TRK held by TRK_EXPERT"],
@@ -250,6 +251,42 @@ def test_line(night, subtests):
     with subtests.test("an operator"):
         assert [night.browser.run(names), night.browser.run(LISTED)] == [
             ["up to all", "TRK"], [WORDS[6], WORDS[7], WORDS[9], WORDS[10]]]
+
+
+def test_runs(night, subtests):
+    """A command that ended with 0 has a mark of its own shape, which hides no other one."""
+    night.screen.past = [(at("22:00"), "board TRK 1.1 READY"),
+                         (at("22:00"), "record TRK operator TRK_EXPERT 2 1 settled 0"),
+                         *((at("23:00") + 10 * it, "record TRK operator TRK_EXPERT 2 %d %s" % (2 + it // 2, how))
+                           for it, how in enumerate(["busy 0", "settled 0"] * 40)),
+                         (at("23:00:01"), "record TRK operator TRK_EXPERT 2 42 busy 0"),
+                         (at("23:00:02"), "record TRK operator TRK_EXPERT 2 42 settled 6"),
+                         (at("04:00"), "record TRK operator TRK_EXPERT 2 43 busy 0"),
+                         (at("04:30"), "record TRK operator TRK_EXPERT 2 43 settled 0")]
+    night.open()
+    marks = [it for it in night.browser.run(BANDS % "TRK") if it[0] not in ("band", "hush")]
+    with subtests.test("forty runs of a second are one mark, before the fault; what is at work has none"):
+        assert marks == [["run", "", "12.5%", "", "23:00:00 command 2 of TRK ended with 0"],
+                         ["run", "", "81.25%", "", "04:30:00 command 43 of TRK ended with 0"],
+                         ["fault", "", "12.507%", "", "23:00:02 command 42 of TRK ended with 6"]]
+    shapes = """[...document.querySelectorAll("#past-signs .mark")].map((e) => [e.className.split(" ").pop(),
+      getComputedStyle(e, "::before").content, e.nextSibling.textContent.replace(/\\s+/g, " ").trim()])"""
+    legend = [["grant", '"\u25c6"', "another holder"], ["run", '"\u2713"', "a command that ended with 0"],
+              ["fault", '"\u2715"', "one that did not"], ["trip", '"!"', "an alarm begins"],
+              ["order", '"\u25b8"', "an order of this screen. Hatched: the station is silent. A name: what is below it."]]
+    with subtests.test("five shapes, each named"):
+        assert night.browser.run(shapes) == legend
+    weights = """["run", "fault"].map((kind) => {
+      const is = getComputedStyle(document.querySelector(".track .mark." + kind));
+      return [is.fontWeight, is.fontSize]; })"""
+    with subtests.test("a run is lighter than a fault"):
+        assert night.browser.run(weights) == [["400", "11.2px"], ["900", "12.8px"]]
+    night.browser.forced_colors(True)
+    inks = night.browser.run("""[...document.querySelectorAll(".track .mark")].map((e) => {
+      const is = getComputedStyle(e); return [is.color, is.textShadow === "none"]; })""")
+    night.browser.forced_colors(False)
+    with subtests.test("on the colour of a state they keep their edge if the system chooses colours"):
+        assert inks == [["rgb(0, 0, 0)", False]] * 3
 
 
 def test_as_of(night, subtests):

@@ -233,6 +233,8 @@ td, th { padding: .2rem .4rem; border-bottom: 1px solid var(--line); text-align:
 .hush { background: repeating-linear-gradient(135deg, #0000 0 5px, #000c 5px 9px), #fff6 }
 .mark { position: absolute; top: 0; bottom: 0; width: 9px; margin-left: -4px; font: 900 .8rem/1.5rem system-ui,
   sans-serif; text-align: center; color: #000; text-shadow: 0 0 2px #fff, 0 0 2px #fff, 0 0 3px #fff }
+.mark.run { font-weight: 400; font-size: .7rem }
+.mark.run::before { content: \"\\2713\" }
 .mark.grant::before { content: \"\\25C6\" }
 .mark.fault::before { content: \"\\2715\" }
 .mark.trip::before { content: \"!\" }
@@ -280,7 +282,7 @@ td, th { padding: .2rem .4rem; border-bottom: 1px solid var(--line); text-align:
 }
 @media (forced-colors: active) {
   .state, .who, .note, .devices i, .legend i, #live, .alarm > [data-alarm], .fold.hot, .initials,
-  .band, .hush {
+  .band, .hush, .track .mark {
     forced-color-adjust: none }
   .devices i, .legend i, .alarm > [data-alarm], .state { border: 1px solid CanvasText }
 }
@@ -339,9 +341,9 @@ td, th { padding: .2rem .4rem; border-bottom: 1px solid var(--line); text-align:
   <div id=\"past-body\">
     <div id=\"past-left\">
       <div id=\"time-line\"></div>
-      <p id=\"past-signs\"><b class=\"mark grant\"></b>another holder<b class=\"mark fault\"></b>a command that did not end
-        with 0<b class=\"mark trip\"></b>an alarm begins<b class=\"mark order\"></b>an order of this screen. Hatched: the
-        station is silent. A name: what is below it.</p>
+      <p id=\"past-signs\"><b class=\"mark grant\"></b>another holder<b class=\"mark run\"></b>a command that ended with
+        0<b class=\"mark fault\"></b>one that did not<b class=\"mark trip\"></b>an alarm begins<b class=\"mark order\"></b>an
+        order of this screen. Hatched: the station is silent. A name: what is below it.</p>
       <details id=\"summary\"><summary>summary for the log book</summary>
         <div id=\"summary-tools\"><button class=\"tool\" id=\"summary-copy\" type=\"button\">copy</button>
           <button class=\"tool\" id=\"summary-save\" type=\"button\">save</button>
@@ -856,20 +858,20 @@ function thinned(list, least) {
 const within = (list, { from, to }) =>
   list.slice(countFront(list, (it) => it.at < from), countFront(list, (it) => it.at <= to));
 function marksOf(book, name, span) {
-  const marks = [];
+  const runs = [], marks = [];
   const add = (kind, it) =>
-    marks.push({ kind, at: it.at, words: sayEntry(book, it) });
+    (kind === \"run\" ? runs : marks).push({ kind, at: it.at, words: sayEntry(book, it) });
   within(entriesOf(book, \"record \" + name), span).forEach((it) => {
     const before = beforeIt(book, it), news = newsOf(it, before);
     if (before && news.hasHolder) add(\"grant\", it);
-    if (before && news.hasCommand && !news.busy && news.outcome) add(\"fault\", it);
+    if (before && news.hasCommand && !news.busy) add(news.outcome ? \"fault\" : \"run\", it);
   });
   within(entriesOf(book, \"board \" + name), span).forEach((it) => {
     const before = beforeIt(book, it), wasHot = !!before && kindOf(before.words[3]) === \"alarm\";
     if (kindOf(it.words[3]) === \"alarm\" && !wasHot) add(\"trip\", it);
   });
   within(entriesOf(book, \"given\"), span).forEach((it) => { if (it.words.slice(3).includes(name)) add(\"order\", it); });
-  return marks;
+  return [...runs, ...marks];
 }
 const MOST_ROWS = 40;
 let hours = [0, 1, 24].find((it) => kept(\"past-hours\") === String(it)) ?? 8;
