@@ -64,6 +64,16 @@ def shift(names):
     return told
 
 
+def midnight(names):
+    """Returns what a screen notes at the first look of a day: each state and record, and a station that is silent."""
+    begun = {"TRK": ("23:30", "1.2 RUNNING"), "PIXEL_HV7": ("20:15", "1.9 ERROR")}
+    told = ["since %d board %s %s" % (at(since), name, state) for name, (since, state) in (
+        (name, begun.get(name, ("21:00", "1.1 READY"))) for name in names)]
+    told += ["since %d record TRK operator TRK_EXPERT 2 7 settled 6" % at("20:30"),
+             "since %d record MUO operator SHIFT_LEADER 1 3 settled 0" % at("20:40"), "silent MUO"]
+    return [(at("00:00"), text) for text in told]
+
+
 WORDS = """05:00:30 PIXEL_HV7 is READY
 05:00:00 PIXEL_HV7 is ERROR
 04:01:00 withdrawal of do MUO START of SHIFT_LEADER: done
@@ -334,6 +344,79 @@ def test_as_of(night, subtests):
     with subtests.test("the log has what came, and nothing of the past"):
         after = browser.run("log.map((it) => it.text)")
         assert [it for it in after if it not in before] == ["EM_HV1 ERROR"]
+    with subtests.test("no faults"):
+        assert browser.errors == []
+
+
+def test_since(night, subtests):
+    """What the screen notes at midnight says what was so then, and is news nowhere."""
+    browser = night.browser
+    night.screen.past = [(at("22:00"), "board CAL 1.1 READY"), (at("23:30"), "board TRK 1.2 RUNNING"),
+                         (at("23:50"), "silent MUO"), *midnight(night.names), (at("00:20"), "heard MUO"),
+                         (at("01:00"), "board TRK 1.3 READY")]
+    night.open()
+    listed = ["01:00:00 TRK is READY", "00:20:00 station of MUO is heard again",
+              "2026-11-29 23:50:00 station of MUO is silent", "2026-11-29 23:30:00 TRK is RUNNING",
+              "2026-11-29 22:00:00 CAL is READY"]
+    with subtests.test("not in the list"):
+        assert [browser.run(LISTED), night.text("past-more")] == [listed, ""]
+    night.types("past-search", "is")
+    with subtests.test("not found"):
+        assert browser.run(LISTED) == listed
+    night.types("past-search", "")
+    with subtests.test("no mark, and the states go on"):
+        assert browser.run(BANDS % "TRK") == [
+            ["unseen", "", "0%", "18.75%", "not seen from 2026-11-29 22:00:00 to 2026-11-29 23:30:00"],
+            ["band", "RUNNING", "18.75%", "18.75%", "RUNNING from 2026-11-29 23:30:00 to 01:00:00"],
+            ["band", "READY", "37.5%", "62.5%", "READY from 01:00:00 to 06:00:00"]]
+    with subtests.test("one silence, and a state that begins with what was noted"):
+        assert browser.run(BANDS % "MUO") == [
+            ["unseen", "", "0%", "25%", "not seen from 2026-11-29 22:00:00 to 00:00:00"],
+            ["band", "READY", "25%", "75%", "READY from 00:00:00 to 06:00:00"],
+            ["hush", "", "22.917%", "6.25%", "station MUON silent from 2026-11-29 23:50:00 to 00:20:00"]]
+    browser.run("by('summary').open = true")
+    lines = ["MUON  2026-11-29 23:50:00 to 00:20:00  0:30:00"]
+    with subtests.test("no command that failed, and one silence"):
+        text = at_last(lambda: night.text("summary-text"), "")
+        assert text.split("code other than 0\n")[1].split("\n")[0] == "  none"
+        assert [it.strip() for it in text.split("Silent stations\n")[1].splitlines()] == lines
+    seen = []
+    for button in ("past-before",) * 5 + ("past-after",) * 3:
+        night.click(button)
+        seen.append(night.text("past-shown"))
+    before = ["as of 01:00:00", "as of 00:20:00", "as of 2026-11-29 23:50:00", "as of 2026-11-29 23:30:00",
+              "as of 2026-11-29 22:00:00"]
+    with subtests.test("no step"):
+        assert seen == before + before[3:0:-1]
+    browser.run("lookAt(placeOf(%d))" % (at("00:00") + 1000))
+    with subtests.test("a second after midnight"):
+        assert [night.state(it) for it in ("TRK", "MUO", "CAL")] == ["RUNNING", "READY", "READY"]
+    with subtests.test("the entry before it is marked in the list"):
+        assert browser.run("[...document.querySelectorAll('#past-list .here')].map((e) => e.textContent)") == [listed[2]]
+    with subtests.test("an alarm since before midnight"):
+        assert browser.run("[...document.querySelectorAll('#alarms [data-key=\"device PIXEL_HV7\"] > *')]"
+                           ".map((e) => e.textContent)")[:2] == ["20:15:00", "PIXEL_HV7 ERROR"]
+    with subtests.test("silent for a quarter of an hour, not for a second"):
+        # the first notice came once the station had been silent for as long as it may be
+        assert browser.run("domains.get('MUO').silence - limit()") == 10 * MINUTE + 1001
+    browser.run("document.querySelector('#main [data-domain=TRK]').click()")
+    with subtests.test("seen for as long as it was so"):
+        details = browser.run("document.getElementById('more').textContent")
+        assert "RUNNING (1.2, seen for 30 min)" in details and "TRK_EXPERT" in details
+    with subtests.test("the record is as old as it was"):
+        assert browser.run("domains.get('TRK').told.since") == at("20:30")
+    browser.run("document.getElementById('more').close()")
+    night.screen.past = midnight(night.names)
+    night.load()
+    night.open()
+    with subtests.test("a book that begins so has a silence that nobody knew of, and nothing else"):
+        assert browser.run(LISTED) == ["00:00:00 station of MUO is silent"]
+    with subtests.test("all of it was so"):
+        assert browser.run(BANDS % "TRK") == [["band", "RUNNING", "0%", "100%", "RUNNING from 00:00:00 to 06:00:00"]]
+    night.types("past-of", "PIXEL_HV")
+    with subtests.test("an alarm that is known already does not begin"):
+        assert browser.run(BANDS % "PIXEL_HV7") == [
+            ["band", "ERROR", "0%", "100%", "ERROR from 00:00:00 to 06:00:00"]]
     with subtests.test("no faults"):
         assert browser.errors == []
 

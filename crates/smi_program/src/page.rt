@@ -631,12 +631,16 @@ function showFold(d) {
 }
 function readAnswer(text) {
   const [head, ...list] = JSON.parse(\"[\" + text.trimEnd().replaceAll(\"\\n\", \",\") + \"]\");
-  list.forEach((it) => { it.words = it.text.split(\" \"); });
+  list.forEach((it) => {
+    const words = it.text.split(\" \"), isSince = words[0] === \"since\";
+    it.words = isSince ? words.slice(2) : words;
+    if (isSince) it.since = Number(words[1]);
+  });
   return { head, list };
 }
-function keysOf([kind, first, second]) {
+function keysOf({ words: [kind, first, second], since }) {
   if (kind === \"board\") return [\"board \" + first];
-  if (kind === \"record\") return [\"record \" + first, \"sign \" + first];
+  if (kind === \"record\") return since === undefined ? [\"record \" + first, \"sign \" + first] : [\"record \" + first];
   if (kind === \"silent\" || kind === \"heard\") return [\"sign \" + first];
   if (kind === \"given\") return [\"order \" + first, \"given\"];
   if (kind === \"ended\") return [\"order \" + first];
@@ -644,7 +648,7 @@ function keysOf([kind, first, second]) {
 }
 function bookOf(list) {
   const of = new Map();
-  list.forEach((it) => keysOf(it.words).forEach((key) => {
+  list.forEach((it) => keysOf(it).forEach((key) => {
     const same = of.get(key);
     if (same) same.push(it); else of.set(key, [it]);
   }));
@@ -677,7 +681,14 @@ function newsOf(entry, before) {
   const isNoNews = !!was && is.last === was.last && is.busy === was.busy;
   return { ...is, hasHolder: !isHeldOn, hasCommand: is.last > 0 && !isNoNews };
 }
-const beforeIt = (book, entry) => lastUpTo(entriesOf(book, keysOf(entry.words)[0]), entry.number - 1);
+const beforeIt = (book, entry) => lastUpTo(entriesOf(book, keysOf(entry)[0]), entry.number - 1);
+const sinceOf = (entry) => entry.since ?? entry.at;
+function isNews(book, entry) {
+  if (entry.since !== undefined) return false;
+  if (entry.words[0] !== \"silent\") return true;
+  const before = beforeIt(book, entry);
+  return !before || before.words[0] !== \"silent\";
+}
 function givenOf(book, entry) {
   const list = entriesOf(book, \"order \" + entry.words[1]), last = countFront(list, (it) => it.number <= entry.number);
   return list.slice(0, last).reverse().find((it) => it.words[0] === \"given\");
@@ -861,12 +872,13 @@ function marksOf(book, name, span) {
   const runs = [], marks = [];
   const add = (kind, it) =>
     (kind === \"run\" ? runs : marks).push({ kind, at: it.at, words: sayEntry(book, it) });
-  within(entriesOf(book, \"record \" + name), span).forEach((it) => {
+  const newsIn = (key) => within(entriesOf(book, key), span).filter((it) => isNews(book, it));
+  newsIn(\"record \" + name).forEach((it) => {
     const before = beforeIt(book, it), news = newsOf(it, before);
     if (before && news.hasHolder) add(\"grant\", it);
     if (before && news.hasCommand && !news.busy) add(news.outcome ? \"fault\" : \"run\", it);
   });
-  within(entriesOf(book, \"board \" + name), span).forEach((it) => {
+  newsIn(\"board \" + name).forEach((it) => {
     const before = beforeIt(book, it), wasHot = !!before && kindOf(before.words[3]) === \"alarm\";
     if (kindOf(it.words[3]) === \"alarm\" && !wasHot) add(\"trip\", it);
   });
@@ -897,8 +909,8 @@ function wantedNames() {
   return new Set(d ? namesBelow(d) : [subject]);
 }
 function shownEntries() {
-  const list = within(pastBook.list, shownSpan()), names = wantedNames();
-  return names === null ? list : list.filter((it) => isAbout(pastBook, it, names));
+  const names = wantedNames();
+  return within(pastBook.list, shownSpan()).filter((it) => isNews(pastBook, it) && isAbout(pastBook, it, names));
 }
 function rowNames() {
   const d = domains.get(subject), all = [...domains.values()];
@@ -1450,7 +1462,7 @@ function shownAt(book, name, number) {
   const entry = lastUpTo(entriesOf(book, \"board \" + name), number);
   if (!entry) return null;
   const [boot, sequence] = entry.words[2].split(\".\").map(Number);
-  return { state: entry.words[3], boot, sequence, at: entry.at };
+  return { state: entry.words[3], boot, sequence, at: sinceOf(entry) };
 }
 function silentAt(book, number) {
   const since = new Map(), names = new Set([...domains.values()].map((d) => d.station));
@@ -1464,7 +1476,7 @@ function pictureAt(book, { number, at }) {
   const silent = silentAt(book, number);
   const rows = [...domains.values()].map((d) => {
     const entry = lastUpTo(entriesOf(book, \"record \" + d.name), number);
-    const told = entry ? { ...recordIn(entry), since: entry.at, heard: silent.get(d.station) ?? at } : null;
+    const told = entry ? { ...recordIn(entry), since: sinceOf(entry), heard: silent.get(d.station) ?? at } : null;
     return { name: d.name, shown: shownAt(book, d.name, number), told };
   });
   return { frame: -1, now: at, domains: rows,
@@ -1570,8 +1582,10 @@ function markEntry() {
   const number = shownPlace && shownPlace.number, list = by(\"past-list\");
   if (wasMarked && number === null) list.scrollTop = 0;
   wasMarked = number !== null;
-  list.querySelectorAll(\"button\").forEach((b) => {
-    const isHere = number !== null && Number(b.dataset.key) === number;
+  const buttons = [...list.querySelectorAll(\"button\")];
+  const here = number === null ? undefined : buttons.find((b) => Number(b.dataset.key) <= number);
+  buttons.forEach((b) => {
+    const isHere = b === here;
     flag(b, \"here\", isHere);
     if (!isHere) return;
     const off = b.getBoundingClientRect().top - list.getBoundingClientRect().top;
@@ -1605,7 +1619,7 @@ function orderLines(book, span, names) {
 }
 function faultLines(book, span, names) {
   return chosen(domains.values(), names).flatMap((name) =>
-    within(entriesOf(book, \"record \" + name), span).flatMap((it) => {
+    within(entriesOf(book, \"record \" + name), span).filter((it) => isNews(book, it)).flatMap((it) => {
       const news = newsOf(it, beforeIt(book, it));
       return news.hasCommand && !news.busy && news.outcome ? [{ it, news, name }] : [];
     })).sort((a, b) => a.it.number - b.it.number).map(({ it, news, name }) =>

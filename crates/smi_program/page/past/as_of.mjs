@@ -1,7 +1,7 @@
 // The picture of an earlier time, of what the entries up to then say.
 
 import { devices, domains, limit } from "../model.mjs";
-import { entriesOf, lastUpTo, recordIn } from "./entries.mjs";
+import { entriesOf, lastUpTo, recordIn, sinceOf } from "./entries.mjs";
 import { silenceEntries } from "./stretches.mjs";
 
 /** @typedef {import("./entries.mjs").Book} Book */
@@ -14,7 +14,7 @@ function shownAt(book, name, number) {
   const entry = lastUpTo(entriesOf(book, "board " + name), number);
   if (!entry) return null;
   const [boot, sequence] = entry.words[2].split(".").map(Number);
-  return { state: entry.words[3], boot, sequence, at: entry.at };
+  return { state: entry.words[3], boot, sequence, at: sinceOf(entry) };
 }
 
 /** Returns when each station was last heard that was silent, by its name. It is said to be silent once it has been so
@@ -35,7 +35,7 @@ export function pictureAt(book, { number, at }) {
   const silent = silentAt(book, number);
   const rows = [...domains.values()].map((d) => {
     const entry = lastUpTo(entriesOf(book, "record " + d.name), number);
-    const told = entry ? { ...recordIn(entry), since: entry.at, heard: silent.get(d.station) ?? at } : null;
+    const told = entry ? { ...recordIn(entry), since: sinceOf(entry), heard: silent.get(d.station) ?? at } : null;
     return { name: d.name, shown: shownAt(book, d.name, number), told };
   });
   return { frame: -1, now: at, domains: rows,

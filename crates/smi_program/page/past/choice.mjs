@@ -3,7 +3,7 @@
 import { keep, kept } from "../dom.mjs";
 import { HOUR, devices, domains } from "../model.mjs";
 import { isWhole, pastBook } from "./history.mjs";
-import { countFront, entriesOf, isAbout } from "./entries.mjs";
+import { countFront, entriesOf, isAbout, isNews } from "./entries.mjs";
 import { within } from "./stretches.mjs";
 
 /** @typedef {import("./entries.mjs").Entry} Entry */
@@ -55,10 +55,10 @@ export function wantedNames() {
   return new Set(d ? namesBelow(d) : [subject]);
 }
 
-/** Returns the entries of the time and the subject, the oldest first. */
+/** Returns the news of the time and the subject, the oldest first. */
 export function shownEntries() {
-  const list = within(pastBook.list, shownSpan()), names = wantedNames();
-  return names === null ? list : list.filter((it) => isAbout(pastBook, it, names));
+  const names = wantedNames();
+  return within(pastBook.list, shownSpan()).filter((it) => isNews(pastBook, it) && isAbout(pastBook, it, names));
 }
 
 /** Returns the objects that have a row: the subject, what is directly below it, and its own devices. An operator has

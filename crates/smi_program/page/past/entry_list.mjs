@@ -59,8 +59,11 @@ export function markEntry() {
   const number = shownPlace && shownPlace.number, list = by("past-list");
   if (wasMarked && number === null) list.scrollTop = 0;
   wasMarked = number !== null;
-  list.querySelectorAll("button").forEach((/** @type {any} */ b) => {
-    const isHere = number !== null && Number(b.dataset.key) === number;
+  const buttons = [...list.querySelectorAll("button")];
+  // what the screen notes at midnight is not listed
+  const here = number === null ? undefined : buttons.find((b) => Number(b.dataset.key) <= number);
+  buttons.forEach((b) => {
+    const isHere = b === here;
     flag(b, "here", isHere);
     if (!isHere) return;
     const off = b.getBoundingClientRect().top - list.getBoundingClientRect().top;

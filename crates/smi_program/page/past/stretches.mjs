@@ -1,7 +1,7 @@
 // Stretches of time in which something was the same, and what happened at one moment. All times are UTC in ms.
 
 import { domains, kindOf } from "../model.mjs";
-import { beforeIt, countFront, entriesOf, newsOf } from "./entries.mjs";
+import { beforeIt, countFront, entriesOf, isNews, newsOf } from "./entries.mjs";
 import { holderWords, sayEntry } from "./saying.mjs";
 
 /** @typedef {import("./entries.mjs").Entry} Entry */
@@ -90,12 +90,13 @@ export function marksOf(book, name, span) {
   const runs = [], marks = [];
   const add = (/** @type {string} */ kind, /** @type {Entry} */ it) =>
     (kind === "run" ? runs : marks).push({ kind, at: it.at, words: sayEntry(book, it) });
-  within(entriesOf(book, "record " + name), span).forEach((it) => {
+  const newsIn = (/** @type {string} */ key) => within(entriesOf(book, key), span).filter((it) => isNews(book, it));
+  newsIn("record " + name).forEach((it) => {
     const before = beforeIt(book, it), news = newsOf(it, before);
     if (before && news.hasHolder) add("grant", it);
     if (before && news.hasCommand && !news.busy) add(news.outcome ? "fault" : "run", it);
   });
-  within(entriesOf(book, "board " + name), span).forEach((it) => {
+  newsIn("board " + name).forEach((it) => {
     const before = beforeIt(book, it), wasHot = !!before && kindOf(before.words[3]) === "alarm";
     if (kindOf(it.words[3]) === "alarm" && !wasHot) add("trip", it);
   });
