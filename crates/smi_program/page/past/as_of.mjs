@@ -6,7 +6,9 @@ import { silenceEntries } from "./stretches.mjs";
 
 /** @typedef {import("./entries.mjs").Book} Book */
 /** @typedef {import("../model.mjs").Picture} Picture */
-/** @typedef {{number: number, at: number}} Place A time of the past, and the number of the last entry up to then. */
+/** @typedef {{number: number, at: number, isOfTime?: boolean}} Place
+ * A time of the past, and the number of the last entry up to then. `isOfTime` is true if the time was chosen, and not
+ * an entry. */
 
 /** Returns the state in which an object was shown, or null if it was not seen yet.
  * @param {Book} book @param {string} name @param {number} number */

@@ -3,7 +3,8 @@
 /** @typedef {{number: number, at: number, text: string, words: string[], since?: number}} Entry
  * What was seen, and when (UTC, ms). With `since` the screen notes at the first look of a day what is so already, and
  * since when: its words are those of the entry that told it. */
-/** @typedef {{count: number, saved: number, after: number, upto: number}} Head The first line of an answer. */
+/** @typedef {{count: number, saved: number, after: number, upto: number, oldest?: number}} Head
+ * The first line of an answer. An older screen tells no `oldest`: the time of the oldest entry, 0 if there is none. */
 /** @typedef {{list: Entry[], of: Map<string, Entry[]>}} Book All entries by their numbers, and those of each key. */
 /** @typedef {import("../model.mjs").Holder} Holder */
 
