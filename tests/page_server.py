@@ -57,8 +57,8 @@ class MadeUp:
         self.shown, self.acknowledged = "Bearer " + token if token else key, []
         self.orders, self.has_console, self.frame, self.begun = [], True, 0, time.monotonic()
         self.modes = []
-        # the history: a time (UTC, ms) and a text each, up to which number it is saved, whether there is one at all, and
-        # whether the screen is so old that it tells no oldest entry and has no other beginning by a time
+        # the history: a time (UTC, ms) and a text each, up to which number it is saved, whether there is one at all,
+        # and whether the screen is so old that it tells no oldest entry and does not begin by a time
         self.past, self.saved, self.keeps_history, self.is_old = [], 0, True, False
         # what the history was asked, and what waits before such a question is answered
         self.asked, self.wait = [], lambda query: None

@@ -917,18 +917,23 @@ function thinned(list, least) {
 }
 const within = (list, { from, to }) =>
   list.slice(countFront(list, (it) => it.at < from), countFront(list, (it) => it.at <= to));
+function eachNews(book, key, { from, to }, take) {
+  const list = entriesOf(book, key), end = countFront(list, (it) => it.at <= to);
+  for (let place = countFront(list, (it) => it.at < from); place < end; place += 1) {
+    if (isNews(book, list[place])) take(list[place], list[place - 1]);
+  }
+}
 function marksOf(book, name, span) {
   const runs = [], marks = [];
   const add = (kind, it) =>
-    (kind === \"run\" ? runs : marks).push({ kind, at: it.at, words: sayEntry(book, it) });
-  const newsIn = (key) => within(entriesOf(book, key), span).filter((it) => isNews(book, it));
-  newsIn(\"record \" + name).forEach((it) => {
-    const before = beforeIt(book, it), news = newsOf(it, before);
+    (kind === \"run\" ? runs : marks).push({ kind, at: it.at, entry: it });
+  eachNews(book, \"record \" + name, span, (it, before) => {
+    const news = newsOf(it, before);
     if (before && news.hasHolder) add(\"grant\", it);
     if (before && news.hasCommand && !news.busy) add(news.outcome ? \"fault\" : \"run\", it);
   });
-  newsIn(\"board \" + name).forEach((it) => {
-    const before = beforeIt(book, it), wasHot = !!before && kindOf(before.words[3]) === \"alarm\";
+  eachNews(book, \"board \" + name, span, (it, before) => {
+    const wasHot = !!before && kindOf(before.words[3]) === \"alarm\";
     if (kindOf(it.words[3]) === \"alarm\" && !wasHot) add(\"trip\", it);
   });
   within(entriesOf(book, \"given\"), span).forEach((it) => { if (it.words.slice(3).includes(name)) add(\"order\", it); });
@@ -1777,7 +1782,7 @@ const timeWords = (it) => \" from \" + timeWithin(it.from) + \" to \" + timeWith
 const stateWords = (it) => (it.value || \"not seen\") + (it.count > 1 ? \" and \" + (it.count - 1) + \" more\" : \"\") +
   timeWords(it);
 const markWords = (it, span) => (chosenEnd === null && span.to - span.from <= MOST_UNDATED ? dayTime(it.at) :
-  timeWithin(it.at)) + \" \" + it.words;
+  timeWithin(it.at)) + \" \" + sayEntry(pastBook, it.entry);
 function spaced(marks, least) {
   const lastAt = new Map();
   return marks.filter((it) => {
@@ -1869,10 +1874,10 @@ by(\"past-until-now\").addEventListener(\"click\", () => {
   readEnd();
 });
 sayEnd();
-const STEPS_SHOWN = 1000, REDRAWN = 10000, COMING = 1000;
+const STEPS_SHOWN = 1000, REDRAWN = 10000, COMING = 1000, PART_DRAWN = 5;
 const MOST_UNSAVED = 1000, LATE_SAVED = 60000;
 let drawnBook = null;
-let drawnAt = 0, unsavedSince = 0;
+let drawnAt = 0, drawnFor = 0, unsavedSince = 0;
 const isOpen = () => !by(\"past\").hidden;
 function drawPast() {
   drawnBook = pastBook;
@@ -1882,6 +1887,7 @@ function drawPast() {
   writeSummary();
   showPlace();
   if (by(\"past-of\") !== document.activeElement) by(\"past-of\").value = subject;
+  drawnFor = performance.now() - drawnAt;
 }
 function showPlace() {
   const span = shownSpan(), slider = by(\"past-slider\"), at = shownPlace ? shownPlace.at : span.to;
@@ -1918,7 +1924,8 @@ function showAnswer() {
   wantChosen();
   sayState();
   const passed = performance.now() - drawnAt, isFirst = !drawnBook || !drawnBook.list.length;
-  if (drawnBook === pastBook ? passed > REDRAWN : isFirst || isWhole || passed > COMING) drawPast();
+  const pause = Math.max(isWhole ? 0 : COMING, PART_DRAWN * drawnFor);
+  if (drawnBook === pastBook ? passed > REDRAWN : isFirst || passed > pause) drawPast();
 }
 function openPast(name = \"\") {
   chooseSubject(name);

@@ -14,14 +14,14 @@ import { dayMinute, dayTime } from "./times.mjs";
 import { afterEnd, sayEnd } from "./until.mjs";
 
 // Into how many parts the slider divides the time, how often all is drawn again though nothing has come, and how often
-// at most while earlier entries come.
-const STEPS_SHOWN = 1000, REDRAWN = 10000, COMING = 1000;
+// at most while earlier entries come. Drawing takes at most a part of the time, because a week has very many entries.
+const STEPS_SHOWN = 1000, REDRAWN = 10000, COMING = 1000, PART_DRAWN = 5;
 // How many entries may be not saved yet, and for how long more of them may be.
 const MOST_UNSAVED = 1000, LATE_SAVED = 60000;
-// What was drawn last, and when; and since when too many entries are not saved.
+// What was drawn last, when, and for how long; and since when too many entries are not saved.
 /** @type {any} */
 let drawnBook = null;
-let drawnAt = 0, unsavedSince = 0;
+let drawnAt = 0, drawnFor = 0, unsavedSince = 0;
 
 const isOpen = () => !by("past").hidden;
 
@@ -34,6 +34,7 @@ export function drawPast() {
   writeSummary();
   showPlace();
   if (by("past-of") !== document.activeElement) by("past-of").value = subject;
+  drawnFor = performance.now() - drawnAt;
 }
 
 /** Shows at which time the page is. */
@@ -82,7 +83,8 @@ function showAnswer() {
   wantChosen();
   sayState();
   const passed = performance.now() - drawnAt, isFirst = !drawnBook || !drawnBook.list.length;
-  if (drawnBook === pastBook ? passed > REDRAWN : isFirst || isWhole || passed > COMING) drawPast();
+  const pause = Math.max(isWhole ? 0 : COMING, PART_DRAWN * drawnFor);
+  if (drawnBook === pastBook ? passed > REDRAWN : isFirst || passed > pause) drawPast();
 }
 
 /** Opens the past, of an object or of all.

@@ -1,15 +1,15 @@
 // Stretches of time in which something was the same, and what happened at one moment. All times are UTC in ms.
 
 import { domains, kindOf } from "../model.mjs";
-import { beforeIt, countFront, entriesOf, isNews, newsOf } from "./entries.mjs";
-import { holderWords, sayEntry } from "./saying.mjs";
+import { countFront, entriesOf, isNews, newsOf } from "./entries.mjs";
+import { holderWords } from "./saying.mjs";
 
 /** @typedef {import("./entries.mjs").Entry} Entry */
 /** @typedef {import("./entries.mjs").Book} Book */
 /** @typedef {{value: string, from: number, to: number, count: number}} Stretch
  * `value` is "" before the first entry, and `count` of how many stretches it is made. */
 /** @typedef {{from: number, to: number}} Span */
-/** @typedef {{kind: string, at: number, words: string}} Mark `kind` is run, grant, fault, trip or order. */
+/** @typedef {{kind: string, at: number, entry: Entry}} Mark `kind` is run, grant, fault, trip or order. */
 
 /** Returns the stretches of a value within a span.
  * @param {Entry[]} list @param {(it: Entry) => string} valueOf @param {Span} span @returns {Stretch[]} */
@@ -82,6 +82,15 @@ export function thinned(list, least) {
 export const within = (list, { from, to }) =>
   list.slice(countFront(list, (it) => it.at < from), countFront(list, (it) => it.at <= to));
 
+/** Takes the news of a key within a span, each with the entry before it.
+ * @param {Book} book @param {string} key @param {Span} span @param {(it: Entry, before?: Entry) => void} take */
+function eachNews(book, key, { from, to }, take) {
+  const list = entriesOf(book, key), end = countFront(list, (it) => it.at <= to);
+  for (let place = countFront(list, (it) => it.at < from); place < end; place += 1) {
+    if (isNews(book, list[place])) take(list[place], list[place - 1]);
+  }
+}
+
 /** Returns what happened to an object: commands that ended, another holder, an alarm, and orders of this screen.
  * Commands that ended with 0 are the first, so that anything else is drawn over them and outlasts them.
  * @param {Book} book @param {string} name @param {Span} span @returns {Mark[]} */
@@ -89,15 +98,14 @@ export function marksOf(book, name, span) {
   /** @type {Mark[]} */
   const runs = [], marks = [];
   const add = (/** @type {string} */ kind, /** @type {Entry} */ it) =>
-    (kind === "run" ? runs : marks).push({ kind, at: it.at, words: sayEntry(book, it) });
-  const newsIn = (/** @type {string} */ key) => within(entriesOf(book, key), span).filter((it) => isNews(book, it));
-  newsIn("record " + name).forEach((it) => {
-    const before = beforeIt(book, it), news = newsOf(it, before);
+    (kind === "run" ? runs : marks).push({ kind, at: it.at, entry: it });
+  eachNews(book, "record " + name, span, (it, before) => {
+    const news = newsOf(it, before);
     if (before && news.hasHolder) add("grant", it);
     if (before && news.hasCommand && !news.busy) add(news.outcome ? "fault" : "run", it);
   });
-  newsIn("board " + name).forEach((it) => {
-    const before = beforeIt(book, it), wasHot = !!before && kindOf(before.words[3]) === "alarm";
+  eachNews(book, "board " + name, span, (it, before) => {
+    const wasHot = !!before && kindOf(before.words[3]) === "alarm";
     if (kindOf(it.words[3]) === "alarm" && !wasHot) add("trip", it);
   });
   within(entriesOf(book, "given"), span).forEach((it) => { if (it.words.slice(3).includes(name)) add("order", it); });

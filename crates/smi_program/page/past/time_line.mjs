@@ -7,6 +7,7 @@ import { chooseSubject, chosenEnd, knownSpan, placeOf, rowNames, shownSpan, subj
 import { pastBook } from "./history.mjs";
 import { lookAt, shownPlace } from "./looking.mjs";
 import { refill } from "./refilling.mjs";
+import { sayEntry } from "./saying.mjs";
 import { marksOf, silentTimes, statesOf, thinned } from "./stretches.mjs";
 import { axisOf, dayTime } from "./times.mjs";
 
@@ -39,7 +40,7 @@ const stateWords = (it) => (it.value || "not seen") + (it.count > 1 ? " and " + 
   timeWords(it);
 /** @param {Mark} it @param {Span} span */
 const markWords = (it, span) => (chosenEnd === null && span.to - span.from <= MOST_UNDATED ? dayTime(it.at) :
-  timeWithin(it.at)) + " " + it.words;
+  timeWithin(it.at)) + " " + sayEntry(pastBook, it.entry);
 
 /** Leaves out marks that nobody could see apart from another one of their kind.
  * @param {Mark[]} marks @param {number} least */
