@@ -468,12 +468,13 @@ def test_until(night, subtests, monkeypatch):
         assert asked == [OLD_FROM + "&" + OLD_TO, "after=3&" + OLD_TO, "after=5&" + OLD_TO]
     with subtests.test("what is said of it"):
         assert [night.text(it) for it in ("past-old", "past-said", "past-shown")] == [
-            "the 8 hours until 2026-11-20 06:00, not until now", "", "now"]
+            "the 8 hours until 2026-11-20 06:00, not until now", "", "the page shows now"]
         assert browser.run("[document.querySelector('#time-line ol').getAttribute('aria-label'),"
                            " by('past-until-now').getAttribute('aria-pressed')]") == [
                                "time line of all until 2026-11-20 06:00:00", "false"]
     with subtests.test("the entries of these hours, with their days, and none beyond the end"):
         assert browser.run(LISTED) == OLD_WORDS
+        assert browser.run("pastBook.list.map((it) => it.number)") == [2, 3, 4, 5, 6]
     with subtests.test("the bands of these hours"):
         assert browser.run(BANDS % "TRK") == [
             ["band", "OFF", "0%", "12.5%", "OFF from 2026-11-19 22:00:00 to 2026-11-19 23:00:00"],
@@ -540,6 +541,9 @@ def test_until_longer(night, subtests):
     with subtests.test("an hour of it is there"):
         assert [browser.run(LISTED), night.text("past-old"), screen.asked] == [
             week[:1], "the hour until 2026-11-25 06:00, not until now", []]
+    night.types("past-span", "168")
+    with subtests.test("and seven days still are"):
+        assert [browser.run(LISTED), browser.run("isWhole"), screen.asked] == [week, True, []]
 
 
 def test_kept_later(night, subtests):

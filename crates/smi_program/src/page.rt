@@ -1893,7 +1893,7 @@ function showPlace() {
   const span = shownSpan(), slider = by(\"past-slider\"), at = shownPlace ? shownPlace.at : span.to;
   const share = Math.round(STEPS_SHOWN * (at - span.from) / (span.to - span.from));
   slider.value = String(shownPlace ? Math.max(0, Math.min(STEPS_SHOWN - 1, share)) : STEPS_SHOWN);
-  const words = shownPlace ? \"as of \" + timeWithin(at) : \"now\";
+  const words = shownPlace ? \"as of \" + timeWithin(at) : chosenEnd === null ? \"now\" : \"the page shows now\";
   mark(slider, \"aria-valuetext\", words);
   set(by(\"past-shown\"), words);
   showCursor();
