@@ -917,10 +917,10 @@ function thinned(list, least) {
 }
 const within = (list, { from, to }) =>
   list.slice(countFront(list, (it) => it.at < from), countFront(list, (it) => it.at <= to));
-function eachNews(book, key, { from, to }, take) {
+function eachNews(book, key, { from, to }, each) {
   const list = entriesOf(book, key), end = countFront(list, (it) => it.at <= to);
   for (let place = countFront(list, (it) => it.at < from); place < end; place += 1) {
-    if (isNews(book, list[place])) take(list[place], list[place - 1]);
+    if (isNews(book, list[place])) each(list[place], list[place - 1]);
   }
 }
 function marksOf(book, name, span) {

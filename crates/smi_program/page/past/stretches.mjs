@@ -82,12 +82,12 @@ export function thinned(list, least) {
 export const within = (list, { from, to }) =>
   list.slice(countFront(list, (it) => it.at < from), countFront(list, (it) => it.at <= to));
 
-/** Takes the news of a key within a span, each with the entry before it.
- * @param {Book} book @param {string} key @param {Span} span @param {(it: Entry, before?: Entry) => void} take */
-function eachNews(book, key, { from, to }, take) {
+/** Hands over the news of a key within a span, each with the entry before it.
+ * @param {Book} book @param {string} key @param {Span} span @param {(it: Entry, before?: Entry) => void} each */
+function eachNews(book, key, { from, to }, each) {
   const list = entriesOf(book, key), end = countFront(list, (it) => it.at <= to);
   for (let place = countFront(list, (it) => it.at < from); place < end; place += 1) {
-    if (isNews(book, list[place])) take(list[place], list[place - 1]);
+    if (isNews(book, list[place])) each(list[place], list[place - 1]);
   }
 }
 
