@@ -24,7 +24,7 @@ import page
 
 KEY, DETECTOR = "Bearer " + "0" * 32, running.example("detector.tree")
 # How many entries of the history an answer looks at, and how many are kept.
-LOOKED_AT, KEPT = 10_000, 131_072
+LOOKED_AT, KEPT = 10_000, 1_048_576
 
 
 def whole(key=None, style=""):
@@ -57,8 +57,11 @@ class MadeUp:
         self.shown, self.acknowledged = "Bearer " + token if token else key, []
         self.orders, self.has_console, self.frame, self.begun = [], True, 0, time.monotonic()
         self.modes = []
-        # the history: a time (UTC, ms) and a text each, up to which number it is saved, and whether there is one at all
-        self.past, self.saved, self.keeps_history = [], 0, True
+        # the history: a time (UTC, ms) and a text each, up to which number it is saved, whether there is one at all,
+        # and whether the screen is so old that it tells no oldest entry and does not begin by a time
+        self.past, self.saved, self.keeps_history, self.is_old = [], 0, True, False
+        # what the history was asked, and what waits before such a question is answered
+        self.asked, self.wait = [], lambda query: None
         self.is_heard = lambda station: True
         self.lock = threading.Lock()
 
@@ -129,9 +132,14 @@ class MadeUp:
         with self.lock:
             entries = list(self.past)
         first = max(0, len(entries) - KEPT)
-        after = max(first, int(asked.get("after", len(entries) - LOOKED_AT)))
+        begin, end = 1000 * int(asked.get("from", 0)), 1000 * int(asked.get("to", 1 << 40)) + 999
+        start = len(entries) - LOOKED_AT
+        if "from" in asked and not self.is_old:
+            start = next((place for place in range(first, len(entries)) if entries[place][0] >= begin), len(entries))
+        after = max(first, int(asked.get("after", start)))
         head = {"count": len(entries), "saved": self.saved, "after": after, "upto": after + LOOKED_AT}
-        begin, end = 1000 * int(asked.get("from", 0)), 1000 * int(asked.get("to", 1 << 40))
+        if not self.is_old:
+            head["oldest"] = entries[first][0] if entries else 0
         lines = [json.dumps({"number": after + place, "at": at, "text": text})
                  for place, (at, text) in enumerate(entries[after:after + LOOKED_AT], 1)
                  if begin <= at <= end and asked.get("object", text) in [text, *text.split()]]
@@ -151,6 +159,8 @@ class MadeUp:
         if target == "/":
             return 200, whole(self.key, self.style)
         if target.startswith("/api/history") and self.keeps_history:
+            self.asked.append(target.partition("?")[2])
+            self.wait(self.asked[-1])
             text = self.history(dict(urllib.parse.parse_qsl(target.partition("?")[2])))
             return (400, "there is no such query") if text is None else (200, text)
         made = {"/api/tree": lambda: self.tree, "/api/picture": self.picture, "/api/orders": self.told_orders}

@@ -8,6 +8,7 @@ import calendar
 import json
 import os
 import shutil
+import threading
 import time
 
 import pytest
@@ -62,6 +63,16 @@ def shift(names):
             ("05:00", "board PIXEL_HV7 1.4 ERROR"), ("05:00:30", "board PIXEL_HV7 1.5 READY")]:
         told.append((at(clock), text))
     return told
+
+
+def midnight(names):
+    """Returns what a screen notes at the first look of a day: each state and record, and a station that is silent."""
+    begun = {"TRK": ("23:30", "1.2 RUNNING"), "PIXEL_HV7": ("20:15", "1.9 ERROR")}
+    told = ["since %d board %s %s" % (at(since), name, state) for name, (since, state) in (
+        (name, begun.get(name, ("21:00", "1.1 READY"))) for name in names)]
+    told += ["since %d record TRK operator TRK_EXPERT 2 7 settled 6" % at("20:30"),
+             "since %d record MUO operator SHIFT_LEADER 1 3 settled 0" % at("20:40"), "silent MUO"]
+    return [(at("00:00"), text) for text in told]
 
 
 WORDS = """05:00:30 PIXEL_HV7 is READY
@@ -133,6 +144,7 @@ class Night:
     def begin(self):
         """Has all be as after the shift, and nothing chosen."""
         self.screen.past, self.screen.saved, self.screen.keeps_history = shift(self.names), 0, True
+        self.screen.is_old, self.screen.wait = False, lambda query: None
         self.screen.show(dict.fromkeys(self.names, "READY"), 60)
         self.browser.run("localStorage.clear()")
         self.browser.errors.clear()
@@ -149,6 +161,13 @@ class Night:
     def open(self):
         self.click("past-open")
         assert self.browser.waits_for("isWhole && document.querySelectorAll('#past-list li').length", 10) is not None
+
+    def until(self, end):
+        """Chooses an end, and waits until what was then is there."""
+        self.screen.asked.clear()
+        self.types("past-until", end)
+        said = "until %s, not until now" % end.replace("T", " ")
+        assert self.browser.waits_for("isWhole && by('past-old').textContent.includes('%s')" % said, 10) is not None
 
     def text(self, name):
         return self.browser.run("document.getElementById('%s').textContent" % name)
@@ -204,8 +223,8 @@ def test_entries(night, subtests):
     night.types("past-span", "1")
     with subtests.test("the last hour"):
         assert night.browser.run(LISTED) == WORDS[:2]
-    night.types("past-span", "0")
-    with subtests.test("all that is kept"):
+    night.types("past-span", "168")
+    with subtests.test("seven days"):
         assert len(night.browser.run(LISTED)) == min(500, len(night.screen.past))
     with subtests.test("no faults"):
         assert night.browser.errors == []
@@ -224,6 +243,7 @@ def test_line(night, subtests):
             ["band", "ERROR", "6.25%", "1.25%", "ERROR from 2026-11-29 22:30:00 to 2026-11-29 22:36:00"],
             ["band", "READY", "7.5%", "55%", "READY from 2026-11-29 22:36:00 to 03:00:00"],
             ["band", "RUNNING", "62.5%", "37.5%", "RUNNING from 03:00:00 to 06:00:00"],
+            ["run", "", "62.5%", "", "03:00:00 command 1 of TRK ended with 0"],
             ["fault", "", "14.792%", "", "23:11:00 command 4 of TRK ended with 6"],
             ["grant", "", "50%", "", "02:00:00 TRK is free"],
             ["grant", "", "51.042%", "", "02:05:00 TRK held by TRK_EXPERT"],
@@ -250,6 +270,42 @@ def test_line(night, subtests):
     with subtests.test("an operator"):
         assert [night.browser.run(names), night.browser.run(LISTED)] == [
             ["up to all", "TRK"], [WORDS[6], WORDS[7], WORDS[9], WORDS[10]]]
+
+
+def test_runs(night, subtests):
+    """A command that ended with 0 has a mark of its own shape, which hides no other one."""
+    night.screen.past = [(at("22:00"), "board TRK 1.1 READY"),
+                         (at("22:00"), "record TRK operator TRK_EXPERT 2 1 settled 0"),
+                         *((at("23:00") + 10 * it, "record TRK operator TRK_EXPERT 2 %d %s" % (2 + it // 2, how))
+                           for it, how in enumerate(["busy 0", "settled 0"] * 40)),
+                         (at("23:00:01"), "record TRK operator TRK_EXPERT 2 42 busy 0"),
+                         (at("23:00:02"), "record TRK operator TRK_EXPERT 2 42 settled 6"),
+                         (at("04:00"), "record TRK operator TRK_EXPERT 2 43 busy 0"),
+                         (at("04:30"), "record TRK operator TRK_EXPERT 2 43 settled 0")]
+    night.open()
+    marks = [it for it in night.browser.run(BANDS % "TRK") if it[0] not in ("band", "hush")]
+    with subtests.test("forty runs of a second are one mark, before the fault; what is at work has none"):
+        assert marks == [["run", "", "12.5%", "", "23:00:00 command 2 of TRK ended with 0"],
+                         ["run", "", "81.25%", "", "04:30:00 command 43 of TRK ended with 0"],
+                         ["fault", "", "12.507%", "", "23:00:02 command 42 of TRK ended with 6"]]
+    shapes = """[...document.querySelectorAll("#past-signs .mark")].map((e) => [e.className.split(" ").pop(),
+      getComputedStyle(e, "::before").content, e.nextSibling.textContent.replace(/\\s+/g, " ").trim()])"""
+    legend = [["grant", '"\u25c6"', "another holder"], ["run", '"\u2713"', "a command that ended with 0"],
+              ["fault", '"\u2715"', "one that did not"], ["trip", '"!"', "an alarm begins"],
+              ["order", '"\u25b8"', "an order of this screen. Hatched: the station is silent. A name: what is below it."]]
+    with subtests.test("five shapes, each named"):
+        assert night.browser.run(shapes) == legend
+    weights = """["run", "fault"].map((kind) => {
+      const is = getComputedStyle(document.querySelector(".track .mark." + kind));
+      return [is.fontWeight, is.fontSize]; })"""
+    with subtests.test("a run is lighter than a fault"):
+        assert night.browser.run(weights) == [["400", "11.2px"], ["900", "12.8px"]]
+    night.browser.forced_colors(True)
+    inks = night.browser.run("""[...document.querySelectorAll(".track .mark")].map((e) => {
+      const is = getComputedStyle(e); return [is.color, is.textShadow === "none"]; })""")
+    night.browser.forced_colors(False)
+    with subtests.test("on the colour of a state they keep their edge if the system chooses colours"):
+        assert inks == [["rgb(0, 0, 0)", False]] * 3
 
 
 def test_as_of(night, subtests):
@@ -301,6 +357,306 @@ def test_as_of(night, subtests):
         assert browser.errors == []
 
 
+def test_since(night, subtests):
+    """What the screen notes at midnight says what was so then, and is news nowhere."""
+    browser = night.browser
+    night.screen.past = [(at("22:00"), "board CAL 1.1 READY"), (at("23:30"), "board TRK 1.2 RUNNING"),
+                         (at("23:50"), "silent MUO"), *midnight(night.names), (at("00:20"), "heard MUO"),
+                         (at("01:00"), "board TRK 1.3 READY")]
+    night.open()
+    listed = ["01:00:00 TRK is READY", "00:20:00 station of MUO is heard again",
+              "2026-11-29 23:50:00 station of MUO is silent", "2026-11-29 23:30:00 TRK is RUNNING",
+              "2026-11-29 22:00:00 CAL is READY"]
+    with subtests.test("not in the list"):
+        assert [browser.run(LISTED), night.text("past-more")] == [listed, ""]
+    night.types("past-search", "is")
+    with subtests.test("not found"):
+        assert browser.run(LISTED) == listed
+    night.types("past-search", "")
+    with subtests.test("no mark, and the states go on"):
+        assert browser.run(BANDS % "TRK") == [
+            ["unseen", "", "0%", "18.75%", "not seen from 2026-11-29 22:00:00 to 2026-11-29 23:30:00"],
+            ["band", "RUNNING", "18.75%", "18.75%", "RUNNING from 2026-11-29 23:30:00 to 01:00:00"],
+            ["band", "READY", "37.5%", "62.5%", "READY from 01:00:00 to 06:00:00"]]
+    with subtests.test("one silence, and a state that begins with what was noted"):
+        assert browser.run(BANDS % "MUO") == [
+            ["unseen", "", "0%", "25%", "not seen from 2026-11-29 22:00:00 to 00:00:00"],
+            ["band", "READY", "25%", "75%", "READY from 00:00:00 to 06:00:00"],
+            ["hush", "", "22.917%", "6.25%", "station MUON silent from 2026-11-29 23:50:00 to 00:20:00"]]
+    browser.run("by('summary').open = true")
+    lines = ["MUON  2026-11-29 23:50:00 to 00:20:00  0:30:00"]
+    with subtests.test("no command that failed, and one silence"):
+        text = at_last(lambda: night.text("summary-text"), "")
+        assert text.split("code other than 0\n")[1].split("\n")[0] == "  none"
+        assert [it.strip() for it in text.split("Silent stations\n")[1].splitlines()] == lines
+    seen = []
+    for button in ("past-before",) * 5 + ("past-after",) * 3:
+        night.click(button)
+        seen.append(night.text("past-shown"))
+    before = ["as of 01:00:00", "as of 00:20:00", "as of 2026-11-29 23:50:00", "as of 2026-11-29 23:30:00",
+              "as of 2026-11-29 22:00:00"]
+    with subtests.test("no step"):
+        assert seen == before + before[3:0:-1]
+    browser.run("lookAt(placeOf(%d))" % (at("00:00") + 1000))
+    with subtests.test("a second after midnight"):
+        assert [night.state(it) for it in ("TRK", "MUO", "CAL")] == ["RUNNING", "READY", "READY"]
+    with subtests.test("the entry before it is marked in the list"):
+        assert browser.run("[...document.querySelectorAll('#past-list .here')].map((e) => e.textContent)") == [listed[2]]
+    with subtests.test("an alarm since before midnight"):
+        assert browser.run("[...document.querySelectorAll('#alarms [data-key=\"device PIXEL_HV7\"] > *')]"
+                           ".map((e) => e.textContent)")[:2] == ["20:15:00", "PIXEL_HV7 ERROR"]
+    with subtests.test("silent for a quarter of an hour, not for a second"):
+        # the first notice came once the station had been silent for as long as it may be
+        assert browser.run("domains.get('MUO').silence - limit()") == 10 * MINUTE + 1001
+    browser.run("document.querySelector('#main [data-domain=TRK]').click()")
+    with subtests.test("seen for as long as it was so"):
+        details = browser.run("document.getElementById('more').textContent")
+        assert "RUNNING (1.2, seen for 30 min)" in details and "TRK_EXPERT" in details
+    with subtests.test("the record is as old as it was"):
+        assert browser.run("domains.get('TRK').told.since") == at("20:30")
+    browser.run("document.getElementById('more').close()")
+    night.screen.past = midnight(night.names)
+    night.load()
+    night.open()
+    with subtests.test("a book that begins so has a silence that nobody knew of, and nothing else"):
+        assert browser.run(LISTED) == ["00:00:00 station of MUO is silent"]
+    with subtests.test("all of it was so"):
+        assert browser.run(BANDS % "TRK") == [["band", "RUNNING", "0%", "100%", "RUNNING from 00:00:00 to 06:00:00"]]
+    night.types("past-of", "PIXEL_HV")
+    with subtests.test("an alarm that is known already does not begin"):
+        assert browser.run(BANDS % "PIXEL_HV7") == [
+            ["band", "ERROR", "0%", "100%", "ERROR from 00:00:00 to 06:00:00"]]
+    with subtests.test("no faults"):
+        assert browser.errors == []
+
+
+def day(text):
+    """Returns a time of a day, as 2026-11-20 06:00."""
+    return 1000 * calendar.timegm(time.strptime(text, "%Y-%m-%d %H:%M"))
+
+
+def ten_days(names):
+    """Returns the history of some days before the shift, and of the shift."""
+    return [(day("2026-11-18 12:00"), "board TRK 1.1 OFF"),
+            (day("2026-11-19 00:00"), "since %d board TRK 1.1 OFF" % day("2026-11-18 12:00")),
+            (day("2026-11-19 00:00"), "since %d board CAL 1.1 READY" % day("2026-11-18 11:00")),
+            (day("2026-11-19 23:00"), "board TRK 1.2 READY"),
+            (day("2026-11-20 00:00"), "since %d board TRK 1.2 READY" % day("2026-11-19 23:00")),
+            (day("2026-11-20 05:00"), "board TRK 1.3 ERROR"),
+            # in the second of the end, but after it, and later
+            (day("2026-11-20 06:00") + 500, "board TRK 1.4 READY"), (day("2026-11-20 06:01"), "board TRK 1.5 OFF"),
+            (day("2026-11-25 05:30"), "board TRK 1.6 STANDBY"), *shift(names)]
+
+
+# What is listed of the eight hours until six o'clock of 20 November.
+OLD_WORDS = ["2026-11-20 05:00:00 TRK is ERROR", "2026-11-19 23:00:00 TRK is READY"]
+# How these eight hours are asked for: from the midnight before ten in the evening, and until six.
+OLD_FROM, OLD_TO = "from=1795046400", "to=1795154400"
+
+
+def test_until(night, subtests, monkeypatch):
+    """The past until an earlier end is loaded by itself, is never said to be now, and stays until now is chosen."""
+    browser, screen = night.browser, night.screen
+    screen.past = ten_days(night.names)
+    night.open()
+    with subtests.test("at first the end is now"):
+        assert [browser.run("by('past-until-now').getAttribute('aria-pressed')"), night.text("past-old")] == ["true", ""]
+    monkeypatch.setattr(page_server, "LOOKED_AT", 2)
+    night.until("2026-11-20T06:00")
+    asked = [it for it in screen.asked if OLD_FROM in it or OLD_TO in it]
+    with subtests.test("what is asked: from a midnight, then after what was looked at, until there is more than the end"):
+        assert asked == [OLD_FROM + "&" + OLD_TO, "after=3&" + OLD_TO, "after=5&" + OLD_TO]
+    with subtests.test("what is said of it"):
+        assert [night.text(it) for it in ("past-old", "past-said", "past-shown")] == [
+            "the 8 hours until 2026-11-20 06:00, not until now", "", "the page shows now"]
+        assert browser.run("[document.querySelector('#time-line ol').getAttribute('aria-label'),"
+                           " by('past-until-now').getAttribute('aria-pressed')]") == [
+                               "time line of all until 2026-11-20 06:00:00", "false"]
+    with subtests.test("the entries of these hours, with their days, and none beyond the end"):
+        assert browser.run(LISTED) == OLD_WORDS
+        assert browser.run("pastBook.list.map((it) => it.number)") == [2, 3, 4, 5, 6]
+    with subtests.test("the bands of these hours"):
+        assert browser.run(BANDS % "TRK") == [
+            ["band", "OFF", "0%", "12.5%", "OFF from 2026-11-19 22:00:00 to 2026-11-19 23:00:00"],
+            ["band", "READY", "12.5%", "75%", "READY from 2026-11-19 23:00:00 to 2026-11-20 05:00:00"],
+            ["band", "ERROR", "87.5%", "12.5%", "ERROR from 2026-11-20 05:00:00 to 2026-11-20 06:00:00"],
+            ["trip", "", "87.5%", "", "2026-11-20 05:00:00 TRK is ERROR"]]
+    with subtests.test("the page shows now"):
+        assert [night.state("TRK"), night.text("as-of-words")] == ["READY", ""]
+    night.types("past-slider", "500")
+    with subtests.test("a time in the middle"):
+        assert [night.state("CAL"), night.state("TRK"), night.text("as-of-words"), night.text("past-shown")] == [
+            "READY", "READY", "AS OF 2026-11-20 02:00:00, not now", "as of 2026-11-20 02:00:00"]
+    night.types("past-slider", "1000")
+    with subtests.test("the right edge is the end, and not now"):
+        assert [night.state("TRK"), night.text("as-of-words")] == ["ERROR", "AS OF 2026-11-20 06:00:00, not now"]
+    seen = []
+    for button in ("past-before", "past-before", "past-after", "past-after"):
+        night.click(button)
+        seen.append(night.text("past-shown"))
+    with subtests.test("steps"):
+        assert seen == ["as of 2026-11-20 05:00:00", "as of 2026-11-19 23:00:00", "as of 2026-11-20 05:00:00",
+                        "as of 2026-11-20 06:00:00"]
+    night.click("back-to-now")
+    with subtests.test("back to now shows the page as it is, and the past as it was"):
+        assert [night.state("TRK"), night.text("as-of-words"), night.text("past-old"), browser.run(LISTED)] == [
+            "READY", "", "the 8 hours until 2026-11-20 06:00, not until now", OLD_WORDS]
+    screen.past = [*screen.past, (NOW, "board TRK 1.9 OFF")]
+    time.sleep(2.5)
+    with subtests.test("nothing newer is asked for"):
+        assert screen.asked[-1] == asked[-1] and browser.run(LISTED) == OLD_WORDS
+    monkeypatch.setattr(page_server, "LOOKED_AT", 10_000)
+    screen.asked.clear()
+    night.click("past-until-now")
+    with subtests.test("now again"):
+        newest = at_last(lambda: browser.run(LISTED)[:2], ["06:00:00 TRK is OFF", WORDS[0]], 5)
+        assert newest == ["06:00:00 TRK is OFF", WORDS[0]]
+        assert [screen.asked[0], night.text("past-old"), browser.run("by('past-until').value")] == ["", "", ""]
+    with subtests.test("no faults"):
+        assert browser.errors == []
+
+
+def test_until_longer(night, subtests):
+    """A longer time that has ended is asked for anew, and a shorter one is there."""
+    browser, screen = night.browser, night.screen
+    screen.past = ten_days(night.names)
+    night.open()
+    night.until("2026-11-25T06:00")
+    with subtests.test("eight hours"):
+        assert browser.run(LISTED) == ["2026-11-25 05:30:00 TRK is STANDBY"]
+    night.types("past-slider", "990")
+    night.types("past-span", "168")
+    with subtests.test("what was looked at is left, since its entries are forgotten"):
+        assert [browser.run("isPast"), browser.waits_for("isWhole", 5) is not None] == [False, True]
+    week = ["2026-11-25 05:30:00 TRK is STANDBY", "2026-11-20 06:01:00 TRK is OFF", "2026-11-20 06:00:00 TRK is READY",
+            *OLD_WORDS, "2026-11-18 12:00:00 TRK is OFF"]
+    with subtests.test("seven days"):
+        assert [browser.run(LISTED), night.text("past-old")] == [
+            week, "the 7 days until 2026-11-25 06:00, not until now"]
+        # 24 November and 18 November, each at 0:00, until 25 November at 6:00
+        assert [it for it in screen.asked if "to=" in it] == ["from=1795478400&to=1795586400",
+                                                              "from=1794960000&to=1795586400"]
+    screen.asked.clear()
+    night.types("past-span", "1")
+    with subtests.test("an hour of it is there"):
+        assert [browser.run(LISTED), night.text("past-old"), screen.asked] == [
+            week[:1], "the hour until 2026-11-25 06:00, not until now", []]
+    night.types("past-span", "168")
+    with subtests.test("and seven days still are"):
+        assert [browser.run(LISTED), browser.run("isWhole"), screen.asked] == [week, True, []]
+
+
+def test_kept_later(night, subtests):
+    """Somebody is told since when entries are kept, if that is later than what was chosen begins."""
+    browser = night.browser
+    night.screen.past = ten_days(night.names)
+    night.open()
+    with subtests.test("all that was chosen is kept"):
+        assert night.text("past-said") == ""
+    night.until("2026-11-18T18:00")
+    with subtests.test("part of it"):
+        assert [night.text("past-said"), browser.run(BANDS % "TRK")] == ["kept since 2026-11-18 12:00", [
+            ["band", "OFF", "0%", "100%", "OFF from 2026-11-18 12:00:00 to 2026-11-18 18:00:00"]]]
+    night.until("2026-11-10T06:00")
+    with subtests.test("nothing of it"):
+        assert [night.text("past-said"), night.text("past-more"), browser.run(LISTED)] == [
+            "kept since 2026-11-18 12:00", "no entries", []]
+    night.screen.past = []
+    night.load()
+    night.click("past-open")
+    with subtests.test("nothing at all"):
+        assert at_last(lambda: night.text("past-more"), "no entries", 5) == "no entries"
+        assert night.text("past-said") == ""
+
+
+def test_late_answer(night, subtests):
+    """An answer that comes after another end was chosen is of no use, and holds nothing up."""
+    browser, screen, goes = night.browser, night.screen, threading.Event()
+    screen.past = ten_days(night.names)
+    night.open()
+    screen.wait = lambda query: OLD_FROM in query and goes.wait(20)
+    night.types("past-until", "2026-11-20T06:00")
+    try:
+        assert browser.waits_for("by('past-old').textContent.includes('2026-11-20')", 5) is not None
+        with subtests.test("it is said that nothing is there yet"):
+            assert [night.text("past-said"), night.text("past-more"), browser.run(LISTED)] == [
+                "entries are on their way", "", []]
+        with subtests.test("no state is drawn of which nothing is known"):
+            assert browser.run(BANDS % "TRK") == []
+        night.until("2026-11-25T06:00")
+        wanted = ["2026-11-25 05:30:00 TRK is STANDBY"]
+        with subtests.test("the other one is there at once"):
+            assert browser.run(LISTED) == wanted
+    finally:
+        goes.set()
+    time.sleep(1.5)
+    with subtests.test("and the late one is not"):
+        assert [browser.run(LISTED), browser.run("pastBook.list.map((it) => it.number)")] == [wanted, [9]]
+    with subtests.test("no faults"):
+        assert browser.errors == []
+
+
+def test_until_coming(night, subtests):
+    """While the entries of an earlier time come, nothing is drawn after the last one that is there."""
+    browser, screen, goes = night.browser, night.screen, threading.Event()
+    screen.past = ten_days(night.names)[:4] + [(day("2026-11-20 01:00") + it, "board CAL 1.%d READY" % (2 + it))
+                                               for it in range(10_000)] + [(day("2026-11-20 05:00"), "board TRK 1.3 OFF")]
+    night.click("past-open")
+    screen.wait = lambda query: query.startswith("after=") and OLD_TO in query and goes.wait(20)
+    night.types("past-until", "2026-11-20T06:00")
+    try:
+        assert browser.waits_for("pastBook.list.length === 10000 && upto === 10001", 10) is not None
+        with subtests.test("up to the last one"):
+            assert at_last(lambda: browser.run(BANDS % "TRK"), None)[1:] == [
+                ["band", "READY", "12.5%", "25.035%", "READY from 2026-11-19 23:00:00 to 2026-11-20 01:00:09"]]
+        night.browser.run("lookAt(placeOf(%d))" % day("2026-11-20 05:30"))
+        with subtests.test("a time that is not there yet is as the last one"):
+            assert night.state("TRK") == "READY"
+    finally:
+        goes.set()
+    assert browser.waits_for("isWhole", 10) is not None
+    with subtests.test("and is right once it is there"):
+        assert [night.state("TRK"), night.text("as-of-words")] == ["OFF", "AS OF 2026-11-20 05:30:00, not now"]
+
+
+def test_older_screen(night, subtests):
+    """An older screen does not begin by a time, and notes nothing at midnight: all that it keeps is loaded."""
+    browser, screen = night.browser, night.screen
+    screen.is_old, screen.past = True, ten_days(night.names)
+    screen.past[1:1] = [(day("2026-11-18 13:00") + it, "board CAL 1.%d READY" % it) for it in range(10_000)]
+    night.open()
+    with subtests.test("all is there"):
+        assert browser.run("pastBook.list.length") == len(screen.past)
+    night.until("2026-11-20T06:00")
+    with subtests.test("what is asked"):
+        assert [it for it in screen.asked if "to=" in it] == [
+            OLD_FROM + "&" + OLD_TO, "after=0&" + OLD_TO, "after=10000&" + OLD_TO]
+    with subtests.test("the same entries"):
+        assert browser.run(LISTED) == OLD_WORDS
+    night.until("2026-11-18T18:00")
+    with subtests.test("since when it is kept, by its entries"):
+        assert night.text("past-said") == "kept since 2026-11-18 12:00"
+
+
+def test_strange_end(night, subtests):
+    """An end that is still to come, or a part of a date, changes nothing."""
+    browser = night.browser
+    night.screen.past = ten_days(night.names)
+    night.open()
+    look = "[by('past-until').classList.contains('strange'), by('past-until').getAttribute('aria-invalid')]"
+    night.types("past-until", "2026-12-01T06:00")
+    with subtests.test("tomorrow"):
+        assert at_last(lambda: browser.run(look), [True, "true"], 5) == [True, "true"]
+        assert [night.text("past-old"), browser.run(LISTED)[0]] == ["", WORDS[0]]
+    night.until("2026-11-20T06:00")
+    with subtests.test("a time that has been"):
+        assert browser.run(look) == [False, "false"]
+    night.types("past-until", "")
+    with subtests.test("an empty field is now"):
+        assert at_last(lambda: night.text("past-old"), "", 5) == ""
+        assert at_last(lambda: browser.run(LISTED)[:1], WORDS[:1], 5) == WORDS[:1]
+
+
 def test_steps(night, subtests):
     """Buttons go from entry to entry, and after the last one is now."""
     night.open()
@@ -310,7 +666,7 @@ def test_steps(night, subtests):
         seen.append(night.text("past-shown"))
     with subtests.test("there and back"):
         assert seen == ["as of 05:00:30", "as of 05:00:00", "as of 04:01:00", "as of 05:00:00", "as of 05:00:30", "now"]
-    night.types("past-span", "0")
+    night.types("past-span", "168")
     night.types("past-slider", "0")
     with subtests.test("an object without an entry was not seen"):
         night.browser.run("lookAt({ number: 1, at: pastBook.list[0].at })")
@@ -398,8 +754,9 @@ def test_kept(night, subtests, monkeypatch):
 
 def test_saved(night):
     """Somebody is told if the file of the history is not written any more."""
-    night.screen.past = [(at("05:00") + it, "board TRK 1.%d READY" % it) for it in range(1500)]
-    night.screen.saved = 1
+    night.screen.past = [(at("21:00"), "board TRK 1.0 OFF"),
+                         *((at("05:00") + it, "board TRK 1.%d READY" % it) for it in range(1500))]
+    night.screen.saved = 2
     night.open()
     assert night.browser.waits_for("unsavedSince > 0", 5) is not None and night.text("past-said") == ""
     night.browser.run("unsavedSince = performance.now() - 61000")
@@ -422,13 +779,14 @@ def test_keyboard(night, subtests):
         assert [browser.run(here), browser.run("by('past').hidden")] == ["past-name", False]
     assert browser.waits_for("isWhole && pastBook.list.length", 5) is not None
     passed = []
-    for _ in range(8):
+    for _ in range(20):
         browser.key("Tab")
         passed.append(browser.run(here))
         if passed[-1] == "past-slider":
             break
-    with subtests.test("Tab leads to the slider"):
-        assert passed == ["past-span", "past-of", "past-close", "past-before", "past-slider"]
+    with subtests.test("Tab leads to the slider, through the parts of a date"):
+        assert [it for place, it in enumerate(passed) if it not in passed[:place]] == [
+            "past-span", "past-until", "past-until-now", "past-of", "past-close", "past-before", "past-slider"]
     browser.key("ArrowLeft")
     with subtests.test("an arrow goes back"):
         # a thousandth of eight hours
@@ -444,6 +802,75 @@ def test_keyboard(night, subtests):
     browser.key("Escape")
     with subtests.test("and then closes it"):
         assert [browser.run(here), browser.run("by('past').hidden")] == ["past-open", True]
+
+
+def test_keyboard_until(night, subtests):
+    """The keyboard alone chooses an end, looks at a time of then, and leads back."""
+    browser, here = night.browser, "document.activeElement.id"
+    night.screen.past = ten_days(night.names)
+    browser.key("h")
+    assert browser.waits_for("isWhole && pastBook.list.length", 5) is not None
+    for name in ["Tab", "Tab", *"11202026", *"0600A"]:
+        browser.key(name)
+    with subtests.test("a date is typed"):
+        assert [browser.run(here), browser.run("by('past-until').value")] == ["past-until", "2026-11-20T06:00"]
+    words = "the 8 hours until 2026-11-20 06:00, not until now"
+    with subtests.test("and taken once it is complete"):
+        assert at_last(lambda: night.text("past-old"), words, 5) == words
+        assert at_last(lambda: browser.run(LISTED), OLD_WORDS, 5) == OLD_WORDS
+        assert browser.run(here) == "past-until"
+    with subtests.test("no key of the page is in a date"):
+        assert browser.run("[by('past').hidden, document.activeElement.id]") == [False, "past-until"]
+    for _ in range(8):
+        browser.key("Tab")
+        if browser.run(here) == "past-until-now":
+            break
+    browser.key("Enter")
+    with subtests.test("a button leads to now"):
+        assert at_last(lambda: browser.run(LISTED)[:1], WORDS[:1], 5) == WORDS[:1]
+        assert [night.text("past-old"), browser.run(here)] == ["", "past-until-now"]
+
+
+# A million entries of ten days, and from which of them a midnight is: 125,000 are of the last 30 hours, and 725,000 of
+# the last 174.
+MILLION, MILLION_STEP = 1_000_000, 864
+
+
+@pytest.mark.alone
+def test_million(night, subtests):
+    """Of a million entries only those are loaded that the chosen time needs."""
+    browser, screen, names = night.browser, night.screen, night.names
+    screen.past = [(NOW - (MILLION - it) * MILLION_STEP, "board %s 1.%d %s" % (
+        names[it % len(names)], it, ("READY", "RUNNING")[it // len(names) % 2])) for it in range(MILLION)]
+    screen.asked.clear()
+    night.click("past-open")
+    newer = "after=%d" % MILLION
+
+    def earlier():
+        return [it for it in screen.asked if it != newer]
+
+    def pieces(first, last):
+        return ["after=%d" % it for it in range(first, last - 1, -10_000)]
+
+    with subtests.test("eight hours: from the midnight before ten in the evening"):
+        assert browser.waits_for("isWhole", 30) is not None
+        assert earlier() == ["", *pieces(980_000, 870_000)]
+    night.types("past-span", "24")
+    time.sleep(1.5)
+    with subtests.test("a day begins after the same midnight"):
+        assert len(earlier()) == 13 and night.text("past-said") == ""
+    screen.asked.clear()
+    night.types("past-span", "168")
+    with subtests.test("it is said that there will be more"):
+        assert night.text("past-said") == "earlier entries are on their way"
+    took = browser.waits_for("isWhole", 120)
+    with subtests.test("seven days"):
+        assert took is not None and earlier() == pieces(860_000, 270_000)
+    redraw = browser.run("{ const begun = performance.now(); drawPast(); performance.now() - begun; }")
+    heap = browser.run("performance.memory ? Math.round(performance.memory.usedJSHeapSize / 1048576) : -1")
+    print("seven days of 725,000 entries after %.1f s, drawn in %d ms, %d MiB" % (took or -1, redraw, heap))
+    with subtests.test("drawing again"):
+        assert redraw < SOON
 
 
 @pytest.mark.alone

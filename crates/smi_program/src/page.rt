@@ -217,7 +217,9 @@ td, th { padding: .2rem .4rem; border-bottom: 1px solid var(--line); text-align:
   color: var(--soft) }
 #past input:not([type=range]) { font: inherit; width: 11rem; padding: .1rem .5rem; border: 2px solid var(--line);
   border-radius: 8px; background: var(--card); color: var(--ink) }
+#past #past-until { width: auto }
 #past input.strange { border-style: dashed; border-color: var(--soft) }
+#past-old:not(:empty) { background: var(--ink); color: var(--back); border-radius: 8px; padding: .1rem .6rem }
 #past-said { font-weight: 700; color: var(--soft) }
 #past-close { margin-left: auto }
 #past-slider { flex: 1; min-width: 8rem }
@@ -233,6 +235,8 @@ td, th { padding: .2rem .4rem; border-bottom: 1px solid var(--line); text-align:
 .hush { background: repeating-linear-gradient(135deg, #0000 0 5px, #000c 5px 9px), #fff6 }
 .mark { position: absolute; top: 0; bottom: 0; width: 9px; margin-left: -4px; font: 900 .8rem/1.5rem system-ui,
   sans-serif; text-align: center; color: #000; text-shadow: 0 0 2px #fff, 0 0 2px #fff, 0 0 3px #fff }
+.mark.run { font-weight: 400; font-size: .7rem }
+.mark.run::before { content: \"\\2713\" }
 .mark.grant::before { content: \"\\25C6\" }
 .mark.fault::before { content: \"\\2715\" }
 .mark.trip::before { content: \"!\" }
@@ -280,7 +284,7 @@ td, th { padding: .2rem .4rem; border-bottom: 1px solid var(--line); text-align:
 }
 @media (forced-colors: active) {
   .state, .who, .note, .devices i, .legend i, #live, .alarm > [data-alarm], .fold.hot, .initials,
-  .band, .hush {
+  .band, .hush, .track .mark {
     forced-color-adjust: none }
   .devices i, .legend i, .alarm > [data-alarm], .state { border: 1px solid CanvasText }
 }
@@ -324,9 +328,12 @@ td, th { padding: .2rem .4rem; border-bottom: 1px solid var(--line); text-align:
   <div id=\"past-head\">
     <h2 id=\"past-name\" tabindex=\"-1\">The past</h2>
     <label>time <select id=\"past-span\"><option value=\"1\">last hour</option><option value=\"8\">8 hours</option>
-      <option value=\"24\">24 hours</option><option value=\"0\">all that is kept</option></select></label>
+      <option value=\"24\">24 hours</option><option value=\"168\">7 days</option></select></label>
+    <label>until <input id=\"past-until\" type=\"datetime-local\" max=\"9999-12-31T23:59\"></label>
+    <button class=\"tool\" id=\"past-until-now\" type=\"button\" title=\"until now\">now</button>
     <label>of <input id=\"past-of\" list=\"past-names\" placeholder=\"all\" autocomplete=\"off\"></label>
     <datalist id=\"past-names\"></datalist>
+    <strong id=\"past-old\" role=\"status\"></strong>
     <span id=\"past-said\" role=\"status\"></span>
     <button class=\"tool\" id=\"past-close\" type=\"button\">close (Esc)</button>
   </div>
@@ -339,9 +346,9 @@ td, th { padding: .2rem .4rem; border-bottom: 1px solid var(--line); text-align:
   <div id=\"past-body\">
     <div id=\"past-left\">
       <div id=\"time-line\"></div>
-      <p id=\"past-signs\"><b class=\"mark grant\"></b>another holder<b class=\"mark fault\"></b>a command that did not end
-        with 0<b class=\"mark trip\"></b>an alarm begins<b class=\"mark order\"></b>an order of this screen. Hatched: the
-        station is silent. A name: what is below it.</p>
+      <p id=\"past-signs\"><b class=\"mark grant\"></b>another holder<b class=\"mark run\"></b>a command that ended with
+        0<b class=\"mark fault\"></b>one that did not<b class=\"mark trip\"></b>an alarm begins<b class=\"mark order\"></b>an
+        order of this screen. Hatched: the station is silent. A name: what is below it.</p>
       <details id=\"summary\"><summary>summary for the log book</summary>
         <div id=\"summary-tools\"><button class=\"tool\" id=\"summary-copy\" type=\"button\">copy</button>
           <button class=\"tool\" id=\"summary-save\" type=\"button\">save</button>
@@ -629,12 +636,16 @@ function showFold(d) {
 }
 function readAnswer(text) {
   const [head, ...list] = JSON.parse(\"[\" + text.trimEnd().replaceAll(\"\\n\", \",\") + \"]\");
-  list.forEach((it) => { it.words = it.text.split(\" \"); });
+  list.forEach((it) => {
+    const words = it.text.split(\" \"), isSince = words[0] === \"since\";
+    it.words = isSince ? words.slice(2) : words;
+    if (isSince) it.since = Number(words[1]);
+  });
   return { head, list };
 }
-function keysOf([kind, first, second]) {
+function keysOf({ words: [kind, first, second], since }) {
   if (kind === \"board\") return [\"board \" + first];
-  if (kind === \"record\") return [\"record \" + first, \"sign \" + first];
+  if (kind === \"record\") return since === undefined ? [\"record \" + first, \"sign \" + first] : [\"record \" + first];
   if (kind === \"silent\" || kind === \"heard\") return [\"sign \" + first];
   if (kind === \"given\") return [\"order \" + first, \"given\"];
   if (kind === \"ended\") return [\"order \" + first];
@@ -642,7 +653,7 @@ function keysOf([kind, first, second]) {
 }
 function bookOf(list) {
   const of = new Map();
-  list.forEach((it) => keysOf(it.words).forEach((key) => {
+  list.forEach((it) => keysOf(it).forEach((key) => {
     const same = of.get(key);
     if (same) same.push(it); else of.set(key, [it]);
   }));
@@ -675,7 +686,14 @@ function newsOf(entry, before) {
   const isNoNews = !!was && is.last === was.last && is.busy === was.busy;
   return { ...is, hasHolder: !isHeldOn, hasCommand: is.last > 0 && !isNoNews };
 }
-const beforeIt = (book, entry) => lastUpTo(entriesOf(book, keysOf(entry.words)[0]), entry.number - 1);
+const beforeIt = (book, entry) => lastUpTo(entriesOf(book, keysOf(entry)[0]), entry.number - 1);
+const sinceOf = (entry) => entry.since ?? entry.at;
+function isNews(book, entry) {
+  if (entry.since !== undefined) return false;
+  if (entry.words[0] !== \"silent\") return true;
+  const before = beforeIt(book, entry);
+  return !before || before.words[0] !== \"silent\";
+}
 function givenOf(book, entry) {
   const list = entriesOf(book, \"order \" + entry.words[1]), last = countFront(list, (it) => it.number <= entry.number);
   return list.slice(0, last).reverse().find((it) => it.words[0] === \"given\");
@@ -686,14 +704,17 @@ function isAbout(book, entry, names) {
   return !!order && order.words.some((word) => names.has(word));
 }
 const AT_ONCE = 10000, EACH = 1000, LONGEST = 10000;
+const UTC_DAY = 86400000;
 let pastBook = bookOf([]);
 let newestHead = null;
 let isWhole = false;
 let historyFault = \"\";
 const afterAnswer = [];
+let wantedFrom = 0;
+let wantedEnd = null;
 let upto = 0, after = 0;
 let begin = 0;
-let isWanted = false, isAsking = false;
+let isWanted = false, followed = -1;
 let askedLast = 0;
 function forgetHistory() {
   begin += 1;
@@ -702,6 +723,24 @@ function forgetHistory() {
   isWhole = false;
   upto = after = 0;
   historyFault = \"\";
+}
+function reachesBack() {
+  const first = pastBook.list[0];
+  return newestHead !== null &&
+    (after === 0 || newestHead.oldest !== undefined && first !== undefined && first.at < wantedFrom);
+}
+function wantTime(from, end) {
+  const midnight = Math.max(0, Math.floor(from / UTC_DAY) * UTC_DAY);
+  const isOther = end !== wantedEnd || end !== null && midnight < wantedFrom;
+  if (isOther || end === null) wantedFrom = midnight;
+  wantedEnd = end;
+  if (isOther) forgetHistory(); else if (end === null) isWhole = reachesBack();
+  if (isOther && isWanted) followHistory();
+  return isOther;
+}
+function keptSince() {
+  if (newestHead && newestHead.oldest !== undefined) return newestHead.oldest;
+  return isWhole && pastBook.list.length ? pastBook.list[0].at : 0;
 }
 async function fetchEntries(query) {
   const gone = new AbortController(), bell = setTimeout(() => gone.abort(), LONGEST);
@@ -712,48 +751,71 @@ async function fetchEntries(query) {
     return 0;
   } finally { clearTimeout(bell); }
 }
+const isTorn = (head) => newestHead !== null && (head.count < upto || upto > 0 && head.after > upto);
 function takeNewer({ head, list }) {
   const isFirst = newestHead === null;
-  if (!isFirst && (head.count < upto || head.after > upto)) { forgetHistory(); return; }
+  if (isTorn(head)) { forgetHistory(); return; }
+  if (isFirst) after = head.after;
   newestHead = head;
-  if (isFirst) {
-    after = head.after;
-    isWhole = after === 0;
-  }
   upto = Math.min(head.upto, head.count);
-  if (list.length) pastBook = joinBooks(pastBook, bookOf(list));
+  if (list.length || isFirst) pastBook = joinBooks(pastBook, bookOf(list));
+  isWhole = reachesBack();
 }
 function takeEarlier({ head, list }, asked) {
   pastBook = joinBooks(bookOf(list.filter((it) => it.number <= after)), pastBook);
-  isWhole = head.after > asked || asked === 0;
-  after = asked;
+  after = head.after > asked ? 0 : asked;
+  isWhole = reachesBack();
+}
+function takeUntil({ head, list }, end) {
+  const isFirst = newestHead === null, looked = Math.min(head.upto, head.count);
+  if (isTorn(head)) { forgetHistory(); return; }
+  newestHead = head;
+  if (isFirst && head.oldest === undefined) return;
+  const isBeyond = list.length < looked - head.after || list.some((it) => it.at > end);
+  upto = looked;
+  pastBook = joinBooks(pastBook, bookOf(list.filter((it) => it.at <= end)));
+  isWhole = isBeyond || upto >= head.count;
+}
+function nextUntilNow() {
+  const isNewer = newestHead === null || isWhole || askedLast + EACH < performance.now();
+  const from = Math.max(0, after - AT_ONCE);
+  if (!isNewer) return { query: \"?after=\" + from, take: (answer) => takeEarlier(answer, from) };
+  return { query: newestHead === null ? \"\" : \"?after=\" + upto, take: (answer) => {
+    askedLast = performance.now();
+    takeNewer(answer);
+  } };
+}
+function nextUntil(end) {
+  if (isWhole) return null;
+  const to = \"&to=\" + Math.max(0, Math.floor(end / 1000)), first = \"?from=\" + wantedFrom / 1000;
+  return { query: (newestHead === null ? first : \"?after=\" + upto) + to, take: (answer) => takeUntil(answer, end) };
 }
 async function askOnce() {
-  const mine = begin, isNewer = newestHead === null || isWhole || askedLast + EACH < performance.now();
-  const from = isNewer ? upto : Math.max(0, after - AT_ONCE);
-  const answer = await fetchEntries(newestHead === null ? \"\" : \"?after=\" + from);
+  const mine = begin, next = wantedEnd === null ? nextUntilNow() : nextUntil(wantedEnd);
+  if (!next) return EACH;
+  const answer = await fetchEntries(next.query);
   if (mine !== begin) return 0;
   historyFault = answer === 404 ? \"this screen keeps no history\" :
     typeof answer === \"number\" ? \"the screen does not answer\" : \"\";
   if (answer === 404) isWanted = false;
   if (typeof answer === \"number\") return EACH;
-  if (isNewer) {
-    askedLast = performance.now();
-    takeNewer(answer);
-  } else takeEarlier(answer, from);
-  return isWhole && newestHead !== null && upto >= newestHead.count ? EACH : 0;
+  next.take(answer);
+  return isWhole && newestHead !== null && (wantedEnd !== null || upto >= newestHead.count) ? EACH : 0;
 }
 async function followHistory() {
   isWanted = true;
-  if (isAsking) return;
-  isAsking = true;
+  if (followed === begin) return;
+  const mine = begin;
+  followed = mine;
   try {
-    while (isWanted) {
+    while (isWanted && mine === begin) {
       const pause = await askOnce();
+      if (mine !== begin) break;
       afterAnswer.forEach((more) => more());
       await new Promise((go) => { setTimeout(go, pause); });
     }
-  } finally { isAsking = false; }
+  } finally { if (followed === mine) followed = -1; }
+  if (isWanted) followHistory();
 }
 function leaveHistory() { isWanted = false; }
 afterBuild.push(forgetHistory);
@@ -855,39 +917,86 @@ function thinned(list, least) {
 }
 const within = (list, { from, to }) =>
   list.slice(countFront(list, (it) => it.at < from), countFront(list, (it) => it.at <= to));
+function eachNews(book, key, { from, to }, each) {
+  const list = entriesOf(book, key), end = countFront(list, (it) => it.at <= to);
+  for (let place = countFront(list, (it) => it.at < from); place < end; place += 1) {
+    if (isNews(book, list[place])) each(list[place], list[place - 1]);
+  }
+}
 function marksOf(book, name, span) {
-  const marks = [];
+  const runs = [], marks = [];
   const add = (kind, it) =>
-    marks.push({ kind, at: it.at, words: sayEntry(book, it) });
-  within(entriesOf(book, \"record \" + name), span).forEach((it) => {
-    const before = beforeIt(book, it), news = newsOf(it, before);
+    (kind === \"run\" ? runs : marks).push({ kind, at: it.at, entry: it });
+  eachNews(book, \"record \" + name, span, (it, before) => {
+    const news = newsOf(it, before);
     if (before && news.hasHolder) add(\"grant\", it);
-    if (before && news.hasCommand && !news.busy && news.outcome) add(\"fault\", it);
+    if (before && news.hasCommand && !news.busy) add(news.outcome ? \"fault\" : \"run\", it);
   });
-  within(entriesOf(book, \"board \" + name), span).forEach((it) => {
-    const before = beforeIt(book, it), wasHot = !!before && kindOf(before.words[3]) === \"alarm\";
+  eachNews(book, \"board \" + name, span, (it, before) => {
+    const wasHot = !!before && kindOf(before.words[3]) === \"alarm\";
     if (kindOf(it.words[3]) === \"alarm\" && !wasHot) add(\"trip\", it);
   });
   within(entriesOf(book, \"given\"), span).forEach((it) => { if (it.words.slice(3).includes(name)) add(\"order\", it); });
-  return marks;
+  return [...runs, ...marks];
+}
+const MINUTE = 60000, DAY = 86400000;
+const STEPS = [1, 2, 5, 10, 15, 30, 60, 120, 180, 360, 720, 1440, 2880, 10080].map((it) => it * MINUTE);
+const two = (it) => String(it).padStart(2, \"0\");
+function dayTime(at) {
+  const it = new Date(at);
+  return two(it.getHours()) + \":\" + two(it.getMinutes()) + \":\" + two(it.getSeconds());
+}
+function dayOf(at) {
+  const it = new Date(at);
+  return it.getFullYear() + \"-\" + two(it.getMonth() + 1) + \"-\" + two(it.getDate());
+}
+const dayMinute = (at) => dayOf(at) + \" \" + dayTime(at).slice(0, 5);
+const timeBeside = (at, other) => (dayOf(at) === dayOf(other) ? \"\" : dayOf(at) + \" \") + dayTime(at);
+function lengthOf(ms) {
+  const s = Math.round(ms / 1000);
+  return Math.floor(s / 3600) + \":\" + two(Math.floor(s / 60) % 60) + \":\" + two(s % 60);
+}
+function axisOf({ from, to }) {
+  const step = STEPS.find((it) => (to - from) / it <= 8) || STEPS[STEPS.length - 1] * Math.ceil((to - from) / DAY / 56);
+  const off = -MINUTE * new Date(to).getTimezoneOffset(), made = [];
+  for (let at = Math.ceil((from + off) / step) * step - off; at < to; at += step) {
+    const isDay = step >= DAY || to - from > DAY && dayTime(at) === \"00:00:00\";
+    made.push({ at, text: isDay ? dayOf(at) : dayTime(at).slice(0, 5) });
+  }
+  return made;
 }
 const MOST_ROWS = 40;
-let hours = [0, 1, 24].find((it) => kept(\"past-hours\") === String(it)) ?? 8;
+let hours = [1, 24, 168].find((it) => kept(\"past-hours\") === String(it)) ?? 8;
+let chosenEnd = null;
 let subject = \"\";
-let end = null;
+let stayingEnd = null;
+function chosenSpan() {
+  const list = pastBook.list, last = list.length ? list[list.length - 1].at : 0;
+  const to = chosenEnd ?? stayingEnd ?? Math.max(Date.now(), last + 1);
+  return { from: to - hours * HOUR, to };
+}
+const wantChosen = () => wantTime(chosenSpan().from, chosenEnd);
 function chooseHours(next) {
   hours = next;
   keep(\"past-hours\", String(next));
 }
+function chooseEnd(next) { chosenEnd = next; }
 function chooseSubject(name) { subject = name; }
-function keepEnd(is) { end = is ? end ?? shownSpan().to : null; }
-function shownSpan() {
-  const list = pastBook.list, last = list.length ? list[list.length - 1].at : 0;
-  const to = end ?? Math.max(Date.now(), last + 1);
-  if (!list.length) return { from: to - (hours || 1) * HOUR, to };
-  const first = Math.min(list[0].at, to - 1);
-  return { from: hours && !(isWhole && first > to - hours * HOUR) ? to - hours * HOUR : first, to };
+function keepEnd(is) { stayingEnd = is ? stayingEnd ?? chosenSpan().to : null; }
+function keptLater() {
+  const first = keptSince();
+  return first > chosenSpan().from ? first : 0;
 }
+function shownSpan() {
+  const { from, to } = chosenSpan(), first = keptLater();
+  return { from: first && first < to ? first : from, to };
+}
+function knownSpan() {
+  const span = shownSpan(), list = pastBook.list;
+  if (chosenEnd === null || isWhole) return span;
+  return { from: span.from, to: Math.max(span.from, list.length ? list[list.length - 1].at : 0) };
+}
+const timeWithin = (at) => timeBeside(at, chosenEnd === null ? chosenSpan().to : Date.now());
 const namesBelow = (d) => [d.name, ...d.devices.map((it) => it.name), ...d.children.flatMap(namesBelow)];
 function wantedNames() {
   if (!subject) return null;
@@ -895,8 +1004,8 @@ function wantedNames() {
   return new Set(d ? namesBelow(d) : [subject]);
 }
 function shownEntries() {
-  const list = within(pastBook.list, shownSpan()), names = wantedNames();
-  return names === null ? list : list.filter((it) => isAbout(pastBook, it, names));
+  const names = wantedNames();
+  return within(pastBook.list, shownSpan()).filter((it) => isNews(pastBook, it) && isAbout(pastBook, it, names));
 }
 function rowNames() {
   const d = domains.get(subject), all = [...domains.values()];
@@ -908,8 +1017,9 @@ function rowNames() {
 }
 function placeOf(at) {
   const entry = pastBook.list[countFront(pastBook.list, (it) => it.at <= at) - 1];
-  return { number: entry ? entry.number : 0, at };
+  return { number: entry ? entry.number : 0, at, isOfTime: true };
 }
+const lastPlace = () => chosenEnd === null ? null : placeOf(chosenEnd);
 function groupOf(d) {
   let at = d;
   while (at.parent && domains.get(at.parent).parent) at = domains.get(at.parent);
@@ -1448,7 +1558,7 @@ function shownAt(book, name, number) {
   const entry = lastUpTo(entriesOf(book, \"board \" + name), number);
   if (!entry) return null;
   const [boot, sequence] = entry.words[2].split(\".\").map(Number);
-  return { state: entry.words[3], boot, sequence, at: entry.at };
+  return { state: entry.words[3], boot, sequence, at: sinceOf(entry) };
 }
 function silentAt(book, number) {
   const since = new Map(), names = new Set([...domains.values()].map((d) => d.station));
@@ -1462,7 +1572,7 @@ function pictureAt(book, { number, at }) {
   const silent = silentAt(book, number);
   const rows = [...domains.values()].map((d) => {
     const entry = lastUpTo(entriesOf(book, \"record \" + d.name), number);
-    const told = entry ? { ...recordIn(entry), since: entry.at, heard: silent.get(d.station) ?? at } : null;
+    const told = entry ? { ...recordIn(entry), since: sinceOf(entry), heard: silent.get(d.station) ?? at } : null;
     return { name: d.name, shown: shownAt(book, d.name, number), told };
   });
   return { frame: -1, now: at, domains: rows,
@@ -1472,35 +1582,10 @@ function knewThen(book, place, alarm) {
   const entry = lastUpTo(entriesOf(book, \"acknowledged \" + alarm.key), place.number);
   return entry && entry.at >= (alarm.at ?? 0) ? entry.words[3] : \"\";
 }
-const MINUTE = 60000, DAY = 86400000;
-const STEPS = [1, 2, 5, 10, 15, 30, 60, 120, 180, 360, 720, 1440, 2880, 10080].map((it) => it * MINUTE);
-const two = (it) => String(it).padStart(2, \"0\");
-function dayTime(at) {
-  const it = new Date(at);
-  return two(it.getHours()) + \":\" + two(it.getMinutes()) + \":\" + two(it.getSeconds());
-}
-function dayOf(at) {
-  const it = new Date(at);
-  return it.getFullYear() + \"-\" + two(it.getMonth() + 1) + \"-\" + two(it.getDate());
-}
-const timeBeside = (at, other) => (dayOf(at) === dayOf(other) ? \"\" : dayOf(at) + \" \") + dayTime(at);
-function lengthOf(ms) {
-  const s = Math.round(ms / 1000);
-  return Math.floor(s / 3600) + \":\" + two(Math.floor(s / 60) % 60) + \":\" + two(s % 60);
-}
-function axisOf({ from, to }) {
-  const step = STEPS.find((it) => (to - from) / it <= 8) || STEPS[STEPS.length - 1] * Math.ceil((to - from) / DAY / 56);
-  const off = -MINUTE * new Date(to).getTimezoneOffset(), made = [];
-  for (let at = Math.ceil((from + off) / step) * step - off; at < to; at += step) {
-    const isDay = step >= DAY || to - from > DAY && dayTime(at) === \"00:00:00\";
-    made.push({ at, text: isDay ? dayOf(at) : dayTime(at).slice(0, 5) });
-  }
-  return made;
-}
 const MOST_NAMED = 3;
 let shownPlace = null;
 const afterLook = [];
-let oldest = null;
+let oldestThere = null;
 function lookAt(to) {
   shownPlace = to;
   keepEnd(to !== null);
@@ -1522,8 +1607,11 @@ knowers.push((it) => shownPlace ? knewThen(pastBook, shownPlace, it) : \"\");
 afterBuild.push(() => { if (shownPlace) lookAt(null); });
 afterShow.push(() => { if (isPast) set(by(\"as-of-now\"), alarmNow()); });
 afterAnswer.push(() => {
-  if (shownPlace && oldest !== pastBook.list[0]) showEarlier(pictureAt(pastBook, shownPlace));
-  oldest = pastBook.list[0];
+  const next = shownPlace && shownPlace.isOfTime ? placeOf(shownPlace.at) : shownPlace;
+  const isMore = !!next && !!shownPlace && (next.number !== shownPlace.number || oldestThere !== pastBook.list[0]);
+  shownPlace = next;
+  if (next && isMore) showEarlier(pictureAt(pastBook, next));
+  oldestThere = pastBook.list[0];
 });
 function refill(element, children) {
   const active = (document.activeElement), key = element.contains(active) ? active.dataset.key : \"\";
@@ -1533,12 +1621,15 @@ function refill(element, children) {
 }
 const MOST_ENTRIES = 500;
 let wasMarked = false;
-const said = new WeakMap();
+let said = new WeakMap();
+let saidFrom;
 function wordsFor(entry) {
+  if (saidFrom !== pastBook.list[0]) said = new WeakMap();
+  saidFrom = pastBook.list[0];
   const old = said.get(entry);
   if (old !== undefined) return old;
   const text = sayEntry(pastBook, entry);
-  if (isWhole && entry.words[0] !== \"given\") said.set(entry, text);
+  if (entry.words[0] !== \"given\") said.set(entry, text);
   return text;
 }
 function searched(list) {
@@ -1550,9 +1641,9 @@ function searched(list) {
   });
 }
 function drawEntries() {
-  const list = searched(shownEntries()), span = shownSpan(), more = list.length - MOST_ENTRIES;
+  const list = searched(shownEntries()), more = list.length - MOST_ENTRIES;
   refill(by(\"past-list\"), list.slice(-MOST_ENTRIES).reverse().map((it) => {
-    const li = make(\"li\"), lead = make(\"button\"), time = make(\"time\", \"\", timeBeside(it.at, span.to));
+    const li = make(\"li\"), lead = make(\"button\"), time = make(\"time\", \"\", timeWithin(it.at));
     time.dateTime = new Date(it.at).toISOString();
     lead.type = \"button\";
     lead.dataset.key = String(it.number);
@@ -1561,15 +1652,17 @@ function drawEntries() {
     li.append(lead);
     return li;
   }));
-  set(by(\"past-more\"), more > 0 ? more + \" more\" : list.length ? \"\" : \"no entries\");
+  set(by(\"past-more\"), more > 0 ? more + \" more\" : list.length || !isWhole ? \"\" : \"no entries\");
   markEntry();
 }
 function markEntry() {
   const number = shownPlace && shownPlace.number, list = by(\"past-list\");
   if (wasMarked && number === null) list.scrollTop = 0;
   wasMarked = number !== null;
-  list.querySelectorAll(\"button\").forEach((b) => {
-    const isHere = number !== null && Number(b.dataset.key) === number;
+  const buttons = [...list.querySelectorAll(\"button\")];
+  const here = number === null ? undefined : buttons.find((b) => Number(b.dataset.key) <= number);
+  buttons.forEach((b) => {
+    const isHere = b === here;
     flag(b, \"here\", isHere);
     if (!isHere) return;
     const off = b.getBoundingClientRect().top - list.getBoundingClientRect().top;
@@ -1603,7 +1696,7 @@ function orderLines(book, span, names) {
 }
 function faultLines(book, span, names) {
   return chosen(domains.values(), names).flatMap((name) =>
-    within(entriesOf(book, \"record \" + name), span).flatMap((it) => {
+    within(entriesOf(book, \"record \" + name), span).filter((it) => isNews(book, it)).flatMap((it) => {
       const news = newsOf(it, beforeIt(book, it));
       return news.hasCommand && !news.busy && news.outcome ? [{ it, news, name }] : [];
     })).sort((a, b) => a.it.number - b.it.number).map(({ it, news, name }) =>
@@ -1643,7 +1736,9 @@ function summaryOf(book, span, names, what) {
   })].join(\"\\n\") + \"\\n\";
 }
 function writeSummary() {
-  if (by(\"summary\").open) set(by(\"summary-text\"), summaryOf(pastBook, shownSpan(), wantedNames(), subject));
+  if (!by(\"summary\").open) return;
+  set(by(\"summary-text\"), isWhole ? summaryOf(pastBook, shownSpan(), wantedNames(), subject) :
+    \"entries are on their way\\n\");
 }
 function fileName() {
   const to = shownSpan().to;
@@ -1675,6 +1770,7 @@ by(\"summary\").addEventListener(\"toggle\", () => {
   writeSummary();
 });
 const PARTS = 400, MOST_MARKS = 200, MOST_READ_OUT = 8;
+const MOST_UNDATED = 24 * HOUR;
 const share = (at, span) => (100 * (at - span.from) / (span.to - span.from)).toFixed(3) + \"%\";
 function putAt(e, it, span, title) {
   style(e, \"left\", share(it.from, span));
@@ -1682,9 +1778,11 @@ function putAt(e, it, span, title) {
   e.title = title;
   return e;
 }
-const timeWords = (it, span) => \" from \" + timeBeside(it.from, span.to) + \" to \" + timeBeside(it.to, span.to);
-const stateWords = (it, span) => (it.value || \"not seen\") +
-  (it.count > 1 ? \" and \" + (it.count - 1) + \" more\" : \"\") + timeWords(it, span);
+const timeWords = (it) => \" from \" + timeWithin(it.from) + \" to \" + timeWithin(it.to);
+const stateWords = (it) => (it.value || \"not seen\") + (it.count > 1 ? \" and \" + (it.count - 1) + \" more\" : \"\") +
+  timeWords(it);
+const markWords = (it, span) => (chosenEnd === null && span.to - span.from <= MOST_UNDATED ? dayTime(it.at) :
+  timeWithin(it.at)) + \" \" + sayEntry(pastBook, it.entry);
 function spaced(marks, least) {
   const lastAt = new Map();
   return marks.filter((it) => {
@@ -1694,21 +1792,21 @@ function spaced(marks, least) {
   }).slice(-MOST_MARKS);
 }
 function trackOf(name, span) {
-  const track = make(\"div\", \"track\"), least = (span.to - span.from) / PARTS;
+  const track = make(\"div\", \"track\"), least = (span.to - span.from) / PARTS, known = knownSpan();
   const d = domains.get(name) || domains.get(devices.get(name).domain);
-  const states = thinned(statesOf(pastBook, name, span), least);
+  const states = thinned(statesOf(pastBook, name, known), least);
   track.append(...states.map((it) => {
-    const band = putAt(make(\"i\", \"band\"), it, span, stateWords(it, span));
+    const band = putAt(make(\"i\", \"band\"), it, span, stateWords(it));
     paint(band, it.value);
     return band;
-  }), ...thinned(silentTimes(pastBook, d.station, span), least).map((it) =>
-    putAt(make(\"i\", \"hush\"), it, span, \"station \" + d.station + \" silent\" + timeWords(it, span))),
-  ...spaced(marksOf(pastBook, name, span), least).map((it) =>
-    putAt(make(\"b\", \"mark \" + it.kind), { from: it.at, to: it.at }, span, dayTime(it.at) + \" \" + it.words)));
+  }), ...thinned(silentTimes(pastBook, d.station, known), least).map((it) =>
+    putAt(make(\"i\", \"hush\"), it, span, \"station \" + d.station + \" silent\" + timeWords(it))),
+  ...spaced(marksOf(pastBook, name, known), least).map((it) =>
+    putAt(make(\"b\", \"mark \" + it.kind), { from: it.at, to: it.at }, span, markWords(it, span))));
   track.tabIndex = 0;
   track.dataset.key = \"track \" + name;
   track.setAttribute(\"role\", \"img\");
-  const read = states.slice(-MOST_READ_OUT).map((it) => stateWords(it, span));
+  const read = states.slice(-MOST_READ_OUT).map(stateWords);
   label(track, name + \": \" + read.join(\", \"));
   track.addEventListener(\"click\", (click) => {
     const box = track.getBoundingClientRect();
@@ -1732,7 +1830,7 @@ function drawLine(redraw) {
     style(tick, \"left\", share(at, span));
     return tick;
   }));
-  label(list, \"time line of \" + (subject || \"all\"));
+  label(list, \"time line of \" + (subject || \"all\") + (chosenEnd === null ? \"\" : \" until \" + timeWithin(chosenEnd)));
   list.append(...rowNames().map((name) => {
     const li = make(\"li\", \"row\");
     li.append(leadTo(name, name, redraw), trackOf(name, span));
@@ -1745,10 +1843,41 @@ function drawLine(redraw) {
 function showCursor() {
   style(by(\"time-line\"), \"--at\", shownPlace ? share(shownPlace.at, shownSpan()) : \"100%\");
 }
-const STEPS_SHOWN = 1000, REDRAWN = 10000, COMING = 1000;
+const RESTED = 600;
+const afterEnd = [];
+let resting;
+const lengthWords = (end) => (hours === 1 ? \"hour\" : hours < 168 ? hours + \" hours\" : hours / 24 + \" days\") +
+  \" until \" + dayMinute(end);
+function sayEnd() {
+  set(by(\"past-old\"), chosenEnd === null ? \"\" : \"the \" + lengthWords(chosenEnd) + \", not until now\");
+  mark(by(\"past-until-now\"), \"aria-pressed\", String(chosenEnd === null));
+}
+function takeEnd(end) {
+  if (end === chosenEnd) return;
+  chooseEnd(end);
+  afterEnd.forEach((more) => more());
+}
+function readEnd() {
+  const field = by(\"past-until\"), end = field.value ? new Date(field.value).getTime() : null;
+  const isStrange = field.validity.badInput || end !== null && !(end < Date.now());
+  if (!isStrange) takeEnd(end);
+  flag(field, \"strange\", isStrange);
+  mark(field, \"aria-invalid\", String(isStrange));
+}
+by(\"past-until\").addEventListener(\"input\", () => {
+  clearTimeout(resting);
+  resting = setTimeout(readEnd, RESTED);
+});
+by(\"past-until-now\").addEventListener(\"click\", () => {
+  clearTimeout(resting);
+  by(\"past-until\").value = \"\";
+  readEnd();
+});
+sayEnd();
+const STEPS_SHOWN = 1000, REDRAWN = 10000, COMING = 1000, PART_DRAWN = 5;
 const MOST_UNSAVED = 1000, LATE_SAVED = 60000;
 let drawnBook = null;
-let drawnAt = 0, unsavedSince = 0;
+let drawnAt = 0, drawnFor = 0, unsavedSince = 0;
 const isOpen = () => !by(\"past\").hidden;
 function drawPast() {
   drawnBook = pastBook;
@@ -1758,37 +1887,52 @@ function drawPast() {
   writeSummary();
   showPlace();
   if (by(\"past-of\") !== document.activeElement) by(\"past-of\").value = subject;
+  drawnFor = performance.now() - drawnAt;
 }
 function showPlace() {
   const span = shownSpan(), slider = by(\"past-slider\"), at = shownPlace ? shownPlace.at : span.to;
   const share = Math.round(STEPS_SHOWN * (at - span.from) / (span.to - span.from));
   slider.value = String(shownPlace ? Math.max(0, Math.min(STEPS_SHOWN - 1, share)) : STEPS_SHOWN);
-  const words = shownPlace ? \"as of \" + timeBeside(at, span.to) : \"now\";
+  const words = shownPlace ? \"as of \" + timeWithin(at) : chosenEnd === null ? \"now\" : \"the page shows now\";
   mark(slider, \"aria-valuetext\", words);
   set(by(\"past-shown\"), words);
   showCursor();
   markEntry();
 }
 function unsavedWords() {
-  const isLate = newestHead && newestHead.saved > 0 && newestHead.count - newestHead.saved > MOST_UNSAVED;
+  const isLate = newestHead && chosenEnd === null && newestHead.saved > 0 &&
+    newestHead.count - newestHead.saved > MOST_UNSAVED;
   unsavedSince = isLate ? unsavedSince || performance.now() : 0;
   if (!isLate || performance.now() - unsavedSince < LATE_SAVED) return \"\";
   const entry = lastUpTo(pastBook.list, newestHead.saved);
-  return \"not saved since \" + (entry ? dayTime(entry.at).slice(0, 5) : \"before what is kept\");
+  return \"not saved since \" + (entry ? dayTime(entry.at).slice(0, 5) : \"before what is here\");
+}
+function sayState() {
+  const first = keptLater(), coming = (chosenEnd === null ? \"earlier \" : \"\") + \"entries are on their way\";
+  const words = [historyFault || unsavedWords(), !historyFault && !isWhole ? coming : \"\",
+    first ? \"kept since \" + dayMinute(first) : \"\"];
+  set(by(\"past-said\"), words.filter((it) => it).join(\", \"));
+}
+function turnTime() {
+  if (wantChosen() && shownPlace) lookAt(null);
+  if (tree) drawPast();
+  sayEnd();
+  sayState();
 }
 function showAnswer() {
   if (!isOpen()) return;
-  const words = [historyFault || unsavedWords(), !historyFault && !isWhole ? \"earlier entries are on their way\" : \"\"];
-  set(by(\"past-said\"), words.filter((it) => it).join(\", \"));
+  wantChosen();
+  sayState();
   const passed = performance.now() - drawnAt, isFirst = !drawnBook || !drawnBook.list.length;
-  if (drawnBook === pastBook ? passed > REDRAWN : isFirst || isWhole || passed > COMING) drawPast();
+  const pause = Math.max(isWhole ? 0 : COMING, PART_DRAWN * drawnFor);
+  if (drawnBook === pastBook ? passed > REDRAWN : isFirst || passed > pause) drawPast();
 }
 function openPast(name = \"\") {
   chooseSubject(name);
   by(\"past\").hidden = false;
   mark(by(\"past-open\"), \"aria-pressed\", \"true\");
   by(\"past-name\").focus();
-  if (tree) drawPast();
+  turnTime();
   followHistory();
 }
 function closePast() {
@@ -1801,9 +1945,10 @@ function closePast() {
 }
 function turnPast() { if (isOpen()) closePast(); else openPast(); }
 function stepBy(step) {
-  const list = shownEntries(), number = shownPlace ? shownPlace.number : Infinity;
-  const next = step < 0 ? list.filter((it) => it.number < number).pop() : list.find((it) => it.number > number);
-  if (next) lookAt({ number: next.number, at: next.at }); else if (step > 0) lookAt(null);
+  const { number, at, isOfTime } = shownPlace || { number: Infinity, at: Infinity, isOfTime: false };
+  const isBefore = (it) => it.number < number || isOfTime && it.number === number && it.at < at;
+  const list = shownEntries(), next = step < 0 ? list.filter(isBefore).pop() : list.find((it) => it.number > number);
+  if (next) lookAt({ number: next.number, at: next.at }); else if (step > 0) lookAt(lastPlace());
 }
 function offerNames() {
   by(\"past-names\").replaceChildren(...[...domains.keys(), ...devices.keys(),
@@ -1814,7 +1959,7 @@ function offerNames() {
   }));
 }
 by(\"past-span\").value = String(hours);
-by(\"past-span\").addEventListener(\"change\", () => { chooseHours(Number(by(\"past-span\").value)); drawPast(); });
+by(\"past-span\").addEventListener(\"change\", () => { chooseHours(Number(by(\"past-span\").value)); turnTime(); });
 by(\"past-of\").addEventListener(\"input\", () => {
   const name = by(\"past-of\").value.trim().toUpperCase();
   const isKnown = !name || domains.has(name) || devices.has(name) ||
@@ -1825,7 +1970,8 @@ by(\"past-of\").addEventListener(\"input\", () => {
 by(\"past-search\").addEventListener(\"input\", drawEntries);
 by(\"past-slider\").addEventListener(\"input\", () => {
   const span = shownSpan(), value = Number(by(\"past-slider\").value);
-  lookAt(value < STEPS_SHOWN ? placeOf(Math.round(span.from + (span.to - span.from) * value / STEPS_SHOWN)) : null);
+  const at = Math.round(span.from + (span.to - span.from) * value / STEPS_SHOWN);
+  lookAt(value < STEPS_SHOWN ? placeOf(at) : lastPlace());
 });
 by(\"past-before\").addEventListener(\"click\", () => stepBy(-1));
 by(\"past-after\").addEventListener(\"click\", () => stepBy(1));
@@ -1837,6 +1983,7 @@ document.addEventListener(\"keydown\", (key) => {
   if (key.key !== \"Escape\" || isTaken) return;
   if (shownPlace) lookAt(null); else if (isOpen()) closePast();
 });
+afterEnd.push(() => { if (shownPlace) lookAt(null); turnTime(); });
 afterAnswer.push(showAnswer);
 afterLook.push(() => { if (isOpen()) showPlace(); });
 afterBuild.push(offerNames);

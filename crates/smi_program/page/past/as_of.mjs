@@ -1,12 +1,14 @@
 // The picture of an earlier time, of what the entries up to then say.
 
 import { devices, domains, limit } from "../model.mjs";
-import { entriesOf, lastUpTo, recordIn } from "./entries.mjs";
+import { entriesOf, lastUpTo, recordIn, sinceOf } from "./entries.mjs";
 import { silenceEntries } from "./stretches.mjs";
 
 /** @typedef {import("./entries.mjs").Book} Book */
 /** @typedef {import("../model.mjs").Picture} Picture */
-/** @typedef {{number: number, at: number}} Place A time of the past, and the number of the last entry up to then. */
+/** @typedef {{number: number, at: number, isOfTime?: boolean}} Place
+ * A time of the past, and the number of the last entry up to then. `isOfTime` is true if the time was chosen, and not
+ * an entry. */
 
 /** Returns the state in which an object was shown, or null if it was not seen yet.
  * @param {Book} book @param {string} name @param {number} number */
@@ -14,7 +16,7 @@ function shownAt(book, name, number) {
   const entry = lastUpTo(entriesOf(book, "board " + name), number);
   if (!entry) return null;
   const [boot, sequence] = entry.words[2].split(".").map(Number);
-  return { state: entry.words[3], boot, sequence, at: entry.at };
+  return { state: entry.words[3], boot, sequence, at: sinceOf(entry) };
 }
 
 /** Returns when each station was last heard that was silent, by its name. It is said to be silent once it has been so
@@ -35,7 +37,7 @@ export function pictureAt(book, { number, at }) {
   const silent = silentAt(book, number);
   const rows = [...domains.values()].map((d) => {
     const entry = lastUpTo(entriesOf(book, "record " + d.name), number);
-    const told = entry ? { ...recordIn(entry), since: entry.at, heard: silent.get(d.station) ?? at } : null;
+    const told = entry ? { ...recordIn(entry), since: sinceOf(entry), heard: silent.get(d.station) ?? at } : null;
     return { name: d.name, shown: shownAt(book, d.name, number), told };
   });
   return { frame: -1, now: at, domains: rows,

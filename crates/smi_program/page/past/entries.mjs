@@ -1,7 +1,10 @@
 // The entries of the history (GET /api/history), and where each is found that speaks of an object.
 
-/** @typedef {{number: number, at: number, text: string, words: string[]}} Entry What was seen, and when (UTC, ms). */
-/** @typedef {{count: number, saved: number, after: number, upto: number}} Head The first line of an answer. */
+/** @typedef {{number: number, at: number, text: string, words: string[], since?: number}} Entry
+ * What was seen, and when (UTC, ms). With `since` the screen notes at the first look of a day what is so already, and
+ * since when: its words are those of the entry that told it. */
+/** @typedef {{count: number, saved: number, after: number, upto: number, oldest?: number}} Head
+ * The first line of an answer. An older screen tells no `oldest`: the time of the oldest entry, 0 if there is none. */
 /** @typedef {{list: Entry[], of: Map<string, Entry[]>}} Book All entries by their numbers, and those of each key. */
 /** @typedef {import("../model.mjs").Holder} Holder */
 
@@ -9,16 +12,20 @@
  * @param {string} text @returns {{head: Head, list: Entry[]}} */
 export function readAnswer(text) {
   const [head, ...list] = JSON.parse("[" + text.trimEnd().replaceAll("\n", ",") + "]");
-  list.forEach((/** @type {Entry} */ it) => { it.words = it.text.split(" "); });
+  list.forEach((/** @type {Entry} */ it) => {
+    const words = it.text.split(" "), isSince = words[0] === "since";
+    it.words = isSince ? words.slice(2) : words;
+    if (isSince) it.since = Number(words[1]);
+  });
   return { head, list };
 }
 
 /** Returns the keys under which an entry is found.
- * @param {string[]} words @returns {string[]} */
-function keysOf([kind, first, second]) {
+ * @param {Entry} entry @returns {string[]} */
+function keysOf({ words: [kind, first, second], since }) {
   if (kind === "board") return ["board " + first];
-  // who tells a record is heard
-  if (kind === "record") return ["record " + first, "sign " + first];
+  // who tells a record is heard, but a record that is known already was not told again
+  if (kind === "record") return since === undefined ? ["record " + first, "sign " + first] : ["record " + first];
   if (kind === "silent" || kind === "heard") return ["sign " + first];
   if (kind === "given") return ["order " + first, "given"];
   if (kind === "ended") return ["order " + first];
@@ -29,7 +36,7 @@ function keysOf([kind, first, second]) {
  * @param {Entry[]} list @returns {Book} */
 export function bookOf(list) {
   const of = new Map();
-  list.forEach((it) => keysOf(it.words).forEach((key) => {
+  list.forEach((it) => keysOf(it).forEach((key) => {
     const same = of.get(key);
     if (same) same.push(it); else of.set(key, [it]);
   }));
@@ -84,7 +91,21 @@ export function newsOf(entry, before) {
 
 /** Returns the entry before one under its key, if any.
  * @param {Book} book @param {Entry} entry */
-export const beforeIt = (book, entry) => lastUpTo(entriesOf(book, keysOf(entry.words)[0]), entry.number - 1);
+export const beforeIt = (book, entry) => lastUpTo(entriesOf(book, keysOf(entry)[0]), entry.number - 1);
+
+/** Returns since when what an entry says is so.
+ * @param {Entry} entry */
+export const sinceOf = (entry) => entry.since ?? entry.at;
+
+/** Returns true if something has happened with an entry. The screen tells each day what is so already, and which
+ * stations are silent still.
+ * @param {Book} book @param {Entry} entry */
+export function isNews(book, entry) {
+  if (entry.since !== undefined) return false;
+  if (entry.words[0] !== "silent") return true;
+  const before = beforeIt(book, entry);
+  return !before || before.words[0] !== "silent";
+}
 
 /** Returns the entry with which an order was given that an `ended` entry is of, if it is known.
  * @param {Book} book @param {Entry} entry */

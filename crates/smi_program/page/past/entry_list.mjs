@@ -1,28 +1,32 @@
 // The entries of the time and the subject in plain words, the newest first.
 
 import { by, flag, make, set } from "../dom.mjs";
-import { shownEntries, shownSpan } from "./choice.mjs";
+import { shownEntries, timeWithin } from "./choice.mjs";
 import { isWhole, pastBook } from "./history.mjs";
 import { lookAt, shownPlace } from "./looking.mjs";
 import { refill } from "./refilling.mjs";
 import { sayEntry } from "./saying.mjs";
-import { timeBeside } from "./times.mjs";
 
 /** @typedef {import("./entries.mjs").Entry} Entry */
 
 const MOST_ENTRIES = 500;
 // Whether an entry was marked.
 let wasMarked = false;
-/** What was said of entries, once all are there that an entry may be said by.
+/** What was said of entries.
  * @type {WeakMap<Entry, string>} */
-const said = new WeakMap();
+let said = new WeakMap();
+// The oldest entry that was there then: earlier ones may say more of those after them.
+/** @type {Entry | undefined} */
+let saidFrom;
 
 /** @param {Entry} entry */
 function wordsFor(entry) {
+  if (saidFrom !== pastBook.list[0]) said = new WeakMap();
+  saidFrom = pastBook.list[0];
   const old = said.get(entry);
   if (old !== undefined) return old;
   const text = sayEntry(pastBook, entry);
-  if (isWhole && entry.words[0] !== "given") said.set(entry, text);
+  if (entry.words[0] !== "given") said.set(entry, text);
   return text;
 }
 
@@ -39,9 +43,9 @@ function searched(list) {
 
 /** Draws the list. */
 export function drawEntries() {
-  const list = searched(shownEntries()), span = shownSpan(), more = list.length - MOST_ENTRIES;
+  const list = searched(shownEntries()), more = list.length - MOST_ENTRIES;
   refill(by("past-list"), list.slice(-MOST_ENTRIES).reverse().map((it) => {
-    const li = make("li"), lead = make("button"), time = make("time", "", timeBeside(it.at, span.to));
+    const li = make("li"), lead = make("button"), time = make("time", "", timeWithin(it.at));
     time.dateTime = new Date(it.at).toISOString();
     lead.type = "button";
     lead.dataset.key = String(it.number);
@@ -50,7 +54,7 @@ export function drawEntries() {
     li.append(lead);
     return li;
   }));
-  set(by("past-more"), more > 0 ? more + " more" : list.length ? "" : "no entries");
+  set(by("past-more"), more > 0 ? more + " more" : list.length || !isWhole ? "" : "no entries");
   markEntry();
 }
 
@@ -59,8 +63,11 @@ export function markEntry() {
   const number = shownPlace && shownPlace.number, list = by("past-list");
   if (wasMarked && number === null) list.scrollTop = 0;
   wasMarked = number !== null;
-  list.querySelectorAll("button").forEach((/** @type {any} */ b) => {
-    const isHere = number !== null && Number(b.dataset.key) === number;
+  const buttons = [...list.querySelectorAll("button")];
+  // what the screen notes at midnight is not listed
+  const here = number === null ? undefined : buttons.find((b) => Number(b.dataset.key) <= number);
+  buttons.forEach((b) => {
+    const isHere = b === here;
     flag(b, "here", isHere);
     if (!isHere) return;
     const off = b.getBoundingClientRect().top - list.getBoundingClientRect().top;

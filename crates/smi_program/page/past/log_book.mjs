@@ -2,13 +2,15 @@
 
 import { by, flag, make, set } from "../dom.mjs";
 import { shownSpan, subject, wantedNames } from "./choice.mjs";
-import { pastBook } from "./history.mjs";
+import { isWhole, pastBook } from "./history.mjs";
 import { summaryOf } from "./summary.mjs";
 import { dayOf, dayTime } from "./times.mjs";
 
-/** Writes the summary, if it is open. */
+/** Writes the summary, if it is open, and once all is there that it is made of. */
 export function writeSummary() {
-  if (by("summary").open) set(by("summary-text"), summaryOf(pastBook, shownSpan(), wantedNames(), subject));
+  if (!by("summary").open) return;
+  set(by("summary-text"), isWhole ? summaryOf(pastBook, shownSpan(), wantedNames(), subject) :
+    "entries are on their way\n");
 }
 
 /** Returns the name of the file of a summary, by the end of its time. */

@@ -6,7 +6,7 @@ import { afterBuild, afterShow, isPast, kindOf, newest } from "../model.mjs";
 import { showEarlier } from "../showing.mjs";
 import { showTime } from "../signs.mjs";
 import { knewThen, pictureAt } from "./as_of.mjs";
-import { keepEnd } from "./choice.mjs";
+import { keepEnd, placeOf } from "./choice.mjs";
 import { afterAnswer, pastBook } from "./history.mjs";
 import { dayTime, timeBeside } from "./times.mjs";
 
@@ -22,7 +22,7 @@ export let shownPlace = null;
 export const afterLook = [];
 // The oldest entry that is there: earlier ones may say more of the time that is shown.
 /** @type {any} */
-let oldest = null;
+let oldestThere = null;
 
 /** Shows the page as of an earlier time, or as it is now if it is null.
  * @param {Place | null} to */
@@ -50,6 +50,10 @@ knowers.push((it) => shownPlace ? knewThen(pastBook, shownPlace, it) : "");
 afterBuild.push(() => { if (shownPlace) lookAt(null); });
 afterShow.push(() => { if (isPast) set(by("as-of-now"), alarmNow()); });
 afterAnswer.push(() => {
-  if (shownPlace && oldest !== pastBook.list[0]) showEarlier(pictureAt(pastBook, shownPlace));
-  oldest = pastBook.list[0];
+  // which entry is the last one up to a time is known once it is there
+  const next = shownPlace && shownPlace.isOfTime ? placeOf(shownPlace.at) : shownPlace;
+  const isMore = !!next && !!shownPlace && (next.number !== shownPlace.number || oldestThere !== pastBook.list[0]);
+  shownPlace = next;
+  if (next && isMore) showEarlier(pictureAt(pastBook, next));
+  oldestThere = pastBook.list[0];
 });

@@ -2,24 +2,26 @@
 
 import { by, flag, make, mark, set } from "../dom.mjs";
 import { afterBuild, devices, domains, extras, tree } from "../model.mjs";
-import { chooseHours, chooseSubject, hours, placeOf, shownEntries, shownSpan, subject } from "./choice.mjs";
+import { chooseHours, chooseSubject, chosenEnd, hours, keptLater, lastPlace, placeOf, shownEntries, shownSpan, subject,
+  timeWithin, wantChosen } from "./choice.mjs";
 import { lastUpTo } from "./entries.mjs";
 import { drawEntries, markEntry } from "./entry_list.mjs";
 import { afterAnswer, followHistory, historyFault, isWhole, leaveHistory, newestHead, pastBook } from "./history.mjs";
 import { writeSummary } from "./log_book.mjs";
 import { afterLook, lookAt, shownPlace } from "./looking.mjs";
 import { drawLine, showCursor } from "./time_line.mjs";
-import { dayTime, timeBeside } from "./times.mjs";
+import { dayMinute, dayTime } from "./times.mjs";
+import { afterEnd, sayEnd } from "./until.mjs";
 
 // Into how many parts the slider divides the time, how often all is drawn again though nothing has come, and how often
-// at most while earlier entries come.
-const STEPS_SHOWN = 1000, REDRAWN = 10000, COMING = 1000;
+// at most while earlier entries come. Drawing takes at most a part of the time, because a week has very many entries.
+const STEPS_SHOWN = 1000, REDRAWN = 10000, COMING = 1000, PART_DRAWN = 5;
 // How many entries may be not saved yet, and for how long more of them may be.
 const MOST_UNSAVED = 1000, LATE_SAVED = 60000;
-// What was drawn last, and when; and since when too many entries are not saved.
+// What was drawn last, when, and for how long; and since when too many entries are not saved.
 /** @type {any} */
 let drawnBook = null;
-let drawnAt = 0, unsavedSince = 0;
+let drawnAt = 0, drawnFor = 0, unsavedSince = 0;
 
 const isOpen = () => !by("past").hidden;
 
@@ -32,6 +34,7 @@ export function drawPast() {
   writeSummary();
   showPlace();
   if (by("past-of") !== document.activeElement) by("past-of").value = subject;
+  drawnFor = performance.now() - drawnAt;
 }
 
 /** Shows at which time the page is. */
@@ -39,7 +42,7 @@ function showPlace() {
   const span = shownSpan(), slider = by("past-slider"), at = shownPlace ? shownPlace.at : span.to;
   const share = Math.round(STEPS_SHOWN * (at - span.from) / (span.to - span.from));
   slider.value = String(shownPlace ? Math.max(0, Math.min(STEPS_SHOWN - 1, share)) : STEPS_SHOWN);
-  const words = shownPlace ? "as of " + timeBeside(at, span.to) : "now";
+  const words = shownPlace ? "as of " + timeWithin(at) : chosenEnd === null ? "now" : "the page shows now";
   mark(slider, "aria-valuetext", words);
   set(by("past-shown"), words);
   showCursor();
@@ -48,20 +51,40 @@ function showPlace() {
 
 /** Returns since when entries are not saved, in words, if too many are not and have not been for a while. */
 function unsavedWords() {
-  const isLate = newestHead && newestHead.saved > 0 && newestHead.count - newestHead.saved > MOST_UNSAVED;
+  // of a time that has ended the answers are old
+  const isLate = newestHead && chosenEnd === null && newestHead.saved > 0 &&
+    newestHead.count - newestHead.saved > MOST_UNSAVED;
   unsavedSince = isLate ? unsavedSince || performance.now() : 0;
   if (!isLate || performance.now() - unsavedSince < LATE_SAVED) return "";
   const entry = lastUpTo(pastBook.list, newestHead.saved);
-  return "not saved since " + (entry ? dayTime(entry.at).slice(0, 5) : "before what is kept");
+  return "not saved since " + (entry ? dayTime(entry.at).slice(0, 5) : "before what is here");
+}
+
+/** Says what is there and what is not. */
+function sayState() {
+  const first = keptLater(), coming = (chosenEnd === null ? "earlier " : "") + "entries are on their way";
+  const words = [historyFault || unsavedWords(), !historyFault && !isWhole ? coming : "",
+    first ? "kept since " + dayMinute(first) : ""];
+  set(by("past-said"), words.filter((it) => it).join(", "));
+}
+
+/** Shows another time: what is there of it, and then what it needs more. */
+function turnTime() {
+  // the entries by which the page shows an earlier time are there no longer
+  if (wantChosen() && shownPlace) lookAt(null);
+  if (tree) drawPast();
+  sayEnd();
+  sayState();
 }
 
 /** Shows what has come. */
 function showAnswer() {
   if (!isOpen()) return;
-  const words = [historyFault || unsavedWords(), !historyFault && !isWhole ? "earlier entries are on their way" : ""];
-  set(by("past-said"), words.filter((it) => it).join(", "));
+  wantChosen();
+  sayState();
   const passed = performance.now() - drawnAt, isFirst = !drawnBook || !drawnBook.list.length;
-  if (drawnBook === pastBook ? passed > REDRAWN : isFirst || isWhole || passed > COMING) drawPast();
+  const pause = Math.max(isWhole ? 0 : COMING, PART_DRAWN * drawnFor);
+  if (drawnBook === pastBook ? passed > REDRAWN : isFirst || passed > pause) drawPast();
 }
 
 /** Opens the past, of an object or of all.
@@ -71,7 +94,7 @@ export function openPast(name = "") {
   by("past").hidden = false;
   mark(by("past-open"), "aria-pressed", "true");
   by("past-name").focus();
-  if (tree) drawPast();
+  turnTime();
   followHistory();
 }
 
@@ -88,12 +111,14 @@ export function closePast() {
 /** Opens the past, or closes it. */
 export function turnPast() { if (isOpen()) closePast(); else openPast(); }
 
-/** Goes to the entry before or after the one at which the page is. After the last one is now.
+/** Goes to the entry before or after the one at which the page is. After the last one is the end, which may be now.
  * @param {number} step */
 function stepBy(step) {
-  const list = shownEntries(), number = shownPlace ? shownPlace.number : Infinity;
-  const next = step < 0 ? list.filter((it) => it.number < number).pop() : list.find((it) => it.number > number);
-  if (next) lookAt({ number: next.number, at: next.at }); else if (step > 0) lookAt(null);
+  const { number, at, isOfTime } = shownPlace || { number: Infinity, at: Infinity, isOfTime: false };
+  // a time is after its last entry
+  const isBefore = (/** @type {any} */ it) => it.number < number || isOfTime && it.number === number && it.at < at;
+  const list = shownEntries(), next = step < 0 ? list.filter(isBefore).pop() : list.find((it) => it.number > number);
+  if (next) lookAt({ number: next.number, at: next.at }); else if (step > 0) lookAt(lastPlace());
 }
 
 /** Offers the names of a tree. */
@@ -107,7 +132,7 @@ function offerNames() {
 }
 
 by("past-span").value = String(hours);
-by("past-span").addEventListener("change", () => { chooseHours(Number(by("past-span").value)); drawPast(); });
+by("past-span").addEventListener("change", () => { chooseHours(Number(by("past-span").value)); turnTime(); });
 by("past-of").addEventListener("input", () => {
   const name = by("past-of").value.trim().toUpperCase();
   const isKnown = !name || domains.has(name) || devices.has(name) ||
@@ -118,7 +143,8 @@ by("past-of").addEventListener("input", () => {
 by("past-search").addEventListener("input", drawEntries);
 by("past-slider").addEventListener("input", () => {
   const span = shownSpan(), value = Number(by("past-slider").value);
-  lookAt(value < STEPS_SHOWN ? placeOf(Math.round(span.from + (span.to - span.from) * value / STEPS_SHOWN)) : null);
+  const at = Math.round(span.from + (span.to - span.from) * value / STEPS_SHOWN);
+  lookAt(value < STEPS_SHOWN ? placeOf(at) : lastPlace());
 });
 by("past-before").addEventListener("click", () => stepBy(-1));
 by("past-after").addEventListener("click", () => stepBy(1));
@@ -131,6 +157,7 @@ document.addEventListener("keydown", (key) => {
   if (key.key !== "Escape" || isTaken) return;
   if (shownPlace) lookAt(null); else if (isOpen()) closePast();
 });
+afterEnd.push(() => { if (shownPlace) lookAt(null); turnTime(); });
 afterAnswer.push(showAnswer);
 afterLook.push(() => { if (isOpen()) showPlace(); });
 afterBuild.push(offerNames);

@@ -1,15 +1,15 @@
 // Stretches of time in which something was the same, and what happened at one moment. All times are UTC in ms.
 
 import { domains, kindOf } from "../model.mjs";
-import { beforeIt, countFront, entriesOf, newsOf } from "./entries.mjs";
-import { holderWords, sayEntry } from "./saying.mjs";
+import { countFront, entriesOf, isNews, newsOf } from "./entries.mjs";
+import { holderWords } from "./saying.mjs";
 
 /** @typedef {import("./entries.mjs").Entry} Entry */
 /** @typedef {import("./entries.mjs").Book} Book */
 /** @typedef {{value: string, from: number, to: number, count: number}} Stretch
  * `value` is "" before the first entry, and `count` of how many stretches it is made. */
 /** @typedef {{from: number, to: number}} Span */
-/** @typedef {{kind: string, at: number, words: string}} Mark `kind` is grant, fault, trip or order. */
+/** @typedef {{kind: string, at: number, entry: Entry}} Mark `kind` is run, grant, fault, trip or order. */
 
 /** Returns the stretches of a value within a span.
  * @param {Entry[]} list @param {(it: Entry) => string} valueOf @param {Span} span @returns {Stretch[]} */
@@ -82,22 +82,32 @@ export function thinned(list, least) {
 export const within = (list, { from, to }) =>
   list.slice(countFront(list, (it) => it.at < from), countFront(list, (it) => it.at <= to));
 
-/** Returns what happened to an object: another holder, a command that ended ill, an alarm, and orders of this screen.
+/** Hands over the news of a key within a span, each with the entry before it.
+ * @param {Book} book @param {string} key @param {Span} span @param {(it: Entry, before?: Entry) => void} each */
+function eachNews(book, key, { from, to }, each) {
+  const list = entriesOf(book, key), end = countFront(list, (it) => it.at <= to);
+  for (let place = countFront(list, (it) => it.at < from); place < end; place += 1) {
+    if (isNews(book, list[place])) each(list[place], list[place - 1]);
+  }
+}
+
+/** Returns what happened to an object: commands that ended, another holder, an alarm, and orders of this screen.
+ * Commands that ended with 0 are the first, so that anything else is drawn over them and outlasts them.
  * @param {Book} book @param {string} name @param {Span} span @returns {Mark[]} */
 export function marksOf(book, name, span) {
   /** @type {Mark[]} */
-  const marks = [];
+  const runs = [], marks = [];
   const add = (/** @type {string} */ kind, /** @type {Entry} */ it) =>
-    marks.push({ kind, at: it.at, words: sayEntry(book, it) });
-  within(entriesOf(book, "record " + name), span).forEach((it) => {
-    const before = beforeIt(book, it), news = newsOf(it, before);
+    (kind === "run" ? runs : marks).push({ kind, at: it.at, entry: it });
+  eachNews(book, "record " + name, span, (it, before) => {
+    const news = newsOf(it, before);
     if (before && news.hasHolder) add("grant", it);
-    if (before && news.hasCommand && !news.busy && news.outcome) add("fault", it);
+    if (before && news.hasCommand && !news.busy) add(news.outcome ? "fault" : "run", it);
   });
-  within(entriesOf(book, "board " + name), span).forEach((it) => {
-    const before = beforeIt(book, it), wasHot = !!before && kindOf(before.words[3]) === "alarm";
+  eachNews(book, "board " + name, span, (it, before) => {
+    const wasHot = !!before && kindOf(before.words[3]) === "alarm";
     if (kindOf(it.words[3]) === "alarm" && !wasHot) add("trip", it);
   });
   within(entriesOf(book, "given"), span).forEach((it) => { if (it.words.slice(3).includes(name)) add("order", it); });
-  return marks;
+  return [...runs, ...marks];
 }

@@ -1,7 +1,7 @@
 // The summary of a time, as a text for a log book.
 
 import { devices, domains, kindOf, tree } from "../model.mjs";
-import { beforeIt, entriesOf, givenOf, isAbout, newsOf } from "./entries.mjs";
+import { beforeIt, entriesOf, givenOf, isAbout, isNews, newsOf } from "./entries.mjs";
 import { endIn, orderIn } from "./saying.mjs";
 import { holdersOf, silentTimes, statesOf, within } from "./stretches.mjs";
 import { dayOf, dayTime, lengthOf, timeBeside } from "./times.mjs";
@@ -51,7 +51,7 @@ function orderLines(book, span, names) {
 /** @param {Book} book @param {Span} span @param {Set<string> | null} names */
 function faultLines(book, span, names) {
   return chosen(domains.values(), names).flatMap((name) =>
-    within(entriesOf(book, "record " + name), span).flatMap((it) => {
+    within(entriesOf(book, "record " + name), span).filter((it) => isNews(book, it)).flatMap((it) => {
       const news = newsOf(it, beforeIt(book, it));
       return news.hasCommand && !news.busy && news.outcome ? [{ it, news, name }] : [];
     })).sort((a, b) => a.it.number - b.it.number).map(({ it, news, name }) =>

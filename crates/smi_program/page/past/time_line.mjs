@@ -2,13 +2,14 @@
 
 import { paint } from "../colours.mjs";
 import { by, label, make, style } from "../dom.mjs";
-import { devices, domains } from "../model.mjs";
-import { chooseSubject, placeOf, rowNames, shownSpan, subject } from "./choice.mjs";
+import { HOUR, devices, domains } from "../model.mjs";
+import { chooseSubject, chosenEnd, knownSpan, placeOf, rowNames, shownSpan, subject, timeWithin } from "./choice.mjs";
 import { pastBook } from "./history.mjs";
 import { lookAt, shownPlace } from "./looking.mjs";
 import { refill } from "./refilling.mjs";
+import { sayEntry } from "./saying.mjs";
 import { marksOf, silentTimes, statesOf, thinned } from "./stretches.mjs";
-import { axisOf, dayTime, timeBeside } from "./times.mjs";
+import { axisOf, dayTime } from "./times.mjs";
 
 /** @typedef {import("./stretches.mjs").Span} Span */
 /** @typedef {import("./stretches.mjs").Stretch} Stretch */
@@ -16,6 +17,8 @@ import { axisOf, dayTime, timeBeside } from "./times.mjs";
 
 // In how many parts a row can show something of its own, how many marks it has, and how many bands are read out.
 const PARTS = 400, MOST_MARKS = 200, MOST_READ_OUT = 8;
+// A mark is told with its date if more is shown than this, or of another end than now.
+const MOST_UNDATED = 24 * HOUR;
 
 /** Says how far a time is in a span.
  * @param {number} at @param {Span} span */
@@ -30,11 +33,14 @@ function putAt(e, it, span, title) {
   return e;
 }
 
-/** @param {Stretch} it @param {Span} span */
-const timeWords = (it, span) => " from " + timeBeside(it.from, span.to) + " to " + timeBeside(it.to, span.to);
-/** @param {Stretch} it @param {Span} span */
-const stateWords = (it, span) => (it.value || "not seen") +
-  (it.count > 1 ? " and " + (it.count - 1) + " more" : "") + timeWords(it, span);
+/** @param {Stretch} it */
+const timeWords = (it) => " from " + timeWithin(it.from) + " to " + timeWithin(it.to);
+/** @param {Stretch} it */
+const stateWords = (it) => (it.value || "not seen") + (it.count > 1 ? " and " + (it.count - 1) + " more" : "") +
+  timeWords(it);
+/** @param {Mark} it @param {Span} span */
+const markWords = (it, span) => (chosenEnd === null && span.to - span.from <= MOST_UNDATED ? dayTime(it.at) :
+  timeWithin(it.at)) + " " + sayEntry(pastBook, it.entry);
 
 /** Leaves out marks that nobody could see apart from another one of their kind.
  * @param {Mark[]} marks @param {number} least */
@@ -50,21 +56,21 @@ function spaced(marks, least) {
 /** Returns the track of an object.
  * @param {string} name @param {Span} span */
 function trackOf(name, span) {
-  const track = make("div", "track"), least = (span.to - span.from) / PARTS;
+  const track = make("div", "track"), least = (span.to - span.from) / PARTS, known = knownSpan();
   const d = domains.get(name) || domains.get(devices.get(name).domain);
-  const states = thinned(statesOf(pastBook, name, span), least);
+  const states = thinned(statesOf(pastBook, name, known), least);
   track.append(...states.map((it) => {
-    const band = putAt(make("i", "band"), it, span, stateWords(it, span));
+    const band = putAt(make("i", "band"), it, span, stateWords(it));
     paint(band, it.value);
     return band;
-  }), ...thinned(silentTimes(pastBook, d.station, span), least).map((it) =>
-    putAt(make("i", "hush"), it, span, "station " + d.station + " silent" + timeWords(it, span))),
-  ...spaced(marksOf(pastBook, name, span), least).map((it) =>
-    putAt(make("b", "mark " + it.kind), { from: it.at, to: it.at }, span, dayTime(it.at) + " " + it.words)));
+  }), ...thinned(silentTimes(pastBook, d.station, known), least).map((it) =>
+    putAt(make("i", "hush"), it, span, "station " + d.station + " silent" + timeWords(it))),
+  ...spaced(marksOf(pastBook, name, known), least).map((it) =>
+    putAt(make("b", "mark " + it.kind), { from: it.at, to: it.at }, span, markWords(it, span))));
   track.tabIndex = 0;
   track.dataset.key = "track " + name;
   track.setAttribute("role", "img");
-  const read = states.slice(-MOST_READ_OUT).map((it) => stateWords(it, span));
+  const read = states.slice(-MOST_READ_OUT).map(stateWords);
   label(track, name + ": " + read.join(", "));
   track.addEventListener("click", (/** @type {any} */ click) => {
     const box = track.getBoundingClientRect();
@@ -94,7 +100,7 @@ export function drawLine(redraw) {
     style(tick, "left", share(at, span));
     return tick;
   }));
-  label(list, "time line of " + (subject || "all"));
+  label(list, "time line of " + (subject || "all") + (chosenEnd === null ? "" : " until " + timeWithin(chosenEnd)));
   list.append(...rowNames().map((name) => {
     const li = make("li", "row");
     li.append(leadTo(name, name, redraw), trackOf(name, span));

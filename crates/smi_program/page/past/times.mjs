@@ -22,6 +22,10 @@ export function dayOf(at) {
   return it.getFullYear() + "-" + two(it.getMonth() + 1) + "-" + two(it.getDate());
 }
 
+/** Returns a time with its date, to the minute, as 2026-11-30 03:12.
+ * @param {number} at */
+export const dayMinute = (at) => dayOf(at) + " " + dayTime(at).slice(0, 5);
+
 /** Returns a time, with its date unless that is of the same day as another one.
  * @param {number} at @param {number} other */
 export const timeBeside = (at, other) => (dayOf(at) === dayOf(other) ? "" : dayOf(at) + " ") + dayTime(at);
