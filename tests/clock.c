@@ -1,5 +1,5 @@
-/* A clock that is ahead: loaded by LD_PRELOAD, it tells the time of day so many milliseconds later as the text in the
-   file AHEAD says. What measures how much time has passed is left as it is. */
+/* A clock that is ahead: loaded by LD_PRELOAD, it tells the time of day as many milliseconds later as the text in
+   the file AHEAD says. What measures how much time has passed is left as it is. */
 
 #define _GNU_SOURCE
 #include <dlfcn.h>

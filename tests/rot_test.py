@@ -1,21 +1,20 @@
 """Bits that a disk forgets: flips in the log of a store and in its file, and what is no damage, as a torn end.
 
-Logs are read here a second time, by the layout of SQLite's write-ahead log (its fileformat2, section 4), and rows by
-Python's sqlite3. The sum of a store is computed by docs/FORMATS.md, "The sum of a store".
+Logs are read a second time, by their layout (tests/rot.py). The sum of a store is computed by docs/FORMATS.md, "The sum
+of a store".
 """
 
 import hashlib
 import os
 import random
-import struct
 
 import pytest
 
 from marks_test import Room, WELL
+from rot import flipped, frames_of
 from running import is_so, read, write
 
 SEED = 20261130
-HEADER, FRAME_HEADER = 32, 24
 # How many takes and drops fill the log, and how many flips and cuts are tried.
 ROUNDS, FLIPS, CUTS = 30, 60, 30
 DAMAGED = ([], ["store has a damaged log"], 1)
@@ -39,34 +38,6 @@ def filled(room):
     node.kill()
     room.copied("whole")
     return room
-
-
-def sum_in(log, big, before, data):
-    """Returns the sum of a log that goes on over some bytes from the sum before."""
-    first, second = before
-    for one, other in struct.iter_unpack(">II" if big else "<II", data):
-        first = (first + one + second) & 0xFFFFFFFF
-        second = (second + other + first) & 0xFFFFFFFF
-    return first, second
-
-
-def frames_of(log):
-    """Returns of each frame of a log where it begins, and whether a save ends with it, as far as the log is whole."""
-    big, size = log[3] & 1, FRAME_HEADER + struct.unpack(">I", log[8:12])[0]
-    before, found = struct.unpack(">II", log[24:32]), []
-    for at in range(HEADER, len(log) - size + 1, size):
-        frame = log[at:at + size]
-        page, pages = struct.unpack(">II", frame[:8])
-        before = sum_in(log, big, sum_in(log, big, before, frame[:8]), frame[FRAME_HEADER:])
-        if page == 0 or frame[8:16] != log[16:24] or frame[16:24] != struct.pack(">II", *before):
-            break
-        found.append((at, pages != 0))
-    return found, size
-
-
-def flipped(data, at, bit):
-    """Returns bytes in which one bit is another."""
-    return data[:at] + bytes([data[at] ^ 1 << bit]) + data[at + 1:]
 
 
 def put(room, log):
@@ -122,8 +93,6 @@ def test_torn(filled, subtests):
 def test_file(room, subtests):
     """The file of a store into which its log was copied has a sum, and each flipped bit of the file is told."""
     assert room.begun() == WELL
-    node = room.node("--turns", "20")
-    node.wait()
     file, log, note = (read(room.store + end) for end in ("", "-wal", "-sum"))
     with subtests.test("the sum is that of the file, and beside the salts of the log"):
         assert note == log[16:24] + hashlib.sha256(file).digest()

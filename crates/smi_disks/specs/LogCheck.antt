@@ -35,20 +35,20 @@ is_linked head before frame =
 abbrev pub ends_save : List ℕ → Bool
 ends_save frame = nat_le 24 (length frame) && not (u32_at frame 4 == 0)
 
--- what is known after another frame, of which two things are seen: whether it goes on from the one before, and whether a
--- save ends with it
+-- what is known after another frame, of which it is seen whether it goes on from the one before, and whether a save
+-- ends with it
 abbrev pub known_after : LogWalk → Bool → Bool → LogWalk
 known_after Sound is_linked ends = if is_linked then Sound else Torn
 known_after Torn is_linked ends = if is_linked && ends then Ended else Torn
 known_after Ended is_linked ends = if is_linked then Damaged else Ended
 known_after Damaged is_linked ends = Damaged
 
-pub record ReadingState : Type 0 where
+pub record LogReadingState : Type 0 where
   pub known : LogWalk
   pub before : ℕ × ℕ
   pub rest : List ℕ
 
-abbrev pub frame_read : List ℕ → ℕ → ReadingState → ReadingState
+abbrev pub frame_read : List ℕ → ℕ → LogReadingState → LogReadingState
 frame_read head size r =
     record {
       known = known_after r.known (is_linked head r.before (take size r.rest)) (ends_save (take size r.rest));
@@ -57,7 +57,7 @@ frame_read head size r =
     }
 
 -- after this many frames
-abbrev pub frames_read : List ℕ → ℕ → ReadingState → ℕ → ReadingState
+abbrev pub frames_read : List ℕ → ℕ → LogReadingState → ℕ → LogReadingState
 frames_read head size r zero = r
 frames_read head size r (suc n) = frame_read head size (frames_read head size r n)
 
@@ -86,7 +86,7 @@ abbrev pub is_damage : LogWalk → Bool
 is_damage Damaged = true
 is_damage _ = false
 
--- a frame does not go on from the one before, and behind the end of its save stands a later one
+-- a frame does not go on from the one before, and a save follows that began after its own had ended
 abbrev pub is_damaged : List ℕ → Bool
 is_damaged log =
     if nat_lt (length log) 32 then false

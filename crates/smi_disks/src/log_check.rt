@@ -27,25 +27,25 @@ pub(crate) enum LogWalk {
     Sound,
     /// One does not. The save that a crash broke off ends so.
     Torn,
-    /// Behind that frame a save ends that had it.
+    /// After that frame a save ends that had it.
     Ended,
-    /// Behind that save another one begins, which only is if that one was made.
+    /// After that save another one begins, which only is if that one was made.
     Damaged,
 }
 
 /// Frames of a log that are still to be read.
 #[derive(Drop)]
-struct Reading<'a> {
+struct LogReading<'a> {
     known: LogWalk,
     /// The sum in the frame before.
     before: Sum,
     rest: &'a [u8],
 }
 
-impl<'a> Model for Reading<'a> {
-    ghost use Rattle.smi_disks.specs.LogCheck.{ReadingState};
+impl<'a> Model for LogReading<'a> {
+    ghost use Rattle.smi_disks.specs.LogCheck.{LogReadingState};
 
-    ghost Value = { ReadingState };
+    ghost Value = { LogReadingState };
 
     ghost view = { λ r. record { known = r.known; before = r.before; rest = r.rest.now } };
 }
@@ -146,13 +146,13 @@ fn frame_size(head: &[u8]) -> usize
 }
 
 /// Reads a frame of this many bytes.
-fn read_frame<'a>(head: &[u8], size: usize, reading: &Reading<'a>) -> Reading<'a>
+fn read_frame<'a>(head: &[u8], size: usize, reading: &LogReading<'a>) -> LogReading<'a>
     requires { HEADER ≤ length head.now }
     ensures { result ≡ spec.frame_read head.now size reading.now }
 {
     let (frame, rest) = cut_at(reading.rest, size);
     let is_linked = is_linked(head, reading.before, frame);
-    Reading {
+    LogReading {
         known: known_after(reading.known, is_linked, ends_save(frame)),
         before: sum_at(frame, 16),
         rest,
@@ -166,7 +166,7 @@ fn walk(head: &[u8], frames: &[u8]) -> LogWalk
     ensures { result ≡ spec.walk head.now frames.now }
 {
     let size = frame_size(head);
-    let mut reading = Reading {
+    let mut reading = LogReading {
         known: LogWalk::Sound,
         before: sum_at(head, FRAME_HEADER),
         rest: frames,
@@ -187,7 +187,7 @@ fn salts_in(head: &[u8]) -> [u8; 8]
     salts
 }
 
-/// Returns the salts of a log that has a header and nothing behind it that goes on from there. None of any other log.
+/// Returns the salts of a log that has a header and after it nothing that goes on from there. None of any other log.
 pub(crate) fn salts_of_empty(log: &[u8]) -> Option<[u8; 8]>
     ensures { result ≡ spec.salts_of_empty log.now }
 {
@@ -203,8 +203,8 @@ pub(crate) fn salts_of_empty(log: &[u8]) -> Option<[u8; 8]>
 }
 
 /// Returns true if a log lost something in its middle: a frame in it does not go on from the one before, though a save
-/// that was begun after that frame's save stands behind it. A save is begun once the one before is on the disk, so no
-/// crash leaves such a log. What reads it would go on from before that frame.
+/// follows that was begun after that of the frame. A save is begun once the one before is on the disk, so no crash
+/// leaves such a log. What reads it would go on from before that frame.
 ///
 /// Of a log whose header is damaged nothing is known, nor of the last save and the one before.
 pub fn is_damaged(log: &[u8]) -> bool

@@ -44,8 +44,8 @@ pub trait Stores {
         station: u16,
     ) -> Result<OpenStore<Self::Open>, StoreFault>;
 
-    /// Returns what is seen of the files of a store that nobody has open, before it is opened. If they can't be read, they
-    /// count as sound, because the opening tells their fault. Its error is that memory was refused.
+    /// Returns what is seen of the files of a store that nobody has open, before it is opened. If they can't be read,
+    /// they count as sound, because the opening tells their fault. Its error is that memory was refused.
     fn health(&self, path: &[u8]) -> Result<StoreHealth, StoreFault>;
 
     /// Closes a store: its log is copied into its file, as far as that can be done, and what the file is then is noted.

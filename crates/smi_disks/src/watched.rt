@@ -26,8 +26,8 @@ pub trait Surroundings {
     /// Notes in the label that a station has started. Returns false if that could not be written.
     fn note(&mut self, start: LastStart) -> bool;
 
-    /// Notes what the file of the store is, once its log was copied into it. What could not be written is noted nowhere,
-    /// and then a later start has nothing to compare it with.
+    /// Notes what the file of the store is, once its log was copied into it. If that can't be written, a later start
+    /// has nothing to compare it with.
     fn note_copy(&mut self);
 }
 

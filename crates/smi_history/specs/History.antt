@@ -62,7 +62,7 @@ most_told = 10_000
 abbrev pub place_after : HistoryState → ℕ → ℕ
 place_after h number = min (number - dropped h) (length h.entries)
 
--- those after a number, at most so many
+-- those after a number, at most 10,000
 abbrev pub piece : HistoryState → ℕ → List HistoryEntry
 piece h number =
     slice_range h.entries (place_after h number) (min (place_after h number + most_told) (length h.entries))

@@ -35,7 +35,7 @@ note_in line = option_and_then plain_note (timed_text line)
 unfoldable pub entry_line : HistoryEntry → List ℕ
 entry_line e = fmt.decimal e.note.at ++ codes " " ++ e.note.text ++ codes "\n"
 
--- those after a number, at most so many as are written at a time
+-- those after a number, as many as are written at a time
 abbrev pub lines_text : HistoryState → ℕ → List ℕ
 lines_text h number = flat_map entry_line (piece h number)
 

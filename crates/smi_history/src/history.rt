@@ -253,7 +253,8 @@ impl History {
         }
     }
 
-    /// Drops the oldest entries, as long as they are from more days ago than entries are kept, at this time of the clock.
+    /// Drops the oldest entries, as long as they are from more days ago than entries are kept, by this time of the
+    /// clock.
     pub fn forget_older(&mut self, clock: u64)
         ensures { self.new ≡ spec.forgotten self.old (spec.oldest_time self.old.days clock) }
     {

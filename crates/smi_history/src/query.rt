@@ -137,7 +137,7 @@ impl History {
     ghost use Rattle.smi_history.specs.History.{piece};
     ghost use Rattle.smi_history.specs.Query as spec;
 
-    /// Returns the number after which it is looked for what a query asks for that names none: before the first entry of
+    /// Returns after which number it is looked for what a query asks for that names none: before the first entry of
     /// this second, or before the newest that are looked through for one request.
     fn usual_start(&self, second: u64) -> u64
         ensures { result ≡ spec.usual_start self.now second }
@@ -193,8 +193,8 @@ impl History {
     }
 
     /// Writes the entries that a query asks for, each as a line of JSON, after a first line that says where was looked.
-    /// At most 10,000 entries are looked through, so that no answer is larger than some megabytes; the next request goes
-    /// on after them.
+    /// At most 10,000 entries are looked through, so that no answer is larger than some megabytes. The next request
+    /// goes on after them.
     ///
     /// It fails only if memory ran out, which tests alone see.
     pub fn write(&self, query: &HistoryQuery<'_>) -> Result<Vec<u8>, AllocError>

@@ -8,8 +8,8 @@ const STANDARD_ERROR: i32 = 2;
 /// What is opened in a place that is closed.
 const NOTHING: &[u8] = b"/dev/null";
 
-/// Fills those of the three places that whoever started the program has left closed. Otherwise a socket or a store would
-/// get one of them, and what is printed would go into it.
+/// Fills those of the three places that are closed when the program is started. Otherwise a socket or a store would get
+/// one of them, and what is printed would go into it.
 ///
 /// An input is opened for writing, and an output for reading, so that the program reads and writes there as little as
 /// before.
