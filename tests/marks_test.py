@@ -26,6 +26,7 @@ DCS, TAKEN = (1, 1, 0), "020100010000000000000001" + 24 * "0"
 DROPPED, RETAKEN = "020000000000000000000002" + 24 * "0", "020100010000000000000003" + 24 * "0"
 EMPTY = ([], ["store is empty beside its label"], 1)
 OLDER = ([], ["store is older than its label"], 1)
+DAMAGED = ([], ["store has a damaged log"], 1)
 FAULT = ([], ["store fault"], 3)
 
 
@@ -312,9 +313,12 @@ def test_tail(room, subtests):
     told = node.ask("order ANN take DCS")
     node.kill()
     log = read(room.store + "-wal")
-    write(room.store + "-wal", log[:100] + bytes([log[100] ^ 1]) + log[101:])
-    with subtests.test("a bad bit in the first frame of the log"):
+    write(room.store + "-wal", log[:100])
+    with subtests.test("a log that is cut in its first frame"):
         assert [told, room.begun(), room.begun()] == ["told ANN take DCS 0", OLDER, OLDER]
+    write(room.store + "-wal", log[:100] + bytes([log[100] ^ 1]) + log[101:])
+    with subtests.test("a bad bit in that frame, before later ones"):
+        assert room.begun() == DAMAGED
     write(room.store + "-wal", log)
     with subtests.test("the log as it was"):
         assert room.begun() == WELL

@@ -10,14 +10,13 @@ import random
 
 import pytest
 
-from marks_test import Room, WELL
+from marks_test import DAMAGED, Room, WELL
 from rot import flipped, frames_of
 from running import is_so, read, write
 
 SEED = 20261130
 # How many takes and drops fill the log, and how many flips and cuts are tried.
 ROUNDS, FLIPS, CUTS = 30, 60, 30
-DAMAGED = ([], ["store has a damaged log"], 1)
 DIFFERS = ([], ["store differs from its sum"], 1)
 ENDS = ("", "-wal", "-tree", "-sum")
 ACCEPTED = ["--accept-older"]
