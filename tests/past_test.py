@@ -517,7 +517,7 @@ def test_until(night, subtests, monkeypatch):
 
 
 def test_until_longer(night, subtests):
-    """A longer time that has ended is asked for anew, and a shorter one is there."""
+    """A longer time that has ended is asked for again, and a shorter one is there."""
     browser, screen = night.browser, night.screen
     screen.past = ten_days(night.names)
     night.open()

@@ -234,7 +234,7 @@ def test_without(folder, home, start_screen, subtests):
 
 
 def test_days(start_past, subtests):
-    """Entries are kept for so many days, in memory and in the file."""
+    """Entries are kept for some days, in memory and in the file."""
     start, path = start_past
     now = int(1000 * time.time())
     lines = ["%d board HV 1.%d READY" % (now - int(days * DAY), at) for at, days in
