@@ -4,8 +4,8 @@ usage: rot.py [--flips N] [--seed N] PROGRAM
 
 A node takes and drops a domain sixty times and is killed, so that all is in its log. Then one bit of the log is flipped
 at a time, anywhere in it, and the node started again; and the same of the file of a store that was closed. A line is
-printed for each of the two: how many flips were told, how many changed nothing, and how many led to another state
-unseen. Boots are no state here, because each start makes one.
+printed for each of the two: how many flips were told, how many left all rows as they were, and how many led to other
+rows unseen, as sqlite3 finds them before the start. Boots do not count, because each start makes one.
 """
 
 import argparse
@@ -63,7 +63,7 @@ def rows_of(store):
             shutil.copy(store + end, os.path.join(there, "store" + end))
         try:
             rows = dict(stores.rows_in(os.path.join(there, "store")))
-        except (sqlite3.Error, AssertionError) as fault:
+        except (sqlite3.Error, AssertionError, ValueError) as fault:
             return {"fault": str(fault)}
     return {key: row for key, row in rows.items() if key != BOOT}
 
@@ -88,9 +88,11 @@ def figures(program, tree, store, ends, flips, numbers):
     for _ in range(flips):
         put_back()
         write(store + ends, flipped(whole[ends], numbers.randrange(length), numbers.randrange(8)))
+        # before the start: a node that runs may save again what was lost
+        is_kept = rows_of(store) == rows
         if started(program, tree, store) != 0:
             told += 1
-        elif rows_of(store) == rows:
+        elif is_kept:
             same += 1
         else:
             unseen += 1
@@ -114,7 +116,7 @@ def main():
         for name, end in [("log", "-wal"), ("file", "")]:
             if name == "file":
                 assert started(program, tree, store) == 0
-            print("%s: %d told, %d changed nothing, %d in another state unseen" % (
+            print("%s: %d told, %d with all rows as they were, %d with other rows unseen" % (
                 name, *figures(program, tree, store, end, given.flips, numbers)), flush=True)
 
 

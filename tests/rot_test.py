@@ -10,6 +10,8 @@ import random
 
 import pytest
 
+import nodes
+import screens
 from marks_test import DAMAGED, Room, WELL
 from rot import flipped, frames_of
 from running import is_so, read, write
@@ -92,7 +94,7 @@ def test_torn(filled, subtests):
 def test_file(room, subtests):
     """The file of a store into which its log was copied has a sum, and each flipped bit of the file is told."""
     assert room.begun() == WELL
-    file, log, note = (read(room.store + end) for end in ("", "-wal", "-sum"))
+    file, log, label, note = (read(room.store + end) for end in ENDS)
     with subtests.test("the sum is that of the file, and beside the salts of the log"):
         assert note == log[16:24] + hashlib.sha256(file).digest()
     with subtests.test("nothing unfinished is left"):
@@ -105,7 +107,11 @@ def test_file(room, subtests):
             assert room.begun() == DIFFERS
             assert [read(room.store + end) for end in ("", "-wal", "-sum")] == [flipped(file, at, bit), log, note]
     write(room.store, file)
-    write(room.store + "-sum", note[:-1])
+    write(room.store + "-sum", note[:8] + bytes(32))
+    with subtests.test("a sum that differs is refused, unless the line says otherwise"):
+        assert [room.begun(), room.begun(more=ACCEPTED)] == [DIFFERS, WELL]
+    for end, data in zip(ENDS, (file, log, label, note[:-1])):
+        write(room.store + end, data)
     with subtests.test("what is no sum is not compared"):
         assert room.begun() == WELL
     write(room.store + "-sum", bytes(8) + note[8:])
@@ -114,6 +120,27 @@ def test_file(room, subtests):
     with subtests.test("and there is a new one"):
         assert read(room.store + "-sum") == (
             read(room.store + "-wal")[16:24] + hashlib.sha256(read(room.store)).digest())
+
+
+def test_screen(smi, folder, subtests):
+    """A screen refuses a damaged store as a node does, and leaves it as it is."""
+    ports = nodes.free_ports(3)
+    tree = nodes.write_tree(folder, None, screens.with_screen(nodes.tree_lines(ports[:2]), ports[2]))
+    store = screens.store_of(folder, "screen")
+
+    def looked(*more):
+        return smi("screen", tree, "SCREEN", store, "--http", "127.0.0.1:%d" % screens.tcp_port(), "--turns", "3", *more)
+
+    assert looked() == (b"", b"", 0)
+    note = read(store + "-sum")
+    write(store + "-sum", note[:8] + bytes(32))
+    files = [read(store + end) for end in ENDS]
+    with subtests.test("refused"):
+        assert looked() == (b"", b"store differs from its sum\n", 1)
+    with subtests.test("and left as it is"):
+        assert [read(store + end) for end in ENDS] == files
+    with subtests.test("accepted"):
+        assert looked(*ACCEPTED) == (b"", b"", 0)
 
 
 def test_quiet(room, subtests):
