@@ -1,5 +1,6 @@
 -- What any link shows of its datagrams.
-use Rattle.std.specs.Prelude.{ℕ, ◌≡◌, ◌≤◌, ◌+◌, ◌++◌, ◌∷◌, [], List, take, Option, Some, IfSome, Result, Ok, Err}
+use Rattle.std.specs.Prelude.{ℕ, ◌≡◌, ◌≢◌, ◌≤◌, min, ◌+◌, ◌++◌, ◌∷◌, [], List, take, Option, Some, IfSome}
+use Rattle.std.specs.Prelude.{Result, Ok, Err}
 use Rattle.smi_link.specs.declared.link.Reception.{Reception}
 use Rattle.smi_link.specs.declared.link.Reception.TheVariants.{Received, Nothing, Fault}
 
@@ -26,6 +27,16 @@ CountsReception Fault old new = new ≡ old + 1
 abbrev pub CountsSend : {E : Type 0} → Result (Unit {0}) E → ℕ → ℕ → Type 0
 CountsSend (Ok u) old new = new ≡ old
 CountsSend (Err e) old new = new ≡ old + 1
+
+-- one more foreign datagram, as far as a number of 64 bits counts
+abbrev pub one_more : ℕ → ℕ
+one_more n = min (n + 1) 18446744073709551615
+
+-- only a datagram without bytes can be a foreign one
+abbrev pub CountsForeign : Reception → ℕ → ℕ → Type 0
+CountsForeign (Received n) old new = (n ≢ 0 → new ≡ old) × (new ≢ old → new ≡ one_more old)
+CountsForeign Nothing old new = new ≡ old
+CountsForeign Fault old new = new ≡ old
 
 -- what was handed on grows by just what is taken
 abbrev pub Sends : {E : Type 0} → Option (List (ℕ × List ℕ)) → Option (List (ℕ × List ℕ)) → ℕ → List ℕ

@@ -1,7 +1,8 @@
-//! Lists that grow, and how often they could not.
+//! Lists and queues that grow, and how often they could not.
 
 use smi_base::Tally;
 use std::alloc::AllocError;
+use std::collections::VecDeque;
 use std::marker::Model;
 
 /// How often memory was refused to a list that was to grow, which contracts alone read. Only an allocation
@@ -21,6 +22,7 @@ impl Model for Growth {
 
 impl Growth {
     ghost use Rattle.std.specs.Prelude.{◌≡◌, ◌≤◌, ◌<◌, ◌+◌, ◌++◌, ◌∷◌, [], OnOk, OnErr, IsOk, vec_len, vec_capacity};
+    ghost use Rattle.std.specs.VecDeque.{deque_capacity, deque_len};
 
     /// Returns a count of nothing refused.
     pub(crate) fn new() -> Growth
@@ -40,6 +42,25 @@ impl Growth {
         ensures room { vec_len list.old < vec_capacity list.old → IsOk result }
     {
         if list.push(item).is_err() {
+            self.refusals.raise();
+            return Err(AllocError);
+        }
+        Ok(())
+    }
+
+    /// Puts an item at the end of a queue.
+    pub(crate) fn push_back<T: Drop>(
+        &mut self,
+        queue: &mut VecDeque<T>,
+        item: T,
+    ) -> Result<(), AllocError>
+        ensures pushed { OnOk result (queue.new.items ≡ queue.old.items ++ item ∷ []) }
+        ensures grown { OnOk result (self.new.count ≡ self.old.count) }
+        ensures unchanged { OnErr result (queue.new.items ≡ queue.old.items) }
+        ensures refused { OnErr result (self.new.count ≡ self.old.count + 1) }
+        ensures room { deque_len queue.old < deque_capacity queue.old → IsOk result }
+    {
+        if queue.push_back(item).is_err() {
             self.refusals.raise();
             return Err(AllocError);
         }

@@ -37,10 +37,12 @@
 //! - `receive` and `send` leave the addresses unchanged. A datagram goes to the address of the station that it is for,
 //!   and nowhere else: `PeerSocket`, which alone has the socket, remembers the address of its last send, and how often
 //!   it sent, as contracts see them. What it remembers rests on one short body, `PeerSocket::send_to`.
+//! - What is sent to the link's own station goes to no address and waits in memory (`OwnQueue`, `specs/Own`): a receive
+//!   gives the oldest whole, or leaves all. A queue grows by `Growth` too, so a send that refuses one has its cause.
 //! - How many milliseconds a call may still wait is `left_at` (`specs/Patience`), of when the link's patience began
 //!   and of the moment that its clock gave.
-//! - A datagram of a foreign source is received as no bytes (`admitted`, `specs/Sources`): the link receives what its
-//!   socket gives through `admitted` alone, in one short line. Contracts see no datagram of a socket.
+//! - A datagram of a foreign source is counted and received as no bytes (`admitted`, `specs/Sources`): the link
+//!   receives what its socket gives through `admitted` alone, in one short line. Contracts see no datagram of a socket.
 //! - Not claimed: any byte, that a datagram arrives, what the clock says, that `receive` returns.
 #![tactic(auto)]
 
@@ -48,6 +50,7 @@ mod frame;
 mod growth;
 mod link;
 mod memory;
+mod own_queue;
 mod patience;
 mod peer_socket;
 mod sources;

@@ -1,7 +1,7 @@
 //! What a link is to its users, which send and receive over it.
 
 ghost use Rattle.std.specs.Prelude.{ℕ, List, Option, ◌≡◌, ◌+◌};
-ghost use Rattle.smi_link.specs.Link.{Receives, Sends, CountsReception, CountsSend};
+ghost use Rattle.smi_link.specs.Link.{Receives, Sends, CountsReception, CountsSend, CountsForeign};
 
 use thiserror::Error;
 
@@ -34,7 +34,8 @@ pub struct LinkFault;
 /// and *handed* the list of the stations and datagrams for which `send` answered `Ok`; a link that does
 /// not tell its datagrams has none of the two. *Failures* is a count that has no last value: each fault
 /// raises it by one, and nothing else does. *Receives* is another such count: each call of `receive`
-/// raises it by one, whatever it answers, and nothing else does.
+/// raises it by one, whatever it answers, and nothing else does. *Foreign* is the number that `foreign`
+/// returns.
 pub trait DatagramLink {
     ghost received: { Self → Option (List (List ℕ)) };
 
@@ -44,14 +45,18 @@ pub trait DatagramLink {
 
     ghost receives: { Self → ℕ };
 
+    ghost foreign: { Self → ℕ };
+
     /// Receives the next datagram, in the beginning of the buffer.
     ///
-    /// After `Nothing` and `Fault` the rest of the buffer says nothing, and no datagram was taken.
+    /// After `Nothing` and `Fault` the rest of the buffer says nothing, and no datagram was taken. A datagram from
+    /// a foreign source is received as one without bytes.
     fn receive(&mut self, buffer: &mut [u8; 45]) -> Reception
         ensures received { Receives (received self.old) (received self.new) buffer.new result }
         ensures handed { handed self.new ≡ handed self.old }
         ensures failures { CountsReception result (failures self.old) (failures self.new) }
-        ensures receives { receives self.new ≡ receives self.old + 1 };
+        ensures receives { receives self.new ≡ receives self.old + 1 }
+        ensures foreign { CountsForeign result (foreign self.old) (foreign self.new) };
 
     /// Hands a datagram on to a station.
     ///
@@ -60,5 +65,10 @@ pub trait DatagramLink {
         ensures handed { Sends (handed self.old) (handed self.new) station datagram.now result }
         ensures received { received self.new ≡ received self.old }
         ensures failures { CountsSend result (failures self.old) (failures self.new) }
-        ensures receives { receives self.new ≡ receives self.old };
+        ensures receives { receives self.new ≡ receives self.old }
+        ensures foreign { foreign self.new ≡ foreign self.old };
+
+    /// Returns how many datagrams from foreign sources have come, 2^64 - 1 at most.
+    fn foreign(&self) -> u64
+        ensures { result ≡ foreign self.now };
 }

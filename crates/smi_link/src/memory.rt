@@ -99,7 +99,7 @@ impl MemoryLink {
 
 impl DatagramLink for MemoryLink {
     ghost use Rattle.std.specs.Prelude.{Some, ◌≡◌, ◌+◌, IsErr, IsTrue};
-    ghost use Rattle.smi_link.specs.Link.{Receives, Sends, CountsReception, CountsSend};
+    ghost use Rattle.smi_link.specs.Link.{Receives, Sends, CountsReception, CountsSend, CountsForeign};
     ghost use Rattle.smi_link.specs.Memory.{received_of, handed_of, is_planned, Gives, Takes};
 
     ghost received = { λ l. Some (received_of l) };
@@ -110,11 +110,15 @@ impl DatagramLink for MemoryLink {
 
     ghost receives = { λ l. l.receives };
 
+    // What is put into it is of no source.
+    ghost foreign = { λ _. 0 };
+
     fn receive(&mut self, buffer: &mut [u8; 45]) -> Reception
         ensures received { Receives (Some (received_of self.old)) (Some (received_of self.new)) buffer.new result }
         ensures handed { Some (handed_of self.new) ≡ Some (handed_of self.old) }
         ensures failures { CountsReception result self.old.failures self.new.failures }
         ensures receives { self.new.receives ≡ self.old.receives + 1 }
+        ensures foreign { CountsForeign result 0 0 }
         ensures gives { Gives self.old self.new buffer.new result }
     {
         match self.next() {
@@ -160,6 +164,12 @@ impl DatagramLink for MemoryLink {
             return Err(LinkFault);
         }
         Ok(())
+    }
+
+    fn foreign(&self) -> u64
+        ensures { result ≡ 0 }
+    {
+        0
     }
 }
 

@@ -58,6 +58,16 @@ impl PeerSocket {
         self.socket.recv_from(buffer)
     }
 
+    /// Receives the next datagram as [`PeerSocket::receive`] does, and does not wait for one.
+    pub(crate) fn receive_at_once(&self, buffer: &mut [u8; 45]) -> io::Result<(usize, SocketAddr)>
+        ensures { IfOk result (λ r. r.0 ≤ 45) }
+    {
+        self.socket.set_nonblocking(true)?;
+        let came = self.socket.recv_from(buffer);
+        self.socket.set_nonblocking(false)?;
+        came
+    }
+
     /// Lets the socket wait no longer than this many milliseconds for a datagram.
     pub(crate) fn wait_at_most(&self, milliseconds: u64) -> io::Result<()> {
         self.socket

@@ -97,7 +97,7 @@ fn received_first<L: DatagramLink>(link: &mut L) -> Reception {
     link.receive(&mut buffer)
 }
 
-/// Returns a link of two stations at addresses of this machine; the second is another socket's.
+/// Returns the link of station 1 of two, at addresses of this machine; the second is another socket's.
 fn udp_link(
     rt: &HostRuntime,
     second: SocketAddr,
@@ -107,7 +107,7 @@ fn udp_link(
     let mut peers = Vec::new(rt.alloc());
     peers.push(here)?;
     peers.push(second)?;
-    let link = UdpLink::over(socket, rt, peers)?;
+    let link = UdpLink::over(rt.alloc(), socket, rt, 1, peers)?;
     Ok((link, here))
 }
 
