@@ -42,6 +42,6 @@ mod turns;
 pub use answers::REPLACED;
 pub use event::{NoObserver, StepObserver};
 pub use law::blank_boards_are_risen;
-pub use node::{CarryFault, Node, NodeInput, carry, is_stopped_by, step_and_send};
+pub use node::{CarryFault, Node, NodeInput, ServedBoard, carry, is_stopped_by, step_and_send};
 pub use stats::NodeStats;
 pub use turns::{ServeFault, serve};

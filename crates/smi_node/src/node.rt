@@ -247,6 +247,13 @@ impl<S: Stable, J: BoardId> Node<'_, '_, '_, '_, S, J> {
     }
 }
 
+/// A board, and the handle over which a publication waits for its readers.
+#[derive(Drop)]
+pub struct ServedBoard<'r, 'b, R, J: BoardId> {
+    pub rt: &'r R,
+    pub board: &'b mut Board<J>,
+}
+
 /// Carries an event to a station and what follows it from there: the datagrams of the step are sent, each to its
 /// receiver, and one that the link does not take is lost; a shown state is published; and answers go to the orders
 /// in work that they are of, while one that is of none is dropped.
@@ -264,30 +271,32 @@ impl<S: Stable, J: BoardId> Node<'_, '_, '_, '_, S, J> {
 ///
 /// [`REPLACED`]: crate::REPLACED
 pub fn carry<S: Stable, L: DatagramLink, J: BoardId, R: Wait>(
-    rt: &R,
     station: &mut Station<'_, S>,
     event: Event<'_>,
     seat: Option<usize>,
     out: &mut Out,
     link: &mut L,
     desk: &mut Desk,
-    board: &mut Board<J>,
+    board: &mut ServedBoard<'_, '_, R, J>,
 ) -> Result<(), CarryFault>
-    ensures { Carries (StepsTo S.is_honest S.is_open S.rows S.may_find S.saves S.failures S.doubts)
+    ensures carries { Carries (StepsTo S.is_honest S.is_open S.rows S.may_find S.saves S.failures S.doubts)
         (operators_in station.old.core) event.entry seat out.new
-        (node station.old (edges (shown_by L.received L.handed L.failures L.receives link.old) desk.old board.old) None)
-        (node station.new (edges (shown_by L.received L.handed L.failures L.receives link.new) desk.new board.new) None)
+        (node station.old (edges (shown_by L.received L.handed L.failures L.receives link.old) desk.old
+        board.old.board.now) None)
+        (node station.new (edges (shown_by L.received L.handed L.failures L.receives link.new) desk.new
+        board.new.board.now) None)
         (fault_in result) }
+    ensures board { board.new.board.ghost_name ≡ board.old.board.ghost_name }
 {
     let operators = station.operators();
     let stats = NodeStats::new();
     let mut node = Node {
         station,
         desk,
-        board,
+        board: &mut *board.board,
         out,
         operators,
         stats: &stats,
     };
-    node.carry(rt, NodeInput { event, seat }, link, &mut NoObserver)
+    node.carry(board.rt, NodeInput { event, seat }, link, &mut NoObserver)
 }

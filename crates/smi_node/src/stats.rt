@@ -14,6 +14,7 @@ const REFUSALS: usize = 15;
 #[derive(Drop)]
 pub struct NodeStats {
     received: AtomicU64,
+    foreign: AtomicU64,
     sent: AtomicU64,
     unsent: AtomicU64,
     ticks: AtomicU64,
@@ -56,6 +57,7 @@ impl NodeStats {
     pub fn new() -> NodeStats {
         NodeStats {
             received: zero(),
+            foreign: zero(),
             sent: zero(),
             unsent: zero(),
             ticks: zero(),
@@ -93,6 +95,11 @@ impl NodeStats {
     /// Counts a datagram that came.
     pub(crate) fn count_received(&self) {
         raise(&self.received);
+    }
+
+    /// Notes how many datagrams from foreign sources have come.
+    pub(crate) fn note_foreign(&self, count: u64) {
+        self.foreign.store(count, Ordering::Relaxed);
     }
 
     /// Counts that nothing came.
@@ -144,6 +151,7 @@ impl NodeStats {
             push_number(text, refusal_at(place) as u64)?;
             push(text, "", Some(number))?;
         }
+        push(text, " foreign", Some(&self.foreign))?;
         text.push(b'\n')?;
         Ok(())
     }

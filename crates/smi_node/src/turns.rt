@@ -39,6 +39,13 @@ pub enum ServeFault {
 /// The number of faults in a row that end the service.
 const MOST_FAULTS: u32 = 100;
 
+/// A seat, and the operator whose seat it is, if it is one's.
+#[derive(Clone, Copy)]
+struct ServedSeat {
+    seat: usize,
+    who: Option<u16>,
+}
+
 /// Returns the operator of a seat: the last seat is nobody's.
 fn operator_of_seat(operators: &[u16], seats: usize, seat: usize) -> Option<u16>
     requires { seat < seats }
@@ -140,15 +147,14 @@ impl<S: Stable, J: BoardId> Node<'_, '_, '_, '_, S, J> {
     fn serve_seat<L: DatagramLink, V: StepObserver, R: Wait>(
         &mut self,
         rt: &R,
-        who: Option<u16>,
-        seat: usize,
+        served: ServedSeat,
         link: &mut L,
         observer: &mut V,
     ) -> Result<(), CarryFault>
-        requires { seat < seat_count self.old.desk.now }
+        requires { served.seat < seat_count self.old.desk.now }
         ensures serves { ServesSeat (carrying
             (StepsTo S.is_honest S.is_open S.rows S.may_find S.saves S.failures S.doubts) self.old.operators.now)
-            who seat
+            served.who served.seat
             (node self.old.station.now (edges (shown_by L.received L.handed L.failures L.receives link.old)
             self.old.desk.now self.old.board.now) (V.told observer.old))
             (node self.new.station.now (edges (shown_by L.received L.handed L.failures L.receives link.new)
@@ -159,6 +165,7 @@ impl<S: Stable, J: BoardId> Node<'_, '_, '_, '_, S, J> {
         ensures out { self.new.out.ghost_name ≡ self.old.out.ghost_name }
         ensures operators { self.new.operators.now ≡ self.old.operators.now }
     {
+        let ServedSeat { seat, who } = served;
         match self.desk.next(seat) {
             Some(order) => self.serve_order(rt, seat, event_of(who, order), link, observer),
             None => Ok(()),
@@ -189,7 +196,7 @@ impl<S: Stable, J: BoardId> Node<'_, '_, '_, '_, S, J> {
         let seats = self.desk.seat_count();
         for seat in 0..seats {
             let who = operator_of_seat(operators, seats, seat);
-            match self.serve_seat(rt, who, seat, link, observer) {
+            match self.serve_seat(rt, ServedSeat { seat, who }, link, observer) {
                 Ok(()) => {}
                 Err(fault) => return Err(fault),
             }
@@ -222,6 +229,7 @@ impl<S: Stable, J: BoardId> Node<'_, '_, '_, '_, S, J> {
         match link.receive(&mut buffer) {
             Reception::Received(count) => {
                 self.stats.count_received();
+                self.stats.note_foreign(link.foreign());
                 let input = NodeInput {
                     event: Event::Datagram(&buffer[..count]),
                     seat: None,

@@ -22,7 +22,7 @@ returns-in-Some-clause-serves g c =
       c.next.new.self,
       c.in-Some.ensures.step,
       c.in-Some.ensures.succeeds,
-      subst (λ (e : Option Event). Obeys (carrying steps c.args.self.now.operators.now) c.args.seat e
+      subst (λ (e : Option Event). Obeys (carrying steps c.args.self.now.operators.now) c.args.served.seat e
           (with_desk first c.next.new.self) after (fault_in c.serve_order.result))
           c.event_of.ensures c.serve_order.ensures.obeys,
     )
