@@ -13,6 +13,7 @@ use Rattle.smi_view.specs.Pictured.{Pictured, domain_of, object_of}
 use Rattle.smi_view.specs.declared.Hearing.{Hearing}
 use Rattle.smi_view.specs.declared.Sight.{Sight}
 use Rattle.smi_web.specs.declared.metrics.Metric.{Metric}
+use Rattle.smi_web.specs.declared.metrics.ScreenFigures.{ScreenFigures}
 use Rattle.smi_web.specs.declared.metrics.Metric.TheVariants as metric
 use Rattle.smi_web.specs.Json.{listed, quoted}
 
@@ -105,10 +106,12 @@ metric_text h p metric now =
 unfoldable pub whole_text : List ℕ → List ℕ → List ℕ → ℕ → List ℕ
 whole_text name help kind number = head_text name help kind ++ name ++ codes " " ++ decimal number ++ codes "\n"
 
--- how many pictures there were, and how many domains there are
-abbrev pub screen_text : Hierarchy → ℕ → List ℕ
-screen_text h number =
-    whole_text (codes "smi_screen_frames_total") (codes "How many pictures the screen has made.") (codes "counter") number
+-- how many pictures there were, how many datagrams the station refused for where they came from, and how many domains
+-- there are
+abbrev pub screen_text : Hierarchy → ScreenFigures → List ℕ
+screen_text h f =
+    whole_text (codes "smi_screen_frames_total") (codes "How many pictures the screen has made.") (codes "counter") f.number
+    ++ whole_text (codes "smi_screen_foreign_datagrams_total") (codes "How many datagrams came to the screen from foreign sources.") (codes "counter") f.foreign
     ++ whole_text (codes "smi_screen_domains") (codes "How many domains the tree has.") (codes "gauge") (domain_count h)
 
 -- the states of all objects
@@ -126,6 +129,6 @@ domains_text h p now =
     ++ metric_text h p metric.Outcome now
     ++ metric_text h p metric.Age now
 
--- all metrics of a picture, which has this number and is looked at at this time
-abbrev pub metrics_text : Hierarchy → Pictured → (number now : ℕ) → List ℕ
-metrics_text h p number now = screen_text h number ++ states_text h p ++ domains_text h p now
+-- all metrics of a picture, with the figures of its screen
+abbrev pub metrics_text : Hierarchy → Pictured → ScreenFigures → List ℕ
+metrics_text h p f = screen_text h f ++ states_text h p ++ domains_text h p f.now

@@ -5,6 +5,7 @@ use Rattle.smi_tree.specs.Hierarchy.{Hierarchy}
 use Rattle.smi_view.specs.Pictured.{Pictured}
 use Rattle.smi_web.specs.Metrics.{metrics_text}
 use Rattle.smi_web.specs.OrderRelay.{OrderRelayState}
+use Rattle.smi_web.specs.declared.metrics.ScreenFigures.{ScreenFigures}
 use Rattle.smi_web.specs.declared.acknowledgements.Acknowledgement.{Acknowledgement}
 use Rattle.smi_web.specs.OrdersJson.{orders_text}
 use Rattle.smi_web.specs.PictureJson.{picture_text}
@@ -15,24 +16,28 @@ use Rattle.smi_web.specs.declared.snapshot.Snapshot.{Snapshot}
 abbrev pub version_of : ℕ → List ℕ
 version_of number = codes "after=" ++ decimal number
 
--- a page, a tree, and a picture of this number, looked at at this time
-abbrev pub snapshot_of : List ℕ → Hierarchy → Pictured → (number now : ℕ) → Snapshot
-snapshot_of page h p number now = record {
-  version = version_of number;
+-- a page, a tree, and a picture with the figures of its screen
+abbrev pub snapshot_of : List ℕ → Hierarchy → Pictured → ScreenFigures → Snapshot
+snapshot_of page h p f = record {
+  version = version_of f.number;
   page = page;
   tree = tree_text h;
-  picture = picture_text h p number now;
-  metrics = metrics_text h p number now;
+  picture = picture_text h p f.number f.now;
+  metrics = metrics_text h p f;
   orders = [];
 }
 
 -- a further picture, on the same page
-abbrev pub renewed : Snapshot → Hierarchy → Pictured → (number now : ℕ) → Snapshot
-renewed snapshot h p number now = record snapshot {
-  version = version_of number;
-  picture = picture_text h p number now;
-  metrics = metrics_text h p number now;
+abbrev pub renewed : Snapshot → Hierarchy → Pictured → ScreenFigures → Snapshot
+renewed snapshot h p f = record snapshot {
+  version = version_of f.number;
+  picture = picture_text h p f.number f.now;
+  metrics = metrics_text h p f;
 }
+
+-- nothing was counted yet
+abbrev pub no_figures : ScreenFigures
+no_figures = record { number = 0; now = 0; foreign = 0 }
 
 -- what became of the orders that were given from the page, and which alarms were acknowledged, looked at at this time
 abbrev pub with_orders : Snapshot → OrderRelayState → List Acknowledgement → ℕ → Snapshot

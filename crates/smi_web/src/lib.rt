@@ -51,7 +51,7 @@ mod tree_json;
 pub use acknowledgements::{
     Acknowledgement, Acknowledgements, MOST_ACKNOWLEDGED, is_acknowledgement,
 };
-pub use metrics::write_metrics;
+pub use metrics::{ScreenFigures, write_metrics};
 pub use order_line::is_order_line;
 pub use order_relay::{Admission, MOST_ORDERS, MOST_UNSENT, OrderRelay};
 pub use orders_json::write_orders;

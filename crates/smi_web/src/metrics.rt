@@ -34,6 +34,17 @@ use smi_tree::Tree;
 use smi_view::{Hearing, Picture, Sight};
 use std::alloc::{AllocError, Global};
 
+/// The figures of a screen beside its picture.
+#[derive(Clone, Copy, PartialEq, Eq)]
+pub struct ScreenFigures {
+    /// The number of the picture.
+    pub number: u64,
+    /// The time at which it is looked at, in milliseconds.
+    pub now: u64,
+    /// How many datagrams came to the screen from foreign sources.
+    pub foreign: u64,
+}
+
 /// A metric of each domain.
 #[derive(Clone, Copy, PartialEq, Eq)]
 enum Metric {
@@ -296,15 +307,22 @@ fn put_metric(
 }
 
 /// Writes how many pictures there were, and how many domains there are.
-fn put_screen(text: &mut Vec<u8>, tree: &Tree, number: u64) -> Result<(), AllocError>
-    ensures { OnOk result (text.new.items ≡ text.old.items ++ screen_text tree.now number) }
+fn put_screen(text: &mut Vec<u8>, tree: &Tree, figures: ScreenFigures) -> Result<(), AllocError>
+    ensures { OnOk result (text.new.items ≡ text.old.items ++ screen_text tree.now figures) }
 {
     put_whole(
         text,
         b"smi_screen_frames_total",
         b"How many pictures the screen has made.",
         b"counter",
-        number,
+        figures.number,
+    )?;
+    put_whole(
+        text,
+        b"smi_screen_foreign_datagrams_total",
+        b"How many datagrams came to the screen from foreign sources.",
+        b"counter",
+        figures.foreign,
     )?;
     put_whole(
         text,
@@ -347,21 +365,20 @@ fn put_metrics(
     Ok(())
 }
 
-/// Writes all metrics of a picture, with its number and the time at which it was looked at.
+/// Writes all metrics of a picture, with the figures of its screen.
 ///
 /// It fails only if memory ran out, which tests alone see.
 pub fn write_metrics(
     alloc: Global,
     tree: &Tree,
     picture: &Picture,
-    number: u64,
-    now: u64,
+    figures: ScreenFigures,
 ) -> Result<Vec<u8>, AllocError>
-    ensures { IfOk result (λ text. text.items ≡ metrics_text tree.now picture.now number now) }
+    ensures { IfOk result (λ text. text.items ≡ metrics_text tree.now picture.now figures) }
 {
     let mut text = Vec::new(alloc);
-    put_screen(&mut text, tree, number)?;
+    put_screen(&mut text, tree, figures)?;
     put_states(&mut text, tree, picture)?;
-    put_metrics(&mut text, tree, picture, now)?;
+    put_metrics(&mut text, tree, picture, figures.now)?;
     Ok(text)
 }

@@ -4,7 +4,7 @@ ghost use Rattle.std.specs.Prelude.{◌≡◌, IfOk};
 ghost use Rattle.smi_web.specs.Snapshot.{version_of};
 
 use crate::acknowledgements::Acknowledgements;
-use crate::metrics::write_metrics;
+use crate::metrics::{ScreenFigures, write_metrics};
 use crate::order_relay::OrderRelay;
 use crate::orders_json::write_orders;
 use crate::picture_json::write_picture;
@@ -40,9 +40,9 @@ fn version_of(alloc: Global, number: u64) -> Result<Bytes, AllocError>
 
 impl Snapshot {
     ghost use Rattle.std.specs.Prelude.{◌≡◌, IfOk, OnErr, OnOk};
-    ghost use Rattle.smi_web.specs.Snapshot.{snapshot_of, renewed, with_orders};
+    ghost use Rattle.smi_web.specs.Snapshot.{no_figures, snapshot_of, renewed, with_orders};
 
-    /// Returns the first snapshot, of a page, a tree and a picture, which has number 0 and is looked at at time 0.
+    /// Returns the first snapshot, of a page, a tree and a picture, before anything was counted.
     ///
     /// It fails only if memory ran out, which tests alone see.
     pub fn first(
@@ -51,11 +51,16 @@ impl Snapshot {
         tree: &Tree,
         picture: &Picture,
     ) -> Result<Snapshot, AllocError>
-        ensures { IfOk result (λ snapshot. snapshot ≡ snapshot_of page tree.now picture.now 0 0) }
+        ensures { IfOk result (λ snapshot. snapshot ≡ snapshot_of page tree.now picture.now no_figures) }
     {
         let shape = shared(write_tree(alloc, tree)?)?;
         let scene = shared(write_picture(alloc, tree, picture, 0, 0)?)?;
-        let metrics = shared(write_metrics(alloc, tree, picture, 0, 0)?)?;
+        let figures = ScreenFigures {
+            number: 0,
+            now: 0,
+            foreign: 0,
+        };
+        let metrics = shared(write_metrics(alloc, tree, picture, figures)?)?;
         Ok(Snapshot {
             version: version_of(alloc, 0)?,
             page,
@@ -66,8 +71,8 @@ impl Snapshot {
         })
     }
 
-    /// Makes the snapshot of a picture, which has this number and is looked at at this time, in place of the one
-    /// before. The page and the tree stay.
+    /// Makes the snapshot of a picture, with the figures of its screen, in place of the one before. The page and the
+    /// tree stay.
     ///
     /// It fails only if memory ran out, which tests alone see, and changes nothing then.
     pub fn renew(
@@ -75,14 +80,14 @@ impl Snapshot {
         alloc: Global,
         tree: &Tree,
         picture: &Picture,
-        number: u64,
-        now: u64,
+        figures: ScreenFigures,
     ) -> Result<(), AllocError>
-        ensures ok { OnOk result (self.new ≡ renewed self.old tree.now picture.now number now) }
+        ensures ok { OnOk result (self.new ≡ renewed self.old tree.now picture.now figures) }
         ensures err { OnErr result (self.new ≡ self.old) }
     {
+        let ScreenFigures { number, now, .. } = figures;
         let scene = shared(write_picture(alloc, tree, picture, number, now)?)?;
-        let metrics = shared(write_metrics(alloc, tree, picture, number, now)?)?;
+        let metrics = shared(write_metrics(alloc, tree, picture, figures)?)?;
         self.version = version_of(alloc, number)?;
         self.picture = scene;
         self.metrics = metrics;
