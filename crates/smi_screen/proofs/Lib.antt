@@ -1,3 +1,4 @@
+pub mod Asked
 pub mod Carries
 pub mod Keeping
 pub mod Looks

@@ -1,5 +1,7 @@
 -- How a screen ends.
-use Rattle.std.specs.Prelude.{Bool, true, false, Result, Ok, Err}
+use Rattle.std.specs.Prelude.{ℕ, ◌+◌, min, max, nat_lt, if◌then◌else◌, Bool, true, false, Result, Ok, Err}
+use Rattle.smi_screen.specs.declared.observer.ReceiveOutcome.{ReceiveOutcome}
+use Rattle.smi_screen.specs.declared.observer.ReceiveOutcome.TheVariants as outcome
 use Rattle.smi_screen.specs.declared.screen.Ended.{Ended}
 use Rattle.smi_screen.specs.declared.screen.Ended.TheVariants as ended
 
@@ -11,3 +13,20 @@ is_stopped _ = false
 abbrev pub has_stopped : {X : Type 0} → Result X Ended → Bool
 has_stopped (Ok x) = false
 has_stopped (Err e) = is_stopped e
+
+-- how many turns in a row the link has failed, after one that ended so
+abbrev pub faults_after : ℕ → ReceiveOutcome → ℕ
+faults_after faults outcome.Fault = min (faults + 1) 4294967295
+faults_after faults outcome.Something = 0
+faults_after faults outcome.Nothing = 0
+
+-- a hundred of them end the screen, and fewer do not
+abbrev pub most_faults : ℕ
+most_faults = 100
+
+abbrev pub after_faults : ℕ → Result (Unit {0}) Ended
+after_faults faults = if nat_lt faults most_faults then Ok tt else Err ended.Link
+
+-- The time of a turn never goes back. It is that of the clock, in milliseconds, as far as a number of 64 bits counts.
+abbrev pub time_at : (now passed : ℕ) → ℕ
+time_at now passed = if nat_lt passed 18446744073709551616 then max now passed else now

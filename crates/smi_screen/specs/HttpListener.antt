@@ -6,4 +6,4 @@ pub record ListenerState : Type 0 where
   pub connections : ℕ
 
 abbrev pub most_connections : ℕ
-most_connections = 64
+most_connections = 256

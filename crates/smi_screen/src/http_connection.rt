@@ -2,13 +2,15 @@
 
 use http_server::{Connection, Service};
 use std::io::{ErrorKind, Read, Write};
+use std::marker::Model;
 
 /// How many milliseconds a connection has for its first request and the answer to it, and between two answers.
 const PATIENCE: u64 = 5_000;
 
 const IDLE_TIMEOUT: u64 = 15_000;
 
-/// A connection over its stream, and its deadline.
+/// A connection over its stream, and its deadline. Contracts see until when it may stay, and whether it is to be
+/// closed.
 #[derive(Drop)]
 pub struct HttpConnection<T> {
     stream: T,
@@ -17,14 +19,27 @@ pub struct HttpConnection<T> {
     should_close: bool,
 }
 
+impl<T> Model for HttpConnection<T> {
+    ghost use Rattle.smi_screen.specs.HttpConnection.{GuestState};
+
+    ghost Value = { GuestState };
+
+    ghost view = { λ c. record { until = c.until; should_close = c.should_close } };
+}
+
 /// Returns true if a stream that never waits has nothing to read, or no room to write, as yet.
 fn should_retry(kind: ErrorKind) -> bool {
     matches!(kind, ErrorKind::WouldBlock | ErrorKind::Interrupted)
 }
 
 impl<T: Read + Write> HttpConnection<T> {
+    ghost use Rattle.std.specs.Prelude.{◌≡◌, ◌⊎◌, ◌≤◌, true};
+    ghost use Rattle.smi_screen.specs.HttpConnection.{later_by, new_guest};
+
     /// Returns a connection that comes now.
-    pub fn new(stream: T, protocol: Connection, now: u64) -> HttpConnection<T> {
+    pub fn new(stream: T, protocol: Connection, now: u64) -> HttpConnection<T>
+        ensures { result ≡ new_guest now }
+    {
         HttpConnection {
             stream,
             protocol,
@@ -34,16 +49,22 @@ impl<T: Read + Write> HttpConnection<T> {
     }
 
     /// Returns until when it may stay, in milliseconds.
-    pub fn until(&self) -> u64 {
+    pub fn until(&self) -> u64
+        ensures { result ≡ self.now.until }
+    {
         self.until
     }
 
     /// Returns true if it is done, or its time is up, or its stream has failed.
-    pub fn should_close(&self) -> bool {
+    pub fn should_close(&self) -> bool
+        ensures { result ≡ self.now.should_close }
+    {
         self.should_close
     }
 
-    fn read(&mut self) {
+    fn read(&mut self)
+        ensures { self.new.until ≡ self.old.until }
+    {
         match self.protocol.read_from(&mut self.stream) {
             Ok(_) => {}
             Err(e) if should_retry(e.kind()) => {}
@@ -51,7 +72,9 @@ impl<T: Read + Write> HttpConnection<T> {
         }
     }
 
-    fn write(&mut self, now: u64) {
+    fn write(&mut self, now: u64)
+        ensures { (self.new.until ≡ self.old.until) ⊎ (self.new.until ≡ later_by now 15000) }
+    {
         match self.protocol.write_to(&mut self.stream) {
             Ok(0) => self.should_close = true,
             Ok(_) => {
@@ -64,8 +87,12 @@ impl<T: Read + Write> HttpConnection<T> {
         }
     }
 
-    /// Makes one turn: at most one read, answers to what has been read, and at most one write.
-    pub fn turn<S: Service>(&mut self, service: &mut S, now: u64) {
+    /// Makes one turn: at most one read, answers to what has been read, and at most one write. One whose time is up is
+    /// to be closed.
+    pub fn turn<S: Service>(&mut self, service: &mut S, now: u64)
+        ensures due { self.old.until ≤ now → self.new.should_close ≡ true }
+        ensures time { (self.new.until ≡ self.old.until) ⊎ (self.new.until ≡ later_by now 15000) }
+    {
         if now >= self.until {
             self.should_close = true;
             return;

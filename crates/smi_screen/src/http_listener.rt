@@ -10,7 +10,7 @@ use std::marker::Model;
 use std::net::{Net, SocketAddr, TcpListener, TcpStream};
 
 /// The most connections: if one more comes, the one goes whose time is up first.
-pub const MOST_CONNECTIONS: usize = 64;
+pub const MOST_CONNECTIONS: usize = 256;
 
 /// How many are let in at one turn.
 const MOST_ACCEPTS: usize = 8;

@@ -81,7 +81,7 @@ fn something(delivered: Result<(), Stopped>) -> Result<ReceiveOutcome, Stopped>
 }
 
 impl Observer {
-    ghost use Rattle.std.specs.Prelude.{◌≡◌};
+    ghost use Rattle.std.specs.Prelude.{◌≡◌, ◌<◌};
     ghost use Rattle.smi_node.specs.Carried.{StepsTo};
     ghost use Rattle.smi_node.specs.Linked.{shown_by};
     ghost use Rattle.smi_view.specs.Keeping.{KeepsUp};
@@ -154,10 +154,11 @@ impl Observer {
         operator: u16,
         link: &mut L,
     ) -> Result<ReceiveOutcome, Stopped>
-        ensures { Looks (StepsTo S.is_honest S.is_open S.rows S.may_find S.saves S.failures S.doubts) operator
+        ensures looks { Looks (StepsTo S.is_honest S.is_open S.rows S.may_find S.saves S.failures S.doubts) operator
             (view station.old (shown_by L.received L.handed L.failures L.receives link.old) self.old.picture)
             (view station.new (shown_by L.received L.handed L.failures L.receives link.new) self.new.picture)
             (has_stopped result) }
+        ensures asks { L.receives link.old < L.receives link.new }
     {
         let mut buffer = [0u8; 45];
         match link.receive(&mut buffer) {
@@ -170,8 +171,8 @@ impl Observer {
         }
     }
 
-    /// Carries what has come, up to this many datagrams.
-    fn hear_all<S: Stable, L: DatagramLink>(
+    /// Carries what has come after the first datagram of a turn.
+    fn hear_more<S: Stable, L: DatagramLink>(
         &mut self,
         station: &mut Station<'_, S>,
         operator: u16,
@@ -182,7 +183,7 @@ impl Observer {
             (view station.new (shown_by L.received L.handed L.failures L.receives link.new) self.new.picture)
             (has_stopped result) }
     {
-        for _ in 0..MOST_HEARD {
+        for _ in 1..MOST_HEARD {
             match self.hear(station, operator, link) {
                 Ok(came) => {
                     if came != ReceiveOutcome::Something {
@@ -193,6 +194,31 @@ impl Observer {
             }
         }
         Ok(ReceiveOutcome::Something)
+    }
+
+    /// Carries what has come, up to as many datagrams as a turn has. The link is asked at least once.
+    fn hear_all<S: Stable, L: DatagramLink>(
+        &mut self,
+        station: &mut Station<'_, S>,
+        operator: u16,
+        link: &mut L,
+    ) -> Result<ReceiveOutcome, Stopped>
+        ensures looks { Looks (StepsTo S.is_honest S.is_open S.rows S.may_find S.saves S.failures S.doubts) operator
+            (view station.old (shown_by L.received L.handed L.failures L.receives link.old) self.old.picture)
+            (view station.new (shown_by L.received L.handed L.failures L.receives link.new) self.new.picture)
+            (has_stopped result) }
+        ensures asks { L.receives link.old < L.receives link.new }
+    {
+        match self.hear(station, operator, link) {
+            Ok(came) => {
+                if came == ReceiveOutcome::Something {
+                    self.hear_more(station, operator, link)
+                } else {
+                    Ok(came)
+                }
+            }
+            Err(stopped) => Err(stopped),
+        }
     }
 
     /// Carries an event, whatever its step answers.
@@ -352,10 +378,11 @@ impl Observer {
         schedule: &mut PollSchedule,
         link: &mut L,
     ) -> Result<ReceiveOutcome, Stopped>
-        ensures { Looks (StepsTo S.is_honest S.is_open S.rows S.may_find S.saves S.failures S.doubts) operator
+        ensures looks { Looks (StepsTo S.is_honest S.is_open S.rows S.may_find S.saves S.failures S.doubts) operator
             (view station.old (shown_by L.received L.handed L.failures L.receives link.old) self.old.picture)
             (view station.new (shown_by L.received L.handed L.failures L.receives link.new) self.new.picture)
             (has_stopped result) }
+        ensures asks { L.receives link.old < L.receives link.new }
     {
         match self.hear_all(station, operator, link) {
             Ok(came) => match self.act(station, operator, schedule, link) {
@@ -370,7 +397,8 @@ impl Observer {
     /// up to sixteen datagrams; then the next objects are watched and the next domains asked about, and a tick is made,
     /// each if it is time. Returns what came at last.
     ///
-    /// It waits for the link alone, and ends early only if the station has stopped. Nothing in the picture goes back.
+    /// It asks the link at least once and waits for it alone, and ends early only if the station has stopped. Nothing
+    /// in the picture goes back.
     pub fn poll<S: Stable, L: DatagramLink>(
         &mut self,
         station: &mut Station<'_, S>,
@@ -382,6 +410,7 @@ impl Observer {
             (view station.old (shown_by L.received L.handed L.failures L.receives link.old) self.old.picture)
             (view station.new (shown_by L.received L.handed L.failures L.receives link.new) self.new.picture)
             (has_stopped result) }
+        ensures asks { L.receives link.old < L.receives link.new }
         ensures keeps { KeepsUp self.old.picture self.new.picture }
     {
         self.hear_and_act(station, operator, schedule, link)

@@ -25,8 +25,14 @@ pub struct PollSchedule {
 }
 
 impl PollSchedule {
+    ghost use Rattle.std.specs.Prelude.{◌≡◌};
+    ghost use Rattle.smi_screen.specs.Schedule.{after_question, after_tick, after_watch, is_tick, new_schedule};
+    ghost use Rattle.smi_screen.specs.Schedule.{question_next, watch_next};
+
     /// Returns the schedule of an observer of this many objects and domains that has done nothing yet.
-    pub fn new(objects: u16, domains: u16) -> PollSchedule {
+    pub fn new(objects: u16, domains: u16) -> PollSchedule
+        ensures { result ≡ new_schedule objects domains }
+    {
         PollSchedule {
             objects,
             domains,
@@ -39,7 +45,10 @@ impl PollSchedule {
 
     /// Returns the next object that is to be watched, each once. That it is watched again after its station has begun
     /// again is the station's own care.
-    pub(crate) fn next_watch(&mut self) -> Option<u16> {
+    pub(crate) fn next_watch(&mut self) -> Option<u16>
+        ensures next { result ≡ watch_next self.old }
+        ensures left { self.new ≡ after_watch self.old }
+    {
         if self.watched < self.objects {
             self.watched += 1;
             Some(self.watched)
@@ -49,7 +58,10 @@ impl PollSchedule {
     }
 
     /// Returns the next domain that is to be asked about, one after the other, if it is time.
-    pub(crate) fn next_question(&mut self, now: u64) -> Option<u16> {
+    pub(crate) fn next_question(&mut self, now: u64) -> Option<u16>
+        ensures next { result ≡ question_next self.old now }
+        ensures left { self.new ≡ after_question self.old now }
+    {
         if now.saturating_sub(self.asked_at) < BETWEEN_QUESTIONS {
             return None;
         }
@@ -64,7 +76,10 @@ impl PollSchedule {
     }
 
     /// Returns true if it is time for a tick.
-    pub(crate) fn is_tick(&mut self, now: u64) -> bool {
+    pub(crate) fn is_tick(&mut self, now: u64) -> bool
+        ensures due { result ≡ is_tick self.old now }
+        ensures left { self.new ≡ after_tick self.old now }
+    {
         if now.saturating_sub(self.ticked_at) < BETWEEN_TICKS {
             return false;
         }

@@ -4,7 +4,7 @@ ghost use Rattle.std.specs.Prelude.{◌≡◌, false};
 ghost use Rattle.smi_node.specs.Carried.{StepsTo};
 ghost use Rattle.smi_node.specs.Linked.{shown_by};
 ghost use Rattle.smi_screen.specs.Looking.{Looks, view};
-ghost use Rattle.smi_screen.specs.Ending.{has_stopped};
+ghost use Rattle.smi_screen.specs.Ending.{after_faults, faults_after, has_stopped, time_at};
 
 use crate::observer::{Observer, ReceiveOutcome};
 use crate::poll_schedule::PollSchedule;
@@ -25,6 +25,26 @@ const TURNS_AT_ONCE: u32 = 1_000_000;
 
 /// How many turns in a row whose receives end in a fault end the service.
 const MOST_FAULTS: u32 = 100;
+
+/// Returns how many turns in a row have ended in a fault of the link, after one that ended so.
+fn faults_after(faults: u32, came: ReceiveOutcome) -> u32
+    ensures { result ≡ faults_after faults came }
+{
+    match came {
+        ReceiveOutcome::Fault => faults.saturating_add(1),
+        ReceiveOutcome::Something | ReceiveOutcome::Nothing => 0,
+    }
+}
+
+/// Returns the time of a turn after the one at `now`, when this many milliseconds have passed since the start.
+fn time_at(now: u64, passed: u128) -> u64
+    ensures { result ≡ time_at now passed }
+{
+    match u64::try_from(passed) {
+        Ok(passed) => now.max(passed),
+        Err(_) => now,
+    }
+}
 
 /// All that a screen has beside its station and its link.
 #[derive(Drop)]
@@ -65,9 +85,7 @@ impl ScreenServer {
         ensures operator { self.new.operator ≡ self.old.operator }
     {
         if let Ok(passed) = self.start.elapsed(clock) {
-            let now = self.observer.now;
-            let passed = u64::try_from(passed.as_millis()).unwrap_or(now);
-            self.observer.now = now.max(passed);
+            self.observer.now = time_at(self.observer.now, passed.as_millis());
         }
     }
 
@@ -76,11 +94,10 @@ impl ScreenServer {
         ensures picture { self.new.observer.picture ≡ self.old.observer.picture }
         ensures operator { self.new.operator ≡ self.old.operator }
         ensures goes_on { has_stopped result ≡ false }
+        ensures faults { self.new.faults ≡ faults_after self.old.faults came }
+        ensures ends { result ≡ after_faults (faults_after self.old.faults came) }
     {
-        self.faults = match came {
-            ReceiveOutcome::Fault => self.faults.saturating_add(1),
-            ReceiveOutcome::Something | ReceiveOutcome::Nothing => 0,
-        };
+        self.faults = faults_after(self.faults, came);
         if self.faults >= MOST_FAULTS {
             return Err(Ended::Link);
         }
@@ -163,6 +180,7 @@ impl ScreenServer {
     {
         self.tell_time(rt);
         let looked = self.look(station, link);
+        self.web_server.note_foreign(link.foreign());
         self.follow(rt, tree, looked)
     }
 

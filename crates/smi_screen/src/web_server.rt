@@ -6,7 +6,7 @@ use crate::http_listener::HttpListener;
 use smi_history::LookTime;
 use smi_tree::Tree;
 use smi_view::Picture;
-use smi_web::WebService;
+use smi_web::{ScreenFigures, WebService};
 use std::alloc::Global;
 use std::fs::Files;
 use std::net::Net;
@@ -22,6 +22,8 @@ pub(crate) struct WebServer {
     /// When the last snapshot was made, and how many were.
     made_at: u64,
     made: u64,
+    /// How many datagrams came to the screen from foreign sources.
+    foreign: u64,
     service: WebService,
     listener: HttpListener,
     /// The relay of orders from the page, if orders may be given.
@@ -54,6 +56,7 @@ impl WebServer {
             alloc,
             made_at: 0,
             made: 0,
+            foreign: 0,
             service,
             listener,
             console,
@@ -85,12 +88,22 @@ impl WebServer {
         }
         self.made_at = now;
         self.made = self.made.saturating_add(1);
+        let figures = ScreenFigures {
+            number: self.made,
+            now,
+            foreign: self.foreign,
+        };
         let _ = self
             .service
             .snapshot
-            .renew(self.alloc, tree, picture, self.made, now);
+            .renew(self.alloc, tree, picture, figures);
         let _ = self.service.renew_orders(self.alloc);
         self.save_history(rt, now);
+    }
+
+    /// Notes how many datagrams have come from foreign sources.
+    pub(crate) fn note_foreign(&mut self, foreign: u64) {
+        self.foreign = foreign;
     }
 
     /// Sends the orders that were given to their console, and handles what it says.

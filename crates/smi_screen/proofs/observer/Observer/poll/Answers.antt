@@ -14,4 +14,4 @@ returns-clause-keeps g c =
     let first : View (Whole g.row.S.Denot) = view c.args.station.now (shows c.args.link.now) c.args.self.now.picture in
     let after : View (Whole g.row.S.Denot)
     = view c.hear_and_act.new.station (shows c.hear_and_act.new.link) c.hear_and_act.new.self.picture in
-    looks_keep steps c.args.operator first after (has_stopped c.hear_and_act.result) c.hear_and_act.ensures
+    looks_keep steps c.args.operator first after (has_stopped c.hear_and_act.result) c.hear_and_act.ensures.looks

@@ -2,7 +2,7 @@ use Rattle.std.proofs.Common.{false}
 use Rattle.smi_node.specs.Carried.{StepsTo}
 use Rattle.smi_node.specs.Linked.{shown_by}
 use Rattle.smi_screen.specs.Looking.{Looks, view}
-use Rattle.smi_screen.proofs.observer.Observer.hear_all.Given as goal
+use Rattle.smi_screen.proofs.observer.Observer.hear_more.Given as goal
 
 -- deeds so far, and the station has not stopped
 abbrev pub invariant-loop : goal.invariant-loop
