@@ -29,8 +29,9 @@ BIN := $(PREFIX)/bin
 SHARE := $(PREFIX)/share/smi
 DOC := $(PREFIX)/share/doc/lunskaf
 ZSH := $(PREFIX)/share/zsh/site-functions
+UNITS := smi-node@.service smi-screen.service smi-watch@.service smi-watch@.timer
 # What a crew and whoever runs the machines may want beside the program.
-TOOLS := console demo devices draw firewall gateway hierarchy history lines lunskaf modbus_bridge mqtt_bridge play record rows show status tango_bridge tree tree_check tree_diff
+TOOLS := console demo devices draw firewall gateway health hierarchy history lines lunskaf modbus_bridge mqtt_bridge play record rows show status tango_bridge tree tree_check tree_diff
 
 # The program, its page, completion, the unit and its user, the tools, examples and documents.
 install: bin/smi
@@ -42,11 +43,11 @@ install: bin/smi
 	install -D -m 644 package/smi.sysusers $(DESTDIR)$(PREFIX)/lib/sysusers.d/smi.conf
 	install -d $(DESTDIR)$(PREFIX)/share/man/man1 $(DESTDIR)$(PREFIX)/lib/systemd/system
 	sed 's#@SHARE@#$(SHARE)#g; s#@DOC@#$(DOC)#g' package/smi.1 > $(DESTDIR)$(PREFIX)/share/man/man1/smi.1
-	for UNIT in smi-node@ smi-screen; do sed 's#/usr/local/bin/smi#$(BIN)/smi#' examples/$$UNIT.service \
-		> $(DESTDIR)$(PREFIX)/lib/systemd/system/$$UNIT.service; done
+	for UNIT in $(UNITS); do sed 's#/usr/local/bin/smi#$(BIN)/smi#; s#/usr/local/share/smi#$(SHARE)#' examples/$$UNIT \
+		> $(DESTDIR)$(PREFIX)/lib/systemd/system/$$UNIT; done
 	install -d $(DESTDIR)$(SHARE)/tools $(DESTDIR)$(SHARE)/examples $(DESTDIR)$(DOC)/docs/pictures
 	install -m 644 $(TOOLS:%=tools/%.py) $(DESTDIR)$(SHARE)/tools
-	install -m 644 $(filter-out %/smi-node@.service %/smi-screen.service,$(wildcard examples/*)) $(DESTDIR)$(SHARE)/examples
+	install -m 644 $(filter-out $(UNITS:%=examples/%),$(wildcard examples/*)) $(DESTDIR)$(SHARE)/examples
 	install -m 644 README.md SECURITY.md CHANGELOG.md LICENSE $(DESTDIR)$(DOC)
 	install -m 644 docs/*.md $(DESTDIR)$(DOC)/docs
 	install -m 644 docs/pictures/* $(DESTDIR)$(DOC)/docs/pictures

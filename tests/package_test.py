@@ -26,6 +26,8 @@ INSTALLED = """bin/smi
 bin/smi-demo
 lib/systemd/system/smi-node@.service
 lib/systemd/system/smi-screen.service
+lib/systemd/system/smi-watch@.service
+lib/systemd/system/smi-watch@.timer
 lib/sysusers.d/smi.conf
 share/bash-completion/completions/smi
 share/man/man1/smi.1
@@ -36,6 +38,7 @@ share/doc/lunskaf/CHANGELOG.md
 share/doc/lunskaf/LICENSE
 share/smi/tools/rows.py
 share/smi/tools/status.py
+share/smi/tools/health.py
 share/smi/tools/tango_bridge.py
 share/smi/tools/console.py
 share/smi/tools/demo.py
