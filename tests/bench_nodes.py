@@ -3,12 +3,13 @@
 usage: bench_nodes.py SMI
 
 A node whose operator is on the same machine takes a domain and drops it, again and again. Each of the two has three
-saves (the operator's row, the domain's, the operator's), each handed to the device once, and two datagrams beside the
-one that wakes the station. The floor is a program in C that makes as many plain writes of a page, where a save adds
-three to the log, each handed to the device, and as many datagrams to its own socket (tests/peer/floor.c). Both are run
-in turn, and each figure is the median of the rounds. Then the time from an order to its answer is measured through the
-pipes of a console, of a node at rest and of one that is sent datagrams all along; and through its sockets, at rest.
-At last takes with their drops are made in memory, by nodes with a journal and without one in turn.
+saves (the operator's row, the domain's, the operator's), each handed to the device once, and one datagram, which wakes
+the station; what it sends to itself goes round in memory. The floor is a program in C that makes as many plain writes
+of a page, where a save adds three to the log, each handed to the device, and as many datagrams to its own socket
+(tests/peer/floor.c). Both are run in turn, and each figure is the median of the rounds. Then the time from an order to
+its answer is measured through the pipes of a console, of a node at rest and of one that is sent datagrams all along;
+and through its sockets, at rest. At last takes with their drops are made in memory, by nodes with a journal and without
+one in turn.
 """
 
 import os
@@ -28,8 +29,8 @@ import lunskaf
 
 ROUNDS = 5
 PAIRS = 300
-# Of a take and a drop: saves, and datagrams with those that wake the station.
-SAVES, DATAGRAMS = 6, 6
+# Of a take and a drop: saves, and datagrams, which wake the station.
+SAVES, DATAGRAMS = 6, 2
 # What a save adds to a log at least: a page and its header.
 FRAME = 4096 + 24
 ASKS = 3000

@@ -26,13 +26,13 @@ class Gone(ValueError):
 
 
 class Browser:
-    """A browser with one page."""
+    """A browser with one page, which may be started with more words."""
 
-    def __init__(self, path, width=1920, height=1080):
+    def __init__(self, path, width=1920, height=1080, more=()):
         self.folder = tempfile.mkdtemp()
         words = [path, "--headless=new", "--no-sandbox", "--disable-gpu", "--disable-dev-shm-usage", "--no-first-run",
                  "--remote-debugging-port=0", "--user-data-dir=" + self.folder,
-                 "--window-size=%d,%d" % (width, height), "about:blank"]
+                 "--window-size=%d,%d" % (width, height), *more, "about:blank"]
         self.child = subprocess.Popen(words, stdin=subprocess.DEVNULL, stdout=subprocess.DEVNULL,
                                       stderr=subprocess.DEVNULL)
         # (Chromium refuses a client that names its origin)

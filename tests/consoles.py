@@ -6,9 +6,11 @@ import statistics
 import threading
 import time
 
-import lunskaf
 import nodes
 from running import DEADLINE, is_so, memory_of
+
+# running finds tools, so this is last
+import lunskaf
 
 # How soon an answer comes that waits for no station, by the median and at most, in seconds.
 SOON, LATEST = 0.05, 2

@@ -11,20 +11,11 @@ import pytest
 import layout
 import nodes
 import running
+from layout import datagram
 
 A, B = 1, 2
 DCS, TPC = 1, 2
 OPERATOR, DOMAIN = 1, 2
-
-
-def datagram(kind, **fields):
-    """Returns the bytes of a datagram of tree 17 with these fields."""
-    data = bytearray(b"SM" + bytes([1, kind]) + bytes(40))
-    for name, value in {"tree": 17, **fields}.items():
-        place, size, _ = layout.FIELDS[name.replace("_", " ")]
-        data[place:place + size] = value.to_bytes(size, "big")
-    assert layout.refusal(bytes(data)) == 0
-    return bytes(data)
 
 
 class Night:

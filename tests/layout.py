@@ -38,6 +38,16 @@ def values(data):
     return {name: int.from_bytes(data[at:at + size], "big") for name, (at, size, _) in FIELDS.items()}
 
 
+def datagram(kind, **fields):
+    """Returns the bytes of a datagram of tree 17 with these fields, whose names have `_` for a blank."""
+    data = bytearray(b"SM" + bytes([2 if kind == RUN and fields.get("code", 0) > 3 else 1, kind]) + bytes(40))
+    for name, value in {"tree": 17, **fields}.items():
+        place, size, _ = FIELDS[name.replace("_", " ")]
+        data[place:place + size] = value.to_bytes(size, "big")
+    assert refusal(bytes(data)) == 0
+    return bytes(data)
+
+
 def holder_fits(kind, number):
     return {0: number == 0, 1: 1 <= number <= 32, 2: 1 <= number <= 128}[kind]
 

@@ -60,7 +60,7 @@ def test_count(folder, ports, tree, start_node, subtests):
     node = start_node(tree, "A", os.path.join(folder, "A"), "--endless")
     first, begun = counts_of(node), time.monotonic()
     names = ["received", "sent", "unsent", "ticks", "faults", "saved", "unsaved", "unmade"]
-    names += ["refused%d" % refusal for refusal in [*range(1, 10), *range(21, 27)]]
+    names += ["refused%d" % refusal for refusal in [*range(1, 10), *range(21, 27)]] + ["foreign"]
     with subtests.test("names of counts"):
         assert list(first) == names + ["dropped"]
     ask = bytes.fromhex("534d01010002000100010000" + "00" * 18 + "0011" + "00" * 12)
@@ -82,6 +82,8 @@ def test_count(folder, ports, tree, start_node, subtests):
     # Four orders, and so four wake-ups, of no bytes. Each datagram that is refused is one that came.
     with subtests.test("refused datagrams are counted"):
         assert [risen["refused%d" % it] for it in range(1, 10)] == [5, *range(2, 10)]
+    with subtests.test("one names no station as its sender, and wake-ups have no bytes"):
+        assert risen["foreign"] == 1
     with subtests.test("refused orders are counted"):
         assert [risen["refused%d" % it] for it in range(21, 27)] == [1, 0, 1, 0, 0, 0]
     # The link takes, the record is granted, the link learns it; the command is issued, runs and is heard of.

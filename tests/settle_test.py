@@ -7,7 +7,8 @@ import pytest
 
 import layout
 import running
-from forgery_test import A, B, TPC, Night, datagram
+from forgery_test import A, B, TPC, Night
+from layout import datagram
 from running import at_last
 
 TOOL = os.path.join(running.ROOT, "tools", "rows.py")

@@ -4,10 +4,10 @@ usage: wires.py send PORT RATE SECONDS, wires.py lose SEED
 
 Each reads lines up to an empty one, and then prints `ready`.
 
-`send` reads lines of a port of its own, or 0 for any, and the bytes of a datagram in hexadecimal. It sends these
-datagrams to PORT one after the other, RATE a second, or as many as it can with RATE 0, until SECONDS have passed or its
-input ends. At the end it prints how many it sent, how many datagrams of 44 bytes came to its own ports, and how many
-seconds it sent.
+`send` reads lines of a port of its own, or 0 for any, and the bytes of a datagram in hexadecimal; lines of one port
+share it. It sends these datagrams to PORT one after the other, RATE a second, or as many as it can with RATE 0, until
+SECONDS have passed or its input ends. At the end it prints how many it sent, how many datagrams of 44 bytes came to its
+own ports, and how many seconds it sent.
 
 `lose` reads lines of two ports: what comes to the first is handed on to the second. Each later line is the share of
 datagrams that it loses from then on; it is answered by how many were handed on and how many lost up to then. It ends
@@ -152,7 +152,9 @@ def lines_before_gap():
 
 
 def run_sender(port, rate, seconds):
-    datagrams = [(socket_at(int(own)), bytes.fromhex(data)) for own, data in lines_before_gap()]
+    lines = lines_before_gap()
+    made = {own: socket_at(int(own)) for own in {line[0] for line in lines}}
+    datagrams = [(made[own], bytes.fromhex(data)) for own, data in lines]
     print("ready", flush=True)
     print("%d %d %f" % send(int(port), int(rate), float(seconds), datagrams))
 
