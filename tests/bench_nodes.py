@@ -8,8 +8,9 @@ the station; what it sends to itself goes round in memory. The floor is a progra
 of a page, where a save adds three to the log, each handed to the device, and as many datagrams to its own socket
 (tests/peer/floor.c). Both are run in turn, and each figure is the median of the rounds. Then the time from an order to
 its answer is measured through the pipes of a console, of a node at rest and of one that is sent datagrams all along;
-and through its sockets, at rest. At last takes with their drops are made in memory, by nodes with a journal and without
-one in turn.
+and through its sockets, at rest. A program in C measures what waking the station's thread costs, as a node does it and
+by an event beside its socket (tests/peer/waking.c). At last takes with their drops are made in memory, by nodes with a
+journal and without one in turn.
 """
 
 import os
@@ -34,14 +35,17 @@ SAVES, DATAGRAMS = 6, 2
 # What a save adds to a log at least: a page and its header.
 FRAME = 4096 + 24
 ASKS = 3000
+# How often a thread is woken.
+WAKINGS = 20_000
 # How many nodes make takes and drops with a journal, and as many without one.
 JOURNALED = 15
 ORDERS = 300
 
 
-def floor_program(folder):
-    path = os.path.join(folder, "floor")
-    subprocess.run(["cc", "-O2", "-o", path, os.path.join(HERE, "peer", "floor.c")], check=True)
+def peer_program(folder, name):
+    """Returns the path of a program of tests/peer, which is compiled into the folder."""
+    path = os.path.join(folder, name)
+    subprocess.run(["cc", "-O2", "-pthread", "-o", path, os.path.join(HERE, "peer", name + ".c")], check=True)
     return path
 
 
@@ -149,6 +153,14 @@ def sockets(program, folder):
     node.kill()
 
 
+def wakings(waking):
+    """What it costs to wake a thread by a datagram and by an event, and a datagram if it waits for one or for both."""
+    rounds = [list(map(int, subprocess.run([waking, str(WAKINGS)], stdout=subprocess.PIPE, check=True).stdout.split()))
+              for _ in range(ROUNDS)]
+    print("in C: a thread is woken by a datagram in %.1f us, by an event in %.1f us; a datagram comes in %.1f us, and in "
+          "%.1f us to a thread that waits for events too" % tuple(statistics.median(it) / 1e3 for it in zip(*rounds)))
+
+
 def journals(program):
     """Takes with their drops a second over a store in memory, with a journal beside it and without one, in turn."""
     counts = {"with": [], "without": []}
@@ -168,10 +180,11 @@ def main():
     program = os.path.abspath(sys.argv[1])
     # On the disk that the repository is on, as a folder for temporary files may be in memory.
     with tempfile.TemporaryDirectory(dir=os.path.dirname(program)) as folder:
-        pairs(program, floor_program(folder), folder)
+        pairs(program, peer_program(folder, "floor"), folder)
         orders(program, folder)
         answers(program, folder)
         sockets(program, folder)
+        wakings(peer_program(folder, "waking"))
     journals(program)
 
 
