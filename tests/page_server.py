@@ -25,6 +25,8 @@ import page
 KEY, DETECTOR = "Bearer " + "0" * 32, running.example("detector.tree")
 # How many entries of the history an answer looks at, and how many are kept.
 LOOKED_AT, KEPT = 10_000, 1_048_576
+# How many milliseconds before a picture its changes begin.
+TOLD = 2_000
 
 
 def whole(key=None, style=""):
@@ -48,6 +50,14 @@ def tree_of(path):
             "devices": [{"name": name, "domain": domain} for name, (domain, _) in names.devices.items()]}
 
 
+def change(it, since):
+    """Returns what is told of a domain or a device to one who knows what there was before a time."""
+    told = it.get("told") or {"since": -1, "heard": -1}
+    if told["since"] >= since or (it["shown"] and it["shown"]["at"] >= since):
+        return it
+    return told["heard"] if told["heard"] >= since else 0
+
+
 class MadeUp:
     """What a screen answers that a test makes up: a tree, pictures of it, and the orders that its page gives."""
 
@@ -63,6 +73,9 @@ class MadeUp:
         # what the history was asked, and what waits before such a question is answered
         self.asked, self.wait = [], lambda query: None
         self.is_heard = lambda station: True
+        # whether it tells what has changed, and what the page asked for pictures; a test that shows what was seen some
+        # seconds ago wants whole pictures, because a real screen has no such news
+        self.tells_changes, self.pictures_asked = False, []
         self.lock = threading.Lock()
 
     def now(self):
@@ -99,6 +112,17 @@ class MadeUp:
                 rows.append(row)
             devices = [self.devices.get(it["name"], {"name": it["name"], "shown": None}) for it in self.tree["devices"]]
             return {"frame": self.frame, "now": self.now(), "domains": rows, "devices": devices}
+
+    def told_picture(self, query):
+        """Returns the picture, or what has changed in it if that is asked for."""
+        self.pictures_asked.append(query)
+        picture, time = self.picture(), int(dict(urllib.parse.parse_qsl(query)).get("since", -1))
+        since = max(0, picture["now"] - TOLD)
+        if not self.tells_changes or not since <= time < picture["now"]:
+            return picture
+        return {"frame": picture["frame"], "now": picture["now"], "since": since,
+                "domains": [change(it, since) for it in picture["domains"]],
+                "devices": [change(it, since) for it in picture["devices"]]}
 
     def take_order(self, line):
         with self.lock:
@@ -163,8 +187,10 @@ class MadeUp:
             self.wait(self.asked[-1])
             text = self.history(dict(urllib.parse.parse_qsl(target.partition("?")[2])))
             return (400, "there is no such query") if text is None else (200, text)
-        made = {"/api/tree": lambda: self.tree, "/api/picture": self.picture, "/api/orders": self.told_orders}
-        found = made.get(target.partition("?")[0])
+        place, _, query = target.partition("?")
+        made = {"/api/tree": lambda: self.tree, "/api/picture": lambda: self.told_picture(query),
+                "/api/orders": self.told_orders}
+        found = made.get(place)
         return (200, json.dumps(found())) if found else (404, "there is no such page")
 
 

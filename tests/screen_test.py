@@ -17,6 +17,7 @@ import pytest
 import deb
 import nodes
 import page as served
+import page_server
 import running
 import screens
 
@@ -149,6 +150,62 @@ def test_answers(world, subtests):
             for text in [b"cache-control: no-store", b"x-content-type-options: nosniff", b"x-frame-options: deny",
             b"referrer-policy: no-referrer", b"cross-origin-opener-policy: same-origin",
             b"cross-origin-resource-policy: same-origin", b"default-src 'none'", b"connect-src 'self'"])
+
+
+def changed_by(had, told):
+    """Returns what a picture has become by what was told of a domain or a device."""
+    if isinstance(told, dict):
+        return told
+    return had if told == 0 else {**had, "told": {**had["told"], "heard": told}}
+
+
+def followed(screen, crew, state):
+    """Has the device enter a state: returns a picture before it, what has changed since, and the picture with it."""
+    before, _ = screen.picture(), crew.ask("report HV " + state)
+    while True:
+        told, picture = screen.changes(before["now"])[1], screen.picture()
+        shown = picture["devices"][0]["shown"]
+        if told and told["frame"] == picture["frame"] and shown and shown["state"] == state:
+            if "since" in told:
+                return before, told, picture
+            # the machine was too busy for two seconds
+            before = picture
+
+
+def test_changes(world, subtests):
+    """Who has a picture of just now is told what has changed since, and has the newest one by that."""
+    _, crews, screen = world
+    with subtests.test("it is up, and was told a record of each domain"):
+        assert screen.is_up() and screen.waits_for(lambda it: all(domain["told"] for domain in it["domains"]))
+    for state in ("OFF", "READY", "RUNNING", "ERROR", "OFF"):
+        before, told, picture = followed(screen, crews["B"], state)
+        with subtests.test("what has changed, device in " + state):
+            assert told == {"frame": picture["frame"], "now": picture["now"], "since": max(0, picture["now"] - 2000),
+                            **{kind: [page_server.change(it, told["since"]) for it in picture[kind]]
+                               for kind in ("domains", "devices")}}
+        with subtests.test("the picture before it and that are the newest, device in " + state):
+            assert picture == {"frame": told["frame"], "now": told["now"],
+                               **{kind: [changed_by(*both) for both in zip(before[kind], told[kind])]
+                                  for kind in ("domains", "devices")}}
+    check_rest(screen, subtests)
+
+
+def check_rest(screen, subtests):
+    """What is told if nothing but answers comes, and to those who have the newest picture or none of just now."""
+    def rests():
+        picture = screen.picture()
+        told = screen.changes(picture["now"] - 1)[1]
+        return told is not None and told["devices"] == [0] and all(isinstance(it, int) for it in told["domains"])
+    with subtests.test("once nothing is new for two seconds, the times of answers alone"):
+        assert running.is_so(rests)
+    with subtests.test("nothing to whom has the newest"):
+        assert any(screen.changes(screen.picture()["now"]) == (204, None) for _ in range(20))
+    now = screen.picture()["now"]
+    for query in ("since=%d" % (now - 2001), "since=%d" % (now + 60_000), "since=", "since=-1", "since=%dx" % now,
+                  "since=%d&x" % now, "Since=%d" % now, "x&since=%d" % now, "since=1234567890123"):
+        with subtests.test("the whole picture for " + query.replace(str(now), "NOW")):
+            status, body = screen.get("/api/picture?" + query)
+            assert (status, "since" in json.loads(body)) == (200, False)
 
 
 # Which of its actions the class of the worked tree accepts.

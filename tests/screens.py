@@ -76,6 +76,11 @@ class Screen:
         status, body = self.get("/api/picture")
         return json.loads(body) if status == 200 else None
 
+    def changes(self, time):
+        """Returns the status, and what is told to one whose picture was looked at at a time, None if that is nothing."""
+        status, body = self.get("/api/picture?since=%d" % time)
+        return status, json.loads(body) if body else None
+
     def waits_for(self, holds):
         """Returns true once something holds of the picture, or false if it does not in time."""
         def is_so():

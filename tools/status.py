@@ -8,8 +8,7 @@ device that is in alarm. --brief prints the summary alone.
 
 An object is in alarm whose state has the PATTERN, a regular expression: ERROR, FAULT, ALARM or TRIP where none is
 named. With --style that holds for the states alone that the screen's style file says nothing of (docs/FORMATS.md, "The
-style of a screen"). A station is silent that was not heard for so many SECONDS: two, or what a round of questions takes with half as
-long again, where none are named.
+style of a screen"). A station is silent that was not heard for so many SECONDS, two where none are named.
 
 The exit status is that of a monitor's plugin: 0 where all is well, 1 where a station is silent or was never heard, 2
 where something is in alarm, 3 where the screen does not answer, its answer can't be read, or the words are wrong.
@@ -24,8 +23,8 @@ import sys
 WELL, WARNING, CRITICAL, UNKNOWN = range(4)
 WORDS = {WELL: "OK", WARNING: "WARNING", CRITICAL: "CRITICAL", UNKNOWN: "UNKNOWN"}
 ALARM = "ERROR|FAULT|ALARM|TRIP"
-# A screen asks about a domain each 20 milliseconds at most; what the page takes for silence is the same.
-LEAST, BASE, EACH = 2.0, 0.8, 0.03
+# After how many seconds a station is silent; what the page takes for silence is the same.
+SILENT = 2.0
 # How many names are told in the summary.
 FEW = 5
 
@@ -51,13 +50,13 @@ def fetched(where, place, patience):
 class Detector:
     """A tree and a picture of it, and what follows from them."""
 
-    def __init__(self, tree, picture, silent=None):
+    def __init__(self, tree, picture, silent=SILENT):
         self.now = picture["now"]
         self.tree = {it["name"]: it for it in tree["domains"]}
         self.domain_of = {it["name"]: it["domain"] for it in tree["devices"]}
         self.domains = {it["name"]: it for it in picture["domains"]}
         self.devices = {it["name"]: it for it in picture["devices"]}
-        self.limit = max(LEAST, BASE + EACH * len(self.domains)) if silent is None else silent
+        self.limit = silent
         self.heard = {}
         for name, domain in self.domains.items():
             if domain["told"] is not None:
@@ -174,7 +173,7 @@ def main():
     words.add_argument("where")
     words.add_argument("--alarm", type=pattern_of, default=re.compile(ALARM))
     words.add_argument("--style", type=kinds_of, default={})
-    words.add_argument("--silent", type=float)
+    words.add_argument("--silent", type=float, default=SILENT)
     words.add_argument("--brief", action="store_true")
     words.add_argument("--patience", type=float, default=5.0)
     said = words.parse_args()

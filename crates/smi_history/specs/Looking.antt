@@ -1,5 +1,5 @@
 -- What is new in a picture since the look before.
-use Rattle.std.specs.Prelude.{ℕ, zero, suc, ◌+◌, ◌-◌, ◌*◌, max, nat_lt, ◌++◌, Bool, true, false, List, [], ◌∷◌}
+use Rattle.std.specs.Prelude.{ℕ, zero, suc, ◌+◌, ◌-◌, nat_lt, ◌++◌, Bool, true, false, List, [], ◌∷◌}
 use Rattle.std.specs.Prelude.{slice_index_or, Option, Some, None, codes, if◌then◌else◌}
 use Rattle.smi_grant.specs.declared.state.Shown.{Shown}
 use Rattle.smi_grant.specs.Record as grants
@@ -46,17 +46,13 @@ abbrev pub hearing_notes : Hierarchy → ℕ → LookTime → ℕ → Option Hea
 hearing_notes h from m d None = []
 hearing_notes h from m d (Some had) = if is_new from m had.since then record_note h m d had ∷ [] else []
 
--- for how long a station may be silent: two seconds, or as long as it takes to ask about all domains and half as long
--- again
-abbrev pub most_silence : ℕ → ℕ
-most_silence domains = max (800 + 30 * domains) 2_000
+-- a station may be silent for two seconds
+abbrev pub is_silent : Option Hearing → ℕ → Bool
+is_silent None now = false
+is_silent (Some had) now = nat_lt 2_000 (now - had.heard)
 
-abbrev pub is_silent : ℕ → Option Hearing → ℕ → Bool
-is_silent domains None now = false
-is_silent domains (Some had) now = nat_lt (most_silence domains) (now - had.heard)
-
-abbrev pub is_silent_in : Hierarchy → Pictured → LookTime → ℕ → Bool
-is_silent_in h p m d = is_silent (domain_count h) (domain_of p d) m.now
+abbrev pub is_silent_in : Pictured → LookTime → ℕ → Bool
+is_silent_in p m d = is_silent (domain_of p d) m.now
 
 -- whether the station of a domain was silent at the look before
 abbrev pub was_silent : List Bool → ℕ → Bool
@@ -77,7 +73,7 @@ unfoldable pub domain_notes : Hierarchy → Pictured → ℕ → LookTime → Li
 domain_notes h p from m silent d =
     sight_notes h from m (domain_word h d) (object_of p d)
     ++ hearing_notes h from m d (domain_of p d)
-    ++ silence_notes h m d (was_silent silent d) (is_silent_in h p m d)
+    ++ silence_notes h m d (was_silent silent d) (is_silent_in p m d)
 
 abbrev pub device_notes : Hierarchy → Pictured → ℕ → LookTime → ℕ → List HistoryNote
 device_notes h p from m d = sight_notes h from m (device_word h d) (object_of p (domain_count h + d))
@@ -94,4 +90,4 @@ picture_notes h p from m silent = domains_notes h p from m silent ++ devices_not
 
 -- of which domains the station is silent
 abbrev pub silences : Hierarchy → Pictured → LookTime → List Bool
-silences h p m = each (λ d. is_silent_in h p m d ∷ []) (domain_count h)
+silences h p m = each (λ d. is_silent_in p m d ∷ []) (domain_count h)

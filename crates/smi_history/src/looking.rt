@@ -17,8 +17,8 @@ use smi_tree::Tree;
 use smi_view::{Hearing, Picture, Sight};
 use std::alloc::{AllocError, Global};
 
-/// How long a station may be silent at least, in milliseconds.
-const LEAST_SILENCE: u64 = 2_000;
+/// For how many milliseconds a station may be silent.
+const MOST_SILENCE: u64 = 2_000;
 
 /// What is looked at, and when it was last.
 #[derive(Clone, Copy)]
@@ -141,20 +141,12 @@ fn add_hearing(
     }
 }
 
-/// Returns for how many milliseconds a station may be silent: two seconds, or as long as it takes to ask about this
-/// many domains and half as long again.
-fn most_silence(domains: u16) -> u64
-    ensures { result ≡ spec.most_silence domains }
-{
-    (800 + 30 * u64::from(domains)).max(LEAST_SILENCE)
-}
-
 /// Returns true if the station of a domain of which this was heard is silent now.
-fn is_silent(domains: u16, hearing: &Option<Hearing>, now: u64) -> bool
-    ensures { result ≡ spec.is_silent domains hearing.now now }
+fn is_silent(hearing: &Option<Hearing>, now: u64) -> bool
+    ensures { result ≡ spec.is_silent hearing.now now }
 {
     match hearing {
-        Some(had) => now.saturating_sub(had.heard) > most_silence(domains),
+        Some(had) => now.saturating_sub(had.heard) > MOST_SILENCE,
         None => false,
     }
 }
@@ -205,10 +197,9 @@ fn add_silence(
 
 /// Returns true if the station of a domain is silent.
 fn is_silent_in(looking: &Looking<'_>, domain: u16) -> bool
-    ensures { result ≡ spec.is_silent_in looking.now.tree.now looking.now.picture.now looking.now.moment domain }
+    ensures { result ≡ spec.is_silent_in looking.now.picture.now looking.now.moment domain }
 {
-    let hearing = looking.picture.domain(domain);
-    is_silent(looking.tree.domain_count(), &hearing, looking.moment.now)
+    is_silent(&looking.picture.domain(domain), looking.moment.now)
 }
 
 /// Adds what is new of a domain.

@@ -1,6 +1,6 @@
 // What is in alarm: each trip once, however far it is seen above, and each silent station once.
 
-import { age, devices, domains, holderOf, isAlarm, isUnknown, limit, silenceOf, stateOf } from "./model.mjs";
+import { age, devices, domains, holderOf, isAlarm, isUnknown, MOST_SILENCE, silenceOf, stateOf } from "./model.mjs";
 
 /** @typedef {import("./model.mjs").Domain} Domain */
 /** @typedef {{key: string, isSilence: boolean, group: string, domain: string, name: string, text: string,
@@ -57,7 +57,7 @@ function silencesOf(heard, time) {
     const silence = silenceOf(d, heard, time);
     if (seen.has(d.station)) return [];
     seen.add(d.station);
-    if (silence === null || (silence < 0 && time <= limit())) return [];
+    if (silence === null || (silence < 0 && time <= MOST_SILENCE)) return [];
     return [{ key: "station " + d.station, isSilence: true, group: groupOf(d), domain: d.name, name: d.station,
       text: d.station + (silence < 0 ? " not heard" : " silent " + age(silence)), at: heard.get(d.station) ?? null,
       follows: [...domains.values()].filter((other) => other.station === d.station).map((other) => other.name) }];

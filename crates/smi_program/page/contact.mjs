@@ -1,13 +1,17 @@
 // Asking the screen for pictures, and what is said of the screen itself.
 
 import { by, flag, set } from "./dom.mjs";
-import { age, afterRestart, lateness, newest, tree } from "./model.mjs";
+import { age, afterRestart, changed, lateness, newest, tree } from "./model.mjs";
 import { build, show, take } from "./showing.mjs";
 import { showLost } from "./signs.mjs";
 
 // How often a picture is asked for, how long an answer is waited for, and after what time nothing is trusted any more.
 const PAUSE = 250, LATE = 900, GONE = 1600;
 export const PATIENCE = 1200;
+// How old a picture may be of which only the changes are asked for, and how long only changes are.
+const RECENT = 1500, WHOLE = 60000;
+// When the last picture came, and the last whole one, by the clock of this machine, which goes on while it sleeps.
+let gotAt = 0, wholeAt = 0;
 // The text of the tree.
 let shape = "";
 
@@ -31,10 +35,19 @@ async function askTree() {
   build(JSON.parse(text));
 }
 
+/** Returns the query for what is new: what has changed since the newest picture, or now and then the whole of it. */
+function pictureQuery() {
+  if (!newest) return "";
+  const time = Date.now(), isRecent = time - gotAt < RECENT && time - wholeAt < WHOLE;
+  return isRecent ? "?since=" + newest.now : "?after=" + newest.frame;
+}
+
 async function askPicture() {
-  const text = await ask("/api/picture" + (newest ? "?after=" + newest.frame : ""));
+  const text = await ask("/api/picture" + pictureQuery());
   if (!text) return;
-  const next = JSON.parse(text);
+  const told = JSON.parse(text), hasAll = told.since === undefined, next = hasAll ? told : changed(told);
+  gotAt = Date.now();
+  if (hasAll) wholeAt = gotAt;
   // A screen that has begun again counts from 0, and may have another tree.
   if (newest && next.frame < newest.frame) {
     await askTree();

@@ -13,6 +13,8 @@
 /** @typedef {{tree: number, states: string[], actions: string[], stations: string[], operators: Operator[],
  *   domains: any[], devices: any[]}} Tree */
 /** @typedef {{frame: number, now: number, domains: any[], devices: any[]}} Picture */
+/** @typedef {{frame: number, now: number, since: number, domains: any[], devices: any[]}} Changes
+ * A domain or a device that has not changed is 0, and a domain that was only heard again the time of that. */
 
 export const HOUR = 3600000;
 // A state of such a name is an alarm if no style says what it is, because a tree does not say which are.
@@ -61,6 +63,16 @@ export function plant(next) {
   devices.forEach((d) => domains.get(d.domain).devices.push(d));
   newest = picture = null;
   isPast = false;
+}
+
+/** Returns the picture that the newest one has become by what has changed since.
+ * @param {Changes} told @returns {Picture} */
+export function changed(told) {
+  const heard = (d, at) => ({ ...d, told: { ...d.told, heard: at } });
+  const next = (it, place, had) => it === 0 ? had[place] : typeof it === "number" ? heard(had[place], it) : it;
+  return { frame: told.frame, now: told.now,
+    domains: told.domains.map((it, place) => next(it, place, newest.domains)),
+    devices: told.devices.map((it, place) => next(it, place, newest.devices)) };
 }
 
 /** Takes a picture as the newest one.
@@ -135,16 +147,15 @@ export function heardStations() {
   return heard;
 }
 
-/** Returns how long a station may be silent: two seconds, or as long as it takes to ask about all domains and half as
- * long again. */
-export const limit = () => Math.max(2000, 800 + 30 * domains.size);
+// For how many milliseconds a station may be silent.
+export const MOST_SILENCE = 2000;
 
 /** Returns how long the station of a domain has been silent: null if it is heard, and -1 if it never was.
  * @param {Domain} d @param {Map<string, number>} heard @param {number} time @returns {number | null} */
 export function silenceOf(d, heard, time) {
   const last = heard.get(d.station);
   if (last === undefined) return -1;
-  return time - last > limit() ? time - last : null;
+  return time - last > MOST_SILENCE ? time - last : null;
 }
 
 /** Returns a length of time in words.

@@ -422,6 +422,13 @@ function plant(next) {
   newest = picture = null;
   isPast = false;
 }
+function changed(told) {
+  const heard = (d, at) => ({ ...d, told: { ...d.told, heard: at } });
+  const next = (it, place, had) => it === 0 ? had[place] : typeof it === \"number\" ? heard(had[place], it) : it;
+  return { frame: told.frame, now: told.now,
+    domains: told.domains.map((it, place) => next(it, place, newest.domains)),
+    devices: told.devices.map((it, place) => next(it, place, newest.devices)) };
+}
 function hang(next) {
   newest = next;
   if (!isPast) picture = next;
@@ -463,11 +470,11 @@ function heardStations() {
   });
   return heard;
 }
-const limit = () => Math.max(2000, 800 + 30 * domains.size);
+const MOST_SILENCE = 2000;
 function silenceOf(d, heard, time) {
   const last = heard.get(d.station);
   if (last === undefined) return -1;
-  return time - last > limit() ? time - last : null;
+  return time - last > MOST_SILENCE ? time - last : null;
 }
 function age(ms) {
   if (ms < 60000) return Math.max(0, Math.round(ms / 1000)) + \" s\";
@@ -1050,7 +1057,7 @@ function silencesOf(heard, time) {
     const silence = silenceOf(d, heard, time);
     if (seen.has(d.station)) return [];
     seen.add(d.station);
-    if (silence === null || (silence < 0 && time <= limit())) return [];
+    if (silence === null || (silence < 0 && time <= MOST_SILENCE)) return [];
     return [{ key: \"station \" + d.station, isSilence: true, group: groupOf(d), domain: d.name, name: d.station,
       text: d.station + (silence < 0 ? \" not heard\" : \" silent \" + age(silence)), at: heard.get(d.station) ?? null,
       follows: [...domains.values()].filter((other) => other.station === d.station).map((other) => other.name) }];
@@ -1564,7 +1571,7 @@ function silentAt(book, number) {
   const since = new Map(), names = new Set([...domains.values()].map((d) => d.station));
   names.forEach((station) => {
     const entry = lastUpTo(silenceEntries(book, station), number);
-    if (entry && entry.words[0] === \"silent\") since.set(station, entry.at - limit() - 1);
+    if (entry && entry.words[0] === \"silent\") since.set(station, entry.at - MOST_SILENCE - 1);
   });
   return since;
 }
@@ -2035,6 +2042,8 @@ by(\"find\").addEventListener(\"keydown\", (key) => {
 addEventListener(\"hashchange\", leaveOut);
 const PAUSE = 250, LATE = 900, GONE = 1600;
 const PATIENCE = 1200;
+const RECENT = 1500, WHOLE = 60000;
+let gotAt = 0, wholeAt = 0;
 let shape = \"\";
 async function ask(path) {
   const gone = new AbortController(), bell = setTimeout(() => gone.abort(), PATIENCE);
@@ -2052,10 +2061,17 @@ async function askTree() {
   shape = text;
   build(JSON.parse(text));
 }
+function pictureQuery() {
+  if (!newest) return \"\";
+  const time = Date.now(), isRecent = time - gotAt < RECENT && time - wholeAt < WHOLE;
+  return isRecent ? \"?since=\" + newest.now : \"?after=\" + newest.frame;
+}
 async function askPicture() {
-  const text = await ask(\"/api/picture\" + (newest ? \"?after=\" + newest.frame : \"\"));
+  const text = await ask(\"/api/picture\" + pictureQuery());
   if (!text) return;
-  const next = JSON.parse(text);
+  const told = JSON.parse(text), hasAll = told.since === undefined, next = hasAll ? told : changed(told);
+  gotAt = Date.now();
+  if (hasAll) wholeAt = gotAt;
   if (newest && next.frame < newest.frame) {
     await askTree();
     afterRestart.forEach((again) => again());

@@ -1,5 +1,5 @@
 -- When an observer watches, asks and lets its station tick.
-use Rattle.std.specs.Prelude.{ℕ, ◌+◌, ◌-◌, min, max, nat_lt, not, if◌then◌else◌, Bool, Option, Some, None}
+use Rattle.std.specs.Prelude.{ℕ, ◌+◌, ◌-◌, min, nat_lt, not, if◌then◌else◌, Bool, Option, Some, None}
 use Rattle.smi_screen.specs.declared.poll_schedule.PollSchedule.{PollSchedule}
 
 -- each object is watched once, by number
@@ -9,24 +9,23 @@ watch_next s = if nat_lt s.watched s.objects then Some (s.watched + 1) else None
 abbrev pub after_watch : PollSchedule → PollSchedule
 after_watch s = if nat_lt s.watched s.objects then record s { watched = s.watched + 1 } else s
 
--- a question is asked 20 milliseconds after the one before
-abbrev pub is_question : PollSchedule → ℕ → Bool
-is_question s now = not (nat_lt (now - s.asked_at) 20)
+-- a round of questions is 100 milliseconds after the one before
+abbrev pub is_round : PollSchedule → ℕ → Bool
+is_round s now = not (nat_lt (now - s.asked_at) 100)
+
+-- about twenty domains, or about each one once
+abbrev pub questions : PollSchedule → ℕ → ℕ
+questions s now = if is_round s now then min s.domains 20 else 0
+
+abbrev pub after_round : PollSchedule → ℕ → PollSchedule
+after_round s now = if is_round s now then record s { asked_at = now } else s
 
 -- the domains are asked about by number, and after the last one the first again
 abbrev pub domain_next : PollSchedule → ℕ
 domain_next s = if nat_lt s.asked s.domains then s.asked + 1 else 1
 
-abbrev pub question_next : PollSchedule → ℕ → Option ℕ
-question_next s now = if is_question s now then Some (domain_next s) else None
-
--- what came too late is made up for, up to the questions of 160 milliseconds
-abbrev pub after_question : PollSchedule → ℕ → PollSchedule
-after_question s now =
-    if is_question s now then record s {
-      asked = domain_next s;
-      asked_at = max (min (s.asked_at + 20) 18446744073709551615) (now - 160);
-    } else s
+abbrev pub after_domain : PollSchedule → PollSchedule
+after_domain s = record s { asked = domain_next s }
 
 -- a tick is 300 milliseconds after the one before
 abbrev pub is_tick : PollSchedule → ℕ → Bool

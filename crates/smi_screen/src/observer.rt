@@ -16,12 +16,10 @@ use smi_station_output::Out;
 use smi_view::Picture;
 use thiserror::Error;
 
-/// How many datagrams are carried in a turn at most, how many objects watched, and how many domains asked about.
+/// How many datagrams are carried in a turn at most, and how many objects watched.
 const MOST_HEARD: u32 = 16;
 
 const MOST_WATCHED: u32 = 16;
-
-const MOST_ASKED: u32 = 8;
 
 /// The station has stopped: its last event was not carried, and no later one can be.
 #[derive(Clone, Copy, Debug, PartialEq, Eq, Error)]
@@ -260,12 +258,12 @@ impl Observer {
         self.carry_whatever(station, event, link)
     }
 
-    /// Asks about a domain, if one is to be asked about.
+    /// Asks about a domain.
     fn ask<S: Stable, L: DatagramLink>(
         &mut self,
         station: &mut Station<'_, S>,
         operator: u16,
-        domain: Option<u16>,
+        domain: u16,
         link: &mut L,
     ) -> Result<(), Stopped>
         ensures { Looks (StepsTo S.is_honest S.is_open S.rows S.may_find S.saves S.failures S.doubts) operator
@@ -273,9 +271,6 @@ impl Observer {
             (view station.new (shown_by L.received L.handed L.failures L.receives link.new) self.new.picture)
             (has_stopped result) }
     {
-        let Some(domain) = domain else {
-            return Ok(());
-        };
         let event = Event::Order(operator, Order::Ask(domain));
         self.carry_whatever(station, event, link)
     }
@@ -322,7 +317,7 @@ impl Observer {
         Ok(())
     }
 
-    /// Asks about the next domains, as many as the time that has passed is worth.
+    /// Asks about the next domains, if it is time for a round of questions.
     fn ask_next<S: Stable, L: DatagramLink>(
         &mut self,
         station: &mut Station<'_, S>,
@@ -335,8 +330,8 @@ impl Observer {
             (view station.new (shown_by L.received L.handed L.failures L.receives link.new) self.new.picture)
             (has_stopped result) }
     {
-        for _ in 0..MOST_ASKED {
-            let domain = schedule.next_question(self.now);
+        for _ in 0..schedule.questions(self.now) {
+            let domain = schedule.next_domain();
             match self.ask(station, operator, domain, link) {
                 Ok(()) => {}
                 Err(stopped) => return Err(stopped),

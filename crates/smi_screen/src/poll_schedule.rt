@@ -1,14 +1,13 @@
 //! The schedule of an observer: watches, questions and ticks.
 
-/// How many milliseconds lie between two questions. Where time was lost, questions are made up for, as many as this
-/// time is worth.
-const BETWEEN_QUESTIONS: u64 = 20;
+/// How many domains are asked about at once, and how many milliseconds lie between two such rounds. The other stations
+/// send again only if nothing has come for ten milliseconds, so an observer has to leave them air.
+const MOST_ASKED: u16 = 20;
 
-const MOST_LATE: u64 = 160;
+const BETWEEN_ROUNDS: u64 = 100;
 
-/// How many milliseconds lie between two ticks. A tick sends up to 64 datagrams, and the other stations send again only
-/// when nothing has come for ten milliseconds, so an observer has to leave them air. A whole tree, however large, is
-/// sent at most 300 datagrams a second so: 64 every 300 milliseconds are 214, and with 50 questions 264.
+/// How many milliseconds lie between two ticks. A tick sends up to 64 datagrams. A whole tree, however large, is sent
+/// at most 414 datagrams a second so: 64 every 300 milliseconds are 214, and 200 are questions.
 const BETWEEN_TICKS: u64 = 300;
 
 /// The schedule of an observer: which objects and domains come next, and when.
@@ -20,14 +19,15 @@ pub struct PollSchedule {
     watched: u16,
     /// The domain that was asked about last.
     asked: u16,
+    /// When the last round of questions began.
     asked_at: u64,
     ticked_at: u64,
 }
 
 impl PollSchedule {
     ghost use Rattle.std.specs.Prelude.{◌≡◌};
-    ghost use Rattle.smi_screen.specs.Schedule.{after_question, after_tick, after_watch, is_tick, new_schedule};
-    ghost use Rattle.smi_screen.specs.Schedule.{question_next, watch_next};
+    ghost use Rattle.smi_screen.specs.Schedule.{after_domain, after_round, after_tick, after_watch, domain_next};
+    ghost use Rattle.smi_screen.specs.Schedule.{is_tick, new_schedule, questions, watch_next};
 
     /// Returns the schedule of an observer of this many objects and domains that has done nothing yet.
     pub fn new(objects: u16, domains: u16) -> PollSchedule
@@ -57,22 +57,29 @@ impl PollSchedule {
         }
     }
 
-    /// Returns the next domain that is to be asked about, one after the other, if it is time.
-    pub(crate) fn next_question(&mut self, now: u64) -> Option<u16>
-        ensures next { result ≡ question_next self.old now }
-        ensures left { self.new ≡ after_question self.old now }
+    /// Returns about how many domains it is time to ask now, each once at most. If it is about any, a round begins.
+    pub(crate) fn questions(&mut self, now: u64) -> u16
+        ensures count { result ≡ questions self.old now }
+        ensures left { self.new ≡ after_round self.old now }
     {
-        if now.saturating_sub(self.asked_at) < BETWEEN_QUESTIONS {
-            return None;
+        if now.saturating_sub(self.asked_at) < BETWEEN_ROUNDS {
+            return 0;
         }
-        let next = self.asked_at.saturating_add(BETWEEN_QUESTIONS);
-        self.asked_at = next.max(now.saturating_sub(MOST_LATE));
+        self.asked_at = now;
+        self.domains.min(MOST_ASKED)
+    }
+
+    /// Returns the next domain that is to be asked about, one after the other.
+    pub(crate) fn next_domain(&mut self) -> u16
+        ensures next { result ≡ domain_next self.old }
+        ensures left { self.new ≡ after_domain self.old }
+    {
         self.asked = if self.asked < self.domains {
             self.asked + 1
         } else {
             1
         };
-        Some(self.asked)
+        self.asked
     }
 
     /// Returns true if it is time for a tick.

@@ -1,6 +1,6 @@
 -- What a request asks for, and what it is answered.
 use Rattle.std.specs.Prelude.{◌≡◌, ◌==◌, ℕ, List, [], ◌∷◌, ◌++◌, Bool, false, ◌||◌, ◌&&◌, codes, bytes_eq, drop}
-use Rattle.std.specs.Prelude.{length, Option}
+use Rattle.std.specs.Prelude.{length, nat_le, nat_lt, Option}
 use Rattle.std.specs.Prelude.{Some, None, is_some, map, option_map, if◌then◌else◌}
 use Rattle.std.specs.Option.{option_map_or}
 use Rattle.std.specs.List.{list_any, starts_with}
@@ -8,11 +8,13 @@ use Rattle.http.specs.declared.request.Request.{Request}
 use Rattle.http_server.specs.Response.{fields_of}
 use Rattle.http_server.specs.declared.response.Response.{Response}
 use Rattle.smi_tree.specs.Hierarchy.{Hierarchy}
+use Rattle.smi_tree.specs.Number.{number_within}
 use Rattle.smi_view.specs.Pictured.{Pictured}
 use Rattle.smi_history.specs.History.{HistoryState, all_noted, looked_at}
 use Rattle.smi_history.specs.declared.look_time.LookTime.{LookTime}
 use Rattle.smi_web.specs.OrderNotes.{page_notes}
 use Rattle.smi_history.specs.Query.{history_text, query_in}
+use Rattle.smi_web.specs.ChangesJson.{changes_since}
 use Rattle.smi_web.specs.declared.routing.Route.{Route}
 use Rattle.smi_web.specs.declared.routing.Route.TheVariants as route_to
 use Rattle.smi_web.specs.declared.snapshot.Snapshot.{Snapshot}
@@ -46,12 +48,35 @@ query_text (Some query) = query
 abbrev pub history_route : Option (List ℕ) → Route
 history_route query = option_map_or (λ q. route_to.History) (query_in (query_text query)) route_to.NoQuery
 
--- what is at a place; with the version as its query, a picture that the client has
-abbrev pub place_route : List ℕ → Option (List ℕ) → List ℕ → Bool → Route
-place_route path query version has_orders =
+abbrev pub most_time : ℕ
+most_time = 999_999_999_999
+
+-- the time that a query names as since=TIME
+abbrev pub time_in : List ℕ → Option ℕ
+time_in query =
+    if starts_with (λ a b. a == b) query (codes "since=")
+    then number_within 0 most_time (drop (length (codes "since=")) query)
+    else None
+
+-- who has the newest picture is told nothing, who has one of the two seconds before it what has changed, and anybody
+-- else all
+abbrev pub route_since : ℕ → ℕ → Route
+route_since time now =
+    if time == now then route_to.Unchanged
+    else (if nat_le (changes_since now) time && nat_lt time now then route_to.Changes else route_to.Picture)
+
+-- the newest picture is named by the query of its version, or by its time
+abbrev pub picture_route : Option (List ℕ) → List ℕ → ℕ → Route
+picture_route query version now =
+    if is_text query version then route_to.Unchanged
+    else option_map_or (λ time. route_since time now) (time_in (query_text query)) route_to.Picture
+
+-- what is at a place
+abbrev pub place_route : List ℕ → Option (List ℕ) → List ℕ → ℕ → Bool → Route
+place_route path query version now has_orders =
     if bytes_eq path (codes "/") then route_to.Page
     else (if bytes_eq path (codes "/api/tree") then route_to.Tree
-    else (if bytes_eq path (codes "/api/picture") then (if is_text query version then route_to.Unchanged else route_to.Picture)
+    else (if bytes_eq path (codes "/api/picture") then picture_route query version now
     else (if bytes_eq path (codes "/api/history") then history_route query
     else (if bytes_eq path (codes "/metrics") then route_to.Metrics
     else (if bytes_eq path (codes "/healthz") then route_to.Health
@@ -107,21 +132,25 @@ change_route (Some o) q = posted_route o q
 change_route None q = route_to.Change
 
 -- first of all the host, then the method, then the place
-abbrev pub route_request : List (List ℕ) → List ℕ → Option PageOrders → PartsState → Route
-route_request hosts version orders q =
+abbrev pub route_request : List (List ℕ) → List ℕ → ℕ → Option PageOrders → PartsState → Route
+route_request hosts version now orders q =
     if q.is_absolute then route_to.WrongHost
     else (if is_ours hosts q.host
-    then (if reads_only q.method then place_route q.path q.query version (is_some orders) else change_route orders q)
+    then (if reads_only q.method
+    then place_route q.path q.query version now (is_some orders)
+    else change_route orders q)
     else route_to.WrongHost)
 
 -- what a request asks of a service
 abbrev pub route_of : WebService → Request (List ℕ) → Route
-route_of w request = route_request (map (λ h. h.items) w.hosts.items) w.snapshot.version w.orders (parts_of request)
+route_of w request =
+    route_request (map (λ h. h.items) w.hosts.items) w.snapshot.version w.snapshot.now w.orders (parts_of request)
 
 abbrev pub status_of : Route → ℕ
 status_of route_to.Page = 200
 status_of route_to.Tree = 200
 status_of route_to.Picture = 200
+status_of route_to.Changes = 200
 status_of route_to.Metrics = 200
 status_of route_to.Health = 200
 status_of route_to.Unchanged = 204
@@ -152,6 +181,7 @@ abbrev pub body_of : Snapshot → List ℕ → Route → List ℕ
 body_of snapshot told route_to.Page = snapshot.page
 body_of snapshot told route_to.Tree = snapshot.tree
 body_of snapshot told route_to.Picture = snapshot.picture
+body_of snapshot told route_to.Changes = snapshot.changes
 body_of snapshot told route_to.Metrics = snapshot.metrics
 body_of snapshot told route_to.Health = codes "ok"
 body_of snapshot told route_to.Unchanged = []
@@ -205,6 +235,7 @@ abbrev pub own_headers : Route → List (List ℕ × List ℕ)
 own_headers route_to.Page = html
 own_headers route_to.Tree = json
 own_headers route_to.Picture = json
+own_headers route_to.Changes = json
 own_headers route_to.Metrics = of_type (codes "text/plain; version=0.0.4; charset=utf-8")
 own_headers route_to.Health = plain
 own_headers route_to.Unchanged = []

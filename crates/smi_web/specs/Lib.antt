@@ -11,5 +11,6 @@ pub mod OrderRelay
 pub mod Metrics
 pub mod OrdersJson
 pub mod PictureJson
+pub mod ChangesJson
 pub mod TreeJson
 pub mod Json

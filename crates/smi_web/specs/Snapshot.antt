@@ -8,6 +8,7 @@ use Rattle.smi_web.specs.OrderRelay.{OrderRelayState}
 use Rattle.smi_web.specs.declared.metrics.ScreenFigures.{ScreenFigures}
 use Rattle.smi_web.specs.declared.acknowledgements.Acknowledgement.{Acknowledgement}
 use Rattle.smi_web.specs.OrdersJson.{orders_text}
+use Rattle.smi_web.specs.ChangesJson.{changes_text}
 use Rattle.smi_web.specs.PictureJson.{picture_text}
 use Rattle.smi_web.specs.TreeJson.{tree_text}
 use Rattle.smi_web.specs.declared.snapshot.Snapshot.{Snapshot}
@@ -23,6 +24,8 @@ snapshot_of page h p f = record {
   page = page;
   tree = tree_text h;
   picture = picture_text h p f.number f.now;
+  now = f.now;
+  changes = changes_text h p f.number f.now;
   metrics = metrics_text h p f;
   orders = [];
 }
@@ -32,6 +35,8 @@ abbrev pub renewed : Snapshot → Hierarchy → Pictured → ScreenFigures → S
 renewed snapshot h p f = record snapshot {
   version = version_of f.number;
   picture = picture_text h p f.number f.now;
+  now = f.now;
+  changes = changes_text h p f.number f.now;
   metrics = metrics_text h p f;
 }
 

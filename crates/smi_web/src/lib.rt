@@ -13,16 +13,17 @@
 //!   [`OrderRelay::admission`] says beforehand whether an order may be given. The relay also asks the console in which
 //!   mode each child is ([`OrderRelay::ask_modes`]), and keeps its last whole answer ([`OrderRelay::modes`]).
 //! - [`Acknowledgements`] has the alarms that somebody has acknowledged on a page, who, and when.
-//! - [`write_tree`], [`write_picture`], [`write_orders`] and [`write_metrics`] write JSON, and Prometheus' text format.
-//!   The names of a tree have letters, digits and `_` alone, and a relay keeps plain text, so nothing is escaped.
+//! - [`write_tree`], [`write_picture`], [`write_changes`], [`write_orders`] and [`write_metrics`] write JSON, and
+//!   Prometheus' text format. The names of a tree have letters, digits and `_` alone, and a relay keeps plain text, so
+//!   nothing is escaped.
 //!
 //! docs/FORMATS.md, "The screen", has the texts.
 //!
 //! # How it is proved
 //!
 //! Each text is a definition, put together from what `specs/Json` has: `tree_text` (`specs/TreeJson`), `picture_text`
-//! (`specs/PictureJson`), `metrics_text` (`specs/Metrics`), `orders_text` (`specs/OrdersJson`). So no reader is shown a
-//! state, a holder or an answer that tree, picture and relay do not have.
+//! (`specs/PictureJson`), `changes_text` (`specs/ChangesJson`), `metrics_text` (`specs/Metrics`), `orders_text`
+//! (`specs/OrdersJson`). So no reader is shown a state, a holder or an answer that tree, picture and relay do not have.
 //!
 //! `route_request` (`specs/Answers`) goes through the tests of a request in their order. `Answers` says the status, all
 //! headers and the body, and `left_by` what a request leaves of the service. What each call leaves of the relay is in
@@ -31,6 +32,7 @@
 #![tactic(auto)]
 
 mod acknowledgements;
+mod changes_json;
 mod json;
 mod json_list;
 mod metrics;
@@ -51,6 +53,7 @@ mod tree_json;
 pub use acknowledgements::{
     Acknowledgement, Acknowledgements, MOST_ACKNOWLEDGED, is_acknowledgement,
 };
+pub use changes_json::{CHANGES_TOLD, changes_since, write_changes};
 pub use metrics::{ScreenFigures, write_metrics};
 pub use order_line::is_order_line;
 pub use order_relay::{Admission, MOST_ORDERS, MOST_UNSENT, OrderRelay};

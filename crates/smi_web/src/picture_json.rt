@@ -110,6 +110,23 @@ fn put_hearing(text: &mut Vec<u8>, tree: &Tree, hearing: &Option<Hearing>) -> Re
     }
 }
 
+/// Writes what is known of a domain.
+pub(crate) fn put_domain(
+    text: &mut Vec<u8>,
+    tree: &Tree,
+    picture: &Picture,
+    domain: u16,
+) -> Result<(), AllocError>
+    ensures { OnOk result (text.new.items ≡ text.old.items ++ domain_text tree.now picture.now domain) }
+{
+    put_quoted(text, b"{\"name\":", names::domain(tree, domain), domain)?;
+    put(text, b",\"shown\":")?;
+    put_sight(text, tree, picture.object(usize::from(domain)))?;
+    put(text, b",\"told\":")?;
+    put_hearing(text, tree, &picture.domain(domain))?;
+    put(text, b"}")
+}
+
 /// The domains of a picture.
 #[derive(Clone, Copy)]
 struct Domains<'a> {
@@ -123,21 +140,30 @@ impl<'a> Listing for Domains<'a> {
     ghost text = { λ s d. domain_text s.tree.now s.picture.now d };
 
     fn put(&self, into: &mut Vec<u8>, number: u16) -> Result<(), AllocError> {
-        let name = names::domain(self.tree, number);
-        put_quoted(into, b"{\"name\":", name, number)?;
-        put(into, b",\"shown\":")?;
-        put_sight(into, self.tree, self.picture.object(usize::from(number)))?;
-        put(into, b",\"told\":")?;
-        put_hearing(into, self.tree, &self.picture.domain(number))?;
-        put(into, b"}")
+        put_domain(into, self.tree, self.picture, number)
     }
 }
 
 /// Returns what was seen of a device.
-fn sight_of_device(tree: &Tree, picture: &Picture, device: u16) -> Option<Sight>
+pub(crate) fn sight_of_device(tree: &Tree, picture: &Picture, device: u16) -> Option<Sight>
     ensures { result ≡ object_of picture.now (domain_count tree.now + device) }
 {
     picture.object(usize::from(tree.domain_count()) + usize::from(device))
+}
+
+/// Writes what is known of a device.
+pub(crate) fn put_device(
+    text: &mut Vec<u8>,
+    tree: &Tree,
+    picture: &Picture,
+    device: u16,
+) -> Result<(), AllocError>
+    ensures { OnOk result (text.new.items ≡ text.old.items ++ device_text tree.now picture.now device) }
+{
+    put_quoted(text, b"{\"name\":", names::device(tree, device), device)?;
+    put(text, b",\"shown\":")?;
+    put_sight(text, tree, sight_of_device(tree, picture, device))?;
+    put(text, b"}")
 }
 
 /// The devices of a picture.
@@ -153,12 +179,7 @@ impl<'a> Listing for SeenDevices<'a> {
     ghost text = { λ s d. device_text s.tree.now s.picture.now d };
 
     fn put(&self, into: &mut Vec<u8>, number: u16) -> Result<(), AllocError> {
-        let name = names::device(self.tree, number);
-        put_quoted(into, b"{\"name\":", name, number)?;
-        put(into, b",\"shown\":")?;
-        let sight = sight_of_device(self.tree, self.picture, number);
-        put_sight(into, self.tree, sight)?;
-        put(into, b"}")
+        put_device(into, self.tree, self.picture, number)
     }
 }
 

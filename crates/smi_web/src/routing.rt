@@ -5,10 +5,12 @@ ghost use Rattle.std.specs.List.{list_any};
 ghost use Rattle.smi_web.specs.Answers as spec;
 
 use crate::acknowledgements::is_acknowledgement;
+use crate::changes_json::changes_since;
 use crate::order_relay::Admission;
 use crate::page_orders::PageOrders;
 use bytes::Bytes;
 use smi_history::query_in;
+use smi_tree::number_within;
 use std::marker::Model;
 
 /// The parts of a request that its route depends on.
@@ -46,12 +48,17 @@ impl<'a> Model for RequestParts<'a> {
     } };
 }
 
+/// The greatest time that a query may have.
+const MOST_TIME: u64 = 999_999_999_999;
+
 /// The route of a request.
 #[derive(Clone, Copy, PartialEq, Eq)]
 pub enum Route {
     Page,
     Tree,
     Picture,
+    /// What has changed in the picture since the one that the client has.
+    Changes,
     Metrics,
     /// The screen runs.
     Health,
@@ -140,9 +147,52 @@ fn history_route(query: Option<&[u8]>) -> Route
     }
 }
 
+/// Returns the time in `since=TIME`, if a query is that.
+fn time_in(query: &[u8]) -> Option<u64>
+    ensures { result ≡ spec.time_in query.now }
+{
+    if query.starts_with(b"since=") {
+        number_within(0, MOST_TIME, &query[b"since=".len()..])
+    } else {
+        None
+    }
+}
+
+/// Returns the answer to a client whose picture was looked at at this time.
+fn route_since(time: u64, now: u64) -> Route
+    ensures { result ≡ spec.route_since time now }
+{
+    if time == now {
+        Route::Unchanged
+    } else if changes_since(now) <= time && time < now {
+        Route::Changes
+    } else {
+        Route::Picture
+    }
+}
+
+/// Returns the answer to a request for the picture.
+fn picture_route(query: Option<&[u8]>, version: &[u8], now: u64) -> Route
+    ensures { result ≡ spec.picture_route (option_map (λ q. q.now) query.entry) version.now now }
+{
+    if is_text(query, version) {
+        return Route::Unchanged;
+    }
+    match time_in(query_text(query)) {
+        Some(time) => route_since(time, now),
+        None => Route::Picture,
+    }
+}
+
 /// Returns what is at a place.
-fn place_route(path: &[u8], query: Option<&[u8]>, version: &[u8], has_orders: bool) -> Route
-    ensures { result ≡ spec.place_route path.now (option_map (λ q. q.now) query.entry) version.now has_orders }
+fn place_route(
+    path: &[u8],
+    query: Option<&[u8]>,
+    version: &[u8],
+    now: u64,
+    has_orders: bool,
+) -> Route
+    ensures { result ≡ spec.place_route path.now (option_map (λ q. q.now) query.entry) version.now now has_orders }
 {
     if path == b"/".as_slice() {
         return Route::Page;
@@ -151,11 +201,7 @@ fn place_route(path: &[u8], query: Option<&[u8]>, version: &[u8], has_orders: bo
         return Route::Tree;
     }
     if path == b"/api/picture".as_slice() {
-        return if is_text(query, version) {
-            Route::Unchanged
-        } else {
-            Route::Picture
-        };
+        return picture_route(query, version, now);
     }
     if path == b"/api/history".as_slice() {
         return history_route(query);
@@ -275,14 +321,17 @@ fn change_route(orders: &Option<PageOrders>, parts: &RequestParts<'_>) -> Route
 /// something, who asks; of an order, whether it is one, and whether it can be sent; of an acknowledgement, whether it
 /// is one.
 ///
-/// The hosts are those that are answered. `version` is the query of a client that has the newest picture.
+/// The hosts are those that are answered. `version` is the query of a client that has the newest picture, and `now` the
+/// time of that picture in milliseconds: who names it has the newest picture too, and who names a time of the two
+/// seconds before is told what has changed.
 pub fn route_request(
     hosts: &[Vec<u8>],
     version: &[u8],
+    now: u64,
     orders: &Option<PageOrders>,
     parts: &RequestParts<'_>,
 ) -> Route
-    ensures { result ≡ spec.route_request (map (λ h. h.items) hosts.now) version.now orders.now parts.now }
+    ensures { result ≡ spec.route_request (map (λ h. h.items) hosts.now) version.now now orders.now parts.now }
 {
     if parts.is_absolute || !is_ours(hosts, parts.host) {
         return Route::WrongHost;
@@ -290,5 +339,5 @@ pub fn route_request(
     if !reads_only(parts.method) {
         return change_route(orders, parts);
     }
-    place_route(parts.path, parts.query, version, orders.is_some())
+    place_route(parts.path, parts.query, version, now, orders.is_some())
 }

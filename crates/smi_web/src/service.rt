@@ -283,6 +283,7 @@ impl WebService {
             Route::Page => fill(response, StatusCode::OK, HTML, &snapshot.page),
             Route::Tree => fill(response, StatusCode::OK, JSON, &snapshot.tree),
             Route::Picture => fill(response, StatusCode::OK, JSON, &snapshot.picture),
+            Route::Changes => fill(response, StatusCode::OK, JSON, &snapshot.changes),
             Route::Metrics => fill(response, StatusCode::OK, METRICS, &snapshot.metrics),
             Route::Health => fill_plain(response, StatusCode::OK, "ok"),
             Route::Orders => fill(response, StatusCode::OK, JSON, &snapshot.orders),
@@ -350,7 +351,8 @@ impl Service for WebService {
     ) -> Result<(), AllocError> {
         let parts = parts_of(request);
         let version = self.snapshot.version.as_slice();
-        let what = route_request(&self.hosts, version, &self.orders, &parts);
+        let now = self.snapshot.now;
+        let what = route_request(&self.hosts, version, now, &self.orders, &parts);
         let told = self.told(what, parts.query)?;
         self.answer(what, &told, response)?;
         if what == Route::Given {

@@ -4,6 +4,7 @@ ghost use Rattle.std.specs.Prelude.{◌≡◌, IfOk};
 ghost use Rattle.smi_web.specs.Snapshot.{version_of};
 
 use crate::acknowledgements::Acknowledgements;
+use crate::changes_json::write_changes;
 use crate::metrics::{ScreenFigures, write_metrics};
 use crate::order_relay::OrderRelay;
 use crate::orders_json::write_orders;
@@ -24,6 +25,10 @@ pub struct Snapshot {
     pub page: Bytes,
     pub tree: Bytes,
     pub picture: Bytes,
+    /// When the picture was looked at, in milliseconds since the start.
+    pub now: u64,
+    /// What has changed in the picture in the two seconds before it.
+    pub changes: Bytes,
     pub metrics: Bytes,
     /// The orders that were given from the page, and the alarms that were acknowledged; nothing, if none can be.
     pub orders: Bytes,
@@ -55,6 +60,7 @@ impl Snapshot {
     {
         let shape = shared(write_tree(alloc, tree)?)?;
         let scene = shared(write_picture(alloc, tree, picture, 0, 0)?)?;
+        let changes = shared(write_changes(alloc, tree, picture, 0, 0)?)?;
         let figures = ScreenFigures {
             number: 0,
             now: 0,
@@ -66,6 +72,8 @@ impl Snapshot {
             page,
             tree: shape,
             picture: scene,
+            now: 0,
+            changes,
             metrics,
             orders: Bytes::from_static(b""),
         })
@@ -87,9 +95,12 @@ impl Snapshot {
     {
         let ScreenFigures { number, now, .. } = figures;
         let scene = shared(write_picture(alloc, tree, picture, number, now)?)?;
+        let changes = shared(write_changes(alloc, tree, picture, number, now)?)?;
         let metrics = shared(write_metrics(alloc, tree, picture, figures)?)?;
         self.version = version_of(alloc, number)?;
         self.picture = scene;
+        self.now = now;
+        self.changes = changes;
         self.metrics = metrics;
         Ok(())
     }

@@ -1,6 +1,6 @@
 // The picture of an earlier time, of what the entries up to then say.
 
-import { devices, domains, limit } from "../model.mjs";
+import { MOST_SILENCE, devices, domains } from "../model.mjs";
 import { entriesOf, lastUpTo, recordIn, sinceOf } from "./entries.mjs";
 import { silenceEntries } from "./stretches.mjs";
 
@@ -26,7 +26,7 @@ function silentAt(book, number) {
   const since = new Map(), names = new Set([...domains.values()].map((d) => d.station));
   names.forEach((station) => {
     const entry = lastUpTo(silenceEntries(book, station), number);
-    if (entry && entry.words[0] === "silent") since.set(station, entry.at - limit() - 1);
+    if (entry && entry.words[0] === "silent") since.set(station, entry.at - MOST_SILENCE - 1);
   });
   return since;
 }

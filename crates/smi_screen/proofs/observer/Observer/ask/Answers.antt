@@ -14,6 +14,6 @@ returns g c =
     let before : View (Whole g.row.S.Denot) = view c.args.station.now (shows c.args.link.now) c.args.self.now.picture in
     let after : View (Whole g.row.S.Denot)
     = view c.carry_whatever.new.station (shows c.carry_whatever.new.link) c.carry_whatever.new.self.picture in
-    one steps c.args.operator c.args.self.now.now (Asks c.in-Some.domain)
+    one steps c.args.operator c.args.self.now.now (Asks c.args.domain)
     before after (has_stopped c.carry_whatever.result)
     c.carry_whatever.ensures
