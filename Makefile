@@ -95,7 +95,7 @@ check:
 
 # The command lines alone, or some: make cases ONLY=take. The last line is 'N passed, M failed'.
 cases: needs bin/smi
-	@$(call tests,command_lines growths growths_node interrupts limits paths schedules settling terminals)
+	@$(call tests,command_lines growths growths_node interrupts limits odd_inputs paths schedules settling terminals)
 
 # Nodes as processes, three of them over UDP among them, or some tests: make nodes ONLY=store.
 nodes: needs bin/smi
