@@ -10,7 +10,7 @@ LANES := $(shell awk -v most=$$(nproc) '/^MemAvailable/ { fit = int($$2 / 400000
 PYTHON := /usr/bin/python3
 tests = $(PYTHON) -m pytest -n auto $(if $(ONLY),-k '$(ONLY)') $(1:%=tests/%_test.py)
 
-.PHONY: smi run try test gate record check needs cases nodes marks full consoles soak crowd forest shift screen browser bridge demo tools documents pictures edits edits-test tools-test bench
+.PHONY: smi run try test gate record check needs cases nodes marks full consoles soak chaos crowd forest shift screen browser bridge demo tools documents pictures edits edits-test tools-test bench
 .PHONY: install deb package
 
 # The program, proved and built, at bin/smi.
@@ -117,6 +117,10 @@ consoles: needs bin/smi
 soak: bin/smi
 	@$(PYTHON) tests/soak.py bin/smi $(WORDS)
 
+# Thirty nodes at the size of an experiment, over a worse network, with kills, stops, partitions and garbage.
+chaos: bin/smi
+	@$(PYTHON) tests/chaos.py bin/smi $(WORDS)
+
 # A crowd of nodes, 16 or as many as are asked for: what they cost and how soon they answer: make crowd WORDS='--stations 128'.
 crowd: bin/smi
 	@$(PYTHON) tests/crowd.py bin/smi $(WORDS)
@@ -170,7 +174,7 @@ edits-test:
 
 # The gate itself and the judges of the tests, or some tests: make tools-test ONLY=Soak.
 tools-test: needs
-	@$(call tests,gate tools)
+	@$(call tests,gate tools verdicts)
 
 bench: bin/smi bin/smi_bench
 	python3 tests/bench.py bin/smi bin/smi_bench

@@ -30,8 +30,8 @@ import time
 import layout
 import nodes
 import running
-import soak
 import stores
+import verdicts
 import wires
 
 TREE = 17
@@ -339,7 +339,7 @@ def afterwards(table, crowd):
     given, answered = (sum(getattr(it, what) for it in crowd.consoles) for what in ("given", "answered"))
     table.add("orders answered", "%d of %d" % (answered, given), "all", 0 < given == answered)
     table.add_count("nodes that ended by themselves", crowd.ended, 0)
-    table.add_count("grants and links that do not fit each other", len(soak.unknown_grants(crowd.rows())), 0)
+    table.add_count("grants and links that do not fit each other", len(verdicts.unknown_grants(crowd.rows())), 0)
     is_safe, said = nodes.audit(crowd.program, crowd.trees[1], crowd.night)
     table.add("the audit of all journals", said.split(":", maxsplit=1)[0], "safe", is_safe)
 

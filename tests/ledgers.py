@@ -18,7 +18,7 @@ from running import HERE, is_so, read, write
 import consoles
 import lunskaf
 import nodes
-import soak
+import verdicts
 
 # What a store consists of, by the end of its files' names, and what is there for a moment.
 ENDS = ("", "-wal", "-tree", "-sum")
@@ -49,8 +49,8 @@ class Saved(typing.NamedTuple):
 
 def saved_in(rows):
     """Returns what rows of station A say, which are bytes by their keys."""
-    kind, holder, epoch, last, _, _ = soak.record_of(rows.get(DOMAIN, bytes(24)))
-    form, known, number, pending = soak.links_of(rows.get(OPERATOR, bytes(4))[4:]).get(DCS, (0, 0, 0, 0))
+    kind, holder, epoch, last, _, _ = verdicts.record_of(rows.get(DOMAIN, bytes(24)))
+    form, known, number, pending = verdicts.links_of(rows.get(OPERATOR, bytes(4))[4:]).get(DCS, (0, 0, 0, 0))
     # (a domain is given back once all commands have ended)
     ended = ALL if form == DROPPING else number - pending
     return Saved(int.from_bytes(rows.get(BOOT, bytes(8))[4:], "big"), (kind, holder), epoch, last, number,

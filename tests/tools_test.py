@@ -1,110 +1,15 @@
-"""Tests of the judges: what the soak sees in rows and answers, and what a run of tests counts. No node runs."""
+"""Tests of the tools of the tests: that no script runs at an import, and what a run of tests counts. No node runs."""
 
 import ast
 import glob
 import os
 import sys
-import threading
 import unittest
-from unittest import mock
 
 import pytest
 
 import running
-import soak
 from running import HERE, ROOT, text_of
-
-
-def record_row(kind, holder, epoch, last, busy, links=b""):
-    """Returns the row of a domain (docs/FORMATS.md, "Stable rows")."""
-    return (bytes([2, kind]) + holder.to_bytes(2, "big") + epoch.to_bytes(8, "big") + last.to_bytes(4, "big")
-            + bytes([busy]) + bytes(5) + (1 if links else 0).to_bytes(2, "big") + links)
-
-
-def link_of(domain, form, epoch, number=0, pending=0):
-    """Returns a link in a row, with this many commands pending."""
-    more = (pending - 1).to_bytes(2, "big") + bytes(4 * (pending - 1)) if form == 5 else b""
-    return domain.to_bytes(2, "big") + bytes([form, 0]) + epoch.to_bytes(8, "big") + number.to_bytes(4, "big") \
-        + bytes(4) + more
-
-
-def operator_row(*links):
-    return bytes([3, 0]) + len(links).to_bytes(2, "big") + b"".join(links)
-
-
-class Soak(unittest.TestCase):
-    """Violations that are planted are seen, and a sound soak has none."""
-
-    def events(self, *told):
-        return [(at, *event) for at, event in enumerate(told)]
-
-    def test_one_commander(self):
-        took = [("told", "ANN", "take DCS", "0"), ("ordered", "ANN", "drop DCS"), ("told", "ANN", "drop DCS", "0"),
-                ("told", "BOB", "take DCS", "0")]
-        self.assertEqual(soak.commanders(self.events(*took)), [])
-        self.assertEqual(soak.commanders(self.events(took[0], took[0])), [])
-        self.assertEqual(soak.commanders(self.events(took[0], ("told", "BOB", "take DCS", "5"))), [])
-        self.assertEqual(soak.commanders(self.events(took[0], ("told", "BOB", "take TPC", "0"))), [])
-
-    def test_two_commanders(self):
-        for between in [[], [("ordered", "BOB", "drop DCS")], [("ordered", "ANN", "drop TPC")]]:
-            found = soak.commanders(self.events(("told", "ANN", "take DCS", "0"), *between,
-                                                ("told", "BOB", "take DCS", "0")))
-            self.assertEqual(found, ["BOB was told to have DCS, which ANN has"])
-
-    def test_what_is_told_by_its_moment(self):
-        late = [(2, "told", "BOB", "take DCS", "0"), (0, "told", "ANN", "take DCS", "0"),
-                (1, "ordered", "ANN", "drop DCS")]
-        self.assertEqual(soak.commanders(late), [])
-
-    def gone_back(self, key, before, after):
-        """Returns what a reading of a row finds after another one."""
-        seen = eyes()
-        soak.Soak.look_at(seen, {key: before})
-        soak.Soak.look_at(seen, {key: after})
-        return seen.violations
-
-    def test_rows_that_go_back(self):
-        boots = [bytes([2, 0, 0, 0]) + it.to_bytes(4, "big") for it in (1, 2)]
-        records = [record_row(1, 1, 1, 0, 0), record_row(1, 1, 1, 1, 1), record_row(1, 1, 1, 1, 0),
-                   record_row(0, 0, 2, 0, 0)]
-        links = [operator_row(link_of(1, 2, epoch)) for epoch in (1, 3)]
-        for key, rows in [((1, 0, 0), boots), ((1, 1, 0), records), ((1, 0, 1), links)]:
-            for before, after in zip(rows, rows[1:]):
-                self.assertEqual(self.gone_back(key, before, after), [])
-                self.assertEqual(self.gone_back(key, before, before), [])
-                self.assertEqual(len(self.gone_back(key, after, before)), 1, key)
-
-    def grants(self, record, *links):
-        return soak.unknown_grants({(1, 1, 0): record, (1, 0, 1): operator_row(*links)})
-
-    def test_grants_that_are_known(self):
-        held = record_row(1, 1, 3, 2, 0)
-        for link in [link_of(1, 2, 3, 2), link_of(1, 3, 3, 3, 1), link_of(1, 5, 3, 4, 2), link_of(1, 4, 3)]:
-            self.assertEqual(self.grants(held, link), [])
-        self.assertEqual(self.grants(record_row(1, 1, 3, 0, 0), link_of(1, 1, 2)), [])
-        self.assertEqual(self.grants(record_row(0, 0, 4, 0, 0), link_of(1, 0, 4)), [])
-
-    def test_grants_that_are_not(self):
-        held = record_row(1, 1, 3, 2, 0)
-        for record, link in [
-                (held, link_of(1, 0, 3)), (held, link_of(1, 1, 3)), (held, link_of(1, 2, 5, 2)),
-                (held, link_of(1, 2, 3, 1)), (held, link_of(1, 2, 3, 3)),
-                (record_row(1, 1, 3, 1, 1), link_of(1, 3, 3, 2, 1)), (record_row(1, 2, 3, 2, 0), link_of(1, 2, 3, 2)),
-                (record_row(0, 0, 4, 0, 0), link_of(1, 2, 3, 2))]:
-            self.assertNotEqual(self.grants(record, link), [], (record, link))
-        self.assertEqual(len(soak.unknown_grants({(1, 1, 0): held})), 1)
-        links = operator_row(link_of(1, 2, 3, 2))
-        found = soak.unknown_grants({(1, 1, 0): held, (1, 0, 1): links, (1, 0, 2): links})
-        self.assertEqual(found, ["(1, 2) holds domain 1 at epoch 3, whose record is (1, 1, 3)"])
-
-
-def eyes():
-    """Returns what a soak has seen, and its violations, without nodes."""
-    made = mock.Mock(spec=["samples", "seen", "lock", "violations", "violated"])
-    made.samples, made.seen, made.lock, made.violations = 0, {}, threading.Lock(), []
-    made.violated = made.violations.append
-    return made
 
 
 class Scripts(unittest.TestCase):
