@@ -1,0 +1,147 @@
+"""Cases that are drawn: lawful trees, mutated tree files, schedules, and datagrams to `smi answer`."""
+
+import random
+import string
+
+import layout
+
+WORDS = ["tree", "state", "action", "station", "operator", "devclass", "move", "unitclass", "accept", "any", "all",
+         "domain", "device"]
+ODD_WORDS = ["-", "0", "1", "65535", "65536", "0000000017", "00000000017", "+1", "-1", "A", "A" * 16, "A" * 17, "a", "1A", "_A",
+             "A_", "A-B", "\xc4", "#", "#A", "A#", "\x0b", "\0", "\r", "127.0.0.1:9001", "255.255.255.255:65535",
+             "256.1.1.1:1", "1.1.1.1:0", "1.1.1:1", "1.1.1.1.1:1", "1.1.1.1", "::", "1.1.1.1:65536", "001.1.1.1:00001",
+             "4294967296", "9999999999", "18446744073709551616"]
+SEPARATORS = [" ", "  ", "\t", " \t ", "\x0b", "\xa0"]
+# Lines of which a file has many: more of one of them than a limit allows.
+MANY = {"state M%d": 66, "action M%d": 66, "station M%d 1.2.3.4:5": 130, "operator M%d {station}": 34, "devclass M%d {state}": 34,
+        "unitclass M%d {state}": 34, "domain M%d {station} {unitclass} -": 130, "domain M%d {station} {unitclass} {domain}": 18,
+        "device M%d {domain} {devclass}": 18, "any {unitclass} {state} {state}": 34, "all {unitclass} {state} {state}": 34,
+        "accept {unitclass} {action}": 2, "move {devclass} {state} {action} {state}": 2}
+
+
+class DrawnTree:
+    """A lawful tree file: its names, by what they name, and its lines."""
+
+    def __init__(self, draw, stations=None, parts=1):
+        self.draw = draw
+        self.names = {it: [] for it in WORDS}
+        self.lines = ["tree %d" % draw.choice([1, 17, 17, 65_535])]
+        self.add("state", 1 + draw.randrange(5), lambda: [])
+        self.add("action", 1 + draw.randrange(3), lambda: [])
+        ports = draw.sample(range(1024, 65_536), 8)
+        self.add("station", stations or 1 + draw.randrange(4), lambda: ["127.0.0.1:%d" % ports.pop()])
+        self.add("operator", 1 + draw.randrange(4), lambda: [self.one("station")])
+        self.add("devclass", draw.randrange(3), lambda: [self.one("state")])
+        self.add("unitclass", 1 + draw.randrange(2), lambda: [self.one("state")])
+        self.add_rules()
+        for _ in range(parts * (1 + draw.randrange(4))):
+            self.add("domain", 1, lambda: [self.one("station"), self.one("unitclass"),
+                                           self.one("domain") if self.names["domain"] and draw.random() < 0.8 else "-"])
+        if self.names["devclass"]:
+            self.add("device", draw.randrange(5), lambda: [self.one("domain"), self.one("devclass")])
+
+    def one(self, kind):
+        return self.draw.choice(self.names[kind])
+
+    def add(self, kind, count, more):
+        """Declares this many things of a kind."""
+        for _ in range(count):
+            name = "%s%d" % (kind[:2].upper(), len(self.names[kind]) + 1)
+            self.lines.append(" ".join([kind, name, *more()]))
+            self.names[kind].append(name)
+
+    def add_rules(self):
+        """Adds moves, accepted actions and rules, none of them twice."""
+        moves = [(name, state, action) for name in self.names["devclass"] for state in self.names["state"]
+                 for action in self.names["action"]]
+        self.lines += ["move %s %s %s %s" % (*it, self.one("state")) for it in moves if self.draw.random() < 0.6]
+        accepted = [(name, action) for name in self.names["unitclass"] for action in self.names["action"]]
+        self.lines += ["accept %s %s" % it for it in accepted if self.draw.random() < 0.85]
+        for name in self.names["unitclass"]:
+            self.lines += ["%s %s %s %s" % (self.draw.choice(["any", "all"]), name, self.one("state"), self.one("state"))
+                           for _ in range(self.draw.randrange(6))]
+
+    def text(self):
+        return "\n".join(self.lines) + "\n"
+
+
+def mutated_tree(draw):
+    """Returns the bytes of a tree file with up to four changes."""
+    tree = DrawnTree(draw)
+    lines = list(tree.lines)
+    for _ in range(draw.choice([0, 1, 1, 1, 2, 4])):
+        change_lines(draw, lines, tree)
+    ends = draw.choice(["\n", "\n", "\n", "\r\n", "\r\r\n"])
+    data = (ends.join(lines) + draw.choice([ends, ends, "", "\r"])).encode("latin-1")
+    if draw.random() < 0.1:
+        data = changed_bytes(draw, data)
+    # a file that is as long as may be, or longer
+    if draw.random() < 0.005:
+        data += b"#" * 99 + b"\n" + (b"# " + b"x" * 97 + b"\n") * ((262_144 - len(data)) // 100 + draw.randrange(3))
+        data = data[:262_144 + draw.randrange(2)]
+    return data
+
+
+def change_lines(draw, lines, tree):
+    """Makes one change of lines: a word, a line, or many lines."""
+    way, at = draw.randrange(9), draw.randrange(len(lines)) if lines else 0
+    if way == 0 or not lines:
+        lines.insert(at, draw.choice(tree.lines))
+    elif way == 1:
+        del lines[at]
+    elif way == 2:
+        other = draw.randrange(len(lines))
+        lines[at], lines[other] = lines[other], lines[at]
+    elif way in (3, 4):
+        words = lines[at].split(" ")
+        words[draw.randrange(len(words))] = odd_word(draw, tree)
+        lines[at] = " ".join(words)
+    elif way == 5:
+        words = lines[at].split(" ")
+        words.insert(draw.randrange(len(words) + 1), odd_word(draw, tree))
+        del words[draw.randrange(len(words)):][draw.randrange(2):]
+        lines[at] = draw.choice(SEPARATORS).join(words)
+    elif way == 6:
+        lines.insert(at, draw.choice(["", " ", "\t", "# " + odd_word(draw, tree), "#" * draw.choice([199, 200, 201]),
+                                      " " * draw.choice([200, 201]), "\r", "\x0b"]))
+    elif way == 7:
+        lines[at] += " " * draw.choice([1, 199 - len(lines[at]), 200 - len(lines[at]), 201 - len(lines[at])])
+    else:
+        add_many(draw, lines, tree)
+
+
+def add_many(draw, lines, tree):
+    """Adds as many lines of a kind as a limit allows, or one more or less."""
+    form, most = draw.choice(list(MANY.items()))
+    kinds = [it for _, it, _, _ in string.Formatter().parse(form) if it]
+    if not all(tree.names[it] for it in kinds):
+        return
+    given = {it: tree.one(it) for it in kinds}
+    lines += [form.format(**given).replace("%d", str(it)) for it in range(most - draw.randrange(8))]
+    # a chain of domains that is as deep as may be, or deeper
+    if draw.random() < 0.2:
+        chain = "domain C{0} %s %s C{1}" % (tree.one("station"), tree.one("unitclass"))
+        lines += ["domain C0 %s %s -" % (tree.one("station"), tree.one("unitclass"))]
+        lines += [chain.format(it + 1, it) for it in range(draw.randrange(6, 10))]
+
+
+def odd_word(draw, tree):
+    """Returns a word that may be wrong where it is put: one of a line, of the tree, or an odd one."""
+    known = [name for names in tree.names.values() for name in names]
+    return draw.choice([draw.choice(ODD_WORDS), draw.choice(WORDS), draw.choice(known), draw.choice(known), "-"])
+
+
+def changed_bytes(draw, data):
+    """Returns bytes of which a few are changed, put in or taken out, or that end early."""
+    data = bytearray(data)
+    for _ in range(draw.choice([1, 1, 2, 5])):
+        way, at = draw.randrange(4), draw.randrange(len(data) + 1)
+        if way == 0:
+            data[at:at + 1] = bytes([draw.choice(b"\n\r\t \0#-A9" + draw.randbytes(1))])
+        elif way == 1:
+            data[at:at] = bytes([draw.choice(b"\n\r\t \0#-A9" + draw.randbytes(1))])
+        elif way == 2:
+            del data[at:at + draw.choice([1, 1, 5])]
+        elif draw.random() < 0.2:
+            del data[at:]
+    return bytes(data)

@@ -1,0 +1,84 @@
+"""Cases that are drawn, of which the program and the oracle (tests/oracle) have to say the same.
+
+usage: differences.py SMI [--trees N] [--seed S]
+
+trees      tree files with a few changes, through `smi check`
+
+The seed is printed. Each difference is kept in a folder, with its input, what came and what was wanted. The last line
+is 'N passed, M failed'.
+"""
+
+import argparse
+import os
+import random
+import tempfile
+import time
+
+# it puts tools on the path, so it comes first
+import running
+import cases
+from oracle import tree as trees
+
+
+class Comparison:
+    """Runs the program and the oracle on cases, and keeps each that differs in a folder of its own."""
+
+    def __init__(self, program, kept):
+        self.program, self.kept = program, kept
+        self.passed, self.failed = 0, 0
+
+    def compare(self, name, files, came, wanted):
+        """Counts a case. If what came is not what was wanted, writes both and these files into a folder."""
+        if came == wanted:
+            self.passed += 1
+            return
+        self.failed += 1
+        folder = os.path.join(self.kept, name)
+        os.makedirs(folder, exist_ok=True)
+        for end, data in files.items():
+            running.write(os.path.join(folder, end), data)
+        running.write(os.path.join(folder, "came"), repr(came) + "\n")
+        running.write(os.path.join(folder, "wanted"), repr(wanted) + "\n")
+
+    def run(self, *words, **how):
+        return running.run([self.program, *words], **how)
+
+
+def compare_trees(comparison, count, seed, folder):
+    """Compares what `smi check` says of drawn tree files."""
+    path = os.path.join(folder, "tree")
+    for number in range(count):
+        data = cases.mutated_tree(random.Random("%s tree %d" % (seed, number)))
+        running.write(path, data)
+        comparison.compare("tree-%d" % number, {"tree": data}, comparison.run("check", path), trees.check(data))
+
+
+KINDS = {"trees": compare_trees}
+
+
+def main():
+    words = argparse.ArgumentParser(usage=__doc__.split("usage: ")[1].split("\n\n")[0])
+    words.add_argument("program")
+    for kind in KINDS:
+        words.add_argument("--" + kind, type=int, default=0)
+    words.add_argument("--seed", default=str(int(time.time())))
+    given = words.parse_args()
+    print("seed %s" % given.seed, flush=True)
+    kept = tempfile.mkdtemp(prefix="differences-")
+    comparison = Comparison(os.path.abspath(given.program), kept)
+    with tempfile.TemporaryDirectory() as folder:
+        for kind, compare in KINDS.items():
+            before, begun = (comparison.passed, comparison.failed), time.monotonic()
+            compare(comparison, getattr(given, kind), given.seed, folder)
+            print("%s: %d alike, %d differ, %.0f s" % (kind, comparison.passed - before[0], comparison.failed - before[1],
+                                                       time.monotonic() - begun), flush=True)
+    if comparison.failed:
+        print("kept in %s" % kept)
+    else:
+        os.rmdir(kept)
+    print("%d passed, %d failed" % (comparison.passed, comparison.failed))
+    raise SystemExit(1 if comparison.failed else 0)
+
+
+if __name__ == "__main__":
+    main()
