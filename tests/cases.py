@@ -1,9 +1,11 @@
 """Cases that are drawn: lawful trees, mutated tree files, schedules, and datagrams to `smi answer`."""
 
-import random
 import string
 
 import layout
+from oracle import answers, grants
+from oracle.datagrams import ASK, DROP, LENGTH, RUN, TAKE, Datagram
+from oracle.grants import Command, Record, Verb
 
 WORDS = ["tree", "state", "action", "station", "operator", "devclass", "move", "unitclass", "accept", "any", "all",
          "domain", "device"]
@@ -17,6 +19,10 @@ MANY = {"state M%d": 66, "action M%d": 66, "station M%d 1.2.3.4:5": 130, "operat
         "unitclass M%d {state}": 34, "domain M%d {station} {unitclass} -": 130, "domain M%d {station} {unitclass} {domain}": 18,
         "device M%d {domain} {devclass}": 18, "any {unitclass} {state} {state}": 34, "all {unitclass} {state} {state}": 34,
         "accept {unitclass} {action}": 2, "move {devclass} {state} {action} {state}": 2}
+
+# Numbers at the ends of ranges, and beside them.
+ENDS = (0, 1, 2, 3, 8, 9, 17, 32, 33, 64, 65, 127, 128, 129, 255, 256, 640, 641, 65_535, 999_999, 1_000_000, 1_000_001,
+        3_999_999_999, 4_000_000_000, 4_000_000_001, 2 ** 32 - 1, 2 ** 62 - 1, 2 ** 62, 2 ** 62 + 1, 2 ** 64 - 1)
 
 
 class DrawnTree:
@@ -144,4 +150,53 @@ def changed_bytes(draw, data):
             del data[at:at + draw.choice([1, 1, 5])]
         elif draw.random() < 0.2:
             del data[at:]
+    return bytes(data)
+
+
+def asked(draw, record):
+    """Returns a datagram to `smi answer`, which often fits a record: an `ASK`, a `TAKE`, a `DROP` or a `RUN`."""
+    kind = draw.choice([ASK, TAKE, DROP, RUN, RUN, RUN])
+    made = Datagram(kind, draw.randrange(1, 129), answers.STATION, answers.DOMAIN)
+    if kind == ASK:
+        return made
+    fits = draw.random() < 0.7
+    holder = record.holder if fits and record.holder != grants.FREE else grants.operator(draw.choice([1, 2, 32]))
+    epoch = record.epoch if fits else max(0, record.epoch + draw.choice([-2, -1, 0, 1, 2]))
+    if kind == TAKE:
+        return made._replace(holder=holder, epoch=epoch)
+    made = made._replace(holder=holder, epoch=epoch | 1)
+    if kind == DROP:
+        return made if draw.random() < 0.3 else asked(draw, record)
+    number = record.last + 1 if fits else max(1, record.last + draw.choice([-1, 0, 1, 2]))
+    verb = draw.choice(list(Verb))
+    return made._replace(number=number, command=Command(verb, draw.randrange(1, 65 if verb == Verb.DO else 129)))
+
+
+def datagram_run(draw, count):
+    """Returns the bytes of this many datagrams to `smi answer`, none of which is refused."""
+    record, made = Record(), []
+    for _ in range(count):
+        datagram = asked(draw, record)
+        record = answers.answered(record, datagram)
+        made.append(datagram.encoded(answers.TREE))
+    return b"".join(made)
+
+
+def mutated_run(draw):
+    """Returns the bytes of a few datagrams to `smi answer`, some with changes, or cut off, or with more bytes."""
+    data = bytearray(datagram_run(draw, draw.choice([1, 1, 2, 3, 8])))
+    for _ in range(draw.choice([0, 1, 1, 1, 2, 3])):
+        start, way = draw.randrange(0, len(data), LENGTH), draw.randrange(4)
+        place, size, _ = draw.choice(list(layout.FIELDS.values()))
+        if way == 0:
+            data[start + draw.randrange(LENGTH)] = draw.choice([0, 1, 2, 3, 255, draw.randrange(256)])
+        elif way == 1:
+            data[start + place:start + place + size] = (draw.choice(ENDS) % 256 ** size).to_bytes(size, "big")
+        elif way == 2:
+            other = draw.randrange(0, len(data), LENGTH)
+            data[start + place:start + place + size] = data[other + place:other + place + size]
+        else:
+            data[start + draw.choice([2, 3])] = draw.randrange(10)
+    if draw.random() < 0.3:
+        data = data[:draw.randrange(len(data) + 1)] + draw.randbytes(draw.choice([0, 0, 1, 43, 44, 45]))
     return bytes(data)

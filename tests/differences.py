@@ -1,8 +1,10 @@
 """Cases that are drawn, of which the program and the oracle (tests/oracle) have to say the same.
 
-usage: differences.py SMI [--trees N] [--seed S]
+usage: differences.py SMI [--trees N] [--answers N] [--datagrams N] [--seed S]
 
 trees      tree files with a few changes, through `smi check`
+answers    a few datagrams with wrong bytes, or cut off, through `smi answer`
+datagrams  datagrams in files of 100,000, through `smi answer`
 
 The seed is printed. Each difference is kept in a folder, with its input, what came and what was wanted. The last line
 is 'N passed, M failed'.
@@ -17,7 +19,11 @@ import time
 # it puts tools on the path, so it comes first
 import running
 import cases
+from oracle import answers
 from oracle import tree as trees
+
+# How many datagrams are in a file.
+FILE = 100_000
 
 
 class Comparison:
@@ -53,7 +59,23 @@ def compare_trees(comparison, count, seed, folder):
         comparison.compare("tree-%d" % number, {"tree": data}, comparison.run("check", path), trees.check(data))
 
 
-KINDS = {"trees": compare_trees}
+def compare_answers(comparison, count, seed, _):
+    """Compares what `smi answer` says to a few datagrams."""
+    for number in range(count):
+        data = cases.mutated_run(random.Random("%s answer %d" % (seed, number)))
+        comparison.compare("answer-%d" % number, {"datagrams": data}, comparison.run("answer", given=data),
+                           answers.answer(data))
+
+
+def compare_datagrams(comparison, count, seed, _):
+    """Compares what `smi answer` says to many datagrams. Each file is a case."""
+    for first in range(0, count, FILE):
+        data = cases.datagram_run(random.Random("%s datagrams %d" % (seed, first)), min(FILE, count - first))
+        comparison.compare("datagrams-%d" % first, {"datagrams": data}, comparison.run("answer", given=data),
+                           answers.answer(data))
+
+
+KINDS = {"trees": compare_trees, "answers": compare_answers, "datagrams": compare_datagrams}
 
 
 def main():
