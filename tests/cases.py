@@ -3,9 +3,10 @@
 import string
 
 import layout
-from oracle import answers, grants
+from oracle import answers, grants, schedule
 from oracle.datagrams import ASK, DROP, LENGTH, RUN, TAKE, Datagram
 from oracle.grants import Command, Record, Verb
+from oracle.simulation import World
 
 WORDS = ["tree", "state", "action", "station", "operator", "devclass", "move", "unitclass", "accept", "any", "all",
          "domain", "device"]
@@ -23,6 +24,11 @@ MANY = {"state M%d": 66, "action M%d": 66, "station M%d 1.2.3.4:5": 130, "operat
 # Numbers at the ends of ranges, and beside them.
 ENDS = (0, 1, 2, 3, 8, 9, 17, 32, 33, 64, 65, 127, 128, 129, 255, 256, 640, 641, 65_535, 999_999, 1_000_000, 1_000_001,
         3_999_999_999, 4_000_000_000, 4_000_000_001, 2 ** 32 - 1, 2 ** 62 - 1, 2 ** 62, 2 ** 62 + 1, 2 ** 64 - 1)
+
+# Words that a line of a schedule may have in a wrong place.
+SCHEDULE_WORDS = ["deliver", "recent", "tick", "restart", "report", "stop", "fail", "order", "before", "after", "device", "during",
+                  "take", "drop", "ask", "do", "include", "exclude", "manual", "ignore", "watch", "unwatch"]
+COMMANDS = ["do", "do", "do", "include", "include", "include", "exclude", "manual", "ignore"]
 
 
 class DrawnTree:
@@ -200,3 +206,106 @@ def mutated_run(draw):
     if draw.random() < 0.3:
         data = data[:draw.randrange(len(data) + 1)] + draw.randbytes(draw.choice([0, 0, 1, 43, 44, 45]))
     return bytes(data)
+
+
+class Play:
+    """Draws the lines of a schedule, and plays them, so that later lines fit what earlier ones have brought about."""
+
+    def __init__(self, draw, tree):
+        self.draw, self.tree, self.world = draw, tree, World(tree)
+        # how many of the datagrams were delivered in order, and how often it is done so
+        self.delivered, self.patience = 0, draw.choice([0.3, 0.7, 0.9])
+        self.stations, self.operators, self.domains = ([it.name for it in of[1:]] for of in (tree.stations, tree.operators,
+                                                                                         tree.domains))
+        self.objects = [tree.object_name(it) for it in range(1, tree.objects() + 1)]
+
+    def line(self):
+        """Draws a line and plays it."""
+        line = self.any_line()
+        if self.draw.random() < 0.06:
+            station = self.draw.choice([self.draw.choice(self.stations), self.station_of(line) or self.stations[0]])
+            how = self.draw.choice(["stop %s before ", "stop %s after ", "stop %s after ", "fail %s device ",
+                                    "fail %s before ", "fail %s after "])
+            line = (how % station + line) if not line.startswith("restart") else line
+        for _ in self.world.make(schedule.read_line(self.tree, line.encode())[0]):
+            pass
+        return line
+
+    def station_of(self, line):
+        """Returns the name of the station at which a line is made, or None."""
+        at, _ = self.world.step_of(schedule.read_line(self.tree, line.encode())[0]) if "restart" not in line else (0, None)
+        return self.tree.stations[at].name if at else None
+
+    def any_line(self):
+        if self.delivered < len(self.world.sent) and self.draw.random() < self.patience:
+            self.delivered += 1
+            return "deliver %d" % self.delivered
+        way = self.draw.randrange(40)
+        if way < 8 and self.world.sent:
+            return "recent %d" % self.draw.randrange(self.draw.choice([3, 3, 10, len(self.world.sent) + 1]))
+        if way < 10:
+            return "deliver %d" % self.draw.randrange(1, len(self.world.sent) + 3)
+        if way < 14:
+            return "tick " + self.draw.choice(self.stations)
+        if way < 17 and self.tree.count("device"):
+            return "report %s %s" % (self.draw.choice(self.tree.devices[1:]).name, self.draw.choice(self.tree.states[1:]))
+        if way == 17 and self.draw.random() < 0.6:
+            stopped = [it.number for it in self.world.stations.values() if it.is_stopped]
+            number = self.draw.choice(stopped or range(1, len(self.stations) + 1))
+            return "restart " + self.tree.stations[number].name
+        return self.order_line()
+
+    def order_line(self):
+        """Draws an order. Most commands are about domains that their operator holds, and their children."""
+        operator = self.draw.randrange(1, len(self.operators) + 1)
+        station = self.world.stations[self.tree.operators[operator].station]
+        held = [it for it, link in station.stable.operators.get(operator, {}).items() if link.is_held()]
+        start = "order %s " % self.operators[operator - 1]
+        way = self.draw.random()
+        if way < 0.12:
+            word = self.draw.choice(["watch", "unwatch", "watch"])
+            return start + "%s %s" % (word, self.draw.choice(self.objects))
+        if way < 0.17:
+            return start + "ask " + self.draw.choice(self.domains)
+        if way < 0.2 or not held and way < 0.9:
+            roots = [it.name for it in self.tree.domains[1:] if it.parent == 0 or self.draw.random() < 0.15]
+            return start + "take " + self.draw.choice(roots)
+        domain = self.draw.choice(held) if held and self.draw.random() < 0.9 else self.draw.randrange(1, len(self.domains) + 1)
+        if way < 0.24:
+            return start + "drop " + self.domains[domain - 1]
+        word = self.draw.choice(COMMANDS)
+        below = [it for it in range(1, len(self.domains) + 1) if self.tree.way(domain, it)]
+        target = self.draw.choice(below) if below and self.draw.random() < 0.9 else self.draw.randrange(1, len(self.domains) + 1)
+        argument = self.draw.choice(self.tree.actions[1:]) if word == "do" else self.domains[target - 1]
+        return start + "%s %s %s" % (word, self.domains[domain - 1], argument)
+
+
+def drawn_schedule(draw, tree):
+    """Returns the bytes of a schedule for a tree. Every fifth may have a line that is refused."""
+    play = Play(draw, tree)
+    lines = [play.line() for _ in range(draw.choice([5, 30, 100, 300]))]
+    for _ in range(draw.choice([0, 0, 0, 0, 1])):
+        at = draw.randrange(len(lines))
+        lines[at:] = [mutated_line(draw, play, lines[at]), *lines[at + 1:]]
+    ends = draw.choice(["\n", "\n", "\n", "\r\n"])
+    return (ends.join(lines) + draw.choice([ends] * 8 + ["", "\r"])).encode("latin-1")
+
+
+def mutated_line(draw, play, line):
+    """Returns a line of a schedule with a few words that are changed, put in or taken out."""
+    words = line.split(" ")
+    known = [*play.objects, *play.stations, *play.operators, *play.tree.states[1:], *play.tree.actions[1:]]
+    for _ in range(draw.choice([1, 1, 2])):
+        way, at = draw.randrange(4), draw.randrange(len(words) + 1)
+        word = draw.choice([draw.choice(ODD_WORDS), draw.choice(SCHEDULE_WORDS), draw.choice(SCHEDULE_WORDS), draw.choice(known)])
+        if way == 0:
+            words[at:at + 1] = [word]
+        elif way == 1:
+            words.insert(at, word)
+        elif way == 2:
+            del words[at:at + 1]
+        else:
+            words = [*draw.choice([["stop"], ["stop", draw.choice(play.stations)], ["fail", draw.choice(known), "after"],
+                                   ["stop", draw.choice(known), "before"], ["#"], []]), *words]
+    line = draw.choice([" ", " ", " ", "\t", "  "]).join(words)
+    return line + draw.choice(["", "", "", " ", "\x0b", " " * max(0, draw.choice([200, 201]) - len(line))])

@@ -1,8 +1,11 @@
 """Cases that are drawn, of which the program and the oracle (tests/oracle) have to say the same.
 
-usage: differences.py SMI [--trees N] [--answers N] [--datagrams N] [--seed S]
+usage: differences.py SMI [--trees N] [--schedules N] [--drawn N] [--answers N] [--datagrams N]
+                      [--seed S]
 
 trees      tree files with a few changes, through `smi check`
+schedules  schedules over drawn trees, through `smi sim`; some have a line that is refused
+drawn      seeds over drawn trees, through `smi sim --seed --steps`
 answers    a few datagrams with wrong bytes, or cut off, through `smi answer`
 datagrams  datagrams in files of 100,000, through `smi answer`
 
@@ -19,11 +22,13 @@ import time
 # it puts tools on the path, so it comes first
 import running
 import cases
-from oracle import answers
+from oracle import answers, simulation
 from oracle import tree as trees
 
 # How many datagrams are in a file.
 FILE = 100_000
+# How many items a seed draws.
+STEPS = (0, 1, 30, 300, 1000, 3000)
 
 
 class Comparison:
@@ -59,6 +64,34 @@ def compare_trees(comparison, count, seed, folder):
         comparison.compare("tree-%d" % number, {"tree": data}, comparison.run("check", path), trees.check(data))
 
 
+def drawn_tree(draw, folder):
+    """Returns the bytes of a drawn tree, the tree, and the path of its file."""
+    data = cases.DrawnTree(draw).text().encode()
+    return data, trees.read_tree(data), running.write(os.path.join(folder, "tree"), data)
+
+
+def compare_schedules(comparison, count, seed, folder):
+    """Compares what drawn schedules leave. There are several for each tree."""
+    for number in range(count):
+        draw = random.Random("%s schedule %d" % (seed, number))
+        data, tree, path = drawn_tree(draw, folder)
+        lines = cases.drawn_schedule(draw, tree)
+        schedule = running.write(os.path.join(folder, "schedule"), lines)
+        comparison.compare("schedule-%d" % number, {"tree": data, "schedule": lines}, comparison.run("sim", path, schedule),
+                           simulation.by_schedule(tree, lines))
+
+
+def compare_drawn(comparison, count, seed, folder):
+    """Compares what drawn items leave."""
+    for number in range(count):
+        draw = random.Random("%s drawn %d" % (seed, number))
+        data, tree, path = drawn_tree(draw, folder)
+        item_seed, steps = draw.choice([number, draw.randrange(2 ** 64), 2 ** 64 - 1 - number]), draw.choice(STEPS)
+        words = ("sim", path, "--seed", str(item_seed), "--steps", str(steps))
+        comparison.compare("drawn-%d" % number, {"tree": data, "words": " ".join(words)}, comparison.run(*words),
+                           simulation.by_seed(tree, item_seed, steps))
+
+
 def compare_answers(comparison, count, seed, _):
     """Compares what `smi answer` says to a few datagrams."""
     for number in range(count):
@@ -75,7 +108,7 @@ def compare_datagrams(comparison, count, seed, _):
                            answers.answer(data))
 
 
-KINDS = {"trees": compare_trees, "answers": compare_answers, "datagrams": compare_datagrams}
+KINDS = {"trees": compare_trees, "schedules": compare_schedules, "drawn": compare_drawn, "answers": compare_answers, "datagrams": compare_datagrams}
 
 
 def main():
