@@ -1,9 +1,10 @@
 """Cases that are drawn: lawful trees, mutated tree files, schedules, and datagrams to `smi answer`."""
 
+import collections
 import string
 
 import layout
-from oracle import answers, grants, schedule
+from oracle import answers, grants, rows, schedule
 from oracle.datagrams import ASK, DROP, LENGTH, RUN, TAKE, Datagram
 from oracle.grants import Command, Record, Verb
 from oracle.simulation import World
@@ -30,27 +31,32 @@ SCHEDULE_WORDS = ["deliver", "recent", "tick", "restart", "report", "stop", "fai
                   "take", "drop", "ask", "do", "include", "exclude", "manual", "ignore", "watch", "unwatch"]
 COMMANDS = ["do", "do", "do", "include", "include", "include", "exclude", "manual", "ignore"]
 
+# Where the fields of a link and of the other parts of rows are, and how many bytes they have.
+LINK_FIELDS = [(0, 2), (2, 1), (3, 1), (4, 8), (12, 4), (16, 2), (18, 2), (20, 2), (22, 2), (24, 2)]
+ROW_FIELDS = [(0, 1), (1, 1), (2, 2), (4, 4), (4, 8), (12, 4), (16, 1), (17, 1), (18, 2), (20, 2), (22, 2)]
+
 
 class DrawnTree:
     """A lawful tree file: its names, by what they name, and its lines."""
 
-    def __init__(self, draw, stations=None, parts=1):
+    def __init__(self, draw, parts=1, ports=None):
         self.draw = draw
         self.names = {it: [] for it in WORDS}
+        # how many are in each domain, and how deep each is
+        self.children, self.devices, self.levels = collections.Counter(), collections.Counter(), {"-": 0}
         self.lines = ["tree %d" % draw.choice([1, 17, 17, 65_535])]
         self.add("state", 1 + draw.randrange(5), lambda: [])
         self.add("action", 1 + draw.randrange(3), lambda: [])
-        ports = draw.sample(range(1024, 65_536), 8)
-        self.add("station", stations or 1 + draw.randrange(4), lambda: ["127.0.0.1:%d" % ports.pop()])
+        ports = list(ports or draw.sample(range(1024, 65_536), draw.randrange(1, 5)))
+        self.add("station", len(ports), lambda: ["127.0.0.1:%d" % ports.pop(0)])
         self.add("operator", 1 + draw.randrange(4), lambda: [self.one("station")])
         self.add("devclass", draw.randrange(3), lambda: [self.one("state")])
         self.add("unitclass", 1 + draw.randrange(2), lambda: [self.one("state")])
         self.add_rules()
-        for _ in range(parts * (1 + draw.randrange(4))):
-            self.add("domain", 1, lambda: [self.one("station"), self.one("unitclass"),
-                                           self.one("domain") if self.names["domain"] and draw.random() < 0.8 else "-"])
+        self.add("domain", min(128, parts * draw.randrange(1, 5)),
+                 lambda: [self.one("station"), self.one("unitclass"), self.parent()])
         if self.names["devclass"]:
-            self.add("device", draw.randrange(5), lambda: [self.one("domain"), self.one("devclass")])
+            self.add("device", parts * draw.randrange(5), lambda: [self.place_of_device(), self.one("devclass")])
 
     def one(self, kind):
         return self.draw.choice(self.names[kind])
@@ -61,6 +67,20 @@ class DrawnTree:
             name = "%s%d" % (kind[:2].upper(), len(self.names[kind]) + 1)
             self.lines.append(" ".join([kind, name, *more()]))
             self.names[kind].append(name)
+
+    def parent(self):
+        """Draws the domain above the next one."""
+        free = [it for it in self.names["domain"] if self.children[it] < 16 and self.levels[it] < 8]
+        above = self.draw.choice(free) if free and self.draw.random() < 0.8 else "-"
+        self.children[above] += 1
+        self.levels["DO%d" % (len(self.names["domain"]) + 1)] = self.levels[above] + 1
+        return above
+
+    def place_of_device(self):
+        """Draws the domain of the next device. There are more domains than devices that fill one."""
+        place = self.draw.choice([it for it in self.names["domain"] if self.devices[it] < 16])
+        self.devices[place] += 1
+        return place
 
     def add_rules(self):
         """Adds moves, accepted actions and rules, none of them twice."""
@@ -258,8 +278,8 @@ class Play:
     def order_line(self):
         """Draws an order. Most commands are about domains that their operator holds, and their children."""
         operator = self.draw.randrange(1, len(self.operators) + 1)
-        station = self.world.stations[self.tree.operators[operator].station]
-        held = [it for it, link in station.stable.operators.get(operator, {}).items() if link.is_held()]
+        links = self.world.stations[self.tree.operators[operator].station].stable.operators.get(operator, {})
+        held = [it for it, link in links.items() if link.is_held()]
         start = "order %s " % self.operators[operator - 1]
         way = self.draw.random()
         if way < 0.12:
@@ -268,16 +288,23 @@ class Play:
         if way < 0.17:
             return start + "ask " + self.draw.choice(self.domains)
         if way < 0.2 or not held and way < 0.9:
-            roots = [it.name for it in self.tree.domains[1:] if it.parent == 0 or self.draw.random() < 0.15]
-            return start + "take " + self.draw.choice(roots)
+            roots = [it for it, domain in enumerate(self.tree.domains[1:], 1)
+                     if domain.parent == 0 or self.draw.random() < 0.15]
+            free = [it for it in roots if it not in links or self.draw.random() < 0.1]
+            return start + "take " + self.domains[self.draw.choice(free or roots) - 1]
         domain = self.draw.choice(held) if held and self.draw.random() < 0.9 else self.draw.randrange(1, len(self.domains) + 1)
         if way < 0.24:
             return start + "drop " + self.domains[domain - 1]
         word = self.draw.choice(COMMANDS)
-        below = [it for it in range(1, len(self.domains) + 1) if self.tree.way(domain, it)]
-        target = self.draw.choice(below) if below and self.draw.random() < 0.9 else self.draw.randrange(1, len(self.domains) + 1)
-        argument = self.draw.choice(self.tree.actions[1:]) if word == "do" else self.domains[target - 1]
+        argument = self.draw.choice(self.tree.actions[1:]) if word == "do" else self.target(domain)
         return start + "%s %s %s" % (word, self.domains[domain - 1], argument)
+
+    def target(self, domain):
+        """Draws a target of a command at a domain: mostly a child, or what is below it."""
+        below = [it for it in range(1, len(self.domains) + 1) if self.tree.way(domain, it)]
+        children = self.tree.children(domain)
+        found = self.draw.choice([below, children, children, range(1, len(self.domains) + 1)])
+        return self.domains[self.draw.choice(found or range(1, len(self.domains) + 1)) - 1]
 
 
 def drawn_schedule(draw, tree):
@@ -309,3 +336,59 @@ def mutated_line(draw, play, line):
                                    ["stop", draw.choice(known), "before"], ["#"], []]), *words]
     line = draw.choice([" ", " ", " ", "\t", "  "]).join(words)
     return line + draw.choice(["", "", "", " ", "\x0b", " " * max(0, draw.choice([200, 201]) - len(line))])
+
+
+def rows_of(world):
+    """Returns the rows of all stations of a world, as a dictionary."""
+    found = {}
+    for number, station in world.stations.items():
+        found[number, 0, 0] = rows.boot_bytes(station.stable.boot)
+        found.update({(number, domain, 0): rows.domain_bytes(it) for domain, it in station.stable.domains.items()})
+        found.update({(number, 0, it): rows.operator_bytes(links) for it, links in station.stable.operators.items()})
+    return found
+
+
+def mutated_rows(draw, true):
+    """Returns some of these rows, of which up to three are changed, and a station, often one with a changed row."""
+    store, station = {key: data for key, data in true.items() if draw.random() < 0.9}, draw.randrange(1, 4)
+    for _ in range(draw.choice([0, 1, 1, 1, 2, 3])):
+        key = draw.choice(list(true))
+        station = draw.choice([key[0], key[0], station])
+        data, way = bytearray(store.get(key, true[key])), draw.randrange(11)
+        if way < 5 and data:
+            change_field(draw, data)
+        elif way == 5 and data:
+            data[draw.randrange(len(data))] = draw.choice([0, 1, 2, 3, 4, 5, 127, 128, 255, draw.randrange(256)])
+        elif way == 6 and data:
+            data[0] = draw.choice([0, 1, 1, 2, 2, 3, 3, 4, 255])
+        elif way == 7:
+            data = data[:draw.randrange(len(data) + 1)] + draw.randbytes(draw.choice([0, 0, 1, 4, 20, 24]))
+        elif way == 8:
+            key = (draw.choice([0, station, station, key[0], 128, 65_535]), draw.choice([0, 0, 1, 2, 128, 129, 65_535]),
+                   draw.choice([0, 0, 1, 2, 32, 33, 65_535]))
+        elif way == 9:
+            data = bytearray(draw.randbytes(draw.randrange(90)))
+        else:
+            data = bytearray(true[draw.choice(list(true))])
+        store[key] = bytes(data)
+    return store, station
+
+
+def change_field(draw, data):
+    """Changes one field of a row, or one of its links: its bytes, where it is, or that it is there."""
+    start = 24 if len(data) >= 24 and len(data) % 20 == 4 and draw.random() < 0.5 else 4
+    count = (len(data) - start) // 20
+    place = start + 20 * draw.randrange(count) if count > 0 else 0
+    way = draw.randrange(5)
+    if count > 0 and way == 0:
+        # a link more, or twice: its count may fit or not
+        data[place:place] = data[place:place + 20]
+        data[start - 1] = (data[start - 1] + draw.randrange(2)) % 256
+    elif count > 0 and way == 1:
+        at, _ = LINK_FIELDS[0]
+        data[place + at:place + at + 2] = draw.choice([1, 2, 3, 4, 128]).to_bytes(2, "big")
+    else:
+        at, size = draw.choice(LINK_FIELDS if count > 0 and way < 4 else ROW_FIELDS)
+        at += place if count > 0 and way < 4 else 0
+        number = draw.choice([draw.choice(ENDS), draw.randrange(6)])
+        data[at:at + size] = (number % 256 ** size).to_bytes(size, "big")

@@ -242,6 +242,18 @@ def started(tree, station, store):
     return new
 
 
+def begun(tree, station, store):
+    """Returns what a node prints that starts on a store, and the rows of the store then."""
+    new = store
+    try:
+        new = migrated(tree, station, store)
+        return (b"", b"", 0), started(tree, station, store)
+    except RowFault as fault:
+        return (b"", b"row %d %d %d fault %d\n" % (*fault.key, fault.code), 1), new
+    except BootsSpent:
+        return (b"", b"boots spent\n", 3), new
+
+
 def listed(store):
     """Returns what `smi rows` prints of a store."""
     return b"".join(b"%d %d %d %s\n" % (*key, bytes(data).hex().encode()) for key, data in sorted(store.items()))
