@@ -38,6 +38,7 @@ SIZES, SMALL = (1, 2, 2, 4, 4, 30), (1, 2)
 # What operators of the worked tree order while three nodes run.
 ORDERS = ["ANN take DCS", "ANN include DCS TPC", "ANN include DCS MUON", "ANN do DCS CONFIGURE", "ANN manual DCS TPC",
           "ANN ignore DCS MUON", "ANN do DCS START", "ANN exclude DCS TPC", "ANN include DCS MUON", "ANN drop DCS"]
+LAST_ORDERS = ["do DCS START", "do DCS CONFIGURE", "take MUON"]
 
 
 class Comparison:
@@ -163,7 +164,7 @@ class RowsOfNodes(TrueRows):
                 self.rows.update({key: bytes.fromhex(text) for key, text in stores.rows_in(os.path.join(place, it))})
 
     def order(self, draw, place, begun):
-        """Has ANN order, and at last BOB, once the nodes of what ANN then waits for have ended."""
+        """Has ANN order, at last once the nodes of what she then waits for have ended."""
         for it, node in begun.items():
             wait_for(os.path.join(place, it + ".c"), node)
         console = Console(os.path.join(place, "A.c"))
@@ -171,9 +172,11 @@ class RowsOfNodes(TrueRows):
             console.ask("order " + order)
         begun["B"].kill()
         begun["C"].kill()
-        # what is not answered is pending; the answer to `show` comes after all has been read
-        console.say("".join("order ANN %s\n" % it for it in ("do DCS START", "do DCS CONFIGURE", "take MUON")))
-        console.ask("show DCS")
+        # a question is answered after the orders before it were saved, while what waits for B or C is pending
+        for tag in ("@2", "@3"):
+            console.say("".join("@1 order ANN %s\n" % it for it in LAST_ORDERS) + tag + " order ANN ask DCS\n")
+            while not (console.line() or tag).startswith(tag):
+                pass
         console.close()
 
 
